@@ -28,7 +28,7 @@ static int refuses(enum kind kind)
     return first[kind] <= count && count <= last[kind];
 }
 
-static void *want_of_memory(void)
+static void *out_of_memory(void)
 {
     errno = ENOMEM;
     return NULL;
@@ -36,17 +36,17 @@ static void *want_of_memory(void)
 
 void *malloc(size_t size)
 {
-    return refuses(MEMORY) ? want_of_memory() : __libc_malloc(size);
+    return refuses(MEMORY) ? out_of_memory() : __libc_malloc(size);
 }
 
 void *realloc(void *block, size_t size)
 {
-    return refuses(MEMORY) ? want_of_memory() : __libc_realloc(block, size);
+    return refuses(MEMORY) ? out_of_memory() : __libc_realloc(block, size);
 }
 
 void *calloc(size_t count, size_t size)
 {
-    return refuses(MEMORY) ? want_of_memory() : __libc_calloc(count, size);
+    return refuses(MEMORY) ? out_of_memory() : __libc_calloc(count, size);
 }
 
 static ssize_t fails(void)

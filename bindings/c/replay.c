@@ -42,7 +42,7 @@ static bool is_word(slice text, const char *word) {
     return text.length == strlen(word) && !memcmp(text.at, word, text.length);
 }
 
-static slice behind(slice text, size_t count) {
+static slice skip(slice text, size_t count) {
     slice rest = {text.at + count, text.length - count};
     return rest;
 }
@@ -54,7 +54,7 @@ static bool split(slice text, const char *mark, slice *before, slice *after) {
         if (!memcmp(text.at + i, mark, length)) {
             before->at = text.at;
             before->length = i;
-            *after = behind(text, i + length);
+            *after = skip(text, i + length);
             return true;
         }
     }
@@ -126,7 +126,7 @@ static bool put_character(buffer *text, uint32_t code) {
 /* Appends the character of the digits in braces that follow \u, and skips them. */
 static bool put_named(buffer *text, slice *rest) {
     slice digits;
-    if (!rest->length || rest->at[0] != '{' || !split(behind(*rest, 1), "}", &digits, rest)) {
+    if (!rest->length || rest->at[0] != '{' || !split(skip(*rest, 1), "}", &digits, rest)) {
         return false;
     }
     uint32_t code = 0;
@@ -146,7 +146,7 @@ static bool put_escape(buffer *text, slice *rest) {
         return false;
     }
     char kind = rest->at[0];
-    *rest = behind(*rest, 1);
+    *rest = skip(*rest, 1);
     switch (kind) {
     case 'n': return put_character(text, '\n');
     case 't': return put_character(text, '\t');
@@ -162,7 +162,7 @@ static bool unescape(slice writing, buffer *text) {
     text->length = 0;
     while (writing.length) {
         char c = writing.at[0];
-        writing = behind(writing, 1);
+        writing = skip(writing, 1);
         if (c != '\\') {
             text->at[text->length++] = c;
         } else if (!put_escape(text, &writing)) {
@@ -368,7 +368,7 @@ static bool set_option(tbr_options *options, slice word) {
         options->images = TBR_IMAGES_FILE_NAME;
     } else {
         return word.length > prefix && !memcmp(word.at, WRAP, prefix)
-            && size(behind(word, prefix), &options->wrap_width);
+            && size(skip(word, prefix), &options->wrap_width);
     }
     return true;
 }
@@ -434,7 +434,7 @@ static slice next_line(slice *script) {
     slice line;
     if (!split(*script, "\n", &line, script)) {
         line = *script;
-        *script = behind(*script, script->length);
+        *script = skip(*script, script->length);
     }
     return line;
 }

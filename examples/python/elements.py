@@ -280,7 +280,7 @@ class Prefixed(Element):
         page.end_block()
 
     def measure(self, ruler: Ruler) -> None:
-        with ruler.behind(self.prefix(ruler.page)):
+        with ruler.prefixed(self.prefix(ruler.page)):
             super().measure(ruler)
 
 
@@ -338,7 +338,7 @@ class List(Element):
 
     def measure(self, ruler: Ruler) -> None:
         for mark, item in self.marked(ruler.page):
-            with ruler.behind(mark):
+            with ruler.prefixed(mark):
                 item.measure(ruler)
 
 
@@ -357,7 +357,7 @@ class Definition(Element):
             super().draw(page)
 
     def measure(self, ruler: Ruler) -> None:
-        with ruler.behind("  "):
+        with ruler.prefixed("  "):
             super().measure(ruler)
 
 

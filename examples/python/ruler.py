@@ -69,7 +69,7 @@ class Ruler:
         self._is_preformatted = outside
 
     @contextmanager
-    def behind(self, prefix: str) -> Iterator[None]:
+    def prefixed(self, prefix: str) -> Iterator[None]:
         """What is added comes after a prefix, on lines of its own."""
         self.end_line()
         outside, self.size = self.size, Size()

@@ -51,7 +51,7 @@ impl Kind {
     fn add(self, alloc: Global, block: &mut WrappedBlock<u8>, text: &str) -> Result<(), Error> {
         match self {
             Kind::Tags => add_under_tags_in_turn(block, text),
-            Kind::Markers => add_behind_markers(alloc, block, text),
+            Kind::Markers => add_after_markers(alloc, block, text),
             Kind::Pre => block.add_text(text, WhiteSpace::Pre, &1, &2),
             Kind::Narrow => add_and_mark(alloc, block, text),
         }
@@ -68,11 +68,7 @@ fn add_under_tags_in_turn(block: &mut WrappedBlock<u8>, text: &str) -> Result<()
     Ok(())
 }
 
-fn add_behind_markers(
-    alloc: Global,
-    block: &mut WrappedBlock<u8>,
-    text: &str,
-) -> Result<(), Error> {
+fn add_after_markers(alloc: Global, block: &mut WrappedBlock<u8>, text: &str) -> Result<(), Error> {
     for c in text.chars() {
         let mut buffer = [0; 4];
         block.add_element(marker(alloc)?)?;

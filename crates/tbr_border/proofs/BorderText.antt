@@ -64,14 +64,14 @@ pub text_step : {A : Type 0} (tag : A) (cells : List Cell) (at : ℕ) (h : Hole 
     all ++ item_characters (shown_from tag cells (h.place + h.width) rest) ≡ text ++ item_characters (shown_from tag cells at (h ∷ rest))
 text_step tag cells at h rest text more all e f =
     let between = map character (slice_range cells at h.place) in
-    let behind = shown_from tag cells (h.place + h.width) rest in
-    let parts : item_characters (shown_from tag cells at (h ∷ rest)) ≡ between ++ (element_characters h.element ++ item_characters behind) =
-    flat_map-append item_character (drawn (slice_range cells at h.place) tag) (element_items h.element ++ behind)
-    ∙ ap (λ cs. cs ++ item_characters (element_items h.element ++ behind)) (text_characters between tag)
-    ∙ ap (λ cs. between ++ cs) (flat_map-append item_character (element_items h.element) behind ∙ ap (λ cs. cs ++ item_characters behind) (element_has h.element)) in
-    ap (λ cs. cs ++ item_characters behind) (f ∙ ap (λ cs. cs ++ element_characters h.element) e)
-    ∙ append_assoc (text ++ between) (element_characters h.element) (item_characters behind)
-    ∙ append_assoc text between (element_characters h.element ++ item_characters behind)
+    let after = shown_from tag cells (h.place + h.width) rest in
+    let parts : item_characters (shown_from tag cells at (h ∷ rest)) ≡ between ++ (element_characters h.element ++ item_characters after) =
+    flat_map-append item_character (drawn (slice_range cells at h.place) tag) (element_items h.element ++ after)
+    ∙ ap (λ cs. cs ++ item_characters (element_items h.element ++ after)) (text_characters between tag)
+    ∙ ap (λ cs. between ++ cs) (flat_map-append item_character (element_items h.element) after ∙ ap (λ cs. cs ++ item_characters after) (element_has h.element)) in
+    ap (λ cs. cs ++ item_characters after) (f ∙ ap (λ cs. cs ++ element_characters h.element) e)
+    ∙ append_assoc (text ++ between) (element_characters h.element) (item_characters after)
+    ∙ append_assoc text between (element_characters h.element ++ item_characters after)
     ∙ ap (λ cs. text ++ cs) (sym parts)
 
 pub text_end : {A : Type 0} (tag : A) (cells : List Cell) (at : ℕ) (text all : List ℕ) → all ≡ text ++ map character (drop at cells) → all ≡ text ++ item_characters (shown_from tag cells at [])
@@ -84,15 +84,15 @@ module _ {A : Type 0} (eq : A → A → Bool) (laws : IsEquivalence eq) where
       SameItems eq (all ++ shown_from tag cells (h.place + h.width) rest) (line ++ shown_from tag cells at (h ∷ rest))
   line_step tag cells at h rest line more all e f =
       let between = drawn (slice_range cells at h.place) tag in
-      let behind = shown_from tag cells (h.place + h.width) rest in
+      let after = shown_from tag cells (h.place + h.width) rest in
       let one : SameItems eq all ((line ++ between) ++ element_items h.element) =
       same_items_trans eq laws all (more ++ element_items h.element) ((line ++ between) ++ element_items h.element) f
       (same_items_append eq laws more (line ++ between) (element_items h.element) (element_items h.element) e (same_items eq laws (element_items h.element))) in
-      let regrouped : ((line ++ between) ++ element_items h.element) ++ behind ≡ line ++ (between ++ (element_items h.element ++ behind)) =
-      append_assoc (line ++ between) (element_items h.element) behind ∙ append_assoc line between (element_items h.element ++ behind) in
-      same_items_trans eq laws (all ++ behind) (((line ++ between) ++ element_items h.element) ++ behind) (line ++ shown_from tag cells at (h ∷ rest))
-      (same_items_append eq laws all ((line ++ between) ++ element_items h.element) behind behind one (same_items eq laws behind))
-      (same_from_path eq laws (((line ++ between) ++ element_items h.element) ++ behind) (line ++ shown_from tag cells at (h ∷ rest)) regrouped)
+      let regrouped : ((line ++ between) ++ element_items h.element) ++ after ≡ line ++ (between ++ (element_items h.element ++ after)) =
+      append_assoc (line ++ between) (element_items h.element) after ∙ append_assoc line between (element_items h.element ++ after) in
+      same_items_trans eq laws (all ++ after) (((line ++ between) ++ element_items h.element) ++ after) (line ++ shown_from tag cells at (h ∷ rest))
+      (same_items_append eq laws all ((line ++ between) ++ element_items h.element) after after one (same_items eq laws after))
+      (same_from_path eq laws (((line ++ between) ++ element_items h.element) ++ after) (line ++ shown_from tag cells at (h ∷ rest)) regrouped)
 
 -- the holes from one on, as a walk has them before it
 pub hole_here : {X : Type 0} {A : Type 0} (f : X → Hole A) (all xs rest : List X) (x : X) (at len : ℕ) → all ≡ xs ++ (x ∷ rest) →

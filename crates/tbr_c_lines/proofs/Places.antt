@@ -38,8 +38,8 @@ module _ {A : Type 0} (shown : A → RichAnnotation) where
       let there : next + bytes_of (characters es) ≡ at + bytes_of (characters (d ∷ es)) = omega (arith, bytes-append (element_characters d) (characters es)) in
       ap (λ (ps : List Piece). piece_at shown at d ∷ ps) (one_more next es e ∙ ap (λ (n : ℕ). pieces_at shown next es ++ piece_at shown n e ∷ []) there)
 
-  pub one_behind : (es : List (Element (Vec A))) (e : Element (Vec A)) → pieces_at shown 0 (es ++ e ∷ []) ≡ pieces_at shown 0 es ++ piece_at shown (bytes_of (characters es)) e ∷ []
-  one_behind es e = one_more 0 es e ∙ ap (λ (n : ℕ). pieces_at shown 0 es ++ piece_at shown n e ∷ []) (omega arith)
+  pub one_after : (es : List (Element (Vec A))) (e : Element (Vec A)) → pieces_at shown 0 (es ++ e ∷ []) ≡ pieces_at shown 0 es ++ piece_at shown (bytes_of (characters es)) e ∷ []
+  one_after es e = one_more 0 es e ∙ ap (λ (n : ℕ). pieces_at shown 0 es ++ piece_at shown n e ∷ []) (omega arith)
 
   pub whole_line : {Z : Type 0} (text : String Z) (columns : ℕ) (is_border : Bool) (pieces : List Piece) (es : List (Element (Vec A))) →
       chars_of text ≡ characters es → columns ≡ line_width unicode_columns es → pieces ≡ pieces_at shown 0 es →

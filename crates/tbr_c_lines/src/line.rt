@@ -202,7 +202,7 @@ impl Piece {
     {
         match element {
             TaggedLineElement::Str(TaggedString { s, tag }) => {
-                let end = end_behind(begin, s.as_str())?;
+                let end = end_after(begin, s.as_str())?;
                 let annotations = A::show(alloc, tag)?;
                 Ok(Piece {
                     begin,
@@ -220,7 +220,7 @@ impl Piece {
 }
 
 /// Where a text ends that begins at a place. It refuses where that passes `usize`.
-fn end_behind(begin: usize, text: &str) -> Result<usize, OutOfMemory>
+fn end_after(begin: usize, text: &str) -> Result<usize, OutOfMemory>
     ensures { IfOk result (λ end. end ≡ begin + length text.now) }
 {
     match begin.checked_add(text.len()) {

@@ -27,21 +27,21 @@ pub no_first : (bs : List ℕ) → IsSplitOnceResult 32 bs None → (colour : Co
 no_first bs h colour k = some_split bs k.0 (k.1 ++ 32 ∷ k.2) k.4.0 k.3 h
 
 module _ (bs : List ℕ) (x : Pair) (h : IsSplitOnceResult 32 bs (Some x)) where
-  behind : (colour : Colour) → (k : IsColour bs colour) → (x.0.now ≡ k.0) × (x.1.now ≡ k.1 ++ 32 ∷ k.2)
-  behind colour k = split_is bs k.0 (k.1 ++ 32 ∷ k.2) k.4.0 k.3 x h
+  after : (colour : Colour) → (k : IsColour bs colour) → (x.0.now ≡ k.0) × (x.1.now ≡ k.1 ++ 32 ∷ k.2)
+  after colour k = split_is bs k.0 (k.1 ++ 32 ∷ k.2) k.4.0 k.3 x h
 
   pub no_second : IsSplitOnceResult 32 x.1.now None → (colour : Colour) → IsColour bs colour → ⊥
-  no_second g colour k = some_split x.1.now k.1 k.2 k.5.0 (behind colour k).1 g
+  no_second g colour k = some_split x.1.now k.1 k.2 k.5.0 (after colour k).1 g
 
   pub red_is : (colour : Colour) → IsColour bs colour → IsByte x.0.now
-  red_is colour k = subst IsByte (sym (behind colour k).0) k.4.0
+  red_is colour k = subst IsByte (sym (after colour k).0) k.4.0
 
   module _ (y : Pair) (g : IsSplitOnceResult 32 x.1.now (Some y)) where
     pub green_is : (colour : Colour) → IsColour bs colour → IsByte y.0.now
-    green_is colour k = subst IsByte (sym (split_is x.1.now k.1 k.2 k.5.0 (behind colour k).1 y g).0) k.5.0
+    green_is colour k = subst IsByte (sym (split_is x.1.now k.1 k.2 k.5.0 (after colour k).1 y g).0) k.5.0
 
     pub blue_is : (colour : Colour) → IsColour bs colour → IsByte y.1.now
-    blue_is colour k = subst IsByte (sym (split_is x.1.now k.1 k.2 k.5.0 (behind colour k).1 y g).1) k.6.0
+    blue_is colour k = subst IsByte (sym (split_is x.1.now k.1 k.2 k.5.0 (after colour k).1 y g).1) k.6.0
 
 -- ---- a colour is written by one
 

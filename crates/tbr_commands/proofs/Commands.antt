@@ -16,7 +16,7 @@ use Rattle.tbr_commands.specs.declared.request.beginning.Beginning.{Beginning}
 use Rattle.tbr_commands.specs.declared.request.kind.Kind.{Kind}
 use Rattle.tbr_commands.specs.Request.{Request, layout, begin, end, text, fragment, image, colour, border}
 use Rattle.tbr_commands.specs.Command.{Command, ask, link, end_link, sub, append, cell, end_cell, row, vertical_row, IsSized}
-use Rattle.tbr_commands.specs.Syntax.{layout_name, beginning_name, ending_name, IsAlone, Behind, HasArgument, IsColour, AreColumns, IsNewCell, IsRequest, IsOfLevels, IsWritten, IsCommand}
+use Rattle.tbr_commands.specs.Syntax.{layout_name, beginning_name, ending_name, IsAlone, After, HasArgument, IsColour, AreColumns, IsNewCell, IsRequest, IsOfLevels, IsWritten, IsCommand}
 
 -- ---- a name alone
 
@@ -132,10 +132,10 @@ IsNoLevelName line = (line ≢ codes "endlink") × (line ≢ codes "endcell") ×
 
 -- a line by the word that it begins with
 abbrev pub IsWorded : List ℕ → Type 0
-IsWorded line = (w : Word) × Behind (written_as w) line (Argument w)
+IsWorded line = (w : Word) × After (written_as w) line (Argument w)
 
 module _ (line : List ℕ) where
-  another : (word : List ℕ) (P Q : List ℕ → Type 0) → ((bs : List ℕ) → P bs → Q bs) → Behind word line P → Behind word line Q
+  another : (word : List ℕ) (P Q : List ℕ → Type 0) → ((bs : List ℕ) → P bs → Q bs) → After word line P → After word line Q
   another word P Q f k = (k.0, k.1, f k.0 k.2)
 
   by_word : (request : Request) → HasArgument line request → IsWorded line
@@ -162,15 +162,15 @@ module _ (line : List ℕ) where
   level_by_word names (row true) k = absurd (names.3 k)
   level_by_word names vertical_row k = absurd (names.4 k)
 
-parts : (line : List ℕ) (r : Option (Bor (List ℕ) × Bor (List ℕ))) → IsSplitOnceResult 32 line r → (w : Word) → Behind (written_as w) line (Argument w) → MatchOption r ⊥ (λ x. (x.0.now ≡ written_as w) × Argument w x.1.now)
+parts : (line : List ℕ) (r : Option (Bor (List ℕ) × Bor (List ℕ))) → IsSplitOnceResult 32 line r → (w : Word) → After (written_as w) line (Argument w) → MatchOption r ⊥ (λ x. (x.0.now ≡ written_as w) × Argument w x.1.now)
 parts line None h w k = split_after 32 line (written_as w) k.0 None h (lit< tt) k.1 (no_space (written_as w) (spaceless w))
 parts line (Some x) h w k =
     let p = split_after 32 line (written_as w) k.0 (Some x) h (lit< tt) k.1 (no_space (written_as w) (spaceless w)) in
     (p.0, subst (Argument w) (sym p.1) k.2)
 
 module _ (line : List ℕ) (word rest : Bor (List ℕ)) (h : IsSplitOnceResult 32 line (Some (word, rest))) where
-  pub behind_it : line ≡ word.now ++ (32 ∷ rest.now)
-  behind_it = (split_parts 32 line (Some (word, rest)) h (lit< tt)).0
+  pub after_it : line ≡ word.now ++ (32 ∷ rest.now)
+  after_it = (split_parts 32 line (Some (word, rest)) h (lit< tt)).0
 
   -- what comes after this word is no argument of it
   no_such_argument : (w : Word) → word.now ≡ written_as w → (Argument w rest.now → ⊥) → IsWorded line → ⊥

@@ -128,32 +128,32 @@ Argued cell_word bs command = (m : ℕ) × (n : ℕ) × (x : CellAlign) × IsNew
 
 record IsArgued (line : List ℕ) (command : Command) : Type 0 where
   word : Word
-  behind : List ℕ
-  is : line ≡ written_as word ++ 32 ∷ behind
-  argued : Argued word behind command
+  after : List ℕ
+  is : line ≡ written_as word ++ 32 ∷ after
+  argued : Argued word after command
 
 IsParted : List ℕ → Command → Type 0
 IsParted line command = (read line ≡ Some command) ⊎ IsArgued line command
 
 has_argument : (line : List ℕ) (request : Request) → HasArgument line request → IsArgued line (ask request)
 unfolding Argued
-has_argument line (text t) k = record { word = text_word; behind = k.0; is = k.1; argued = (t, k.2, refl) }
-has_argument line (fragment t) k = record { word = marker_word; behind = k.0; is = k.1; argued = (t, k.2, refl) }
-has_argument line (image s t) k = record { word = image_word; behind = k.0; is = k.1; argued = (s, t, k.2, refl) }
-has_argument line (colour ground.text c) k = record { word = colour_word; behind = k.0; is = k.1; argued = (c, k.2, refl) }
-has_argument line (colour ground.background c) k = record { word = ground_word; behind = k.0; is = k.1; argued = (c, k.2, refl) }
-has_argument line (border (Some n)) k = record { word = border_word; behind = k.0; is = k.1; argued = (n, k.2, refl) }
+has_argument line (text t) k = record { word = text_word; after = k.0; is = k.1; argued = (t, k.2, refl) }
+has_argument line (fragment t) k = record { word = marker_word; after = k.0; is = k.1; argued = (t, k.2, refl) }
+has_argument line (image s t) k = record { word = image_word; after = k.0; is = k.1; argued = (s, t, k.2, refl) }
+has_argument line (colour ground.text c) k = record { word = colour_word; after = k.0; is = k.1; argued = (c, k.2, refl) }
+has_argument line (colour ground.background c) k = record { word = ground_word; after = k.0; is = k.1; argued = (c, k.2, refl) }
+has_argument line (border (Some n)) k = record { word = border_word; after = k.0; is = k.1; argued = (n, k.2, refl) }
 has_argument line other k = absurd k
 
 is_parted : (line : List ℕ) (command : Command) → IsWritten line command → IsParted line command
 unfolding IsParted Argued read same
 is_parted line (ask request) (inl k) = inl (is_read line request k)
 is_parted line (ask request) (inr k) = inr (has_argument line request k)
-is_parted line (link t) k = inr (record { word = link_word; behind = k.0; is = k.1; argued = (t, k.2, refl) })
+is_parted line (link t) k = inr (record { word = link_word; after = k.0; is = k.1; argued = (t, k.2, refl) })
 is_parted line end_link k = inl (ap read k)
-is_parted line (sub n) k = inr (record { word = sub_word; behind = k.0; is = k.1; argued = (n, k.2, refl) })
-is_parted line (append s t) k = inr (record { word = append_word; behind = k.0; is = k.1; argued = (s, t, k.2, refl) })
-is_parted line (cell m n x) k = inr (record { word = cell_word; behind = k.0; is = k.1; argued = (m, n, x, k.2, refl) })
+is_parted line (sub n) k = inr (record { word = sub_word; after = k.0; is = k.1; argued = (n, k.2, refl) })
+is_parted line (append s t) k = inr (record { word = append_word; after = k.0; is = k.1; argued = (s, t, k.2, refl) })
+is_parted line (cell m n x) k = inr (record { word = cell_word; after = k.0; is = k.1; argued = (m, n, x, k.2, refl) })
 is_parted line end_cell k = inl (ap read k)
 is_parted line (row false) k = inl (ap read k)
 is_parted line (row true) k = inl (ap read k)
@@ -169,7 +169,7 @@ texts_once : (bs s t u v : List ℕ) → AreSplitTexts bs s t → AreSplitTexts 
 texts_once bs s t u v a b =
     let one = one_split bs s t u v a b in (
       text_once b.before s u (subst (λ x. IsText x s) one.0 a.one_is) b.one_is,
-      text_once b.behind t v (subst (λ x. IsText x t) one.1 a.other_is) b.other_is,
+      text_once b.after t v (subst (λ x. IsText x t) one.1 a.other_is) b.other_is,
     )
 
 argued_once : (bs : List ℕ) (w : Word) (c d : Command) → Argued w bs c → Argued w bs d → c ≡ d
@@ -193,13 +193,13 @@ argued_once bs cell_word c d a b =
 
 with_argument_once : (line : List ℕ) (c d : Command) → IsArgued line c → IsArgued line d → c ≡ d
 with_argument_once line c d a b =
-    let word = word_once a.word b.word a.behind b.behind (sym a.is ∙ b.is) in
-    let there : written_as b.word ++ 32 ∷ a.behind ≡ written_as b.word ++ 32 ∷ b.behind = ap (λ x. written_as x ++ 32 ∷ a.behind) (sym word) ∙ sym a.is ∙ b.is in
-    let rest : a.behind ≡ b.behind = cc (append_cancel_left (written_as b.word) (32 ∷ a.behind) (32 ∷ b.behind) there) in
-    argued_once b.behind b.word c d (subst (λ bs. Argued b.word bs c) rest (subst (λ x. Argued x a.behind c) word a.argued)) b.argued
+    let word = word_once a.word b.word a.after b.after (sym a.is ∙ b.is) in
+    let there : written_as b.word ++ 32 ∷ a.after ≡ written_as b.word ++ 32 ∷ b.after = ap (λ x. written_as x ++ 32 ∷ a.after) (sym word) ∙ sym a.is ∙ b.is in
+    let rest : a.after ≡ b.after = cc (append_cancel_left (written_as b.word) (32 ∷ a.after) (32 ∷ b.after) there) in
+    argued_once b.after b.word c d (subst (λ bs. Argued b.word bs c) rest (subst (λ x. Argued x a.after c) word a.argued)) b.argued
 
 not_both : (line : List ℕ) (c d : Command) → read line ≡ Some c → IsArgued line d → ⊥
-not_both line c d a k = not_read line k.behind c k.word k.is a
+not_both line c d a k = not_read line k.after c k.word k.is a
 
 parted_once : (line : List ℕ) (c d : Command) → IsParted line c → IsParted line d → c ≡ d
 unfolding IsParted

@@ -83,17 +83,17 @@ IsAlone line (border None) = line ≡ codes "border"
 IsAlone line other = ⊥
 
 -- a word, a space, and what follows it
-abbrev pub Behind : List ℕ → List ℕ → (List ℕ → Type 0) → Type 0
-Behind word line IsArgument = (argument : List ℕ) × (line ≡ word ++ (codes " " ++ argument)) × IsArgument argument
+abbrev pub After : List ℕ → List ℕ → (List ℕ → Type 0) → Type 0
+After word line IsArgument = (argument : List ℕ) × (line ≡ word ++ (codes " " ++ argument)) × IsArgument argument
 
 -- a word and an argument
 abbrev pub HasArgument : List ℕ → Request → Type 0
-HasArgument line (text t) = Behind (codes "text") line (λ argument. IsText argument t)
-HasArgument line (fragment name) = Behind (codes "frag") line (λ argument. IsText argument name)
-HasArgument line (image source title) = Behind (codes "image") line (λ argument. AreSplitTexts argument source title)
-HasArgument line (colour ground.text c) = Behind (codes "colour") line (λ argument. IsColour argument c)
-HasArgument line (colour ground.background c) = Behind (codes "bg") line (λ argument. IsColour argument c)
-HasArgument line (border (Some columns)) = Behind (codes "border") line (λ argument. AreColumns argument columns)
+HasArgument line (text t) = After (codes "text") line (λ argument. IsText argument t)
+HasArgument line (fragment name) = After (codes "frag") line (λ argument. IsText argument name)
+HasArgument line (image source title) = After (codes "image") line (λ argument. AreSplitTexts argument source title)
+HasArgument line (colour ground.text c) = After (codes "colour") line (λ argument. IsColour argument c)
+HasArgument line (colour ground.background c) = After (codes "bg") line (λ argument. IsColour argument c)
+HasArgument line (border (Some columns)) = After (codes "border") line (λ argument. AreColumns argument columns)
 HasArgument line other = ⊥
 
 -- The line is how the request is written: a name alone, or a word and its argument.
@@ -117,11 +117,11 @@ IsNewCell writing width span align =
 -- a line that opens or closes a link, a block or a cell, or takes the cells that wait
 abbrev pub IsOfLevels : List ℕ → Command → Type 0
 IsOfLevels line (ask request) = ⊥
-IsOfLevels line (link target) = Behind (codes "link") line (λ argument. IsText argument target)
+IsOfLevels line (link target) = After (codes "link") line (λ argument. IsText argument target)
 IsOfLevels line end_link = line ≡ codes "endlink"
-IsOfLevels line (sub width) = Behind (codes "sub") line (λ argument. IsSize argument width)
-IsOfLevels line (append first others) = Behind (codes "append") line (λ argument. AreSplitTexts argument first others)
-IsOfLevels line (cell width span align) = Behind (codes "cell") line (λ argument. IsNewCell argument width span align)
+IsOfLevels line (sub width) = After (codes "sub") line (λ argument. IsSize argument width)
+IsOfLevels line (append first others) = After (codes "append") line (λ argument. AreSplitTexts argument first others)
+IsOfLevels line (cell width span align) = After (codes "cell") line (λ argument. IsNewCell argument width span align)
 IsOfLevels line end_cell = line ≡ codes "endcell"
 IsOfLevels line (row false) = line ≡ codes "row"
 IsOfLevels line (row true) = line ≡ codes "row collapse"

@@ -60,11 +60,11 @@ impl Opening {
         if words.next()? != "new" {
             return None;
         }
-        Opening::behind_new(words)
+        Opening::after_new(words)
     }
 
     /// The same of what comes after `new`.
-    fn behind_new(mut words: Words<'_>) -> Option<Opening>
+    fn after_new(mut words: Words<'_>) -> Option<Opening>
         ensures found { IfSome result (λ opening. AsksFor words.entry opening) }
         ensures width { IfSome result (λ opening. 0 < opening.width) }
         ensures wrap_width { IfSome result (λ opening. opening.options.wrap_width ≢ Some 0) }

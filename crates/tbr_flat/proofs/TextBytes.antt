@@ -10,7 +10,7 @@ use Rattle.std.proofs.lemmas.List.{drop_at, drop-drop, drop-append-le}
 use Rattle.std.proofs.lemmas.Str.{IsUtf8-append, IsUtf8-nil, IsCharBoundary-from_drop, length-le-encodes, encodes-chars, scalars-chars, chars-encodes, encodes-append, IsCharBoundary-at_seam, IsUtf8-encode, IsUtf8-past_char, is_utf8-from_IsUtf8, IsUtf8-from_is_utf8, chars-append, chars-nil, chars_past_char, IsUtf8-from_ascii, chars-IsAscii, encodes-IsAscii}
 use lib.Utf8.{encodes, scalar, scalars}
 use Rattle.tbr_flat.specs.Flat.{IsLeft}
-use Rattle.tbr_tagged.proofs.TextBehind.{chars_push, chars_none}
+use Rattle.tbr_tagged.proofs.TextAfter.{chars_push, chars_none}
 
 -- ---- what is left of a text
 

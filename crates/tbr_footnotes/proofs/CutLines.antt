@@ -18,7 +18,7 @@ use Rattle.tbr_tagged.specs.declared.TaggedLineElement.{TaggedLineElement}
 use Rattle.tbr_tagged.specs.View.{element_of}
 use Rattle.tbr_decor.specs.Meant.{meant as element_meant}
 use Rattle.tbr_footnotes.specs.Cutting.{Cutting, nothing_cut, line_ended, appended, extended, with_item, with_items, cut_meant, texts_meant, cutting_of, HoldsCutting}
-use Rattle.tbr_footnotes.specs.Footnote.{unbroken, footnote_items, fits_behind, cut_lines}
+use Rattle.tbr_footnotes.specs.Footnote.{unbroken, footnote_items, fits_after, cut_lines}
 use Rattle.tbr_footnotes.specs.declared.footnote_lines.FootnoteLines.TheInside.{Inside}
 use Rattle.tbr_footnotes.specs.Tags.{tag_meant, items_meant}
 use Rattle.tbr_footnotes.proofs.Tags.{text_items-map}
@@ -57,24 +57,24 @@ module _ {T : Type 0} (columns : ℕ → Option ℕ) where
   text_ends c d tag cs ds so_far all = so_far ∙ ap (λ xs. with_items columns c (text_items (map unbroken xs) tag)) all
 
   -- what fits after a line, where more does, and after a character of it
-  fits_at_most : (width : Option ℕ) (held : List (Item T)) (more most : ℕ) → more ≤ most → fits_behind columns width held most ≡ true → fits_behind columns width held more ≡ true
+  fits_at_most : (width : Option ℕ) (held : List (Item T)) (more most : ℕ) → more ≤ most → fits_after columns width held most ≡ true → fits_after columns width held more ≡ true
   fits_at_most None held more most h fits = refl
   fits_at_most (Some width) held more most h fits = le-leb _ _ (omega (arith, h, leb-true _ _ fits))
 
-  fits_after : (width : Option ℕ) (held : List (Item T)) (i : Item T) (more : ℕ) → fits_behind columns width held (item_width columns i + more) ≡ true → fits_behind columns width (held ++ i ∷ []) more ≡ true
-  fits_after None held i more fits = refl
-  fits_after (Some width) held i more fits = le-leb _ _ (omega (arith, items_width-append columns held (i ∷ []), leb-true _ _ fits))
+  fits_less : (width : Option ℕ) (held : List (Item T)) (i : Item T) (more : ℕ) → fits_after columns width held (item_width columns i + more) ≡ true → fits_after columns width (held ++ i ∷ []) more ≡ true
+  fits_less None held i more fits = refl
+  fits_less (Some width) held i more fits = le-leb _ _ (omega (arith, items_width-append columns held (i ∷ []), leb-true _ _ fits))
 
   -- a text that fits as a whole
-  with_text : (c : Cutting T) (tag : T) (cs : List ℕ) → fits_behind columns c.width c.held (width_of_text columns cs) ≡ true → with_items columns c (text_items cs tag) ≡ extended c (text_items cs tag)
+  with_text : (c : Cutting T) (tag : T) (cs : List ℕ) → fits_after columns c.width c.held (width_of_text columns cs) ≡ true → with_items columns c (text_items cs tag) ≡ extended c (text_items cs tag)
   with_text c tag [] fits = ap (λ (is : List (Item T)). record c { held = is }) (sym (append-nil c.held))
   with_text c tag (x ∷ cs) fits =
       let i = glyph x tag in
       let here = fits_at_most c.width c.held (item_width columns i) (width_of_text columns (x ∷ cs)) (omega arith) fits in
       ap (λ (b : Bool). with_items columns (appended (if b then c else line_ended c) i) (text_items cs tag)) here
-      ∙ with_text (appended c i) tag cs (fits_after c.width c.held i (width_of_text columns cs) fits) ∙ ap (λ (is : List (Item T)). record c { held = is }) (append_assoc c.held (i ∷ []) (text_items cs tag))
+      ∙ with_text (appended c i) tag cs (fits_less c.width c.held i (width_of_text columns cs) fits) ∙ ap (λ (is : List (Item T)). record c { held = is }) (append_assoc c.held (i ∷ []) (text_items cs tag))
 
-  pub whole_text : (c d : Cutting T) (tag : T) (cs : List ℕ) → map unbroken cs ≡ cs → fits_behind columns c.width c.held (width_of_text columns cs) ≡ true → d ≡ extended c (text_items cs tag) → d ≡ with_items columns c (text_items (map unbroken cs) tag)
+  pub whole_text : (c d : Cutting T) (tag : T) (cs : List ℕ) → map unbroken cs ≡ cs → fits_after columns c.width c.held (width_of_text columns cs) ≡ true → d ≡ extended c (text_items cs tag) → d ≡ with_items columns c (text_items (map unbroken cs) tag)
   whole_text c d tag cs unbroken fits is = is ∙ sym (with_text c tag cs fits) ∙ ap (λ ds. with_items columns c (text_items ds tag)) (sym unbroken)
 
   -- one character, whether it fits or not
@@ -85,16 +85,16 @@ module _ {T : Type 0} (columns : ℕ → Option ℕ) where
     abbrev lines_after : Bool → List (List (Item T))
     lines_after b = if b then cut_lines columns c.width (c.held ++ i ∷ []) is else c.held ∷ cut_lines columns c.width (i ∷ []) is
 
-    one_by_one : (b : Bool) → fits_behind columns c.width c.held (item_width columns i) ≡ b → (line_ended (cutting_after b)).ended ≡ c.ended ++ lines_after b →
+    one_by_one : (b : Bool) → fits_after columns c.width c.held (item_width columns i) ≡ b → (line_ended (cutting_after b)).ended ≡ c.ended ++ lines_after b →
         (line_ended (with_items columns c (i ∷ is))).ended ≡ c.ended ++ cut_lines columns c.width c.held (i ∷ is)
     one_by_one b fits h = ap (λ (x : Bool). (line_ended (cutting_after x)).ended) fits ∙ h ∙ ap (λ (x : Bool). c.ended ++ lines_after x) (sym fits)
 
   -- the lines of all characters
   pub cut_by_items : (c : Cutting T) (is : List (Item T)) → (line_ended (with_items columns c is)).ended ≡ c.ended ++ cut_lines columns c.width c.held is
   cut_by_items c [] = refl
-  cut_by_items c (i ∷ is) = go (fits_behind columns c.width c.held (item_width columns i)) refl (cut_by_items (appended c i) is) (cut_by_items (appended (line_ended c) i) is)
+  cut_by_items c (i ∷ is) = go (fits_after columns c.width c.held (item_width columns i)) refl (cut_by_items (appended c i) is) (cut_by_items (appended (line_ended c) i) is)
     where
-      go : (b : Bool) → fits_behind columns c.width c.held (item_width columns i) ≡ b →
+      go : (b : Bool) → fits_after columns c.width c.held (item_width columns i) ≡ b →
           (line_ended (with_items columns (appended c i) is)).ended ≡ c.ended ++ cut_lines columns c.width (c.held ++ i ∷ []) is →
           (line_ended (with_items columns (appended (line_ended c) i) is)).ended ≡ (c.ended ++ c.held ∷ []) ++ cut_lines columns c.width (i ∷ []) is →
           (line_ended (with_items columns c (i ∷ is))).ended ≡ c.ended ++ cut_lines columns c.width c.held (i ∷ is)

@@ -5,7 +5,7 @@ use Rattle.std.specs.Global.{Vec}
 use Rattle.tbr_model.specs.Run.{Item, item_width, items_width}
 use Rattle.tbr_tagged.specs.Copies.{equal_lists}
 use Rattle.tbr_tagged.specs.Elements.{Element, items_of, IsMerged}
-use Rattle.tbr_footnotes.specs.Footnote.{fits_behind}
+use Rattle.tbr_footnotes.specs.Footnote.{fits_after}
 use Rattle.tbr_footnotes.specs.Tags.{items_meant}
 use Rattle.tbr_footnotes.specs.declared.footnote_lines.FootnoteLines.TheInside.{Inside}
 
@@ -35,7 +35,7 @@ appended c i = extended c (i ∷ [])
 -- an item more, on a fresh line where it doesn't fit after what the open one holds
 abbrev pub with_item : {T : Type 0} → (ℕ → Option ℕ) → Cutting T → Item T → Cutting T
 with_item columns c i =
-    appended (if fits_behind columns c.width c.held (item_width columns i) then c else line_ended c) i
+    appended (if fits_after columns c.width c.held (item_width columns i) then c else line_ended c) i
 
 -- items more, one after another
 abbrev pub with_items : {T : Type 0} → (ℕ → Option ℕ) → Cutting T → List (Item T) → Cutting T

@@ -15,14 +15,14 @@ footnote_items (piece cs a ∷ es) = text_items (map unbroken cs) (a ∷ []) ++ 
 footnote_items (marker_element name ∷ es) = footnote_items es
 
 -- Whether so many columns more fit after what a line holds. Without a width they do.
-abbrev pub fits_behind : {A : Type 0} → (ℕ → Option ℕ) → Option ℕ → List (Item A) → ℕ → Bool
-fits_behind columns None held more = true
-fits_behind columns (Some width) held more = nat_le (items_width columns held + more) width
+abbrev pub fits_after : {A : Type 0} → (ℕ → Option ℕ) → Option ℕ → List (Item A) → ℕ → Bool
+fits_after columns None held more = true
+fits_after columns (Some width) held more = nat_le (items_width columns held + more) width
 
 -- A line ends before each item that doesn't fit after what it holds.
 abbrev pub cut_lines : {A : Type 0} → (ℕ → Option ℕ) → Option ℕ → List (Item A) → List (Item A) → List (List (Item A))
 cut_lines columns width held [] = held ∷ []
 cut_lines columns width held (i ∷ is) =
-    if fits_behind columns width held (item_width columns i)
+    if fits_after columns width held (item_width columns i)
     then cut_lines columns width (held ++ i ∷ []) is
     else held ∷ cut_lines columns width (i ∷ []) is

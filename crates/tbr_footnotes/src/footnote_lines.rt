@@ -10,7 +10,7 @@ ghost use Rattle.tbr_tagged.specs.Walks.{piece_of};
 ghost use Rattle.tbr_decor.specs.Meant.{meant};
 ghost use Rattle.tbr_footnotes.specs.Cutting.{nothing_cut, line_ended, appended, extended, with_item, with_items, cut_meant, texts_meant};
 ghost use Rattle.tbr_footnotes.specs.Footnote as model;
-ghost use Rattle.tbr_footnotes.specs.Footnote.{footnote_items, fits_behind};
+ghost use Rattle.tbr_footnotes.specs.Footnote.{footnote_items, fits_after};
 ghost use Rattle.tbr_footnotes.specs.Tags.{tag_meant};
 
 use std::alloc::Global;
@@ -115,10 +115,10 @@ impl<D: TextDecorator, W: CharWidth> FootnoteLines<D, W> {
         ensures columns { let held = (cut_meant D.meaning self.now).held in IfSome result (λ columns.
             columns ≡ items_width W.columns held + width_of_text W.columns (chars text.now)) }
         ensures fits { let held = (cut_meant D.meaning self.now).held in IfSome result (λ _.
-            fits_behind W.columns self.now.width held (width_of_text W.columns (chars text.now)) ≡ true) }
+            fits_after W.columns self.now.width held (width_of_text W.columns (chars text.now)) ≡ true) }
         ensures unbroken { IfSome result (λ _. map model.unbroken (chars text.now) ≡ chars text.now) }
     {
-        let columns = columns_behind::<W>(self.columns, text)?;
+        let columns = columns_after::<W>(self.columns, text)?;
         match self.width {
             Some(width) if width < columns => None,
             _ => Some(columns),
@@ -166,7 +166,7 @@ impl<D: TextDecorator, W: CharWidth> FootnoteLines<D, W> {
     /// Whether a character fits after what the open line holds.
     fn fits(&self, c: char) -> bool
         ensures { result
-            ≡ fits_behind W.columns self.now.width (cut_meant D.meaning self.now).held (unwrap_or (W.columns c) 0) }
+            ≡ fits_after W.columns self.now.width (cut_meant D.meaning self.now).held (unwrap_or (W.columns c) 0) }
     {
         let Some(width) = self.width else {
             return true;
@@ -201,7 +201,7 @@ impl<D: TextDecorator, W: CharWidth> FootnoteLines<D, W> {
 }
 
 /// `before` and the columns of a text together, where the text has no newline. `None` also where that passes `usize`.
-fn columns_behind<W: CharWidth>(before: usize, text: &str) -> Option<usize>
+fn columns_after<W: CharWidth>(before: usize, text: &str) -> Option<usize>
     ensures columns { IfSome result (λ columns. columns ≡ before + width_of_text W.columns (chars text.now)) }
     ensures unbroken { IfSome result (λ _. map model.unbroken (chars text.now) ≡ chars text.now) }
 {

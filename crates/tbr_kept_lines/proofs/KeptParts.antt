@@ -26,16 +26,16 @@ use Rattle.tbr_kept_lines.specs.declared.kept_lines.Part.{Part}
 
 -- ---- whether there is a line
 
-some_behind : {X : Type 0} (xs ys : List X) → is_some_list ys ≡ true → is_some_list (xs ++ ys) ≡ true
-some_behind [] ys h = h
-some_behind (x ∷ xs) ys h = refl
+some_after : {X : Type 0} (xs ys : List X) → is_some_list ys ≡ true → is_some_list (xs ++ ys) ≡ true
+some_after [] ys h = h
+some_after (x ∷ xs) ys h = refl
 
 text_lines_some : {T : Type 0} (texts : List (List (Item T))) → is_some_list texts ≡ true → is_some_list (text_lines texts) ≡ true
 text_lines_some [] h = h
 text_lines_some (is ∷ texts) h = refl
 
 part_some : {T : Type 0} (eq : T → T → Bool) (p : Part T) → HoldsPart eq p → is_some_list (part_seen p) ≡ true
-part_some eq p h = some_behind (map line_seen p.before.items) (text_lines p.ended) (text_lines_some p.ended h.some)
+part_some eq p h = some_after (map line_seen p.before.items) (text_lines p.ended) (text_lines_some p.ended h.some)
 
 some_in_front : {X : Type 0} (xs ys : List X) → is_some_list xs ≡ true → is_some_list (xs ++ ys) ≡ true
 some_in_front [] ys h = cc
@@ -74,23 +74,23 @@ text_content [] = refl
 text_content (is ∷ texts) = ap (λ b. has_character is || b) (text_content texts)
 
 -- the last lines, and a block's after them, are a part more
-pub part_behind : {T : Type 0} (ps : List (Part T)) (p : Part T) → parts_seen (ps ++ p ∷ []) ≡ (parts_seen ps ++ map line_seen p.before.items) ++ text_lines p.ended
-part_behind ps p =
+pub part_after : {T : Type 0} (ps : List (Part T)) (p : Part T) → parts_seen (ps ++ p ∷ []) ≡ (parts_seen ps ++ map line_seen p.before.items) ++ text_lines p.ended
+part_after ps p =
     flat_map-append part_seen ps (p ∷ []) ∙ ap (λ ls. parts_seen ps ++ ls) (append-nil (part_seen p)) ∙ sym (append_assoc (parts_seen ps) (map line_seen p.before.items) (text_lines p.ended))
 
-pub content_behind : {T : Type 0} (ps : List (Part T)) (p : Part T) (above last : Bool) → above ≡ list_any line_has_content (parts_seen ps ++ map line_seen p.before.items) → last ≡ list_any has_character p.ended →
+pub content_after : {T : Type 0} (ps : List (Part T)) (p : Part T) (above last : Bool) → above ≡ list_any line_has_content (parts_seen ps ++ map line_seen p.before.items) → last ≡ list_any has_character p.ended →
     above || last ≡ list_any line_has_content (parts_seen (ps ++ p ∷ []))
-content_behind ps p above last h k =
+content_after ps p above last h k =
     ap (λ b. b || last) h ∙ ap (λ b. list_any line_has_content (parts_seen ps ++ map line_seen p.before.items) || b) (k ∙ sym (text_content p.ended))
-    ∙ sym (any_append line_has_content (parts_seen ps ++ map line_seen p.before.items) (text_lines p.ended)) ∙ ap (list_any line_has_content) (sym (part_behind ps p))
+    ∙ sym (any_append line_has_content (parts_seen ps ++ map line_seen p.before.items) (text_lines p.ended)) ∙ ap (list_any line_has_content) (sym (part_after ps p))
 
 -- ---- the last border
 
-last_behind : {T : Type 0} (xs ys : List (Line T)) → is_some_list ys ≡ true → last_border (xs ++ ys) ≡ last_border ys
-last_behind [] ys h = refl
-last_behind (x ∷ []) [] h = cc
-last_behind (x ∷ []) (y ∷ ys) h = refl
-last_behind (x ∷ w ∷ xs) ys h = last_behind (w ∷ xs) ys h
+last_after : {T : Type 0} (xs ys : List (Line T)) → is_some_list ys ≡ true → last_border (xs ++ ys) ≡ last_border ys
+last_after [] ys h = refl
+last_after (x ∷ []) [] h = cc
+last_after (x ∷ []) (y ∷ ys) h = refl
+last_after (x ∷ w ∷ xs) ys h = last_after (w ∷ xs) ys h
 
 no_border_in_texts : {T : Type 0} (texts : List (List (Item T))) → last_border (text_lines texts) ≡ None
 no_border_in_texts [] = refl
@@ -100,28 +100,28 @@ no_border_in_texts (is ∷ js ∷ texts) = no_border_in_texts (js ∷ texts)
 no_border_in_parts : {T : Type 0} (eq : T → T → Bool) (ps : List (Part T)) → Each (HoldsPart eq) ps → last_border (parts_seen ps) ≡ None
 no_border_in_parts eq [] h = refl
 no_border_in_parts eq (p ∷ []) h =
-    ap last_border (append-nil (part_seen p)) ∙ last_behind (map line_seen p.before.items) (text_lines p.ended) (text_lines_some p.ended h.0.some) ∙ no_border_in_texts p.ended
+    ap last_border (append-nil (part_seen p)) ∙ last_after (map line_seen p.before.items) (text_lines p.ended) (text_lines_some p.ended h.0.some) ∙ no_border_in_texts p.ended
 no_border_in_parts eq (p ∷ q ∷ ps) h =
-    last_behind (part_seen p) (parts_seen (q ∷ ps)) (parts_some eq (q ∷ ps) h.1) ∙ no_border_in_parts eq (q ∷ ps) h.1
+    last_after (part_seen p) (parts_seen (q ∷ ps)) (parts_some eq (q ∷ ps) h.1) ∙ no_border_in_parts eq (q ∷ ps) h.1
 
 -- where no border ends the last lines, none ends all lines
 pub no_border : {T : Type 0} (eq : T → T → Bool) (ps : List (Part T)) (last : List (RenderLine T)) → Each (HoldsPart eq) ps → last_border (map line_seen last) ≡ None →
     last_border (parts_seen ps ++ map line_seen last) ≡ None
 no_border eq ps [] h none = ap last_border (append-nil (parts_seen ps)) ∙ no_border_in_parts eq ps h
-no_border eq ps (l ∷ last) h none = last_behind (parts_seen ps) (map line_seen (l ∷ last)) refl ∙ none
+no_border eq ps (l ∷ last) h none = last_after (parts_seen ps) (map line_seen (l ∷ last)) refl ∙ none
 
 -- ---- how many lines have content
 
-pub each_behind : {X : Type 0} (P : X → Type 0) (xs : List X) (x : X) → Each P xs → P x → Each P (xs ++ x ∷ [])
-each_behind P [] x h k = (k, tt)
-each_behind P (y ∷ xs) x h k = (h.0, each_behind P xs x h.1 k)
+pub each_after : {X : Type 0} (P : X → Type 0) (xs : List X) (x : X) → Each P xs → P x → Each P (xs ++ x ∷ [])
+each_after P [] x h k = (k, tt)
+each_after P (y ∷ xs) x h k = (h.0, each_after P xs x h.1 k)
 
 pub each_front : {X : Type 0} (P : X → Type 0) (xs : List X) (x : X) → Each P (xs ++ x ∷ []) → Each P xs
 each_front P [] x h = tt
 each_front P (y ∷ xs) x h = (h.0, each_front P xs x h.1)
 
-count_behind : {X : Type 0} (test : X → Bool) (xs : List X) (x : X) → length (filter test (xs ++ x ∷ [])) ≡ length (filter test xs) + (if test x then 1 else 0)
-count_behind {X} test xs x = ap length (filter-append test xs (x ∷ [])) ∙ length-append (filter test xs) (filter test (x ∷ [])) ∙ ap (λ n. length (filter test xs) + n) (go (test x))
+count_after : {X : Type 0} (test : X → Bool) (xs : List X) (x : X) → length (filter test (xs ++ x ∷ [])) ≡ length (filter test xs) + (if test x then 1 else 0)
+count_after {X} test xs x = ap length (filter-append test xs (x ∷ [])) ∙ length-append (filter test xs) (filter test (x ∷ [])) ∙ ap (λ n. length (filter test xs) + n) (go (test x))
   where
     go : (b : Bool) → length (if b then x ∷ [] else []) ≡ (if b then 1 else 0)
     go true = refl
@@ -157,7 +157,7 @@ module _ {T : Type 0} (b : Border T) (old new : List (RenderLine T)) (is : old �
   pub counted : length (filter line_has_content (map line_seen old)) ≡ length (filter line_has_content (map line_seen new)) + (if not (has_holes b.holes) then 1 else 0)
   counted =
       ap (λ ls. length (filter line_has_content (map line_seen ls))) is ∙ ap (λ ls. length (filter line_has_content ls)) (map-append line_seen new (Rule b ∷ []))
-      ∙ count_behind line_has_content (map line_seen new) (border b)
+      ∙ count_after line_has_content (map line_seen new) (border b)
 
   -- a border without holes counts
   pub some_counted : (n : ℕ) → n ≡ length (filter line_has_content (map line_seen old)) → has_holes b.holes ≡ false → 1 ≤ n
@@ -181,7 +181,7 @@ pub content_more : {T : Type 0} (eq : T → T → Bool) (line : RenderLine T) (l
 content_more eq line lines n merged content =
     ap (λ k. k + (if line_holds line then 1 else 0)) content
     ∙ ap (λ (b : Bool). length (filter line_has_content (map line_seen lines)) + (if b then 1 else 0)) (content_seen eq line merged)
-    ∙ sym (count_behind line_has_content (map line_seen lines) (line_seen line))
+    ∙ sym (count_after line_has_content (map line_seen lines) (line_seen line))
     ∙ ap (λ ls. length (filter line_has_content ls)) (sym (map-append line_seen lines (line ∷ [])))
 
 -- ---- a block's lines, one by one
@@ -212,7 +212,7 @@ module _ {T : Type 0} (eq : T → T → Bool) (before now : List (RenderLine T))
         let ends = all_zip_append (SameSeen eq) (map line_seen h.more) (text (items_of line) ∷ []) (text_lines h.given) (text is ∷ []) h.same (shows.0, tt) in
         subst (λ ls. AllZip (SameSeen eq) ls (text_lines (h.given ++ is ∷ []))) (sym (map-append line_seen h.more (Text line ∷ [])))
         (subst (λ ls. AllZip (SameSeen eq) (map line_seen h.more ++ text (items_of line) ∷ []) ls) (sym (text_lines_append h.given (is ∷ []))) ends);
-    merged = each_behind (IsMergedText eq) h.more (Text line) h.merged shows.1;
+    merged = each_after (IsMergedText eq) h.more (Text line) h.merged shows.1;
   }
 
   -- all of them
@@ -237,7 +237,7 @@ pub part_shown : {T : Type 0} (ps : List (Part T)) (p : Part T) (front : List �
 part_shown ps p front =
     ap (λ cs. cs ++ lines_characters p.ended) (append_assoc front (lines_text (parts_seen ps)) (lines_text (map line_seen p.before.items)) ∙ ap (λ cs. front ++ cs) (sym (flat_map-append line_text (parts_seen ps) (map line_seen p.before.items))))
     ∙ append_assoc front (lines_text (parts_seen ps ++ map line_seen p.before.items)) (lines_characters p.ended)
-    ∙ ap (λ cs. front ++ cs) (ap (λ cs. lines_text (parts_seen ps ++ map line_seen p.before.items) ++ cs) (sym (texts_shown p.ended)) ∙ sym (flat_map-append line_text (parts_seen ps ++ map line_seen p.before.items) (text_lines p.ended)) ∙ ap lines_text (sym (part_behind ps p)))
+    ∙ ap (λ cs. front ++ cs) (ap (λ cs. lines_text (parts_seen ps ++ map line_seen p.before.items) ++ cs) (sym (texts_shown p.ended)) ∙ sym (flat_map-append line_text (parts_seen ps ++ map line_seen p.before.items) (text_lines p.ended)) ∙ ap lines_text (sym (part_after ps p)))
 
 -- ---- all lines by themselves
 
@@ -251,8 +251,8 @@ module _ {T : Type 0} (eq : T → T → Bool) (laws : IsEquivalence eq) where
   same_lines (l ∷ ls) = (same_line l, same_lines ls)
 
   -- lines, and last ones after them
-  pub lines_behind : (lines last : List (RenderLine T)) (seen : List (Line T)) → AllZip (SameSeen eq) (map line_seen lines) seen → AllZip (SameSeen eq) (map line_seen (lines ++ last)) (seen ++ map line_seen last)
-  lines_behind lines last seen h =
+  pub lines_after : (lines last : List (RenderLine T)) (seen : List (Line T)) → AllZip (SameSeen eq) (map line_seen lines) seen → AllZip (SameSeen eq) (map line_seen (lines ++ last)) (seen ++ map line_seen last)
+  lines_after lines last seen h =
       subst (λ ls. AllZip (SameSeen eq) ls (seen ++ map line_seen last)) (sym (map-append line_seen lines last))
       (all_zip_append (SameSeen eq) (map line_seen lines) (map line_seen last) seen (map line_seen last) h (same_lines (map line_seen last)))
 
@@ -261,8 +261,8 @@ module _ {T : Type 0} (eq : T → T → Bool) (laws : IsEquivalence eq) where
       all ≡ (lines ++ p.before.items) ++ more → AllZip (SameSeen eq) (map line_seen all) (parts_seen (ps ++ p ∷ []))
   part_listed ps p lines more all h k is =
       let front = lines ++ p.before.items in
-      let ends = all_zip_append (SameSeen eq) (map line_seen front) (map line_seen more) (parts_seen ps ++ map line_seen p.before.items) (text_lines p.ended) (lines_behind lines p.before.items (parts_seen ps) h) k in
-      subst (λ ls. AllZip (SameSeen eq) (map line_seen all) ls) (sym (part_behind ps p))
+      let ends = all_zip_append (SameSeen eq) (map line_seen front) (map line_seen more) (parts_seen ps ++ map line_seen p.before.items) (text_lines p.ended) (lines_after lines p.before.items (parts_seen ps) h) k in
+      subst (λ ls. AllZip (SameSeen eq) (map line_seen all) ls) (sym (part_after ps p))
       (subst (λ ls. AllZip (SameSeen eq) ls ((parts_seen ps ++ map line_seen p.before.items) ++ text_lines p.ended)) (sym (ap (map line_seen) is ∙ map-append line_seen front more)) ends)
 
 each_append : {X : Type 0} (P : X → Type 0) (xs ys : List X) → Each P xs → Each P ys → Each P (xs ++ ys)

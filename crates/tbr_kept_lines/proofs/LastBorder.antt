@@ -11,20 +11,20 @@ use Rattle.tbr_kept_lines.specs.Line.{Line, border, line_seen}
 use Rattle.tbr_kept_lines.specs.LastBorder.{is_rule, is_border, border_in, without_last, last_border, before_border}
 
 -- the last line decides
-last_behind : {T : Type 0} (front : List (Line T)) (l : Line T) → last_border (front ++ l ∷ []) ≡ border_in l
-last_behind [] l = refl
-last_behind (x ∷ []) l = refl
-last_behind (x ∷ y ∷ front) l = last_behind (y ∷ front) l
+last_after : {T : Type 0} (front : List (Line T)) (l : Line T) → last_border (front ++ l ∷ []) ≡ border_in l
+last_after [] l = refl
+last_after (x ∷ []) l = refl
+last_after (x ∷ y ∷ front) l = last_after (y ∷ front) l
 
-front_behind : {X : Type 0} (front : List X) (x : X) → without_last (front ++ x ∷ []) ≡ front
-front_behind front x = ap (λ n. take (n - 1) (front ++ x ∷ [])) (length-append front (x ∷ [])) ∙ ap (λ n. take n (front ++ x ∷ [])) (let n : length front + 1 - 1 ≡ length front = omega arith in n) ∙ take-append_seam front (x ∷ [])
+front_after : {X : Type 0} (front : List X) (x : X) → without_last (front ++ x ∷ []) ≡ front
+front_after front x = ap (λ n. take (n - 1) (front ++ x ∷ [])) (length-append front (x ∷ [])) ∙ ap (λ n. take n (front ++ x ∷ [])) (let n : length front + 1 - 1 ≡ length front = omega arith in n) ∙ take-append_seam front (x ∷ [])
 
 module _ {T : Type 0} (ls front : List (Line T)) (b : Border T) (is : ls ≡ front ++ border b ∷ []) where
   pub border_is : last_border ls ≡ Some b
-  border_is = ap last_border is ∙ last_behind front (border b)
+  border_is = ap last_border is ∙ last_after front (border b)
 
   pub front_is : before_border ls ≡ front
-  front_is = ap before_border is ∙ ap (λ (o : Option (Border T)). if is_some o then without_last (front ++ border b ∷ []) else front ++ border b ∷ []) (last_behind front (border b)) ∙ front_behind front (border b)
+  front_is = ap before_border is ∙ ap (λ (o : Option (Border T)). if is_some o then without_last (front ++ border b ∷ []) else front ++ border b ∷ []) (last_after front (border b)) ∙ front_after front (border b)
 
 -- no border where the last line in memory is none
 pub no_last_border : {T : Type 0} (ls : List (RenderLine T)) (x : RenderLine T) → x ≡ get_or ls (length ls - 1) x → last_border (line_seen x ∷ []) ≡ None → last_border (map line_seen ls) ≡ None

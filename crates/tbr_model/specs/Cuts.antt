@@ -12,14 +12,14 @@ pub record IsLayout (items : ℕ) (cuts : List ℕ) : Type 0 where
   pub ends : slice_get cuts (length cuts - 1) ≡ Some items
 
 -- the lines after a cut
-abbrev pub lines_behind : {X : Type 0} → List X → ℕ → List ℕ → List (List X)
-lines_behind items cut [] = []
-lines_behind items cut (next ∷ cuts) = slice_range items cut next ∷ lines_behind items next cuts
+abbrev pub lines_after : {X : Type 0} → List X → ℕ → List ℕ → List (List X)
+lines_after items cut [] = []
+lines_after items cut (next ∷ cuts) = slice_range items cut next ∷ lines_after items next cuts
 
 -- The lines of a layout: each holds the items between a cut and the next.
 abbrev pub lines_between : {X : Type 0} → List X → List ℕ → List (List X)
 lines_between items [] = []
-lines_between items (cut ∷ cuts) = lines_behind items cut cuts
+lines_between items (cut ∷ cuts) = lines_after items cut cuts
 
 -- where each of the lines ends that begin at a position
 abbrev pub ends_of : {X : Type 0} → ℕ → List (List X) → List ℕ

@@ -172,8 +172,8 @@ first_stretch (c ∷ cs) = if c == space_character then [] else c ∷ first_stre
 -- How a line begins after spaces that are dropped, and after the line before, which is empty where the hard line
 -- begins. It begins with the hard line, or with a stretch that doesn't fit after that line with the spaces. If no
 -- spaces are dropped, it goes on with a stretch that filled the line before alone.
-abbrev pub BeginsBehind : ℕ → List ℕ → ℕ → List ℕ → Type 0
-BeginsBehind width before gap l =
+abbrev pub BeginsAfter : ℕ → List ℕ → ℕ → List ℕ → Type 0
+BeginsAfter width before gap l =
     ((before ≡ []) × (gap ≡ 0))
     ⊎ (BeginsWithNonBlank l × (width < length before + (gap + length (first_stretch l)))
     × (gap ≡ 0 → (length before ≡ width) × (first_stretch before ≡ before)))
@@ -184,7 +184,7 @@ abbrev pub IsWrapped : ℕ → List ℕ → List ℕ → List (List ℕ) → Typ
 IsWrapped width before text [] = IsSpaces text
 IsWrapped width before text (l ∷ ls) =
     (gap : ℕ) × (rest : List ℕ) × (text ≡ replicate gap space_character ++ (l ++ rest))
-    × EndsWithNonBlank l × (length l ≤ width) × BeginsBehind width before gap l × IsWrapped width l rest ls
+    × EndsWithNonBlank l × (length l ≤ width) × BeginsAfter width before gap l × IsWrapped width l rest ls
 
 -- from a column on, each tab as spaces up to the next multiple of eight
 abbrev pub tabs_filled : ℕ → List ℕ → List ℕ

@@ -36,10 +36,10 @@ without_last_markers n (marker_entry name ∷ es) =
     else marker_entry name ∷ without_last_markers n es
 
 -- after markers: a character that passes the test leaves none, and a marker is one more
-abbrev pub marked_behind : {A : Type 0} → (ℕ → Bool) → List (List ℕ) → Entry A → List (List ℕ)
-marked_behind test names (character c a b mode) = if test c then [] else names
-marked_behind test names (marker_entry name) = names ++ name ∷ []
+abbrev pub marked_after : {A : Type 0} → (ℕ → Bool) → List (List ℕ) → Entry A → List (List ℕ)
+marked_after test names (character c a b mode) = if test c then [] else names
+marked_after test names (marker_entry name) = names ++ name ∷ []
 
 -- the markers of a run after its last character that passes the test
-abbrev pub names_behind : {A : Type 0} → (ℕ → Bool) → List (Entry A) → List (List ℕ)
-names_behind test run = fold (marked_behind test) [] run
+abbrev pub names_after : {A : Type 0} → (ℕ → Bool) → List (Entry A) → List (List ℕ)
+names_after test run = fold (marked_after test) [] run

@@ -56,24 +56,24 @@ first_blank (e ∷ es) = first_of (blank_of e) (first_blank es)
 -- The word of a region's content: its kept characters and markers. `before` is the break point that ended the word
 -- before it, or nothing. The gap is spaced if white space other than U+00A0 is in `before` or in the content, and has
 -- the annotation of the first.
-abbrev pub word_behind : {A : Type 0} → (ℕ → Option ℕ) → List (Entry A) → List (Entry A) → Word A
-word_behind columns before content = record {
+abbrev pub word_after : {A : Type 0} → (ℕ → Option ℕ) → List (Entry A) → List (Entry A) → Word A
+word_after columns before content = record {
   gap = first_blank (before ++ content);
   items = kept_items columns content;
 }
 
 -- The words of the regions after a break point, and of the rest, if that has a character.
-abbrev pub words_behind : {A : Type 0} →
+abbrev pub words_after : {A : Type 0} →
     (ℕ → Option ℕ) → List (Entry A) → List (Region A) → List (Entry A) → List (Word A)
-words_behind columns before [] rest =
-    if has_character (kept_items columns rest) then word_behind columns before rest ∷ [] else []
-words_behind columns before (r ∷ rs) rest =
-    word_behind columns before r.content ∷ words_behind columns (r.break ∷ []) rs rest
+words_after columns before [] rest =
+    if has_character (kept_items columns rest) then word_after columns before rest ∷ [] else []
+words_after columns before (r ∷ rs) rest =
+    word_after columns before r.content ∷ words_after columns (r.break ∷ []) rs rest
 
 -- The words of the regions and the rest. No break point ended a word before the first, so its gap is from the run's
 -- start on. It never counts, since the first word begins a line.
 abbrev pub words_between : {A : Type 0} → (ℕ → Option ℕ) → List (Region A) → List (Entry A) → List (Word A)
-words_between columns regions rest = words_behind columns [] regions rest
+words_between columns regions rest = words_after columns [] regions rest
 
 -- the markers of a rest without a character
 abbrev pub markers_left : {A : Type 0} → (ℕ → Option ℕ) → List (Entry A) → List (Item A)

@@ -5,7 +5,7 @@ ghost use Rattle.std.specs.List.{AllByRecursion as Each};
 ghost use Rattle.tbr_model.specs.Codes.{tab_character, newline_character};
 ghost use Rattle.tbr_model.specs.Run.{Entry, character, Item, is_kept, kept_items, trailing};
 ghost use Rattle.tbr_model.specs.Layout.{joined};
-ghost use Rattle.tbr_model.specs.Markers.{names_in_items, names_in_run, names_behind, marker_items, marker_run, without_last_markers};
+ghost use Rattle.tbr_model.specs.Markers.{names_in_items, names_in_run, names_after, marker_items, marker_run, without_last_markers};
 ghost use Rattle.tbr_model.specs.Rule.{Event, run_of, Progress, enter, progress, finished, lines_of, waiting};
 ghost use Rattle.tbr_model.specs.declared.white_space.WhiteSpace.{WhiteSpace};
 ghost use Rattle.tbr_model.specs.declared.white_space.WhiteSpace.TheVariants.{Normal};
@@ -43,10 +43,10 @@ pub fn only_pre_is_continued<T>()
 pub fn waiting_markers_end_a_run<T>()
     ensures visible { (columns : ℕ → Option ℕ) (width : ℕ) (es : List (Event T)) →
         (front : List (List ℕ))
-        × (front ++ names_waiting columns width es ≡ names_behind (is_visible columns) (run_of es)) }
+        × (front ++ names_waiting columns width es ≡ names_after (is_visible columns) (run_of es)) }
     ensures kept { (columns : ℕ → Option ℕ) (width : ℕ) (es : List (Event T)) → AllHaveMode Normal (run_of es) →
         (front : List (List ℕ))
-        × (front ++ names_waiting columns width es ≡ names_behind (is_kept columns) (run_of es)) }
+        × (front ++ names_waiting columns width es ≡ names_after (is_kept columns) (run_of es)) }
 {}
 
 /// A run of `Normal` alone keeps its items, whatever the width. Its kept characters and its markers are on its lines,

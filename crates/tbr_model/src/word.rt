@@ -4,7 +4,7 @@ ghost use Rattle.tbr_model.specs.Run as run;
 ghost use Rattle.tbr_model.specs.Run.{items_width, kept_items};
 ghost use Rattle.tbr_model.specs.Layout.{word_slots, slots_of};
 ghost use Rattle.tbr_model.specs.Regions as regions;
-ghost use Rattle.tbr_model.specs.Regions.{NoBreakWorks, IsFirstWorkingBreak, word_behind};
+ghost use Rattle.tbr_model.specs.Regions.{NoBreakWorks, IsFirstWorkingBreak, word_after};
 ghost use Rattle.tbr_model.specs.Entry.{entry_values};
 ghost use Rattle.tbr_model.specs.Slot.{slot_values};
 
@@ -77,7 +77,7 @@ fn push_word<'a, T, W: CharWidth>(
     width: usize,
 ) -> Result<(), AllocError>
     ensures { OnOk result (slot_values slots.new.items ≡ slot_values slots.old.items
-        ++ word_slots W.columns width (word_behind W.columns [] (entry_values entries.now))) }
+        ++ word_slots W.columns width (word_after W.columns [] (entry_values entries.now))) }
 {
     let wider = is_wider::<T, W>(entries, width);
     let mut gap = first_blank(entries);

@@ -58,8 +58,8 @@ module _ {D M : Type 0} (columns : ℕ → Option ℕ) (decoration : Decoration 
         let h = top_changed (after columns decoration (begin (start.link target))) (with_link target s) t is in
         let linked = opened_live (length s.links + 1) s.levels (begun ∷ others) live in
         let top = first_live (with_link target s).levels h.0 begun others linked h.2 in
-        let behind = uncounted_live columns decoration (begin (start.link target)) h.0 h.1 begun (λ x. refl) (λ n. refl) top h.3 in
-        subst (λ (x : Stack (Renderer D M (List M))). Zipped x.levels (begun ∷ others)) (sym h.4) (with_first_live (with_link target s).levels h.1 begun begun others linked behind)
+        let later = uncounted_live columns decoration (begin (start.link target)) h.0 h.1 begun (λ x. refl) (λ n. refl) top h.3 in
+        subst (λ (x : Stack (Renderer D M (List M))). Zipped x.levels (begun ∷ others)) (sym h.4) (with_first_live (with_link target s).levels h.1 begun begun others linked later)
 
     end_zipped : after_link_end columns decoration s ≡ done t → Zipped t.levels (begun ∷ others)
     end_zipped h =
@@ -67,8 +67,8 @@ module _ {D M : Type 0} (columns : ℕ → Option ℕ) (decoration : Decoration 
         let (m, ended_is, is) = done_before without_open_link (in_top ending s) t h in
         let step = top_changed ending s m ended_is in
         let top = first_live s.levels step.0 begun others live step.2 in
-        let behind = ends_live _ step.0 step.1 begun top step.3 in
-        let ended = subst (λ (x : Stack (Renderer D M (List M))). Zipped x.levels (begun ∷ others)) (sym step.4) (with_first_live s.levels step.1 begun begun others live behind) in
+        let later = ends_live _ step.0 step.1 begun top step.3 in
+        let ended = subst (λ (x : Stack (Renderer D M (List M))). Zipped x.levels (begun ∷ others)) (sym step.4) (with_first_live s.levels step.1 begun begun others live later) in
         subst (λ (x : Stack (Renderer D M (List M))). Zipped x.levels (begun ∷ others)) (sym is) (closed_live m.levels (begun ∷ others) ended)
 
 module _ {D A M : Type 0} (meaning : A → M) (columns : ℕ → Option ℕ) (decoration : Decoration D M) (s t : Stack (Renderer D A (Vec A))) (pending : Pending D A (Vec A)) (os : List (Opened D A (Vec A))) (live : AreLive s pending os) where

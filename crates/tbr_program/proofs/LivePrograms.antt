@@ -13,7 +13,7 @@ use Rattle.text_block_renderer.specs.Decorated.{coloured, uncoloured}
 use Rattle.text_block_renderer.specs.Settings.{settled, settled_by_image}
 use Rattle.text_block_renderer.specs.Meant.{meant}
 use Rattle.text_block_renderer.specs.Calls.{Call, start_strikeout, end_strikeout, add_image, push_colour, pop_colour, Does}
-use Rattle.text_block_renderer.proofs.Settings.{preformats_behind, call_beside, call_changes}
+use Rattle.text_block_renderer.proofs.Settings.{preformats_after, call_beside, call_changes}
 use Rattle.text_block_renderer.proofs.RowsOfCells.{settings_stay, failure_stays}
 use Rattle.text_block_renderer.specs.Rows.{GivenCell, AppendsRow}
 use Rattle.tbr_commands.specs.declared.begun.Begun.{Begun}
@@ -43,7 +43,7 @@ module _ (begun : Begun) (request : Request) (some : ends_nothing begun request 
 
 module _ {D M : Type 0} (columns : ℕ → Option ℕ) (decoration : Decoration D M) where
   abbrev Preformats : ℕ → Request → Begun → Type 0
-  Preformats width request begun = preformats_behind columns decoration (call_of width request) begun.preformats ≡ (counted begun request).preformats
+  Preformats width request begun = preformats_after columns decoration (call_of width request) begun.preformats ≡ (counted begun request).preformats
 
   begun_preformats : (width : ℕ) (what : Beginning) (begun : Begun) → Preformats width (begin what) begun
   begun_preformats width (beginning.Mode mode) begun = refl
@@ -129,11 +129,11 @@ pub still_live : {D A M : Type 0} (columns : ℕ → Option ℕ) (decoration : D
 still_live {D} {A} {M} columns decoration meaning request r s begun next live is does =
     let before = meant meaning r in
     let call = call_of r.width request in
-    let behind = call_beside columns decoration call before (meant meaning s) does in
+    let after = call_beside columns decoration call before (meant meaning s) does in
     let settings : settings_of (meant meaning s) ≡ settings_of (settled decoration call before) = call_changes columns decoration call before (meant meaning s) does in
     let options = ap (λ (x : Settings D M). x.kept.options) settings ∙ settled_options columns decoration call before in (
-      behind.0 ∙ live.0,
-      behind.1 ∙ ap (λ n. preformats_behind columns decoration call n) live.1 ∙ counted_preformats columns decoration r.width request begun ∙ ap (λ (b : Begun). b.preformats) (sym is),
+      after.0 ∙ live.0,
+      after.1 ∙ ap (λ n. preformats_after columns decoration call n) live.1 ∙ counted_preformats columns decoration r.width request begun ∙ ap (λ (b : Begun). b.preformats) (sym is),
       λ on.
           let before_on = sym (ap (λ (x : RenderOptions). x.use_unicode_strikeout) options) ∙ on in
           ap (λ (x : Settings D M). x.kept.strikeouts) settings ∙ counted_strikeouts columns decoration before begun request before_on (live.2 before_on) ∙ ap (λ (b : Begun). b.strikeouts) (sym is),
@@ -141,20 +141,20 @@ still_live {D} {A} {M} columns decoration meaning request r s begun next live is
 
 -- a call that begins and ends no strikeout and no preformatted stretch
 pub uncounted_live : {D M : Type 0} (columns : ℕ → Option ℕ) (decoration : Decoration D M) (call : Call (List M)) (r s : Renderer D M (List M)) (begun : Begun) →
-    ((x : Renderer D M (List M)) → (settled decoration call x).strikeouts ≡ x.strikeouts) → ((n : ℕ) → preformats_behind columns decoration call n ≡ n) →
+    ((x : Renderer D M (List M)) → (settled decoration call x).strikeouts ≡ x.strikeouts) → ((n : ℕ) → preformats_after columns decoration call n ≡ n) →
     IsLive r begun → Does columns decoration call r s → IsLive s begun
 uncounted_live {D} {M} columns decoration call r s begun strikes counts live does =
-    let behind = call_beside columns decoration call r s does in
+    let after = call_beside columns decoration call r s does in
     let settings : settings_of s ≡ settings_of (settled decoration call r) = call_changes columns decoration call r s does in
     let options = ap (λ (x : Settings D M). x.kept.options) settings ∙ settled_options columns decoration call r in (
-      behind.0 ∙ live.0,
-      behind.1 ∙ counts r.preformatted ∙ live.1,
+      after.0 ∙ live.0,
+      after.1 ∙ counts r.preformatted ∙ live.1,
       λ on. ap (λ (x : Settings D M). x.kept.strikeouts) settings ∙ strikes r ∙ live.2 (sym (ap (λ (x : RenderOptions). x.use_unicode_strikeout) options) ∙ on),
     )
 
 -- lines of other renderers
 pub steady_live : {D A M : Type 0} (columns : ℕ → Option ℕ) (decoration : Decoration D M) (meaning : A → M) (call : Call (List M)) (r s : Renderer D A (Vec A)) (begun : Begun) →
-    ((x : Renderer D M (List M)) → (settled decoration call x).strikeouts ≡ x.strikeouts) → ((n : ℕ) → preformats_behind columns decoration call n ≡ n) →
+    ((x : Renderer D M (List M)) → (settled decoration call x).strikeouts ≡ x.strikeouts) → ((n : ℕ) → preformats_after columns decoration call n ≡ n) →
     IsLive r begun → Does columns decoration call (meant meaning r) (meant meaning s) → IsLive s begun
 steady_live columns decoration meaning call r s begun strikes counts live does =
     uncounted_live columns decoration call (meant meaning r) (meant meaning s) begun strikes counts live does

@@ -25,7 +25,7 @@ const OTHERS: usize = usize::MAX - 1;
 /// asks for another one that hasn't failed.
 ///
 /// It refuses as either renderer does, and where memory is refused. The renderer inside is dropped.
-pub fn append_behind<D: TextDecorator, W: CharWidth>(
+pub fn append_after<D: TextDecorator, W: CharWidth>(
     renderer: &mut SubRenderer<D, W>,
     inside: SubRenderer<D, W>,
     texts: &TextPair,

@@ -24,7 +24,7 @@ ghost use Rattle.tbr_program.specs.Meaning.{opener, Closes, RequestDoes, Request
 use crate::closing::{close, close_lines};
 use crate::opened::{OpenLevels, Opener};
 use crate::pending::Pending;
-use crate::prefixes::{append_behind, prefix_of};
+use crate::prefixes::{append_after, prefix_of};
 use std::alloc::Global;
 use std::collections::LinkedList;
 use std::marker::Model;
@@ -252,7 +252,7 @@ impl<D: TextDecorator, W: CharWidth> Program<D, W> {
         }
         let inside = self.close();
         let top = self.renderers.top_mut();
-        append_behind(top, inside, prefixes)?;
+        append_after(top, inside, prefixes)?;
         Ok(())
     }
 

@@ -134,16 +134,16 @@ module _ {D A M : Type 0} (f : A → M) (columns : ℕ → Option ℕ) (first : 
     pub ran_out : (lines : List (RenderLine (Vec A))) (line : RenderLine (Vec A)) (more : List (RenderLine (Vec A))) (left end : S) (now : Renderer D A (Vec A)) → HasPrefixed lines left now → gives left None end → Prefixes (lines ++ line ∷ more) now
     ran_out lines line more left end now h none =
         let tag = map f first.annotations in
-        let fewer = length_behind lines line more in (
+        let fewer = length_after lines line more in (
           h.given,
           (left, h.yields, inr (omega (arith, h.as_many, fewer), (end, none))),
           h.put.lines ∙ ap (fold (with_line columns) (meant f first))
               (sym (ap (prefixed tag (texts_of read h.given)) (seen-append lines (line ∷ more)) ∙ prefixed-front tag (texts_of read h.given) (seen lines) (seen (line ∷ more)) (same_length h.given lines h.as_many))),
         )
       where
-        length_behind : (xs : List (RenderLine (Vec A))) (x : RenderLine (Vec A)) (ys : List (RenderLine (Vec A))) → length xs < length (xs ++ x ∷ ys)
-        length_behind [] x ys = omega (arith)
-        length_behind (z ∷ xs) x ys = let h = length_behind xs x ys in omega (arith, h)
+        length_after : (xs : List (RenderLine (Vec A))) (x : RenderLine (Vec A)) (ys : List (RenderLine (Vec A))) → length xs < length (xs ++ x ∷ ys)
+        length_after [] x ys = omega (arith)
+        length_after (z ∷ xs) x ys = let h = length_after xs x ys in omega (arith, h)
 
 -- ---- what a renderer hands out
 

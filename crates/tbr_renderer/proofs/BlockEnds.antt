@@ -95,28 +95,28 @@ are_markers {T} es names e = ap (map (λ n. let x : Element T = marker_element n
 
 module _ {D A M : Type 0} (f : A → M) (columns : ℕ → Option ℕ) (r : Renderer D A (Vec A)) (b : Block (Vec A)) (seen : block_seen (Some b) ≡ r.block) (fresh : IsFresh columns (block_width r) (may_overflow r) b) where
   -- what a block that was flushed, and that handed its markers out, has left
-  module _ (after behind : Block (Vec A)) (e : after_flush columns b ≡ done after) (taken : after_taking columns after ≡ done behind) where
-    behind_is : behind ≡ without_loose columns (flushed columns b)
-    behind_is = taking_leaves columns after behind taken ∙ ap (without_loose columns) (flush_leaves columns b after e)
+  module _ (after taken_from : Block (Vec A)) (e : after_flush columns b ≡ done after) (taken : after_taking columns after ≡ done taken_from) where
+    after_is : taken_from ≡ without_loose columns (flushed columns b)
+    after_is = taking_leaves columns after taken_from taken ∙ ap (without_loose columns) (flush_leaves columns b after e)
 
-    all_left : left columns behind ≡ all_lines columns b
+    all_left : left columns taken_from ≡ all_lines columns b
     all_left =
-        ap (left columns) behind_is ∙ left_taken columns (flushed columns b) ∙ left_flushed columns b
+        ap (left columns) after_is ∙ left_taken columns (flushed columns b) ∙ left_flushed columns b
         ∙ ap (λ (ls : List (List (Item (Vec A)))). ls ++ drop b.handed (all_lines columns b)) fresh.ended ∙ ap (λ n. drop n (all_lines columns b)) fresh.handed
 
     -- a flush where a block is open
     pub block_flushed : (waiting : List (List ℕ)) (s0 s1 s2 : Renderer D A (Vec A)) → s0 ≡ record r { block = None } →
-        meant f s1 ≡ fold (with_line columns) (meant f s0) (map (line_meant columns f behind) (left columns behind)) → waiting ≡ loose columns after → s2 ≡ record s1 { waiting = s1.waiting ++ waiting } → flush.after_flush columns (meant f r) ≡ done (meant f s2)
+        meant f s1 ≡ fold (with_line columns) (meant f s0) (map (line_meant columns f taken_from) (left columns taken_from)) → waiting ≡ loose columns after → s2 ≡ record s1 { waiting = s1.waiting ++ waiting } → flush.after_flush columns (meant f r) ≡ done (meant f s2)
     block_flushed waiting s0 s1 s2 emptied lines names_are waits =
         let opened : Open (List M) = block_meant f b in
         let fits : fits_at_end columns (meant f r) opened ≡ true = fits_meant f columns r b fresh ∙ flush_allowed columns b after e in
-        let padding : behind.padding ≡ b.padding = ap (λ (s : Block (Vec A)). s.padding) behind_is in
-        let wide : behind.width ≡ block_width r = ap (λ (s : Block (Vec A)). s.width) behind_is ∙ fresh.width_is in
-        let here : map (line_meant columns f behind) (left columns behind) ≡ block_lines columns (meant f r) opened (lines_at_end columns (meant f r) opened) =
-        ap (map (line_meant columns f behind)) all_left ∙ lines-map f columns behind b.padding (block_width r) (all_lines columns b) padding wide
+        let padding : taken_from.padding ≡ b.padding = ap (λ (s : Block (Vec A)). s.padding) after_is in
+        let wide : taken_from.width ≡ block_width r = ap (λ (s : Block (Vec A)). s.width) after_is ∙ fresh.width_is in
+        let here : map (line_meant columns f taken_from) (left columns taken_from) ≡ block_lines columns (meant f r) opened (lines_at_end columns (meant f r) opened) =
+        ap (map (line_meant columns f taken_from)) all_left ∙ lines-map f columns taken_from b.padding (block_width r) (all_lines columns b) padding wide
         ∙ ap (block_lines columns (meant f r) opened) (sym (lines_meant f columns r b fresh)) in
         let after_lines : meant f s1 ≡ fold (with_line columns) (record (meant f r) { block = None }) (block_lines columns (meant f r) opened (lines_at_end columns (meant f r) opened)) =
-        lines ∙ ap (λ (q : Renderer D A (Vec A)). fold (with_line columns) (meant f q) (map (line_meant columns f behind) (left columns behind))) emptied ∙ ap (fold (with_line columns) (record (meant f r) { block = None })) here in
+        lines ∙ ap (λ (q : Renderer D A (Vec A)). fold (with_line columns) (meant f q) (map (line_meant columns f taken_from) (left columns taken_from))) emptied ∙ ap (fold (with_line columns) (record (meant f r) { block = None })) here in
         let is : meant f s2 ≡ flush.flushed columns (meant f r) (block_lines columns (meant f r) opened (lines_at_end columns (meant f r) opened)) (names_at_end columns (meant f r) opened) =
         ap (meant f) waits ∙ ap (λ ns. record (meant f s1) { waiting = s1.waiting ++ ns }) (names_are ∙ waiting_loose columns b after e ∙ sym (names_meant f columns r b fresh))
         ∙ ap (λ (m : Renderer D M (List M)). record m { waiting = m.waiting ++ names_at_end columns (meant f r) opened }) after_lines in

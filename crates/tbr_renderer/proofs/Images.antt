@@ -31,8 +31,8 @@ either_true false b h = h
 whole_name : (cs : List ℕ) → list_any is_slash cs ≡ false → file_name cs ≡ cs
 whole_name [] h = refl
 whole_name (c ∷ cs) h =
-    let (here, behind) = either_false (is_slash c) (list_any is_slash cs) h in
-    rw (behind, here) refl
+    let (here, later) = either_false (is_slash c) (list_any is_slash cs) h in
+    rw (later, here) refl
 
 has_slash : (cs name : List ℕ) → list_any is_slash (cs ++ 47 ∷ name) ≡ true
 has_slash [] name = refl
@@ -50,8 +50,8 @@ slash_utf8 : (name : List ℕ) → IsUtf8 name → IsUtf8 (47 ∷ name)
 slash_utf8 name (cs, (scalars, e)) = (47 ∷ cs, (scalars, ap (λ bs. bs ++ encode_utf8_all cs) (encode_ascii 47 (lit< tt)) ∙ ap (λ bs. 47 ∷ bs) e))
 
 -- and one whose last slash is before `name`
-pub name_behind : (src name : List ℕ) (i j : ℕ) → IsUtf8 src → RFindsChar 47 src (Some (i, j)) → name ≡ drop j src → chars name ≡ file_name (chars src)
-name_behind src name i j utf8 h n =
+pub name_after : (src name : List ℕ) (i j : ℕ) → IsUtf8 src → RFindsChar 47 src (Some (i, j)) → name ≡ drop j src → chars name ≡ file_name (chars src)
+name_after src name i j utf8 h n =
     let front : List ℕ = take i src in
     let at : IsCharBoundary src j = subst (IsCharBoundary src) (sym h.1.ends) h.1.after in
     let utf8_name : IsUtf8 name = subst IsUtf8 (sym n) (IsUtf8-drop src j utf8 at) in

@@ -71,10 +71,10 @@ module _ {D A M : Type 0} (f : A → M) where
       ap (λ ms. record (with_filled columns r is) { waiting = ms }) none ∙ ap (λ ms. with_filled columns (record r { waiting = [] }) (marker_items ms ++ is)) (sym none)
 
   -- after the markers that waited
-  pub line_behind : (columns : ℕ → Option ℕ) (r a b : Renderer D A (Vec A)) (es : List (Element (Vec A))) (whole line : List (Item (Vec A))) →
+  pub line_after : (columns : ℕ → Option ℕ) (r a b : Renderer D A (Vec A)) (es : List (Element (Vec A))) (whole line : List (Item (Vec A))) →
       AreMarkers es → names_of es ≡ r.waiting → a ≡ record r { waiting = [] } → items_meant f whole ≡ items_meant f (items_of es ++ line) →
       meant f b ≡ with_filled columns (meant f a) (items_meant f whole) → meant f b ≡ with_line columns (meant f r) (items_meant f line)
-  line_behind columns r a b es whole line are names emptied same added =
+  line_after columns r a b es whole line are names emptied same added =
       added ∙ ap (λ (q : Renderer D A (Vec A)). with_filled columns (meant f q) (items_meant f whole)) emptied
       ∙ ap (with_filled columns (record (meant f r) { waiting = [] })) (same ∙ marked f es r.waiting line are names)
 

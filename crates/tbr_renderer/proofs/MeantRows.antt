@@ -21,7 +21,7 @@ use Rattle.tbr_tagged.specs.declared.CellAlign.TheVariants.{Left}
 use Rattle.tbr_border.specs.declared.RenderLine.{RenderLine}
 use Rattle.tbr_border.specs.declared.RenderLine.TheVariants.{Text, Line as Rule}
 use Rattle.tbr_rows.specs.Cells.{AreSideBySide, IsAsFree, first_line, look, spot_of, spots_from, row_fits}
-use Rattle.tbr_rows.specs.Filled.{FillsLine, cell_behind}
+use Rattle.tbr_rows.specs.Filled.{FillsLine, cell_after}
 use Rattle.tbr_rows.specs.Meant.{map_border, map_cell, map_element, map_line as map_row_line, EqualIfMeant, SeenRow, row_meant, MeansRow}
 use Rattle.tbr_rows.specs.Rows.{IsRow}
 use Rattle.tbr_rows.specs.declared.Row.{Row}
@@ -39,7 +39,7 @@ use Rattle.tbr_tagged.specs.Outcome.{done}
 use Rattle.tbr_renderer.specs.Flush.{after_flush}
 use Rattle.tbr_renderer.specs.Appended.{handed_out}
 use Rattle.tbr_renderer.proofs.FlushedBlocks.{flush_keeps}
-use Rattle.tbr_renderer.specs.Rows.{is_blank, looks, spots_of, LeavesFree, GivenCell, align_in, GivesCell, FillsCell, ComesAs, aligned_as, border_lines, style_in, with_next, with_row_behind, with_row}
+use Rattle.tbr_renderer.specs.Rows.{is_blank, looks, spots_of, LeavesFree, GivenCell, align_in, GivesCell, FillsCell, ComesAs, aligned_as, border_lines, style_in, with_next, with_row_after, with_row}
 use Rattle.tbr_renderer.proofs.BlankRenderers.{blank_hands_none, blank_meant}
 
 -- ---- lists of annotations that mean the same are equal
@@ -94,28 +94,28 @@ module _ {D A M : Type 0} (f : A → M) (columns : ℕ → Option ℕ) where
       s0 ≡ record r { lines = r.lines ++ border_lines above } → s1 ≡ record s0 { hanging = overhang } → meant f s2 ≡ fold (with_line columns) (meant f s1) texts →
       meant f s3 ≡ with_next columns (meant f s2) (option_map (map_border (tag_meant f)) next) →
       row ≡ record { above = option_map (map_border (tag_meant f)) above; lines = texts; next = option_map (map_border (tag_meant f)) next; overhang = map (map_cell (tag_meant f)) overhang } →
-      meant f s3 ≡ with_row_behind columns (meant f r) row
+      meant f s3 ≡ with_row_after columns (meant f r) row
   row_put r s0 s1 s2 s3 above next texts overhang row put hung lines last is =
       let top : meant f s1 ≡ record (meant f r) { lines = (meant f r).lines ++ border_lines (option_map (map_border (tag_meant f)) above); hanging = map (map_cell (tag_meant f)) overhang } =
       ap (meant f) hung ∙ ap (λ (q : Renderer D A (Vec A)). meant f (record q { hanging = overhang })) put
       ∙ ap (λ (ls : List (Line (List M))). record (meant f r) { lines = ls; hanging = map (map_cell (tag_meant f)) overhang })
       (map-append (map_line (tag_meant f)) r.lines (border_lines above) ∙ ap (λ ls. map (map_line (tag_meant f)) r.lines ++ ls) (border_lines-map (tag_meant f) above)) in
       last ∙ ap (λ (q : Renderer D M (List M)). with_next columns q (option_map (map_border (tag_meant f)) next)) (lines ∙ ap (λ (q : Renderer D M (List M)). fold (with_line columns) q texts) top)
-      ∙ ap (with_row_behind columns (meant f r)) (sym is)
+      ∙ ap (with_row_after columns (meant f r)) (sym is)
 
   -- in the place of the border above
-  pub row_placed : (r s0 s1 s2 : Renderer D A (Vec A)) (row : SeenRow (List M)) → s0 ≡ record r { hanging = [] } → s1 ≡ record s0 { lines = before_border s0.lines } → meant f s2 ≡ with_row_behind columns (meant f s1) row → meant f s2 ≡ with_row columns (meant f r) row
+  pub row_placed : (r s0 s1 s2 : Renderer D A (Vec A)) (row : SeenRow (List M)) → s0 ≡ record r { hanging = [] } → s1 ≡ record s0 { lines = before_border s0.lines } → meant f s2 ≡ with_row_after columns (meant f s1) row → meant f s2 ≡ with_row columns (meant f r) row
   row_placed r s0 s1 s2 row taken cut put =
       let before : meant f s1 ≡ record (meant f r) { lines = before_border (meant f r).lines; hanging = [] } =
       ap (meant f) cut ∙ ap (λ (q : Renderer D A (Vec A)). meant f (record q { lines = before_border q.lines })) taken
       ∙ ap (λ (ls : List (Line (List M))). record (meant f r) { lines = ls; hanging = [] }) (sym (before_border-map (tag_meant f) r.lines)) in
-      put ∙ ap (λ (q : Renderer D M (List M)). with_row_behind columns q row) before
+      put ∙ ap (λ (q : Renderer D M (List M)). with_row_after columns q row) before
 
 -- a row that was laid out
 module _ {D A M : Type 0} (f : A → M) (eq : A → A → Bool) (means : MeansEqual (tag_meant f) (equal_lists eq)) (told : EqualIfMeant (tag_meant f) (equal_lists eq)) (columns : ℕ → Option ℕ) where
   pub row_laid : (r s0 s1 s2 : Renderer D A (Vec A)) (row : Row (Vec A)) (hanging own : List (Cell (Vec A))) (above : Option (Border (Vec A))) (style : RowStyle) (tag : Vec A) (collapses : Bool) →
       hanging ≡ r.hanging → s0 ≡ record r { hanging = [] } → above ≡ last_border s0.lines → s1 ≡ record s0 { lines = before_border s0.lines } → style ≡ style_in r collapses → tag_meant f tag ≡ map f r.annotations →
-      IsRow columns (equal_lists eq) style tag hanging own above row → meant f s2 ≡ with_row_behind columns (meant f s1) (row_meant (tag_meant f) row) →
+      IsRow columns (equal_lists eq) style tag hanging own above row → meant f s2 ≡ with_row_after columns (meant f s1) (row_meant (tag_meant f) row) →
       (x : SeenRow (List M)) × MeansRow columns (style_in r collapses) (map f r.annotations) (map (map_cell (tag_meant f)) r.hanging) (map (map_cell (tag_meant f)) own) (last_border (map (map_line (tag_meant f)) r.lines)) x
       × (meant f s2 ≡ with_row columns (meant f r) x)
   row_laid r s0 s1 s2 row hanging own above style tag collapses hung taken top cut style_is tag_is is put =
@@ -145,11 +145,11 @@ module _ {D A : Type 0} (columns : ℕ → Option ℕ) where
 
 -- what holds of the first ones, and of the next
 pub each_more : {X : Type 0} (P : X → Type 0) (xs : List X) (i : ℕ) (x : X) → i < length xs → x ≡ get_or xs i x → Each P (take i xs) → P x → Each P (take (i + 1) xs)
-each_more P xs i x below is h one = subst (Each P) (sym (take_more xs i x below ∙ ap (λ y. take i xs ++ y ∷ []) (sym is))) (behind (take i xs) h)
+each_more P xs i x below is h one = subst (Each P) (sym (take_more xs i x below ∙ ap (λ y. take i xs ++ y ∷ []) (sym is))) (after (take i xs) h)
   where
-    behind : (ys : List _) → Each P ys → Each P (ys ++ x ∷ [])
-    behind [] k = (one, tt)
-    behind (y ∷ ys) k = (k.0, behind ys k.1)
+    after : (ys : List _) → Each P ys → Each P (ys ++ x ∷ [])
+    after [] k = (one, tt)
+    after (y ∷ ys) k = (k.0, after ys k.1)
 
 side_by_side-map : {A B : Type 0} (f : A → B) (at : ℕ) (cells : List (Cell A)) → AreSideBySide at cells → AreSideBySide at (map (map_cell f) cells)
 side_by_side-map f at [] h = tt
@@ -210,11 +210,11 @@ none_filled R [] [] h e = refl
 none_filled R [] (y ∷ ys) h e = absurd h
 none_filled R (x ∷ xs) ys h e = absurd (let no : ⊥ = cc in no)
 
-zip_behind : {X Y : Type 0} (R : X → Y → Type 0) (xs : List X) (ys : List Y) (x : X) (y : Y) → AllZip R xs ys → R x y → AllZip R (xs ++ x ∷ []) (ys ++ y ∷ [])
-zip_behind R [] [] x y h r = (r, tt)
-zip_behind R [] (z ∷ ys) x y h r = absurd h
-zip_behind R (z ∷ xs) [] x y h r = absurd h
-zip_behind R (z ∷ xs) (w ∷ ys) x y h r = (h.0, zip_behind R xs ys x y h.1 r)
+zip_after : {X Y : Type 0} (R : X → Y → Type 0) (xs : List X) (ys : List Y) (x : X) (y : Y) → AllZip R xs ys → R x y → AllZip R (xs ++ x ∷ []) (ys ++ y ∷ [])
+zip_after R [] [] x y h r = (r, tt)
+zip_after R [] (z ∷ ys) x y h r = absurd h
+zip_after R (z ∷ xs) [] x y h r = absurd h
+zip_after R (z ∷ xs) (w ∷ ys) x y h r = (h.0, zip_after R xs ys x y h.1 r)
 
 -- the next alignment, or the left
 abbrev pub next_align : List CellAlign → CellAlign
@@ -250,19 +250,19 @@ module _ {D A M : Type 0} (f : A → M) (columns : ℕ → Option ℕ) (aligns :
   pub columns_go_on : (cols : List (Renderer D A (Vec A) × ℕ)) (own next : List (Cell (Vec A))) (left rest : List CellAlign) (col : Renderer D A (Vec A)) (span : ℕ) (align : CellAlign) (seen : List (Line (List M))) (filled : List (RenderLine (Vec A))) → (h : HasColumns cols own left) →
       handed_out columns (meant f col) ≡ done seen → align ≡ next_align left → rest ≡ drop 1 left →
       AllZip (FillsCell columns align col.width tag) seen (map (map_row_line (tag_meant f)) filled) →
-      next ≡ own ++ cell_behind own col.width span filled ∷ [] → HasColumns (cols ++ (col, span) ∷ []) next rest
+      next ≡ own ++ cell_after own col.width span filled ∷ [] → HasColumns (cols ++ (col, span) ∷ []) next rest
   columns_go_on cols own next left rest col span align seen filled h hands aligned_by rest_is fills is =
       let cell : GivenCell (List M) = record { width = col.width; span = span; align = align; lines = seen } in
-      let placed : Cell (Vec A) = cell_behind own col.width span filled in
+      let placed : Cell (Vec A) = cell_after own col.width span filled in
       let g = map_cell (tag_meant f) in
       let more : map g next ≡ map g own ++ g placed ∷ [] = ap (map g) is ∙ map-append g own (placed ∷ []) in
       record {
         cells = h.cells ++ cell ∷ [];
-        give = zip_behind (Gives f columns) cols h.cells (col, span) cell h.give (refl, refl, hands);
+        give = zip_after (Gives f columns) cols h.cells (col, span) cell h.give (refl, refl, hands);
         aligned = map-append align_in h.cells (cell ∷ []) ∙ ap (λ bs. bs ++ align ∷ []) h.aligned ∙ ap (λ a. aligned_as aligns cols ++ a ∷ []) (aligned_by ∙ ap next_align h.left_is) ∙ sym (aligned_more aligns cols (col, span));
         left_is = rest_is ∙ ap (drop 1) h.left_is ∙ dropped (length cols) aligns ∙ ap (λ n. drop n aligns) (let one : suc (length cols) ≡ length (cols ++ (col, span) ∷ []) = omega (arith, length-append cols ((col, span) ∷ [])) in one);
-        come = subst (AllZip (ComesAs columns tag) (h.cells ++ cell ∷ [])) (sym more) (zip_behind (ComesAs columns tag) h.cells (map g own) cell (g placed) h.come (refl, refl, fills));
-        free = subst (AllZip (LeavesFree columns) (cols ++ (col, span) ∷ [])) (sym is) (zip_behind (LeavesFree columns) cols own (col, span) placed h.free (refl, λ blank. none_mapped (map_row_line (tag_meant f)) filled (none_filled _ seen _ fills (blank_hands_none columns (meant f col) seen (blank_meant f columns col ∙ blank) hands))));
+        come = subst (AllZip (ComesAs columns tag) (h.cells ++ cell ∷ [])) (sym more) (zip_after (ComesAs columns tag) h.cells (map g own) cell (g placed) h.come (refl, refl, fills));
+        free = subst (AllZip (LeavesFree columns) (cols ++ (col, span) ∷ [])) (sym is) (zip_after (LeavesFree columns) cols own (col, span) placed h.free (refl, λ blank. none_mapped (map_row_line (tag_meant f)) filled (none_filled _ seen _ fills (blank_hands_none columns (meant f col) seen (blank_meant f columns col ∙ blank) hands))));
       }
     where
       dropped : (n : ℕ) (bs : List CellAlign) → drop 1 (drop n bs) ≡ drop (suc n) bs

@@ -107,16 +107,16 @@ with_next columns r (Some b) = with_border columns r b
 
 -- The border above a row, its lines and the border below come after the others, and what overhangs waits for the next
 -- row.
-abbrev pub with_row_behind : {D A : Type 0} →
+abbrev pub with_row_after : {D A : Type 0} →
     (ℕ → Option ℕ) → Renderer D A (List A) → SeenRow (List A) → Renderer D A (List A)
-with_row_behind columns r row =
+with_row_after columns r row =
     let top = record r { lines = r.lines ++ border_lines row.above; hanging = row.overhang } in
     with_next columns (fold (with_line columns) top row.lines) row.next
 
 -- the border above comes in the place of the last line, if that was it
 abbrev pub with_row : {D A : Type 0} →
     (ℕ → Option ℕ) → Renderer D A (List A) → SeenRow (List A) → Renderer D A (List A)
-with_row columns r row = with_row_behind columns (record r { lines = before_border r.lines }) row
+with_row columns r row = with_row_after columns (record r { lines = before_border r.lines }) row
 
 -- A row of these cells, and of those that overhang, comes under the last line, if that is a border.
 pub record PutsRow {D A : Type 0} (columns : ℕ → Option ℕ) (collapses : Bool) (cells : List (GivenCell (List A)))

@@ -281,7 +281,7 @@ impl<D: TextDecorator, W: CharWidth> SubRenderer<D, W> {
             return self.add_filled(line);
         }
         let waiting = self.take_waiting();
-        let whole = behind_markers(self.alloc, waiting, line)?;
+        let whole = after_markers(self.alloc, waiting, line)?;
         self.add_filled(whole)
     }
 
@@ -299,7 +299,7 @@ impl<D: TextDecorator, W: CharWidth> SubRenderer<D, W> {
 }
 
 /// A line with markers in front.
-fn behind_markers<T: Eq + Drop>(
+fn after_markers<T: Eq + Drop>(
     alloc: Global,
     markers: Vec<TaggedLineElement<T>>,
     line: TaggedLine<T>,

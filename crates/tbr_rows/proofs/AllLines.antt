@@ -11,10 +11,10 @@ use Rattle.tbr_border.specs.Border.{Border, has_holes}
 use Rattle.tbr_rows.specs.declared.line_set.LineSet.{LineSet as Cell}
 use Rattle.tbr_rows.specs.declared.column.Column.{Column}
 use Rattle.tbr_rows.specs.Cells.{cell_height}
-use Rattle.tbr_rows.specs.Borders.{first_mergeable, last_mergeable, behind_mergeable, before_mergeable, without_first_border, with_last_border_apart}
+use Rattle.tbr_rows.specs.Borders.{first_mergeable, last_mergeable, after_mergeable, before_mergeable, without_first_border, with_last_border_apart}
 use Rattle.tbr_rows.specs.Texts.{row_height}
 use Rattle.tbr_rows.specs.Gaps.{overhang_of, overhang, cell_in}
-use Rattle.tbr_rows.specs.Shown.{part_of, later_of, as_lines, Meeting, met, merged_first, merged_last, behind, goes_on, parts_of, parts_and_merged, meeting, AreItsRows, texts_in}
+use Rattle.tbr_rows.specs.Shown.{part_of, later_of, as_lines, Meeting, met, merged_first, merged_last, continued, goes_on, parts_of, parts_and_merged, meeting, AreItsRows, texts_in}
 use Rattle.tbr_rows.specs.Rows.{cells_under, columns_shown, cells_left}
 
 -- what a row shows of a cell and what it leaves are its lines
@@ -64,10 +64,10 @@ row_is_high_enough cs = each_least 0 cs
 
 -- ---- merged borders
 
-first_and_behind : {A : Type 0} (ls : List (RenderLine A)) → as_lines (first_mergeable ls) ++ behind_mergeable ls ≡ ls
-first_and_behind [] = refl
-first_and_behind (Text es ∷ ls) = refl
-first_and_behind {A} (Line b ∷ ls) = go (has_holes b.holes)
+first_and_after : {A : Type 0} (ls : List (RenderLine A)) → as_lines (first_mergeable ls) ++ after_mergeable ls ≡ ls
+first_and_after [] = refl
+first_and_after (Text es ∷ ls) = refl
+first_and_after {A} (Line b ∷ ls) = go (has_holes b.holes)
   where
     go : (h : Bool) → (let o : Option (Border A) = if h then None else Some b in as_lines o ++ (if is_some o then ls else Line b ∷ ls)) ≡ Line b ∷ ls
     go true = refl
@@ -95,8 +95,8 @@ merged_and_left {A} m c = go m.first m.last
   where
     go : (f l : Bool) → (let u : Cell A = if f then without_first_border c else c in
         (if f then as_lines (first_mergeable c.lines) else []) ++ (let d : Cell A = if l then (with_last_border_apart u).cell else u in d.lines) ++ (if l then as_lines (last_mergeable u.lines) else [])) ≡ c.lines
-    go true true = append_assoc (as_lines (first_mergeable c.lines)) (before_mergeable (behind_mergeable c.lines)) (as_lines (last_mergeable (behind_mergeable c.lines))) ∙ ap (λ (xs : List (RenderLine A)). as_lines (first_mergeable c.lines) ++ xs) (before_and_last (behind_mergeable c.lines)) ∙ first_and_behind c.lines
-    go true false = append-nil (as_lines (first_mergeable c.lines) ++ behind_mergeable c.lines) ∙ first_and_behind c.lines
+    go true true = append_assoc (as_lines (first_mergeable c.lines)) (before_mergeable (after_mergeable c.lines)) (as_lines (last_mergeable (after_mergeable c.lines))) ∙ ap (λ (xs : List (RenderLine A)). as_lines (first_mergeable c.lines) ++ xs) (before_and_last (after_mergeable c.lines)) ∙ first_and_after c.lines
+    go true false = append-nil (as_lines (first_mergeable c.lines) ++ after_mergeable c.lines) ∙ first_and_after c.lines
     go false true = before_and_last c.lines
     go false false = append-nil c.lines
 
@@ -106,7 +106,7 @@ pub all_rows : {A : Type 0} (draws : Bool) (ms : List Meeting) (c : Cell A) → 
 all_rows draws [] c h = sym h
 all_rows {A} draws (m ∷ ms) c h =
     let part : List (RenderLine A) = part_of draws m.height (met m c) in
-    ap (λ (xs : List (RenderLine A)). merged_first m c ++ (part ++ xs) ++ merged_last m c) (all_rows draws ms (behind draws m c) h.1)
+    ap (λ (xs : List (RenderLine A)). merged_first m c ++ (part ++ xs) ++ merged_last m c) (all_rows draws ms (continued draws m c) h.1)
     ∙ ap (λ (xs : List (RenderLine A)). merged_first m c ++ xs ++ merged_last m c) (part_and_later draws m.height (met m c) h.0)
     ∙ merged_and_left m c
 
@@ -150,8 +150,8 @@ pub all_texts : {A : Type 0} (draws : Bool) (ms : List Meeting) (c : Cell A) →
 all_texts draws [] c h = ap texts_in (sym h)
 all_texts {A} draws (m ∷ ms) c h =
     let part : List (RenderLine A) = part_of draws m.height (met m c) in
-    texts_append part (joined (parts_of draws ms (behind draws m c)))
-    ∙ ap (λ (xs : List (RenderLine A)). texts_in part ++ xs) (all_texts draws ms (behind draws m c) h.1)
+    texts_append part (joined (parts_of draws ms (continued draws m c)))
+    ∙ ap (λ (xs : List (RenderLine A)). texts_in part ++ xs) (all_texts draws ms (continued draws m c) h.1)
     ∙ sym (texts_append part (later_of draws m.height (met m c)))
     ∙ ap texts_in (part_and_later draws m.height (met m c) h.0)
     ∙ texts_left m c
@@ -195,6 +195,6 @@ rows_go_on draws true (Some b) height [] = refl
 rows_go_on draws false None height [] = refl
 rows_go_on draws false (Some b) height [] = refl
 rows_go_on draws true None height (c ∷ cs) = parts_same _ _ _ _ (one_goes_on draws height c (before_mergeable c.lines)) (rows_go_on draws true None height cs)
-rows_go_on draws true (Some b) height (c ∷ cs) = parts_same _ _ _ _ (one_goes_on draws height c (before_mergeable (behind_mergeable c.lines))) (rows_go_on draws true (Some b) height cs)
+rows_go_on draws true (Some b) height (c ∷ cs) = parts_same _ _ _ _ (one_goes_on draws height c (before_mergeable (after_mergeable c.lines))) (rows_go_on draws true (Some b) height cs)
 rows_go_on draws false None height (c ∷ cs) = parts_same _ _ _ _ (one_goes_on draws height c c.lines) (rows_go_on draws false None height cs)
 rows_go_on draws false (Some b) height (c ∷ cs) = parts_same _ _ _ _ (one_goes_on draws height c c.lines) (rows_go_on draws false (Some b) height cs)

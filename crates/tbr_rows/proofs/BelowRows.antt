@@ -101,9 +101,9 @@ module _ {A : Type 0} (columns : ℕ → Option ℕ) where
   InOrder from (h ∷ hs) end = (from ≤ h.place) × (items_width columns (element_items h.element) ≡ h.width) × InOrder (h.place + h.width) hs end
 
   -- the first of them is no earlier than at a place
-  abbrev pub BeginBehind : ℕ → List (Hole A) → Type 0
-  BeginBehind at [] = ⊤
-  BeginBehind at (h ∷ hs) = at ≤ h.place
+  abbrev pub BeginAfter : ℕ → List (Hole A) → Type 0
+  BeginAfter at [] = ⊤
+  BeginAfter at (h ∷ hs) = at ≤ h.place
 
   -- elements in front of a border, each where the one before it ends
   abbrev pub holes_from : ℕ → List (Element A) → List (Hole A)
@@ -173,7 +173,7 @@ module _ {A : Type 0} (columns : ℕ → Option ℕ) where
     drawn_two xs ys = ap (λ cs. text_items cs tag) (map-append character xs ys) ∙ map-append _ (map character xs) (map character ys)
 
     -- cut at a column before what is there
-    cut : (at p : ℕ) (hs : List (Hole A)) → at ≤ p → BeginBehind p hs → shown_from tag cells at hs ≡ drawn (slice_range cells at p) tag ++ shown_from tag cells p hs
+    cut : (at p : ℕ) (hs : List (Hole A)) → at ≤ p → BeginAfter p hs → shown_from tag cells at hs ≡ drawn (slice_range cells at p) tag ++ shown_from tag cells p hs
     cut at p [] h k =
         let sum : at + (p - at) ≡ p = omega (arith, h) in
         let parts : drop at cells ≡ slice_range cells at p ++ drop p cells =
@@ -190,11 +190,11 @@ module _ {A : Type 0} (columns : ℕ → Option ℕ) where
         ∙ append_assoc (drawn (slice_range cells at p) tag) (drawn (slice_range cells p g.place) tag) rest
 
     -- what comes before a column
-    pub shown_before : (from : ℕ) (hs : List (Hole A)) (p : ℕ) (more : List (Hole A)) → InOrder from hs p → p ≤ length cells → BeginBehind p more →
+    pub shown_before : (from : ℕ) (hs : List (Hole A)) (p : ℕ) (more : List (Hole A)) → InOrder from hs p → p ≤ length cells → BeginAfter p more →
         (before : List (Item A)) × (shown_from tag cells from (hs ++ more) ≡ before ++ shown_from tag cells p more) × (from + items_width columns before ≡ p)
-    shown_before from [] p more h k behind = (drawn (slice_range cells from p) tag, cut from p more h behind, part_width from p h k)
-    shown_before from (g ∷ hs) p more h k behind =
-        let later = shown_before (g.place + g.width) hs p more h.2 k behind in
+    shown_before from [] p more h k past = (drawn (slice_range cells from p) tag, cut from p more h past, part_width from p h k)
+    shown_before from (g ∷ hs) p more h k past =
+        let later = shown_before (g.place + g.width) hs p more h.2 k past in
         let front : List (Item A) = drawn (slice_range cells from g.place) tag in
         let here : List (Item A) = element_items g.element in
         let within : g.place ≤ length cells = omega (arith, k, later.2) in (
@@ -222,13 +222,13 @@ module _ {A : Type 0} (columns : ℕ → Option ℕ) where
       let far : max place (span_end b.holes) ≡ place = omega (arith, span_end-is b.holes, ends_before 0 b.holes place h) in
       subst (λ (hs : List (Hole A)). InOrder 0 hs end) (sym (put_holes place place b es far)) (in_order_more 0 b.holes place es end h is)
 
-  behind_both : (p : ℕ) (hs ks : List (Hole A)) → BeginBehind p hs → BeginBehind p ks → BeginBehind p (hs ++ ks)
-  behind_both p [] ks h k = k
-  behind_both p (g ∷ hs) ks h k = h
+  after_both : (p : ℕ) (hs ks : List (Hole A)) → BeginAfter p hs → BeginAfter p ks → BeginAfter p (hs ++ ks)
+  after_both p [] ks h k = k
+  after_both p (g ∷ hs) ks h k = h
 
-  from_behind : (p at : ℕ) (es : List (Element A)) → p ≤ at → BeginBehind p (holes_from at es)
-  from_behind p at [] h = tt
-  from_behind p at (e ∷ es) h = h
+  from_after : (p at : ℕ) (es : List (Element A)) → p ≤ at → BeginAfter p (holes_from at es)
+  from_after p at [] h = tt
+  from_after p at (e ∷ es) h = h
 
   module _ (one : DrawsInOne columns) (draws : Bool) (tag : A) where
     -- what is in a gap takes its cell's columns
@@ -255,23 +255,23 @@ module _ {A : Type 0} (columns : ℕ → Option ℕ) where
         (m : Border A) × (to : ℕ) × HasGaps draws columns tag more m full × AreSideBySide to more × InOrder 0 m.holes to × (length b.cells ≤ length m.cells)
     gaps_in_front [] more at b full h side fills k = (b, at, h, side, k, omega arith)
     gaps_in_front (d ∷ ds) more at b full h side fills k =
-        let (m, here, behind) = h in
+        let (m, here, past) = h in
         let there : InOrder 0 b.holes d.place = subst (λ n. InOrder 0 b.holes n) (sym side.0) k in
         let step = one_gap d (has_gap draws d) b m here fills.0 there in
-        let (n, to, more_gaps, more_side, order, longer) = gaps_in_front ds more (end_of d + 1) m full behind side.1 fills.1 step.0 in
+        let (n, to, more_gaps, more_side, order, longer) = gaps_in_front ds more (end_of d + 1) m full past side.1 fills.1 step.0 in
         (n, to, more_gaps, more_side, order, omega (arith, step.1, longer))
 
     -- and where no cell begins before a place, none of the gaps does
-    pub gaps_behind : (p : ℕ) (ds : List (Cell A)) (b full : Border A) → HasGaps draws columns tag ds b full → Each (λ (d : Cell A). p ≤ d.place) ds →
-        (hs : List (Hole A)) × (full.holes ≡ b.holes ++ hs) × BeginBehind p hs × (length b.cells ≤ length full.cells)
-    gaps_behind p [] b full h far = ([], ap (λ (x : Border A). x.holes) h ∙ sym (append-nil b.holes), tt, omega (arith, ap (λ (x : Border A). length x.cells) h))
-    gaps_behind p (d ∷ ds) b full h far =
-        let (m, here, behind) = h in
-        let later = gaps_behind p ds m full behind far.1 in
+    pub gaps_after : (p : ℕ) (ds : List (Cell A)) (b full : Border A) → HasGaps draws columns tag ds b full → Each (λ (d : Cell A). p ≤ d.place) ds →
+        (hs : List (Hole A)) × (full.holes ≡ b.holes ++ hs) × BeginAfter p hs × (length b.cells ≤ length full.cells)
+    gaps_after p [] b full h far = ([], ap (λ (x : Border A). x.holes) h ∙ sym (append-nil b.holes), tt, omega (arith, ap (λ (x : Border A). length x.cells) h))
+    gaps_after p (d ∷ ds) b full h far =
+        let (m, here, past) = h in
+        let later = gaps_after p ds m full past far.1 in
         go (has_gap draws d) m here later
       where
-        go : (g : Bool) (m : Border A) → HasGapIf g columns tag d b m → ((hs : List (Hole A)) × (full.holes ≡ m.holes ++ hs) × BeginBehind p hs × (length m.cells ≤ length full.cells)) →
-            (hs : List (Hole A)) × (full.holes ≡ b.holes ++ hs) × BeginBehind p hs × (length b.cells ≤ length full.cells)
+        go : (g : Bool) (m : Border A) → HasGapIf g columns tag d b m → ((hs : List (Hole A)) × (full.holes ≡ m.holes ++ hs) × BeginAfter p hs × (length m.cells ≤ length full.cells)) →
+            (hs : List (Hole A)) × (full.holes ≡ b.holes ++ hs) × BeginAfter p hs × (length b.cells ≤ length full.cells)
         go false m here later = (later.0, later.1 ∙ ap (λ (x : Border A). x.holes ++ later.0) here, later.2, omega (arith, ap (λ (x : Border A). length x.cells) here, later.3))
         go true m here later =
             let (es, is, put) = here in
@@ -279,13 +279,13 @@ module _ {A : Type 0} (columns : ℕ → Option ℕ) where
             let own : List (Hole A) = holes_from at es in (
               own ++ later.0,
               later.1 ∙ ap (λ hs. hs ++ later.0) (ap (λ (x : Border A). x.holes) put ∙ put_holes d.place at b es refl) ∙ append_assoc b.holes own later.0,
-              behind_both p own later.0 (from_behind p at es (omega (arith, far.0))) later.2,
+              after_both p own later.0 (from_after p at es (omega (arith, far.0))) later.2,
               omega (arith, ap (λ (x : Border A). length x.cells) put, put_longer d.place b es, later.3),
             )
 
-    places_behind : (at p : ℕ) (ds : List (Cell A)) → p ≤ at → AreSideBySide at ds → Each (λ (d : Cell A). p ≤ d.place) ds
-    places_behind at p [] h s = tt
-    places_behind at p (d ∷ ds) h s = (omega (arith, h, s.0), places_behind (end_of d + 1) p ds (omega (arith, h, s.0)) s.1)
+    places_after : (at p : ℕ) (ds : List (Cell A)) → p ≤ at → AreSideBySide at ds → Each (λ (d : Cell A). p ≤ d.place) ds
+    places_after at p [] h s = tt
+    places_after at p (d ∷ ds) h s = (omega (arith, h, s.0), places_after (end_of d + 1) p ds (omega (arith, h, s.0)) s.1)
 
     -- What a gap shows of its cell is in the cell's columns.
     pub record GapStands (c : Cell A) (full : Border A) : Type 0 where
@@ -305,11 +305,11 @@ module _ {A : Type 0} (columns : ℕ → Option ℕ) where
         let (es, is, put) = subst (λ (g : Bool). HasGapIf g columns tag c m n) gap own in
         let ordered : InOrder 0 m.holes c.place = subst (λ k. InOrder 0 m.holes k) (sym more_side.0) order in
         let far : max c.place (span_end m.holes) ≡ c.place = omega (arith, span_end-is m.holes, ends_before 0 m.holes c.place ordered) in
-        let (hs, holes, behind, long) = gaps_behind c.place rest n full others (places_behind (end_of c + 1) c.place rest (omega arith) more_side.1) in
+        let (hs, holes, past, long) = gaps_after c.place rest n full others (places_after (end_of c + 1) c.place rest (omega arith) more_side.1) in
         let all : full.holes ≡ m.holes ++ (holes_from c.place es ++ hs) =
         holes ∙ ap (λ ks. ks ++ hs) (ap (λ (x : Border A). x.holes) put ∙ put_holes c.place c.place m es far) ∙ append_assoc m.holes (holes_from c.place es) hs in
         let inside : c.place ≤ length full.cells = omega (arith, within, longer, ap (λ (x : Border A). length x.cells) put, put_longer c.place m es, long) in
-        let starts : BeginBehind c.place (holes_from c.place es ++ hs) = behind_both c.place (holes_from c.place es) hs (from_behind c.place c.place es (omega arith)) behind in
+        let starts : BeginAfter c.place (holes_from c.place es ++ hs) = after_both c.place (holes_from c.place es) hs (from_after c.place c.place es (omega arith)) past in
         let front_shown = shown_before one full.tag full.cells 0 m.holes c.place (holes_from c.place es ++ hs) ordered inside starts in
         record {
           before = front_shown.0;

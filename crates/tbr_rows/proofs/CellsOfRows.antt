@@ -24,7 +24,7 @@ use Rattle.tbr_rows.specs.Texts.{row_height, line_text, cell_text, text_of_lines
 use Rattle.tbr_rows.specs.Gaps.{cell_in, has_gap, overhang}
 use Rattle.tbr_rows.specs.Rows.{vertical_bar, separator_in, cells_left, cells_under, next_under, next_merged}
 use Rattle.tbr_rows.specs.Meant.{IsGapOf, HasGaps}
-use Rattle.tbr_rows.specs.Shown.{met, behind, goes_on, later_of, AreItsRows, DrawsInOne}
+use Rattle.tbr_rows.specs.Shown.{met, continued, goes_on, later_of, AreItsRows, DrawsInOne}
 use Rattle.tbr_rows.proofs.Seats.{stand_side_by_side}
 use Rattle.tbr_rows.proofs.Left.{left_of_row, rest_apart}
 use Rattle.tbr_rows.proofs.CellColumns.{width_append, stands_at}
@@ -44,10 +44,10 @@ pub aligned_width : {A : Type 0} (columns : ℕ → Option ℕ) → DrawsInOne c
 aligned_width {A} columns one align is missing a =
     let front : ℕ = columns_in_front align missing in
     let before : List (Item A) = text_items (spaces front) a in
-    let behind : List (Item A) = text_items (spaces (missing - front)) a in
+    let last : List (Item A) = text_items (spaces (missing - front)) a in
     omega (
       arith,
-      width_append columns (before ++ is) behind,
+      width_append columns (before ++ is) last,
       width_append columns before is,
       text_columns columns (spaces front) a one (spaces_narrow front),
       text_columns columns (spaces (missing - front)) a one (spaces_narrow (missing - front)),
@@ -205,7 +205,7 @@ module _ {A : Type 0} (draws : Bool) (height : ℕ) (c : Cell A) where
 
 module _ {A : Type 0} (columns : ℕ → Option ℕ) (one : DrawsInOne columns) (r : MadeRow A columns) where
   abbrev left : Cell A → Cell A
-  left c = behind r.style.draws_borders (meeting_in columns r) c
+  left c = continued r.style.draws_borders (meeting_in columns r) c
 
   overhang_is : r.row.overhang ≡ flat_map (goes_on r.style.draws_borders (meeting_in columns r)) r.means.cells
   overhang_is =
@@ -266,7 +266,7 @@ module _ {A : Type 0} (columns : ℕ → Option ℕ) (one : DrawsInOne columns) 
       let seated = among_seated 0 next q.hanging q.own q.means.cells hangs q.means.seated in
       let fewer : length (q ∷ rows) ≡ next.span = omega (arith, span) in
       let others = over (q ∷ rows) next follow.2 fill.1 (seated, hanging_apart, hanging_filled) fewer in (
-        (high_enough columns one r c first.0, subst (λ d. AreItsRows draws (map (meeting_in columns) (q ∷ rows)) (behind d (meeting_in columns r) c)) follow.0 others.0),
+        (high_enough columns one r c first.0, subst (λ d. AreItsRows draws (map (meeting_in columns) (q ∷ rows)) (continued d (meeting_in columns r) c)) follow.0 others.0),
         (stands_in_columns columns one r c first.1 first.0 filled, others.1),
       )
 

@@ -8,7 +8,7 @@ use Rattle.tbr_border.specs.declared.render_line.RenderLine.{RenderLine}
 use Rattle.tbr_rows.specs.declared.line_set.LineSet.{LineSet as Cell}
 use Rattle.tbr_rows.specs.Cells.{first_line, end_of, empty_cell, appended, with_hanging, spot_of, is_left_for, ends_before}
 use Rattle.tbr_rows.specs.CellsShown.{MadeRow, StandsAmong}
-use Rattle.tbr_rows.proofs.Among.{among_behind, among_cons, among_front, none_among}
+use Rattle.tbr_rows.proofs.Among.{among_after, among_cons, among_front, none_among}
 
 pub some_of_map : {X Y : Type 0} (f : X → Y) (o : Option X) (y : Y) → option_map f o ≡ Some y → (x : X) × (o ≡ Some x) × (f x ≡ y)
 some_of_map f None y e = absurd (let no : None ≡ Some y = e in cc)
@@ -26,7 +26,7 @@ among_appended {A} at x (h ∷ hs) k = go (among_cons x h hs k) (λ l. among_app
 
     go : (x ≡ h) ⊎ StandsAmong x hs → (StandsAmong x hs → StandsAmong x rest) → StandsAmong x (gap ++ h ∷ rest)
     go (inl e) later = (gap, rest, ap (λ y. gap ++ y ∷ rest) (sym e))
-    go (inr l) later = among_behind x gap (h ∷ rest) (among_front x h rest (later l))
+    go (inr l) later = among_after x gap (h ∷ rest) (among_front x h rest (later l))
 
 -- each that overhangs is in the row
 pub among_seated : {A : Type 0} (at : ℕ) (x : Cell A) (hs cs r : List (Cell A)) → StandsAmong x hs → with_hanging at hs cs ≡ Some r → StandsAmong x r

@@ -12,7 +12,7 @@ use Rattle.tbr_rows.specs.declared.column.Column.{Column}
 use Rattle.tbr_rows.specs.Cells.{AreSideBySide, end_of}
 use Rattle.tbr_rows.specs.Gaps.{cell_in}
 use Rattle.tbr_rows.specs.Rows.{cells_under, columns_shown}
-use Rattle.tbr_rows.specs.Borders.{first_mergeable, last_mergeable, behind_mergeable, before_mergeable, without_first_border, with_last_border_apart, whole_column}
+use Rattle.tbr_rows.specs.Borders.{first_mergeable, last_mergeable, after_mergeable, before_mergeable, without_first_border, with_last_border_apart, whole_column}
 use Rattle.tbr_rows.specs.Shown.{meeting, met, DrawsInOne, TakesColumns, FillsBelow, TakesCellColumns}
 use Rattle.tbr_rows.proofs.FilledCells.{filled_line, cell_fills}
 use Rattle.tbr_rows.specs.CellsShown.{Fills, IsFilled}
@@ -77,8 +77,8 @@ module _ {A : Type 0} (collapses : Bool) (top : Option (Border A)) (height : ℕ
       (place_stays c ∙ h.0, subst (λ n. AreSideBySide n (map cell_in (map (column_of collapses top) cs))) ends (columns_side_by_side (end_of c + 1) cs h.1))
 
 module _ {A : Type 0} (P : RenderLine A → Type 0) where
-  pub behind_first : (ls : List (RenderLine A)) → Each P ls → Each P (behind_mergeable ls)
-  behind_first ls h = go (is_some (first_mergeable ls))
+  pub after_first : (ls : List (RenderLine A)) → Each P ls → Each P (after_mergeable ls)
+  after_first ls h = go (is_some (first_mergeable ls))
     where
       go : (b : Bool) → Each P (if b then drop 1 ls else ls)
       go true = each_drop P 1 ls h
@@ -93,7 +93,7 @@ module _ {A : Type 0} (P : RenderLine A → Type 0) where
 
   pub lines_stay : (collapses : Bool) (top : Option (Border A)) (c : Cell A) → Each P c.lines → Each P (column_of collapses top c).cell.lines
   lines_stay true None c h = before_last c.lines h
-  lines_stay true (Some b) c h = before_last (behind_mergeable c.lines) (behind_first c.lines h)
+  lines_stay true (Some b) c h = before_last (after_mergeable c.lines) (after_first c.lines h)
   lines_stay false top c h = h
 
 -- ---- cells whose lines take their columns
@@ -120,7 +120,7 @@ module _ {A : Type 0} (columns : ℕ → Option ℕ) (one : DrawsInOne columns) 
 
   pub below : (collapses : Bool) (top : Option (Border A)) (c : Cell A) → IsFilled columns c → FillsBelow (column_of collapses top c).cell.width (column_of collapses top c).bottom
   below true None c h = below_last c.width c.lines h
-  below true (Some b) c h = below_last c.width (behind_mergeable c.lines) (behind_first (Fills columns c.width) c.lines h)
+  below true (Some b) c h = below_last c.width (after_mergeable c.lines) (after_first (Fills columns c.width) c.lines h)
   below false top c h = tt
 
   pub column_fills : (collapses : Bool) (top : Option (Border A)) (tag : A) (i : ℕ) (c : Cell A) → IsFilled columns c → TakesCellColumns columns tag i (column_of collapses top c)

@@ -68,11 +68,11 @@ filled_line {A} columns eq align width a t (Text es) (Text done) one fits fills 
     let missing : ℕ = columns_missing columns width es in
     let front : ℕ = columns_in_front align missing in
     let before : List (Item A) = text_items (spaces front) a in
-    let behind : List (Item A) = text_items (spaces (missing - front)) a in
+    let after : List (Item A) = text_items (spaces (missing - front)) a in
     omega (
       arith,
-      same_width columns eq (items_of done) (before ++ items_of es ++ behind) fills.0,
-      width_append columns (before ++ items_of es) behind,
+      same_width columns eq (items_of done) (before ++ items_of es ++ after) fills.0,
+      width_append columns (before ++ items_of es) after,
       width_append columns before (items_of es),
       text_columns columns (spaces front) a one (spaces_narrow front),
       text_columns columns (spaces (missing - front)) a one (spaces_narrow (missing - front)),

@@ -20,18 +20,18 @@ pub elsewhere : {A : Type 0} (h : Cell A) (s : Spot) → (h.place ≡ s.place �
 elsewhere h s n = rw (ne_eqb h.place s.place n) refl
 
 -- a cell before a place isn't found after it
-none_behind : {A : Type 0} (h : Cell A) (at : ℕ) (cs : List (Cell A)) → h.place < at → AreSideBySide at cs → list_any (is_left_for h) (map spot_of cs) ≡ false
-none_behind h at [] before s = refl
-none_behind h at (c ∷ cs) before s =
-    rw (elsewhere h (spot_of c) (λ e. let no : ⊥ = omega (arith, before, e, s.0) in no)) (none_behind h (end_of c + 1) cs (omega (arith, before, s.0)) s.1)
+none_after : {A : Type 0} (h : Cell A) (at : ℕ) (cs : List (Cell A)) → h.place < at → AreSideBySide at cs → list_any (is_left_for h) (map spot_of cs) ≡ false
+none_after h at [] before s = refl
+none_after h at (c ∷ cs) before s =
+    rw (elsewhere h (spot_of c) (λ e. let no : ⊥ = omega (arith, before, e, s.0) in no)) (none_after h (end_of c + 1) cs (omega (arith, before, s.0)) s.1)
 
 -- cells after a place need not look at one that ends before it
 pub past : {A : Type 0} (s : Spot) (spots : List Spot) (at : ℕ) (hs : List (Cell A)) → s.place + s.width + 1 ≤ at → AreApart at hs → row_fits hs (s ∷ spots) ≡ row_fits hs spots
-past s spots at [] behind a = refl
-past s spots at (h ∷ hs) behind a =
-    let other = elsewhere h s (λ e. let no : ⊥ = omega (arith, behind, a.0, e) in no) in
-    let ends = le-leb (s.place + s.width + 1) h.place (omega (arith, behind, a.0)) in
-    let rest = past s spots (end_of h + 1) hs (omega (arith, behind, a.0)) a.1 in
+past s spots at [] after a = refl
+past s spots at (h ∷ hs) after a =
+    let other = elsewhere h s (λ e. let no : ⊥ = omega (arith, after, a.0, e) in no) in
+    let ends = le-leb (s.place + s.width + 1) h.place (omega (arith, after, a.0)) in
+    let rest = past s spots (end_of h + 1) hs (omega (arith, after, a.0)) a.1 in
     rw (other, ends, rest) refl
 
 pub all_found : {A : Type 0} (hs : List (Cell A)) → true ≡ row_fits hs []
@@ -70,4 +70,4 @@ found_exactly {A} at (h ∷ hs) (c ∷ cs) s a =
         ∙ ap (λ b. finds spots h && b) (sym (past (spot_of c) spots (end_of h + 1) hs (omega (arith, ends)) a.1))
     go false false left before taken kept =
         let short : h.place < end_of c + 1 = leb-false _ _ before in
-        rw (none_behind h (end_of c + 1) cs short s.1) refl
+        rw (none_after h (end_of c + 1) cs short s.1) refl

@@ -38,7 +38,7 @@ module _ {A : Type 0} (width : ℕ) (blank : Bool) where
       IsAsked (record { waiting = h ∷ hs; at = at; fits = fits }) (record { waiting = hs; at = at; fits = left }) width blank
   taken h hs at fits left apart here is = record {
     apart = nearer hs apart.1;
-    passed = behind hs apart.1;
+    passed = later hs apart.1;
     same = λ more. rw is (rw (eq-eqb h.place at here, none_from h (at + width + 1) more (omega (arith, here)), lt-leb (at + width + 1) h.place (omega (arith, here))) (go fits (h.width == width && blank) _));
   }
     where
@@ -46,9 +46,9 @@ module _ {A : Type 0} (width : ℕ) (blank : Bool) where
       nearer [] a = tt
       nearer (k ∷ ks) a = (omega (arith, here, a.0), a.1)
 
-      behind : (ks : List (Cell A)) → AreApart (end_of h + 1) ks → stands_first ks at ≡ false
-      behind [] a = refl
-      behind (k ∷ ks) a = ne_eqb k.place at (λ e. let no : ⊥ = omega (arith, here, a.0, e) in no)
+      later : (ks : List (Cell A)) → AreApart (end_of h + 1) ks → stands_first ks at ≡ false
+      later [] a = refl
+      later (k ∷ ks) a = ne_eqb k.place at (λ e. let no : ⊥ = omega (arith, here, a.0, e) in no)
 
       go : (x y z : Bool) → ((x && y) && z) ≡ (x && (((y || false) || false) && z))
       go true true z = refl
@@ -58,10 +58,10 @@ module _ {A : Type 0} (width : ℕ) (blank : Bool) where
   pub untaken : (f : Fitting A) → AreApart f.at f.waiting → stands_first f.waiting f.at ≡ false → IsAsked f f width blank
   untaken f apart passed = record { apart = apart; passed = passed; same = λ more. refl }
 
-  pub next_behind : (f : Fitting A) (k : Cell A) (ks : List (Cell A)) (at to : ℕ) (fits : Bool) → IsAsked f (record { waiting = k ∷ ks; at = at; fits = fits }) width blank →
+  pub next_after : (f : Fitting A) (k : Cell A) (ks : List (Cell A)) (at to : ℕ) (fits : Bool) → IsAsked f (record { waiting = k ∷ ks; at = at; fits = fits }) width blank →
       width < k.place - at → to ≡ at + width + 1 → (more : List (ℕ × Bool)) →
       (let t : Fitting A = record { waiting = k ∷ ks; at = to; fits = fits } in fits_with t more) ≡ fits_with f ((width, blank) ∷ more)
-  next_behind f k ks at to fits asked short is more =
+  next_after f k ks at to fits asked short is more =
       let spot : Spot = record { place = at; width = width; is_blank = blank } in
       let apart : AreApart (at + width + 1) (k ∷ ks) = (omega (arith, short), asked.apart.1) in
       ap (λ n. fits && row_fits (k ∷ ks) (spots_from n more)) is

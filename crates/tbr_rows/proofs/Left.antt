@@ -36,8 +36,8 @@ overhang_apart {A} draws from at (c ∷ cs) before s =
     rest = drop (if draws then 1 else 0) c.lines
 
     go : (b : Bool) → AreApart (end_of c + 1) (overhang draws cs) → AreApart from (overhang draws cs) → AreApart from ((if b then record c { span = c.span - 1; lines = rest } ∷ [] else []) ++ overhang draws cs)
-    go true behind all = (omega (arith, before, s.0), behind)
-    go false behind all = all
+    go true after all = (omega (arith, before, s.0), after)
+    go false after all = all
 
 -- what overhangs of a row
 pub rest_apart : {A : Type 0} (collapses draws : Bool) (top : Option (Border A)) (height : ℕ) (cs : List (Cell A)) → AreSideBySide 0 cs → AreApart 0 (overhang draws (cells_left height (columns_shown collapses (cells_under collapses top cs))))

@@ -10,7 +10,7 @@ use Rattle.tbr_border.specs.Border.{Hole, Border, has_holes, with_cells, stretch
 use Rattle.tbr_rows.specs.declared.line_set.LineSet.{LineSet as Cell}
 use Rattle.tbr_rows.specs.declared.column.Column.{Column}
 use Rattle.tbr_rows.specs.Cells.{end_of, row_width, separators, empty_cell, first_line, Spot, spot_of, is_left_for, ends_before, appended, with_hanging}
-use Rattle.tbr_rows.specs.Borders.{joined, joined_at_each, above_row, mergeable_in, first_mergeable, last_mergeable, behind_mergeable, before_mergeable, merged_with, merged_below, merged_above, without_first_border, with_last_border_apart, whole_column}
+use Rattle.tbr_rows.specs.Borders.{joined, joined_at_each, above_row, mergeable_in, first_mergeable, last_mergeable, after_mergeable, before_mergeable, merged_with, merged_below, merged_above, without_first_border, with_last_border_apart, whole_column}
 use Rattle.tbr_rows.specs.Rows.{border_above, cells_under, next_under, next_merged, columns_shown}
 use Rattle.tbr_rows.specs.Meant.{map_hole, map_border, map_line, map_cell, map_column}
 
@@ -107,8 +107,8 @@ module _ {A B : Type 0} (f : A → B) where
   either-map true xs ys = refl
   either-map false xs ys = refl
 
-  behind-map : (ls : List (RenderLine A)) → behind_mergeable (map (map_line f) ls) ≡ map (map_line f) (behind_mergeable ls)
-  behind-map ls =
+  after-map : (ls : List (RenderLine A)) → after_mergeable (map (map_line f) ls) ≡ map (map_line f) (after_mergeable ls)
+  after-map ls =
       ap (λ b. if b then drop 1 (map (map_line f) ls) else map (map_line f) ls) (ap is_some (first-map ls) ∙ some-map (first_mergeable ls))
       ∙ ap (λ (xs : List (RenderLine B)). if is_some (first_mergeable ls) then xs else map (map_line f) ls) (drop-map (map_line f) 1 ls)
       ∙ either-map (is_some (first_mergeable ls)) (drop 1 ls) ls
@@ -139,7 +139,7 @@ module _ {A B : Type 0} (f : A → B) where
   without-map : (cs : List (Cell A)) → map without_first_border (map (map_cell f) cs) ≡ map (map_cell f) (map without_first_border cs)
   without-map [] = refl
   without-map (c ∷ cs) =
-      ap (λ (ls : List (RenderLine B)). record (map_cell f c) { lines = ls } ∷ map without_first_border (map (map_cell f) cs)) (behind-map c.lines)
+      ap (λ (ls : List (RenderLine B)). record (map_cell f c) { lines = ls } ∷ map without_first_border (map (map_cell f) cs)) (after-map c.lines)
       ∙ ap (λ (ds : List (Cell B)). map_cell f (without_first_border c) ∷ ds) (without-map cs)
 
   apart-map : (cs : List (Cell A)) → map with_last_border_apart (map (map_cell f) cs) ≡ map (map_column f) (map with_last_border_apart cs)

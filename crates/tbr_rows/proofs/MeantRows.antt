@@ -84,11 +84,11 @@ module _ {A B : Type 0} (f : A → B) (eq : A → A → Bool) (means : MeansEqua
       let missing : ℕ = columns_missing columns width es in
       let front : ℕ = columns_in_front align missing in
       let before : List (Item A) = text_items (spaces front) a in
-      let behind : List (Item A) = text_items (spaces (missing - front)) a in
+      let after : List (Item A) = text_items (spaces (missing - front)) a in
       let same : line_width columns (map (map_element f) es) ≡ line_width columns es = ap (items_width columns) (items-map f es) ∙ items_width-map f columns (items_of es) in
-      items-map f done ∙ means_same_items f eq means (items_of done) (before ++ items_of es ++ behind) h.0
-      ∙ map-append (map_item f) (before ++ items_of es) behind
-      ∙ ap (λ (is : List (Item B)). is ++ map_items f behind) (map-append (map_item f) before (items_of es))
+      items-map f done ∙ means_same_items f eq means (items_of done) (before ++ items_of es ++ after) h.0
+      ∙ map-append (map_item f) (before ++ items_of es) after
+      ∙ ap (λ (is : List (Item B)). is ++ map_items f after) (map-append (map_item f) before (items_of es))
       ∙ ap (λ (is : List (Item B)). map_items f before ++ map_items f (items_of es) ++ is) (text-map f (spaces (missing - front)) a)
       ∙ ap (λ (is : List (Item B)). is ++ map_items f (items_of es) ++ text_items (spaces (missing - front)) (f a)) (text-map f (spaces front) a)
       ∙ ap (λ (is : List (Item B)). text_items (spaces front) (f a) ++ is ++ text_items (spaces (missing - front)) (f a)) (sym (items-map f es))

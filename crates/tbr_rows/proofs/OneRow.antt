@@ -47,9 +47,9 @@ longest_same (piece (c ∷ cs) a ∷ es) (marker_element n ∷ fs) l m h = absur
 longest_same {A} (piece (c ∷ cs) a ∷ es) (piece (d ∷ ds) b ∷ fs) l m h =
     let first : c ≡ d = cc in
     let under : a ≡ b = cc in
-    let behind : text_items cs a ++ items_of es ≡ text_items ds b ++ items_of fs = cc in
-    let behind_a : text_items cs a ++ items_of es ≡ text_items ds a ++ items_of fs = behind ∙ ap (λ (t : A). text_items ds t ++ items_of fs) (sym under) in
-    let k = rest_same a cs ds (c ∷ cs) (d ∷ ds) es fs l.1 (subst (λ (t : A). EndsStretch (piece (d ∷ ds) t) fs) (sym under) m.1) l.2 m.2 behind_a in
+    let after : text_items cs a ++ items_of es ≡ text_items ds b ++ items_of fs = cc in
+    let after_a : text_items cs a ++ items_of es ≡ text_items ds a ++ items_of fs = after ∙ ap (λ (t : A). text_items ds t ++ items_of fs) (sym under) in
+    let k = rest_same a cs ds (c ∷ cs) (d ∷ ds) es fs l.1 (subst (λ (t : A). EndsStretch (piece (d ∷ ds) t) fs) (sym under) m.1) l.2 m.2 after_a in
     ap (λ (x : Element A). x ∷ es) (ap (λ ns. piece ns a) (ap (λ n. n ∷ cs) first ∙ ap (λ ns. d ∷ ns) k.0) ∙ ap (λ (t : A). piece (d ∷ ds) t) under)
     ∙ ap (λ (xs : List (Element A)). piece (d ∷ ds) b ∷ xs) (longest_same es fs l.2 m.2 k.1)
 longest_same (marker_element n ∷ es) [] l m h = absurd (let no : ⊥ = cc in no)
@@ -57,8 +57,8 @@ longest_same (marker_element n ∷ es) (piece [] b ∷ fs) l m h = absurd m.0
 longest_same (marker_element n ∷ es) (piece (d ∷ ds) b ∷ fs) l m h = absurd (let no : ⊥ = cc in no)
 longest_same {A} (marker_element n ∷ es) (marker_element o ∷ fs) l m h =
     let first : n ≡ o = cc in
-    let behind : items_of es ≡ items_of fs = cc in
-    ap (λ ns. let e : Element A = marker_element ns in e ∷ es) first ∙ ap (λ (xs : List (Element A)). marker_element o ∷ xs) (longest_same es fs l.2 m.2 behind)
+    let after : items_of es ≡ items_of fs = cc in
+    ap (λ ns. let e : Element A = marker_element ns in e ∷ es) first ∙ ap (λ (xs : List (Element A)). marker_element o ∷ xs) (longest_same es fs l.2 m.2 after)
 
 one_gap : {A : Type 0} (a : A) (width : ℕ) (o : Option (RenderLine A)) (es fs : List (Element A)) → IsGapOf a width o es → IsGapOf a width o fs → es ≡ fs
 one_gap a width None es fs h k = h ∙ sym k

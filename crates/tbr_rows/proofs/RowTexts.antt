@@ -42,18 +42,18 @@ read_dropped {A} xs i x below is =
 
 module _ {A : Type 0} (eq : A → A → Bool) (laws : IsEquivalence eq) where
   -- after a line comes what equals something
-  pub behind_same : (old new : List (Element A)) (is js : List (Item A)) → SameItems eq is js → SameItems eq (items_of new) (items_of old ++ is) → SameItems eq (items_of new) (items_of old ++ js)
-  behind_same old new is js e h =
+  pub after_same : (old new : List (Element A)) (is js : List (Item A)) → SameItems eq is js → SameItems eq (items_of new) (items_of old ++ is) → SameItems eq (items_of new) (items_of old ++ js)
+  after_same old new is js e h =
       same_items_trans eq laws (items_of new) (items_of old ++ is) (items_of old ++ js) h (same_items_append eq laws (items_of old) (items_of old) is js (same_items eq laws (items_of old)) e)
 
   -- after a line comes a text under a copy of a tag
-  pub behind_text : (old new : List (Element A)) (cs ds : List ℕ) (a b : A) → ds ≡ cs → eq b a ≡ true → SameItems eq (items_of new) (items_of old ++ text_items ds b) → SameItems eq (items_of new) (items_of old ++ text_items cs a)
-  behind_text old new cs ds a b e k h =
-      behind_same old new (text_items ds b) (text_items cs a) (subst (λ es. SameItems eq (text_items ds b) (text_items es a)) e (same_texts eq laws ds b a k)) h
+  pub text_after : (old new : List (Element A)) (cs ds : List ℕ) (a b : A) → ds ≡ cs → eq b a ≡ true → SameItems eq (items_of new) (items_of old ++ text_items ds b) → SameItems eq (items_of new) (items_of old ++ text_items cs a)
+  text_after old new cs ds a b e k h =
+      after_same old new (text_items ds b) (text_items cs a) (subst (λ es. SameItems eq (text_items ds b) (text_items es a)) e (same_texts eq laws ds b a k)) h
 
   -- nothing comes after a line yet
-  pub behind_nothing : (line : List (Element A)) → SameItems eq (items_of line) (items_of line ++ [])
-  behind_nothing line = same_from_path eq laws (items_of line) (items_of line ++ []) (sym (append-nil (items_of line)))
+  pub after_nothing : (line : List (Element A)) → SameItems eq (items_of line) (items_of line ++ [])
+  after_nothing line = same_from_path eq laws (items_of line) (items_of line ++ []) (sym (append-nil (items_of line)))
 
   -- one more element comes after a line
   pub one_more : (first old new : List (Element A)) (es : List (TaggedLineElement A)) (e : TaggedLineElement A) →

@@ -46,8 +46,8 @@ abbrev pub last_mergeable : {A : Type 0} → List (RenderLine A) → Option (Bor
 last_mergeable ls = first_mergeable (drop (length ls - 1) ls)
 
 -- and the lines without it
-abbrev pub behind_mergeable : {A : Type 0} → List (RenderLine A) → List (RenderLine A)
-behind_mergeable ls = if is_some (first_mergeable ls) then drop 1 ls else ls
+abbrev pub after_mergeable : {A : Type 0} → List (RenderLine A) → List (RenderLine A)
+after_mergeable ls = if is_some (first_mergeable ls) then drop 1 ls else ls
 
 abbrev pub before_mergeable : {A : Type 0} → List (RenderLine A) → List (RenderLine A)
 before_mergeable ls = if is_some (last_mergeable ls) then take (length ls - 1) ls else ls
@@ -64,7 +64,7 @@ abbrev pub merged_below : {A : Type 0} → Border A → Cell A → Border A
 merged_below b c = merged_with below c.place b (first_mergeable c.lines)
 
 abbrev pub without_first_border : {A : Type 0} → Cell A → Cell A
-without_first_border c = record c { lines = behind_mergeable c.lines }
+without_first_border c = record c { lines = after_mergeable c.lines }
 
 -- the next border, into which the last borders of cells are merged, and the cells that keep these apart
 abbrev pub merged_above : {A : Type 0} → Border A → Cell A → Border A

@@ -14,7 +14,7 @@ use Rattle.tbr_rows.specs.Cells.{AreSideBySide, AreApart}
 use Rattle.tbr_rows.specs.Texts.{text_in_row, row_height}
 use Rattle.tbr_rows.specs.Gaps.{has_gap}
 use Rattle.tbr_rows.specs.Meant.{SeenRow, MeansRow}
-use Rattle.tbr_rows.specs.Shown.{Meeting, meeting, met, behind, parts_of, texts_in}
+use Rattle.tbr_rows.specs.Shown.{Meeting, meeting, met, continued, parts_of, texts_in}
 
 -- A row, with the cells of which it was made: those that overhang, and its own.
 pub record MadeRow (A : Type 0) (columns : ℕ → Option ℕ) : Type 0 where
@@ -83,7 +83,7 @@ module _ {A : Type 0} (columns : ℕ → Option ℕ) where
   -- in each of them what is left of it by then
   abbrev pub StandsInAll : List (MadeRow A columns) → Cell A → Type 0
   StandsInAll [] c = ⊤
-  StandsInAll (r ∷ rs) c = StandsInItsColumns r c × StandsInAll rs (behind r.style.draws_borders (meeting_in r) c)
+  StandsInAll (r ∷ rs) c = StandsInItsColumns r c × StandsInAll rs (continued r.style.draws_borders (meeting_in r) c)
 
   -- Each row has what overhangs of the one before, and all draw borders, or none.
   abbrev pub FollowOneAnother : Bool → List (MadeRow A columns) → Type 0

@@ -20,5 +20,5 @@ FillsLine columns eq align width a (Text es) (Line done) = ⊥
 FillsLine columns eq align width a (Line b) (Text done) = ⊥
 
 -- a cell after these and a separator
-abbrev pub cell_behind : {A : Type 0} → List (Cell A) → ℕ → ℕ → List (RenderLine A) → Cell A
-cell_behind cs width span lines = record { place = next_place cs; width = width; span = span; lines = lines }
+abbrev pub cell_after : {A : Type 0} → List (Cell A) → ℕ → ℕ → List (RenderLine A) → Cell A
+cell_after cs width span lines = record { place = next_place cs; width = width; span = span; lines = lines }

@@ -52,24 +52,24 @@ merged_last m c =
     if m.last then as_lines (last_mergeable under.lines) else []
 
 -- and as it overhangs after the row
-abbrev pub behind : {A : Type 0} → Bool → Meeting → Cell A → Cell A
-behind draws m c = record c { span = c.span - 1; lines = later_of draws m.height (met m c) }
+abbrev pub continued : {A : Type 0} → Bool → Meeting → Cell A → Cell A
+continued draws m c = record c { span = c.span - 1; lines = later_of draws m.height (met m c) }
 
 -- if it spans another row
 abbrev pub goes_on : {A : Type 0} → Bool → Meeting → Cell A → List (Cell A)
-goes_on draws m c = if nat_lt 1 c.span then behind draws m c ∷ [] else []
+goes_on draws m c = if nat_lt 1 c.span then continued draws m c ∷ [] else []
 
 -- what the rows show of it, one after another
 abbrev pub parts_of : {A : Type 0} → Bool → List Meeting → Cell A → List (List (RenderLine A))
 parts_of draws [] c = []
-parts_of draws (m ∷ ms) c = part_of draws m.height (met m c) ∷ parts_of draws ms (behind draws m c)
+parts_of draws (m ∷ ms) c = part_of draws m.height (met m c) ∷ parts_of draws ms (continued draws m c)
 
 -- the same, with the merged borders where they were
 abbrev pub parts_and_merged : {A : Type 0} → Bool → List Meeting → Cell A → List (RenderLine A)
 parts_and_merged draws [] c = []
 parts_and_merged draws (m ∷ ms) c =
     merged_first m c
-    ++ (part_of draws m.height (met m c) ++ parts_and_merged draws ms (behind draws m c))
+    ++ (part_of draws m.height (met m c) ++ parts_and_merged draws ms (continued draws m c))
     ++ merged_last m c
 
 -- what each cell of a row meets
@@ -79,7 +79,7 @@ meeting collapses top height = record { first = collapses && is_some top; last =
 -- Each of the rows is as high as the cell asks, and the last one leaves nothing.
 abbrev pub AreItsRows : {A : Type 0} → Bool → List Meeting → Cell A → Type 0
 AreItsRows draws [] c = c.lines ≡ []
-AreItsRows draws (m ∷ ms) c = (cell_height (met m c) ≤ m.height) × AreItsRows draws ms (behind draws m c)
+AreItsRows draws (m ∷ ms) c = (cell_height (met m c) ≤ m.height) × AreItsRows draws ms (continued draws m c)
 
 -- the lines that are texts
 abbrev pub texts_in : {A : Type 0} → List (RenderLine A) → List (RenderLine A)

@@ -85,7 +85,7 @@ pub(crate) fn whole<T: Drop>(
 /// Takes the first line, if it is a border without holes.
 fn take_first<T: Drop>(lines: &mut CellLines<T>) -> Option<BorderHoriz<T>>
     ensures border { result ≡ model.first_mergeable lines.old }
-    ensures rest { lines.new ≡ model.behind_mergeable lines.old }
+    ensures rest { lines.new ≡ model.after_mergeable lines.old }
 {
     if is_mergeable(lines.front())
         && let Some(RenderLine::Line(border)) = lines.pop_front()

@@ -63,7 +63,7 @@ impl<T: Eq + Clone + Drop> Columns<T> {
         requires { CopiesAreEqual T.is_clone T.eq }
         ensures ok { OnOk result ((filled : List (Line T))
             × AllZip (model.FillsLine W.columns T.eq align width tag.now) lines.items filled
-            × (self.new ≡ self.old ++ model.cell_behind self.old width span filled ∷ [])) }
+            × (self.new ≡ self.old ++ model.cell_after self.old width span filled ∷ [])) }
         ensures side_by_side { AreSideBySide 0 self.new }
         ensures err { OnErr result (self.new ≡ self.old) }
     {

@@ -70,18 +70,18 @@ module _ {D M : Type 0} (columns : ℕ → Option ℕ) (decoration : Decoration 
   pub one_act : (act : Act (List M)) (r m s : Top) (es : List (Entry (List M))) → m ≡ r → ActBrings columns decoration act m es s → ActsBring columns decoration (act ∷ []) r es s
   one_act act r m s es same h = (s, es, [], subst (λ (q : Top). ActBrings columns decoration act q es s) same h, (refl, refl), sym (append-nil es))
 
-  act_behind : (acts : List (Act (List M))) (act : Act (List M)) (r m s : Top) (es fs : List (Entry (List M))) → ActsBring columns decoration acts r es m → ActBrings columns decoration act m fs s → ActsBring columns decoration (acts ++ act ∷ []) r (es ++ fs) s
-  act_behind [] act r m s es fs h k = subst (λ gs. ActsBring columns decoration (act ∷ []) r (gs ++ fs) s) (sym h.1) (one_act act r m s fs h.0 k)
-  act_behind (a ∷ acts) act r m s es fs h k =
+  act_after : (acts : List (Act (List M))) (act : Act (List M)) (r m s : Top) (es fs : List (Entry (List M))) → ActsBring columns decoration acts r es m → ActBrings columns decoration act m fs s → ActsBring columns decoration (acts ++ act ∷ []) r (es ++ fs) s
+  act_after [] act r m s es fs h k = subst (λ gs. ActsBring columns decoration (act ∷ []) r (gs ++ fs) s) (sym h.1) (one_act act r m s fs h.0 k)
+  act_after (a ∷ acts) act r m s es fs h k =
       let (q, first, rest, does, others, is) = h in
-      (q, first, rest ++ fs, does, act_behind acts act q m s rest fs others k, ap (λ gs. gs ++ fs) is ∙ append_assoc first rest fs)
+      (q, first, rest ++ fs, does, act_after acts act q m s rest fs others k, ap (λ gs. gs ++ fs) is ∙ append_assoc first rest fs)
 
   act_live : (act : Act (List M)) (r s : Top) (es : List (Entry (List M))) → ActBrings columns decoration act r es s → s.failure ≡ r.failure
   act_live (call c) r s es h = (call_beside columns decoration c r s h.0).0
   act_live (row_of_cells collapses cells) r s es h = failure_stays columns collapses cells r s (h.0, h.1, h.2)
 
   pub led_on : (act : Act (List M)) (r s : Top) (fs : List (Entry (List M))) → ActBrings columns decoration act r fs s → Led r → Led s
-  led_on act r s fs h k = record { first = k.first; fresh = k.fresh; sound = k.sound; acts = k.acts ++ act ∷ []; es = k.es ++ fs; bring = act_behind k.acts act k.first r s k.es fs k.bring h; live = act_live act r s fs h ∙ k.live }
+  led_on act r s fs h k = record { first = k.first; fresh = k.fresh; sound = k.sound; acts = k.acts ++ act ∷ []; es = k.es ++ fs; bring = act_after k.acts act k.first r s k.es fs k.bring h; live = act_live act r s fs h ∙ k.live }
 
   -- such a renderer is sound
   pub led_sound : (r : Top) → Led r → IsSound columns r
@@ -216,10 +216,10 @@ module _ {D M : Type 0} (columns : ℕ → Option ℕ) (decoration : Decoration 
 
       row_led : (collapse : Bool) (next : Progress D M (List M)) → RowDoes columns decoration p collapse next → AllAre Is next
       row_led collapse next d =
-          let (before, behind, top, (m, flushed, puts), is) = d.does in
-          let led = on (row_of_cells collapse d.cells) before behind (laid_entries (joined puts.row.lines)) (m, flushed, puts, refl) (first_led p.stack.levels before top h.on_stack) in
+          let (before, later, top, (m, flushed, puts), is) = d.does in
+          let led = on (row_of_cells collapse d.cells) before later (laid_entries (joined puts.row.lines)) (m, flushed, puts, refl) (first_led p.stack.levels before top h.on_stack) in
           record {
-            on_stack = subst (λ (s : Stack Top). AllOf s.levels) (sym is) (top_led behind p.stack.levels led h.on_stack);
+            on_stack = subst (λ (s : Stack Top). AllOf s.levels) (sym is) (top_led later p.stack.levels led h.on_stack);
             waiting = subst Waits (sym d.pending) tt;
             below = subst WaitBelow (sym d.opened) h.below;
           }

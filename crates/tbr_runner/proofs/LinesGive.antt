@@ -18,12 +18,12 @@ module _ {D M : Type 0} (columns : ℕ → Option ℕ) (decoration : Decoration 
   at_end [] outcome none h = h
   at_end (b ∷ bs) outcome none h = absurd (no_length (length bs) none)
 
-  pub line_done : (q : Progress D M (List M)) (rest line behind : List ℕ) (outcome : Result (List ℕ) RunError) → lines_of rest ≡ line ∷ lines_of behind →
-      LineDoes columns decoration p line q → LinesGive columns decoration q (number + 1) (lines_of behind) outcome → LinesGive columns decoration p number (lines_of rest) outcome
-  line_done q rest line behind outcome is does gives = subst (λ ls. LinesGive columns decoration p number ls outcome) (sym is) (inr (q, does, gives))
+  pub line_done : (q : Progress D M (List M)) (rest line after : List ℕ) (outcome : Result (List ℕ) RunError) → lines_of rest ≡ line ∷ lines_of after →
+      LineDoes columns decoration p line q → LinesGive columns decoration q (number + 1) (lines_of after) outcome → LinesGive columns decoration p number (lines_of rest) outcome
+  line_done q rest line after outcome is does gives = subst (λ ls. LinesGive columns decoration p number ls outcome) (sym is) (inr (q, does, gives))
 
-  pub line_refused : (rest line behind : List ℕ) (e : RunError) → lines_of rest ≡ line ∷ lines_of behind → LineRefuses columns decoration p number line e → LinesGive columns decoration p number (lines_of rest) (Err e)
-  line_refused rest line behind e is refuses = subst (λ ls. LinesGive columns decoration p number ls (Err e)) (sym is) (inl (e, refuses, refl))
+  pub line_refused : (rest line after : List ℕ) (e : RunError) → lines_of rest ≡ line ∷ lines_of after → LineRefuses columns decoration p number line e → LinesGive columns decoration p number (lines_of rest) (Err e)
+  line_refused rest line after e is refuses = subst (λ ls. LinesGive columns decoration p number ls (Err e)) (sym is) (inl (e, refuses, refl))
 
 -- ---- before the first command
 
@@ -32,9 +32,9 @@ module _ (columns : ℕ → Option ℕ) (number : ℕ) where
   nothing_begun [] none = refl
   nothing_begun (b ∷ bs) none = absurd (no_length (length bs) none)
 
-  pub no_opening : (rest line behind : List ℕ) → false ≡ (length line == 0) → lines_of rest ≡ line ∷ lines_of behind → ((opening : Opening) → IsOpening line opening → ⊥) → Begins columns number (lines_of rest) (Err (NotACommand number))
-  no_opening rest [] behind some is none = absurd (false≢true some)
-  no_opening rest (b ∷ bs) behind some is none = subst (λ ls. Begins columns number ls (Err (NotACommand number))) (sym is) (inl (none, refl))
+  pub no_opening : (rest line after : List ℕ) → false ≡ (length line == 0) → lines_of rest ≡ line ∷ lines_of after → ((opening : Opening) → IsOpening line opening → ⊥) → Begins columns number (lines_of rest) (Err (NotACommand number))
+  no_opening rest [] after some is none = absurd (false≢true some)
+  no_opening rest (b ∷ bs) after some is none = subst (λ ls. Begins columns number ls (Err (NotACommand number))) (sym is) (inl (none, refl))
 
 -- ---- the first command
 

@@ -168,14 +168,14 @@ fn first_command(script: &[u8]) -> Result<(Opening, usize, &[u8]), RunError>
     let mut rest = script;
     let mut number = 1;
     while !rest.is_empty() {
-        let (line, behind) = split_line(rest);
+        let (line, after) = split_line(rest);
         if !line.is_empty() {
             let Some(opening) = Opening::parse(line) else {
                 return Err(RunError::NotACommand(number));
             };
-            return Ok((opening, number + 1, behind));
+            return Ok((opening, number + 1, after));
         }
-        rest = behind;
+        rest = after;
         number += 1;
     }
     Err(RunError::NotACommand(number))
@@ -203,9 +203,9 @@ fn run_lines<D: TextDecorator, W: CharWidth>(
     let mut rest = script;
     let mut number = number;
     while !rest.is_empty() {
-        let (line, behind) = split_line(rest);
+        let (line, after) = split_line(rest);
         program.run_line(alloc, number, line)?;
-        rest = behind;
+        rest = after;
         number += 1;
     }
     Ok((program, number))

@@ -30,26 +30,26 @@ first_bar bs x h xs ys e = go (cases_lt (length xs) h.0)
     go (inr l) = omega (arith, l, h.6)
 
 pub no_bar : (bs : List ℕ) → IsSplitAt bar bs None → (one other : List ℕ) → AreSplitTexts bs one other → ⊥
-no_bar bs h one other t = split_text_parts bar bs None h t.before t.behind t.splits
+no_bar bs h one other t = split_text_parts bar bs None h t.before t.after t.splits
 
 module _ (bs : List ℕ) (x : Bor (List ℕ) × Bor (List ℕ)) (h : IsSplitAt bar bs (Some x)) where
   pub split_texts : (one other : List ℕ) → IsText x.0.now one → IsText x.1.now other → AreSplitTexts bs one other
   split_texts one other a b = record {
     before = x.0.now;
-    behind = x.1.now;
+    after = x.1.now;
     splits = split_text_parts bar bs (Some x) h;
     first = first_bar bs x h;
     one_is = a;
     other_is = b;
   }
 
-  sides : (one other : List ℕ) → (t : AreSplitTexts bs one other) → (t.before ≡ x.0.now) × (t.behind ≡ x.1.now)
+  sides : (one other : List ℕ) → (t : AreSplitTexts bs one other) → (t.before ≡ x.0.now) × (t.after ≡ x.1.now)
   sides one other t =
       let parts : bs ≡ x.0.now ++ (bar ++ x.1.now) = split_text_parts bar bs (Some x) h in
-      let above = first_bar bs x h t.before t.behind t.splits in
+      let above = first_bar bs x h t.before t.after t.splits in
       let below = t.first x.0.now x.1.now parts in
-      let same = same_front t.before x.0.now (bar ++ t.behind) (bar ++ x.1.now) (omega (arith, above, below)) (sym t.splits ∙ parts) in
-      (same.0, append_cancel_left bar t.behind x.1.now same.1)
+      let same = same_front t.before x.0.now (bar ++ t.after) (bar ++ x.1.now) (omega (arith, above, below)) (sym t.splits ∙ parts) in
+      (same.0, append_cancel_left bar t.after x.1.now same.1)
 
   pub first_is_text : (one other : List ℕ) → AreSplitTexts bs one other → IsText x.0.now one
   first_is_text one other t = subst (λ w. IsText w one) (sides one other t).0 t.one_is
@@ -58,9 +58,9 @@ module _ (bs : List ℕ) (x : Bor (List ℕ) × Bor (List ℕ)) (h : IsSplitAt b
   second_is_text one other t = subst (λ w. IsText w other) (sides one other t).1 t.other_is
 
 -- two ways to split are one
-pub one_split : (bs one other p q : List ℕ) → (s : AreSplitTexts bs one other) → (t : AreSplitTexts bs p q) → (s.before ≡ t.before) × (s.behind ≡ t.behind)
+pub one_split : (bs one other p q : List ℕ) → (s : AreSplitTexts bs one other) → (t : AreSplitTexts bs p q) → (s.before ≡ t.before) × (s.after ≡ t.after)
 one_split bs one other p q s t =
-    let above = s.first t.before t.behind t.splits in
-    let below = t.first s.before s.behind s.splits in
-    let same = same_front s.before t.before (bar ++ s.behind) (bar ++ t.behind) (omega (arith, above, below)) (sym s.splits ∙ t.splits) in
-    (same.0, append_cancel_left bar s.behind t.behind same.1)
+    let above = s.first t.before t.after t.splits in
+    let below = t.first s.before s.after s.splits in
+    let same = same_front s.before t.before (bar ++ s.after) (bar ++ t.after) (omega (arith, above, below)) (sym s.splits ∙ t.splits) in
+    (same.0, append_cancel_left bar s.after t.after same.1)

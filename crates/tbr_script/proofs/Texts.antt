@@ -31,8 +31,8 @@ no_letter_u : (c : ℕ) → character_by_letter 117 ≡ Some c → ⊥
 no_letter_u c e = cc
 
 -- what two escapes with digits share
-behind_brace : (f g ds es xs ys : List ℕ) → f ≡ codes "u{" ++ ds ++ codes "}" → g ≡ codes "u{" ++ es ++ codes "}" → f ++ xs ≡ g ++ ys → ds ++ 125 ∷ xs ≡ es ++ 125 ∷ ys
-behind_brace f g ds es xs ys a b e =
+after_brace : (f g ds es xs ys : List ℕ) → f ≡ codes "u{" ++ ds ++ codes "}" → g ≡ codes "u{" ++ es ++ codes "}" → f ++ xs ≡ g ++ ys → ds ++ 125 ∷ xs ≡ es ++ 125 ∷ ys
+after_brace f g ds es xs ys a b e =
     let whole : 117 ∷ 123 ∷ ((ds ++ 125 ∷ []) ++ xs) ≡ 117 ∷ 123 ∷ ((es ++ 125 ∷ []) ++ ys) = ap (λ zs. zs ++ xs) (sym a) ∙ e ∙ ap (λ zs. zs ++ ys) b in
     let same : (ds ++ 125 ∷ []) ++ xs ≡ (es ++ 125 ∷ []) ++ ys = cc in
     sym (append_assoc ds (125 ∷ []) xs) ∙ same ∙ append_assoc es (125 ∷ []) ys
@@ -45,7 +45,7 @@ one_escape f g xs ys c d (inl a) (inl b) e =
 one_escape f g xs ys c d (inl a) (inr b) e = absurd (no_letter_u c (let letter : a.0 ≡ 117 = cc (a.1, b.1, e) in rw letter at a.2))
 one_escape f g xs ys c d (inr a) (inl b) e = absurd (no_letter_u d (let letter : b.0 ≡ 117 = cc (a.1, b.1, e) in rw letter at b.2))
 one_escape f g xs ys c d (inr a) (inr b) e =
-    let whole : a.0 ++ 125 ∷ xs ≡ b.0 ++ 125 ∷ ys = behind_brace f g a.0 b.0 xs ys a.1 b.1 e in
+    let whole : a.0 ++ 125 ∷ xs ≡ b.0 ++ 125 ∷ ys = after_brace f g a.0 b.0 xs ys a.1 b.1 e in
     let same = digits_end 16 125 a.0 b.0 xs ys (lit≤ tt) a.2.0.1 b.2.0.1 whole in
     (cc (a.3, b.3, same.0), same.1)
 
@@ -66,8 +66,8 @@ escaped form rest text c k t = record {
 }
 
 -- after a byte that means itself
-behind_byte : (x : ℕ) (xs text : List ℕ) → x ≢ 92 → IsText (x ∷ xs) text → (rest : List ℕ) × IsText xs rest × (text ≡ x ∷ rest)
-behind_byte x xs text n t = go t.pieces t.each t.writes t.means where
+after_byte : (x : ℕ) (xs text : List ℕ) → x ≢ 92 → IsText (x ∷ xs) text → (rest : List ℕ) × IsText xs rest × (text ≡ x ∷ rest)
+after_byte x xs text n t = go t.pieces t.each t.writes t.means where
   go : (ps : List Piece) → Each IsPiece ps → flat_map written ps ≡ x ∷ xs → flat_map meant ps ≡ text → (rest : List ℕ) × IsText xs rest × (text ≡ x ∷ rest)
   go [] a w m = absurd cc
   go (itself b ∷ ps) a w m =
@@ -76,16 +76,16 @@ behind_byte x xs text n t = go t.pieces t.each t.writes t.means where
   go (escape form c ∷ ps) a w m = let head : x ≡ 92 = cc in absurd (n head)
 
 -- after bytes that mean themselves
-pub behind_plain : (xs ys text : List ℕ) → ((i : ℕ) → i < length xs → get_or xs i 0 ≢ 92) → IsText (xs ++ ys) text → (rest : List ℕ) × IsText ys rest × (text ≡ xs ++ rest)
-behind_plain [] ys text n t = (text, t, refl)
-behind_plain (x ∷ xs) ys text n t =
-    let first = behind_byte x (xs ++ ys) text (n 0 (omega arith)) t in
-    let found = behind_plain xs ys first.0 (λ i lt. n (suc i) (omega arith)) first.1 in
+pub after_plain : (xs ys text : List ℕ) → ((i : ℕ) → i < length xs → get_or xs i 0 ≢ 92) → IsText (xs ++ ys) text → (rest : List ℕ) × IsText ys rest × (text ≡ xs ++ rest)
+after_plain [] ys text n t = (text, t, refl)
+after_plain (x ∷ xs) ys text n t =
+    let first = after_byte x (xs ++ ys) text (n 0 (omega arith)) t in
+    let found = after_plain xs ys first.0 (λ i lt. n (suc i) (omega arith)) first.1 in
     (found.0, found.1, first.2 ∙ ap (λ zs. x ∷ zs) found.2)
 
 -- after an escape
-pub behind_escape : (form rest text : List ℕ) (c : ℕ) → IsEscape form c → IsText (92 ∷ (form ++ rest)) text → (more : List ℕ) × IsText rest more × (text ≡ encode_utf8 c ++ more)
-behind_escape form rest text c k t = go t.pieces t.each t.writes t.means where
+pub after_escape : (form rest text : List ℕ) (c : ℕ) → IsEscape form c → IsText (92 ∷ (form ++ rest)) text → (more : List ℕ) × IsText rest more × (text ≡ encode_utf8 c ++ more)
+after_escape form rest text c k t = go t.pieces t.each t.writes t.means where
   go : (ps : List Piece) → Each IsPiece ps → flat_map written ps ≡ 92 ∷ (form ++ rest) → flat_map meant ps ≡ text → (more : List ℕ) × IsText rest more × (text ≡ encode_utf8 c ++ more)
   go [] a w m = absurd cc
   go (itself b ∷ ps) a w m = let head : b ≡ 92 = cc in absurd (a.0 head)
@@ -102,8 +102,8 @@ no_text after text n t = go t.pieces t.each t.writes where
   go (escape form c ∷ ps) a w = n form (flat_map written ps) c a.0 cc
 
 -- what follows an opening brace
-pub behind_head : (b : ℕ) (bs rest digits more : List ℕ) → bs ≡ b ∷ rest → bs ≡ b ∷ ((digits ++ 125 ∷ []) ++ more) → rest ≡ digits ++ 125 ∷ more
-behind_head b bs rest digits more e f =
+pub after_head : (b : ℕ) (bs rest digits more : List ℕ) → bs ≡ b ∷ rest → bs ≡ b ∷ ((digits ++ 125 ∷ []) ++ more) → rest ≡ digits ++ 125 ∷ more
+after_head b bs rest digits more e f =
     let same : rest ≡ (digits ++ 125 ∷ []) ++ more = cc in
     same ∙ append_assoc digits (125 ∷ []) more
 

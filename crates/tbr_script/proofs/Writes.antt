@@ -29,9 +29,9 @@ pub stopped : {T E : Type 0} (Q : E → Type 0) (r : Result T E) (old new : Opti
 stopped Q (Ok x) old new xs e h = absurd e
 stopped Q (Err x) old new xs e h = h
 
-behind : (n k : ℕ) (rest : List ℕ) → k ≡ length rest → take n rest ++ take (k - n) (drop n rest) ≡ rest
-behind n k rest e = grind (arith, common_steps)
+after : (n k : ℕ) (rest : List ℕ) → k ≡ length rest → take n rest ++ take (k - n) (drop n rest) ≡ rest
+after n k rest e = grind (arith, common_steps)
 
 -- the bytes after the first n are the rest
 pub cut : (n k : ℕ) (done rest bytes : List ℕ) → k ≡ length rest → done ++ rest ≡ bytes → (done ++ take n rest) ++ take (k - n) (drop n rest) ≡ bytes
-cut n k done rest bytes e f = append_assoc done (take n rest) (take (k - n) (drop n rest)) ∙ ap (λ ys. done ++ ys) (behind n k rest e) ∙ f
+cut n k done rest bytes e f = append_assoc done (take n rest) (take (k - n) (drop n rest)) ∙ ap (λ ys. done ++ ys) (after n k rest e) ∙ f

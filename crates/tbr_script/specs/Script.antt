@@ -85,11 +85,11 @@ bar = codes " | "
 -- Two texts, split where a bar comes first.
 pub record AreSplitTexts (writing one other : List ℕ) : Type 0 where
   pub before : List ℕ
-  pub behind : List ℕ
-  pub splits : writing ≡ before ++ (bar ++ behind)
+  pub after : List ℕ
+  pub splits : writing ≡ before ++ (bar ++ after)
   pub first : (xs ys : List ℕ) → writing ≡ xs ++ (bar ++ ys) → length before ≤ length xs
   pub one_is : IsText before one
-  pub other_is : IsText behind other
+  pub other_is : IsText after other
 
 -- ---- words
 
@@ -99,6 +99,6 @@ words_of [] = [] ∷ []
 words_of (b ∷ bs) = if b == space_character then [] ∷ words_of bs else onto_first b (words_of bs)
 
 -- the words still to come
-abbrev pub words_behind : Option (Bor (List ℕ)) → List (List ℕ)
-words_behind None = []
-words_behind (Some rest) = words_of rest.now
+abbrev pub words_after : Option (Bor (List ℕ)) → List (List ℕ)
+words_after None = []
+words_after (Some rest) = words_of rest.now

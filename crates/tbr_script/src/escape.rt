@@ -17,12 +17,12 @@ pub fn unescape(alloc: Global, writing: &str) -> Result<Option<String>, AllocErr
     let mut text = String::new(alloc);
     let mut rest = writing;
     while let Some((before, after)) = rest.split_once('\\') {
-        let Some((c, behind)) = escape(after) else {
+        let Some((c, later)) = escape(after) else {
             return Ok(None);
         };
         text.push_str(before)?;
         text.push(c)?;
-        rest = behind;
+        rest = later;
     }
     text.push_str(rest)?;
     Ok(Some(text))

@@ -12,11 +12,11 @@ pub struct Words<'a> {
 
 impl<'a> Model for Words<'a> {
     ghost use Rattle.std.specs.Prelude.{ℕ, List};
-    ghost use Rattle.tbr_script.specs.Script.{words_behind};
+    ghost use Rattle.tbr_script.specs.Script.{words_after};
 
     ghost Value = { List (List ℕ) };
 
-    ghost view = { λ words. words_behind words.rest };
+    ghost view = { λ words. words_after words.rest };
 }
 
 impl<'a> Words<'a> {

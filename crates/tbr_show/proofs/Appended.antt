@@ -15,8 +15,8 @@ use Rattle.tbr_show.specs.Written.{printable}
 use Rattle.tbr_show.specs.Html.{escaped, between, is_wide_after, shown_from, shown}
 
 -- one more part after those that were appended already
-pub one_behind : {X : Type 0} (start so_far more text new : List X) → text ≡ start ++ so_far → new ≡ text ++ more → new ≡ start ++ (so_far ++ more)
-one_behind {X} start so_far more text new is e = e ∙ ap (λ (ys : List X). ys ++ more) is ∙ append_assoc start so_far more
+pub one_after : {X : Type 0} (start so_far more text new : List X) → text ≡ start ++ so_far → new ≡ text ++ more → new ≡ start ++ (so_far ++ more)
+one_after {X} start so_far more text new is e = e ∙ ap (λ (ys : List X). ys ++ more) is ∙ append_assoc start so_far more
 
 module _ {X Y : Type 0} (f : X → List Y) where
   pub flat_map_push : (xs : List X) (x : X) → flat_map f (xs ++ x ∷ []) ≡ flat_map f xs ++ f x
@@ -57,28 +57,28 @@ module _ (columns : ℕ → Option ℕ) where
   shown_open is_wide (c ∷ cs) = between is_wide (columns c) ++ (escaped c ++ shown_open (is_wide_after is_wide (columns c)) cs)
 
   -- whether an element is open after them
-  abbrev pub wide_behind : Bool → List ℕ → Bool
-  wide_behind is_wide [] = is_wide
-  wide_behind is_wide (c ∷ cs) = wide_behind (is_wide_after is_wide (columns c)) cs
+  abbrev pub wide_after : Bool → List ℕ → Bool
+  wide_after is_wide [] = is_wide
+  wide_after is_wide (c ∷ cs) = wide_after (is_wide_after is_wide (columns c)) cs
 
-  pub shown_closed : (is_wide : Bool) (cs : List ℕ) → shown_from columns is_wide cs ≡ shown_open is_wide cs ++ between (wide_behind is_wide cs) (Some 1)
+  pub shown_closed : (is_wide : Bool) (cs : List ℕ) → shown_from columns is_wide cs ≡ shown_open is_wide cs ++ between (wide_after is_wide cs) (Some 1)
   shown_closed is_wide [] = refl
   shown_closed is_wide (c ∷ cs) =
       let open_there = is_wide_after is_wide (columns c) in
       ap (λ ds. between is_wide (columns c) ++ (escaped c ++ ds)) (shown_closed open_there cs)
-      ∙ ap (λ ds. between is_wide (columns c) ++ ds) (sym (append_assoc (escaped c) (shown_open open_there cs) (between (wide_behind open_there cs) (Some 1))))
-      ∙ sym (append_assoc (between is_wide (columns c)) (escaped c ++ shown_open open_there cs) (between (wide_behind open_there cs) (Some 1)))
+      ∙ ap (λ ds. between is_wide (columns c) ++ ds) (sym (append_assoc (escaped c) (shown_open open_there cs) (between (wide_after open_there cs) (Some 1))))
+      ∙ sym (append_assoc (between is_wide (columns c)) (escaped c ++ shown_open open_there cs) (between (wide_after open_there cs) (Some 1)))
 
-  pub shown_push : (is_wide : Bool) (cs : List ℕ) (c : ℕ) → shown_open is_wide (cs ++ c ∷ []) ≡ shown_open is_wide cs ++ (between (wide_behind is_wide cs) (columns c) ++ escaped c)
+  pub shown_push : (is_wide : Bool) (cs : List ℕ) (c : ℕ) → shown_open is_wide (cs ++ c ∷ []) ≡ shown_open is_wide cs ++ (between (wide_after is_wide cs) (columns c) ++ escaped c)
   shown_push is_wide [] c = ap (λ ds. between is_wide (columns c) ++ ds) (append-nil (escaped c))
   shown_push is_wide (d ∷ cs) c =
       let open_there = is_wide_after is_wide (columns d) in
-      let more = between (wide_behind open_there cs) (columns c) ++ escaped c in
+      let more = between (wide_after open_there cs) (columns c) ++ escaped c in
       ap (λ ds. between is_wide (columns d) ++ (escaped d ++ ds)) (shown_push open_there cs c)
       ∙ ap (λ ds. between is_wide (columns d) ++ ds) (sym (append_assoc (escaped d) (shown_open open_there cs) more))
       ∙ sym (append_assoc (between is_wide (columns d)) (escaped d ++ shown_open open_there cs) more)
 
-  pub wide_push : (is_wide : Bool) (cs : List ℕ) (c : ℕ) → wide_behind is_wide (cs ++ c ∷ []) ≡ is_wide_after (wide_behind is_wide cs) (columns c)
+  pub wide_push : (is_wide : Bool) (cs : List ℕ) (c : ℕ) → wide_after is_wide (cs ++ c ∷ []) ≡ is_wide_after (wide_after is_wide cs) (columns c)
   wide_push is_wide [] c = refl
   wide_push is_wide (d ∷ cs) c = wide_push (is_wide_after is_wide (columns d)) cs c
 
@@ -101,25 +101,25 @@ walked elements view walk yielded left so_far r last none steps =
     map_both view (λ e. e.now) yielded ∙ ap (map view) end.0
 
 module _ (columns : ℕ → Option ℕ) (start cs : List ℕ) (text : List ℕ) (is_wide : Bool)
-    (is : text ≡ start ++ shown_open columns false (printable cs)) (wide : is_wide ≡ wide_behind columns false (printable cs)) where
+    (is : text ≡ start ++ shown_open columns false (printable cs)) (wide : is_wide ≡ wide_after columns false (printable cs)) where
   -- one more character that is shown
   module _ (c : ℕ) (width : Option ℕ) (shows : is_control c ≡ false) (takes : width ≡ columns c) where
     pub shown_more : (mark marked new : List ℕ) → mark ≡ between is_wide width → marked ≡ text ++ mark → new ≡ marked ++ escaped c →
         new ≡ start ++ shown_open columns false (printable (cs ++ c ∷ []))
     shown_more mark marked new m e f =
-        one_behind start (shown_open columns false (printable cs)) (mark ++ escaped c) text new is (f ∙ ap (λ ds. ds ++ escaped c) e ∙ append_assoc text mark (escaped c))
-        ∙ ap (λ ds. start ++ (shown_open columns false (printable cs) ++ (ds ++ escaped c))) (m ∙ ap (λ b. between b width) wide ∙ ap (between (wide_behind columns false (printable cs))) takes)
+        one_after start (shown_open columns false (printable cs)) (mark ++ escaped c) text new is (f ∙ ap (λ ds. ds ++ escaped c) e ∙ append_assoc text mark (escaped c))
+        ∙ ap (λ ds. start ++ (shown_open columns false (printable cs) ++ (ds ++ escaped c))) (m ∙ ap (λ b. between b width) wide ∙ ap (between (wide_after columns false (printable cs))) takes)
         ∙ ap (λ ds. start ++ ds) (sym (shown_push columns false (printable cs) c) ∙ ap (shown_open columns false) (sym (printable_shown cs c shows)))
 
-    pub wide_more : (behind : Bool) → behind ≡ is_wide_after is_wide width → behind ≡ wide_behind columns false (printable (cs ++ c ∷ []))
-    wide_more behind e =
-        e ∙ ap (λ b. is_wide_after b width) wide ∙ ap (is_wide_after (wide_behind columns false (printable cs))) takes
-        ∙ sym (wide_push columns false (printable cs) c) ∙ ap (wide_behind columns false) (sym (printable_shown cs c shows))
+    pub wide_more : (after : Bool) → after ≡ is_wide_after is_wide width → after ≡ wide_after columns false (printable (cs ++ c ∷ []))
+    wide_more after e =
+        e ∙ ap (λ b. is_wide_after b width) wide ∙ ap (is_wide_after (wide_after columns false (printable cs))) takes
+        ∙ sym (wide_push columns false (printable cs) c) ∙ ap (wide_after columns false) (sym (printable_shown cs c shows))
 
   -- and the end
   pub shown_all : (mark new : List ℕ) → mark ≡ between is_wide (Some 1) → new ≡ text ++ mark → new ≡ start ++ shown columns (printable cs)
   shown_all mark new m e =
-      one_behind start (shown_open columns false (printable cs)) mark text new is e
+      one_after start (shown_open columns false (printable cs)) mark text new is e
       ∙ ap (λ ds. start ++ (shown_open columns false (printable cs) ++ ds)) (m ∙ ap (λ b. between b (Some 1)) wide)
       ∙ ap (λ ds. start ++ ds) (sym (shown_closed columns false (printable cs)))
 
@@ -131,8 +131,8 @@ module _ {X : Type 0} (t u1 u2 u3 u4 u5 u6 u7 u8 u9 : List X) (x y z k o p q : X
     (e6 : u6 ≡ u5 ++ o ∷ []) (e7 : u7 ≡ u6 ++ parts) (e8 : u8 ≡ u7 ++ p ∷ []) (e9 : u9 ≡ u8 ++ q ∷ []) where
   pub object_written : u9 ≡ t ++ (((x ∷ y ∷ z ∷ []) ++ columns) ++ (k ∷ o ∷ parts) ++ p ∷ q ∷ [])
   object_written =
-      let head = one_behind t (x ∷ y ∷ []) (z ∷ []) u2 u3 (one_behind t (x ∷ []) (y ∷ []) u1 u2 e1 e2) e3 in
-      let first = one_behind t (x ∷ y ∷ z ∷ []) columns u3 u4 head e4 in
-      let middle = one_behind u4 (k ∷ o ∷ []) parts u6 u7 (one_behind u4 (k ∷ []) (o ∷ []) u5 u6 e5 e6) e7 in
-      let most = one_behind t ((x ∷ y ∷ z ∷ []) ++ columns) (k ∷ o ∷ parts) u4 u7 first middle in
-      one_behind t (((x ∷ y ∷ z ∷ []) ++ columns) ++ (k ∷ o ∷ parts)) (p ∷ q ∷ []) u7 u9 most (one_behind u7 (p ∷ []) (q ∷ []) u8 u9 e8 e9)
+      let head = one_after t (x ∷ y ∷ []) (z ∷ []) u2 u3 (one_after t (x ∷ []) (y ∷ []) u1 u2 e1 e2) e3 in
+      let first = one_after t (x ∷ y ∷ z ∷ []) columns u3 u4 head e4 in
+      let middle = one_after u4 (k ∷ o ∷ []) parts u6 u7 (one_after u4 (k ∷ []) (o ∷ []) u5 u6 e5 e6) e7 in
+      let most = one_after t ((x ∷ y ∷ z ∷ []) ++ columns) (k ∷ o ∷ parts) u4 u7 first middle in
+      one_after t (((x ∷ y ∷ z ∷ []) ++ columns) ++ (k ∷ o ∷ parts)) (p ∷ q ∷ []) u7 u9 most (one_after u7 (p ∷ []) (q ∷ []) u8 u9 e8 e9)

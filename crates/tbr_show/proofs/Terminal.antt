@@ -224,13 +224,13 @@ among_characters (c ∷ cs) rest h = rw h.0 (ap (λ ds. c ∷ ds) (among_charact
 
 -- ---- lines
 
-seen_piece : (before cs behind more rest : List ℕ) → IsMark before → IsMark behind →
-    seen among ((((before ++ printable cs) ++ behind) ++ more) ++ rest) ≡ printable cs ++ seen among (more ++ rest)
+seen_piece : (before cs after more rest : List ℕ) → IsMark before → IsMark after →
+    seen among ((((before ++ printable cs) ++ after) ++ more) ++ rest) ≡ printable cs ++ seen among (more ++ rest)
 unfolding Hidden IsMark
-seen_piece before cs behind more rest h k =
-    ap (seen among) (append_assoc ((before ++ printable cs) ++ behind) more rest ∙ append_assoc (before ++ printable cs) behind (more ++ rest) ∙ append_assoc before (printable cs) (behind ++ (more ++ rest)))
-    ∙ h.0 (printable cs ++ (behind ++ (more ++ rest)))
-    ∙ among_characters (printable cs) (behind ++ (more ++ rest)) (each_more (printable cs) shown_is_plain (printable_is_shown cs))
+seen_piece before cs after more rest h k =
+    ap (seen among) (append_assoc ((before ++ printable cs) ++ after) more rest ∙ append_assoc (before ++ printable cs) after (more ++ rest) ∙ append_assoc before (printable cs) (after ++ (more ++ rest)))
+    ∙ h.0 (printable cs ++ (after ++ (more ++ rest)))
+    ∙ among_characters (printable cs) (after ++ (more ++ rest)) (each_more (printable cs) shown_is_plain (printable_is_shown cs))
     ∙ ap (λ ds. printable cs ++ ds) (k.0 (more ++ rest))
 
 seen_elements : (es : List (Element (Vec RichAnnotation Global))) (rest : List ℕ) → seen among (flat_map element es ++ rest) ≡ printable (characters es) ++ seen among rest
@@ -247,9 +247,9 @@ unfolding IsMark
 elements_are_own [] = tt
 elements_are_own (piece cs tag ∷ es) =
     let before = flat_map begins tag.items in
-    let behind = flat_map ends tag.items in
-    each_both IsOwn ((before ++ printable cs) ++ behind) (flat_map element es)
-    (each_both IsOwn (before ++ printable cs) behind
+    let after = flat_map ends tag.items in
+    each_both IsOwn ((before ++ printable cs) ++ after) (flat_map element es)
+    (each_both IsOwn (before ++ printable cs) after
     (each_both IsOwn before (printable cs) (all_marks begins begins_marks tag.items).1 (each_more (printable cs) shown_is_own (printable_is_shown cs)))
     (all_marks ends ends_marks tag.items).1)
     (elements_are_own es)

@@ -6,7 +6,7 @@ use Rattle.std.specs.Str.Parse.{digits_value}
 use Rattle.tbr_script.specs.Script.{IsNumber, IsSize}
 use Rattle.tbr_commands.specs.Command as asked
 use Rattle.tbr_commands.specs.Command.{command_of}
-use Rattle.tbr_commands.specs.Syntax.{IsCommand, Behind, ending_name}
+use Rattle.tbr_commands.specs.Syntax.{IsCommand, After, ending_name}
 use Rattle.tbr_commands.specs.declared.command.Command as line
 use Rattle.tbr_commands.specs.declared.command.Command.TheVariants as command
 use Rattle.tbr_commands.specs.declared.request.Request.TheVariants as request
@@ -35,8 +35,8 @@ IsItemNumber digits number =
 abbrev pub Opens : List ℕ → Block → Type 0
 Opens line Quote = line ≡ codes "quote"
 Opens line Item = line ≡ codes "item"
-Opens line (Ordered number) = Behind (codes "ordered") line (λ digits. IsItemNumber digits number)
-Opens line (Heading level) = Behind (codes "heading") line (λ digits. IsSize digits level)
+Opens line (Ordered number) = After (codes "ordered") line (λ digits. IsItemNumber digits number)
+Opens line (Heading level) = After (codes "heading") line (λ digits. IsSize digits level)
 
 -- a line that opens a block, or is the end of one
 abbrev pub IsOfBlocks : List ℕ → Statement → Type 0

@@ -6,7 +6,7 @@ pub mod LineWalks
 pub mod MappedTags
 pub mod PaddedLines
 pub mod SameItems
-pub mod TextBehind
+pub mod TextAfter
 pub mod TextColumns
 pub mod TextInFront
 pub mod WideBlocks

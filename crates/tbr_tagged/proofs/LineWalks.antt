@@ -13,7 +13,7 @@ use Rattle.tbr_tagged.specs.Elements.{Element, piece, marker_element, element_it
 use Rattle.tbr_tagged.specs.Stored.{stored}
 use Rattle.tbr_tagged.specs.View.{element_of}
 use Rattle.tbr_tagged.specs.Walks.{strings_of, piece_of, pieces_of, item_character, item_characters}
-use Rattle.tbr_tagged.proofs.TextBehind.{chars_one}
+use Rattle.tbr_tagged.proofs.TextAfter.{chars_one}
 
 -- a line has no more elements than `usize` counts
 pub few_stored : {A : Type 0} (list : ElementList A) → length (stored list) < 2 ^ 64

@@ -7,7 +7,7 @@ use Rattle.tbr_tagged.specs.declared.padding.CellAlign.{CellAlign}
 use Rattle.tbr_tagged.specs.declared.padding.CellAlign.TheVariants.{Left, Right, Centre}
 use Rattle.tbr_tagged.specs.Padding.{spaces, columns_in_front, spaces_before, padded}
 use Rattle.tbr_tagged.proofs.SameItems.{all_zip_append, same_items, same_items_append, same_items_trans, items_push, same_width}
-use Rattle.tbr_tagged.proofs.TextBehind.{same_elements, same_merged, merged_push}
+use Rattle.tbr_tagged.proofs.TextAfter.{same_elements, same_merged, merged_push}
 use Rattle.tbr_tagged.proofs.TextInFront.{items_inserted, merged_inserted}
 use Rattle.tbr_model.proofs.words.Items.{items_width-append}
 
@@ -97,34 +97,34 @@ module _ {A : Type 0} (eq : A → A → Bool) (laws : IsEquivalence eq) where
   before_items es zero a = same_items eq laws (items_of es)
   before_items es (suc n) a = items_inserted eq laws es (spaces (suc n)) a
 
-  pub padded_items : (es : List (Element A)) (front behind : ℕ) (a : A) → SameItems eq (items_of (padded eq es front behind a)) (text_items (spaces front) a ++ items_of es ++ text_items (spaces behind) a)
-  padded_items es front behind a =
-      same_items_trans eq laws (items_of (padded eq es front behind a)) (items_of (spaces_before eq es front a) ++ text_items (spaces behind) a) (text_items (spaces front) a ++ items_of es ++ text_items (spaces behind) a)
-      (items_push eq laws (spaces_before eq es front a) (spaces behind) a)
-      (same_items_append eq laws (items_of (spaces_before eq es front a)) (text_items (spaces front) a ++ items_of es) (text_items (spaces behind) a) (text_items (spaces behind) a)
-      (before_items es front a) (same_items eq laws (text_items (spaces behind) a)))
+  pub padded_items : (es : List (Element A)) (front after : ℕ) (a : A) → SameItems eq (items_of (padded eq es front after a)) (text_items (spaces front) a ++ items_of es ++ text_items (spaces after) a)
+  padded_items es front after a =
+      same_items_trans eq laws (items_of (padded eq es front after a)) (items_of (spaces_before eq es front a) ++ text_items (spaces after) a) (text_items (spaces front) a ++ items_of es ++ text_items (spaces after) a)
+      (items_push eq laws (spaces_before eq es front a) (spaces after) a)
+      (same_items_append eq laws (items_of (spaces_before eq es front a)) (text_items (spaces front) a ++ items_of es) (text_items (spaces after) a) (text_items (spaces after) a)
+      (before_items es front a) (same_items eq laws (text_items (spaces after) a)))
 
   before_merged : (es : List (Element A)) (n : ℕ) (a : A) → IsMerged eq es → IsMerged eq (spaces_before eq es n a)
   before_merged es zero a h = h
   before_merged es (suc n) a h = merged_inserted eq laws es (spaces (suc n)) a (omega arith) h
 
-  pub padded_merged : (es fs : List (Element A)) (front behind : ℕ) (a : A) → SameElements eq fs (padded eq es front behind a) → IsMerged eq es → IsMerged eq fs
-  padded_merged es fs front behind a same h =
-      same_merged eq laws fs (padded eq es front behind a) same (merged_push eq (spaces_before eq es front a) (spaces behind) a (before_merged es front a h))
+  pub padded_merged : (es fs : List (Element A)) (front after : ℕ) (a : A) → SameElements eq fs (padded eq es front after a) → IsMerged eq es → IsMerged eq fs
+  padded_merged es fs front after a same h =
+      same_merged eq laws fs (padded eq es front after a) same (merged_push eq (spaces_before eq es front a) (spaces after) a (before_merged es front a h))
 
   spaces_columns : (columns : ℕ → Option ℕ) (n : ℕ) (a : A) → columns 32 ≡ Some 1 → items_width columns (text_items (spaces n) a) ≡ n
   spaces_columns columns zero a h = refl
   spaces_columns columns (suc n) a h = omega (arith, ap (λ o. unwrap_or o 0) h, spaces_columns columns n a h)
 
   -- the columns of a padded line
-  pub padded_columns : (columns : ℕ → Option ℕ) (is js : List (Item A)) (front behind : ℕ) (a : A) → columns 32 ≡ Some 1 →
-      SameItems eq is (text_items (spaces front) a ++ js ++ text_items (spaces behind) a) → items_width columns is ≡ front + items_width columns js + behind
-  padded_columns columns is js front behind a h same =
+  pub padded_columns : (columns : ℕ → Option ℕ) (is js : List (Item A)) (front after : ℕ) (a : A) → columns 32 ≡ Some 1 →
+      SameItems eq is (text_items (spaces front) a ++ js ++ text_items (spaces after) a) → items_width columns is ≡ front + items_width columns js + after
+  padded_columns columns is js front after a h same =
       omega (
         arith,
-        same_width columns eq is (text_items (spaces front) a ++ js ++ text_items (spaces behind) a) same,
-        items_width-append columns (text_items (spaces front) a ++ js) (text_items (spaces behind) a),
+        same_width columns eq is (text_items (spaces front) a ++ js ++ text_items (spaces after) a) same,
+        items_width-append columns (text_items (spaces front) a ++ js) (text_items (spaces after) a),
         items_width-append columns (text_items (spaces front) a) js,
         spaces_columns columns front a h,
-        spaces_columns columns behind a h,
+        spaces_columns columns after a h,
       )

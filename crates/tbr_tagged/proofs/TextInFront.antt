@@ -4,7 +4,7 @@ use Rattle.std.specs.Cmp.{IsEquivalence}
 use Rattle.std.proofs.lemmas.Bool.{cond_both}
 use Rattle.tbr_tagged.specs.Elements.{Element, piece, marker_element, element_items, text_items, items_of, SameItems, is_piece_under, text_before, insert_text, HasText, AreParted, IsPartedFrom, IsMerged}
 use Rattle.tbr_tagged.proofs.SameItems.{same_items, same_items_append, same_from_path, same_items_trans}
-use Rattle.tbr_tagged.proofs.TextBehind.{more_text}
+use Rattle.tbr_tagged.proofs.TextAfter.{more_text}
 
 module _ {A : Type 0} (eq : A → A → Bool) (laws : IsEquivalence eq) where
   text_in_front : (cs ds : List ℕ) (a b : A) → eq b a ≡ true → SameItems eq (text_items (cs ++ ds) b) (text_items cs a ++ text_items ds b)

@@ -26,7 +26,7 @@ spaces_before eq es (suc n) a = insert_text eq es (spaces (suc n)) a
 
 -- with spaces in front and after
 abbrev pub padded : {A : Type 0} → (A → A → Bool) → List (Element A) → ℕ → ℕ → A → List (Element A)
-padded eq es front behind a = push_text eq (spaces_before eq es front a) (spaces behind) a
+padded eq es front after a = push_text eq (spaces_before eq es front a) (spaces after) a
 
 -- with the missing columns as spaces, by the alignment
 abbrev pub aligned : {A : Type 0} → (A → A → Bool) → CellAlign → List (Element A) → ℕ → A → List (Element A)

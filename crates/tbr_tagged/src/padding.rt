@@ -46,28 +46,28 @@ pub fn columns_in_front(align: CellAlign, missing: usize) -> usize
     }
 }
 
-/// Puts `front` spaces in front of the elements and `behind` spaces after them, under copies of the tag. Where memory
+/// Puts `front` spaces in front of the elements and `after` spaces after them, under copies of the tag. Where memory
 /// is refused nothing changes.
 pub fn pad<T: Eq + Clone + Drop>(
     elements: &mut ElementList<T>,
     front: usize,
-    behind: usize,
+    after: usize,
     tag: &T,
 ) -> Result<(), OutOfMemory>
     requires { CopiesAreEqual T.is_clone T.eq }
     ensures ok { OnOk result (SameElements T.eq (elements_of (stored elements.new))
-        (model.padded T.eq (elements_of (stored elements.old)) front behind tag.now)) }
-    ensures unchanged_by_none { front + behind ≡ 0 →
+        (model.padded T.eq (elements_of (stored elements.old)) front after tag.now)) }
+    ensures unchanged_by_none { front + after ≡ 0 →
         elements_of (stored elements.new) ≡ elements_of (stored elements.old) }
     ensures err { OnErr result (elements_of (stored elements.new) ≡ elements_of (stored elements.old)) }
-    ensures some { OnErr result (0 < front + behind) }
+    ensures some { OnErr result (0 < front + after) }
 {
     if front == 0 {
-        return push_spaces(elements, behind, tag);
+        return push_spaces(elements, after, tag);
     }
     let piece = spaces_under(elements.allocator(), front, tag)?;
     let had = put_in_front(elements, piece)?;
-    if let Err(e) = push_spaces(elements, behind, tag) {
+    if let Err(e) = push_spaces(elements, after, tag) {
         take_from_front(elements, had);
         return Err(e);
     }

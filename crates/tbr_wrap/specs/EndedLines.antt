@@ -12,10 +12,10 @@ cut (n ∷ ns) xs = take n xs ∷ cut ns (drop n xs)
 
 -- The first placed items are those of the lines, which have these lengths, and after them is no character.
 pub record AreLines {A : Type 0} (lens : List ℕ) (placed : List (Item A)) (lines : List (List (Item A))) : Type 0 where
-  pub behind : List (Item A)
-  pub placed_is : placed ≡ joined lines ++ behind
+  pub after : List (Item A)
+  pub placed_is : placed ≡ joined lines ++ after
   pub lens_is : lens ≡ map length lines
-  pub blank : has_character behind ≡ false
+  pub blank : has_character after ≡ false
 
 -- a line's characters and a newline
 abbrev pub line_characters : {A : Type 0} → List (Item A) → List ℕ

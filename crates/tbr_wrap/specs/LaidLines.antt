@@ -57,17 +57,17 @@ pub record PutsFront {A E : Type 0} (columns : ℕ → Option ℕ) (eq : A → A
 
 -- The fields hold what is laid, with placed items after it that no line has yet.
 pub record HoldsLaidBefore {A : Type 0} (b : LaidLines A) (before : List (List (Item A))) (l : Laid A)
-    (behind : List (Item A)) : Type 0 where
-  pub placed : b.flat.placed ≡ (joined (before ++ l.done) ++ l.line) ++ behind
+    (after : List (Item A)) : Type 0 where
+  pub placed : b.flat.placed ≡ (joined (before ++ l.done) ++ l.line) ++ after
   pub lens : b.ended.items ≡ map length (before ++ l.done)
   pub len : b.line_len ≡ length l.line
   pub markers : b.line_markers ≡ length (names_in_items l.line)
   pub width : b.line_width ≡ l.width
 
 pub record HoldsRuleBefore {A : Type 0} (columns : ℕ → Option ℕ) (eq : A → A → Bool) (b : LaidLines A)
-    (before given : List (List (Item A))) (r : Laid A) (behind : List (Item A)) : Type 0 where
+    (before given : List (List (Item A))) (r : Laid A) (after : List (Item A)) : Type 0 where
   pub laid : Laid A
-  pub holds : HoldsLaidBefore b before laid behind
+  pub holds : HoldsLaidBefore b before laid after
   pub shows : LaidLikeRule eq given laid r
   pub measured : RuleFitsWidth columns b.width b.may_overflow r
 

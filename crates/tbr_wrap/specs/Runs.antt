@@ -6,7 +6,7 @@ use Rattle.tbr_model.specs.declared.white_space.WhiteSpace.{WhiteSpace}
 use Rattle.tbr_model.specs.declared.white_space.WhiteSpace.TheVariants.{Normal, Pre, PreWrap}
 use Rattle.tbr_model.specs.Run.{Entry, character, marker_entry, Item, glyph, marker, is_kept, kept_items, trailing}
 use Rattle.tbr_model.specs.Layout.{joined}
-use Rattle.tbr_model.specs.Markers.{names_in_items, names_in_run, marker_items, names_behind}
+use Rattle.tbr_model.specs.Markers.{names_in_items, names_in_run, marker_items, names_after}
 use Rattle.tbr_model.specs.Hard.{HasMode, Preserves, IsNarrowEntry, entry_letters, is_visible, hard_lines, Parted, ShowsVisible, ShowsHardLine, ShowsPre, ShowsPreWrap, ShowsTabs, HasMain}
 use Rattle.tbr_model.specs.Shown.{without_spaces, InventsNothing, ComesWithRun, ShowsInOrder, IsNotPre, ShowsOwn, next_stop}
 use Rattle.tbr_wrap.specs.Wrapped.{HasBestLines, FitsBlock}
@@ -58,16 +58,16 @@ AreLastOf {X} xs all = (front : List X) × (front ++ xs ≡ all)
 -- ---- hard lines that fit
 
 -- The column after an entry that comes at a column: a tab goes to the next multiple of eight, and U+200B takes none.
-abbrev pub column_behind : {A : Type 0} → (ℕ → Option ℕ) → ℕ → Entry A → ℕ
-column_behind columns n (character c a b m) =
+abbrev pub column_after : {A : Type 0} → (ℕ → Option ℕ) → ℕ → Entry A → ℕ
+column_after columns n (character c a b m) =
     if c == zero_width_space then n
     else if c == tab_character then next_stop n
     else n + unwrap_or (columns c) 0
-column_behind columns n (marker_entry name) = n
+column_after columns n (marker_entry name) = n
 
 -- a hard line takes no more columns than the block has
 abbrev pub LineFits : {A : Type 0} → (ℕ → Option ℕ) → ℕ → List (Entry A) → Type 0
-LineFits columns width h = fold (column_behind columns) 0 h ≤ width
+LineFits columns width h = fold (column_after columns) 0 h ≤ width
 
 -- an entry has the annotation as its own
 abbrev pub HasOwnAnnotation : {A : Type 0} → (A → A → Type 0) → List (Entry A) → A → Type 0
@@ -106,8 +106,8 @@ pub record EndsRun {A : Type 0} (columns : ℕ → Option ℕ) (width : ℕ) (ma
   -- markers are on the lines or wait, once and in order
   pub markers : names_in_items (joined texts) ++ names ≡ names_in_run run
   -- those that wait come after the last visible character, in a `Normal` run after the last kept one
-  pub behind : AreLastOf names (names_behind (is_visible columns) run)
-  pub behind_kept : IsNormal run → AreLastOf names (names_behind (is_kept columns) run)
+  pub after : AreLastOf names (names_after (is_visible columns) run)
+  pub after_kept : IsNormal run → AreLastOf names (names_after (is_kept columns) run)
   pub waits : may_overflow ≡ false → IsNormal run → marker_items names ≡ trailing columns run
   -- a run without a character ends no line
   pub alone : entry_letters run ≡ [] → texts ≡ []

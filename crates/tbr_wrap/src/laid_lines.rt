@@ -261,10 +261,10 @@ impl<T: Eq + Clone + Drop> LaidLines<T> {
         requires some { 0 < count }
         requires room { self.old.line_width + count ≤ self.old.width }
         ensures taken { (columns : ℕ → Option ℕ) (a b : T) → columns 32 ≡ Some 1 → T.eq b a ≡ true →
-            (before given : List (List (Item T))) (r : Laid T) (behind : List (Item T)) →
-            HoldsRuleBefore columns T.eq self.old before given r (spaces count b ++ behind) →
+            (before given : List (List (Item T))) (r : Laid T) (after : List (Item T)) →
+            HoldsRuleBefore columns T.eq self.old before given r (spaces count b ++ after) →
             OnOk result (HoldsRuleBefore columns T.eq self.new before given
-            (put_spaces self.old.width a count r) behind) }
+            (put_spaces self.old.width a count r) after) }
         ensures flat { self.new.flat ≡ self.old.flat }
         ensures room { OnOk result (self.new.line_width < self.new.width) }
         ensures limits { KeepsLimits self.old self.new }
@@ -308,7 +308,7 @@ impl<T: Eq + Clone + Drop> LaidLines<T> {
     pub fn put_tab(&mut self, column: usize, tag: &T) -> Result<(), OutOfMemory>
         requires faithful { CopiesAreEqual T.is_clone T.eq }
         requires within { column < self.old.width }
-        requires behind { self.old.line_width ≤ column }
+        requires after { self.old.line_width ≤ column }
         ensures put { (columns : ℕ → Option ℕ) (a : T) → columns 32 ≡ Some 1 → T.eq tag.now a ≡ true →
             LinesFollow columns T.eq self.old self.new result (put_tab self.old.width column a) }
         ensures word { OnOk result (SameItems T.eq self.new.flat.word self.old.flat.word) }

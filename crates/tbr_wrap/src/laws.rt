@@ -7,7 +7,7 @@ ghost use Rattle.tbr_model.specs.Run.{Item, Entry, trailing};
 ghost use Rattle.tbr_model.specs.Mapped.{map_items, map_lines, map_run};
 ghost use Rattle.tbr_model.specs.Hard.{is_visible};
 ghost use Rattle.tbr_model.specs.Layout.{slots_of, joined, HasLegalLines};
-ghost use Rattle.tbr_model.specs.Markers.{names_in_items, names_in_run, marker_run, names_behind, last};
+ghost use Rattle.tbr_model.specs.Markers.{names_in_items, names_in_run, marker_run, names_after, last};
 ghost use Rattle.tbr_model.specs.Rule.{run_of, waiting};
 ghost use Rattle.tbr_model.specs.Run.{kept_items};
 ghost use Rattle.tbr_model.specs.Shown.{without_spaces, run_shows_columns};
@@ -30,7 +30,7 @@ pub fn lines_are_handed_out_in_order<T>()
 
 /// Lines that a run ends, under way or where it is flushed, come after those that are left. Where open line and word
 /// hold no character a flush ends none, and a marker never does.
-pub fn lines_join_behind_those_left<T>()
+pub fn lines_join_after_those_left<T>()
     ensures text { (columns : ℕ → Option ℕ) (s t : Block T) (cs : List ℕ) (a b : T) (mode : WhiteSpace) →
         IsSound columns s → after_text columns cs a b mode s ≡ done t → (more : List (List (Item T)))
         × (lines columns t ≡ lines columns s ++ more) × (left columns t ≡ left columns s ++ more) }
@@ -99,7 +99,7 @@ pub fn loose_markers_are_last<T>()
     ensures last { (columns : ℕ → Option ℕ) (s : Block T) →
         loose columns s ≡ last (length (loose columns s)) (names_in_run (run_of s.events)) }
     ensures visible { (columns : ℕ → Option ℕ) (s : Block T) →
-        AreLastOf (loose columns s) (names_behind (is_visible columns) (run_of s.events)) }
+        AreLastOf (loose columns s) (names_after (is_visible columns) (run_of s.events)) }
     ensures trailing { (columns : ℕ → Option ℕ) → columns 32 ≡ Some 1 → (s : Block T) → IsSound columns s →
         WrapsNormally s → loose columns s ≡ names_in_items (trailing columns (run_of s.events)) }
 {}

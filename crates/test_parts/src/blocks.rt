@@ -23,19 +23,19 @@ const EXAMPLES: &[Example] = &[
         expected: Lines("漢\n"),
     },
     Example {
-        name: "a wide character that overflows stands on a line of its own",
+        name: "a wide character that overflows is on a line of its own",
         on: Overflowing,
         steps: &[Normal("a漢b")],
         expected: Lines("a\n漢\nb\n"),
     },
     Example {
-        name: "a wide character that overflows stands behind characters of no width",
+        name: "a wide character that overflows is after characters of no width",
         on: Overflowing,
         steps: &[Normal("\u{336}漢b")],
         expected: Lines("\u{336}漢\nb\n"),
     },
     Example {
-        name: "characters of no width behind one that overflows begin the next line",
+        name: "characters of no width after one that overflows begin the next line",
         on: Overflowing,
         steps: &[Normal("漢\u{336}b")],
         expected: Lines("漢\n\u{336}b\n"),

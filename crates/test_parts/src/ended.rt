@@ -82,7 +82,7 @@ fn a_block_without_text_has_no_line(rt: HostRuntime) -> Result<(), Fail> {
 }
 
 #[test]
-fn lines_in_one_text_are_appended_or_refused_for_want_of_memory(rt: HostRuntime) {
+fn lines_in_one_text_are_appended_or_refused_when_out_of_memory(rt: HostRuntime) {
     let alloc = rt.alloc();
     let text = ended::<UnicodeColumns>(alloc, 8, "Hello, world.  Superlongwordreally");
     if let Ok(lines) = text

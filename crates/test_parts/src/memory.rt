@@ -67,7 +67,7 @@ fn take_steps(
 }
 
 /// The block's lines after the steps.
-fn lines_behind(
+fn lines_after(
     rt: &impl Abort,
     alloc: Global,
     width: usize,
@@ -93,7 +93,7 @@ fn lines_behind(
 #[test]
 fn blocks_have_their_lines_or_refuse_for_good(rt: HostRuntime) {
     for (width, steps, lines) in BLOCKS {
-        match lines_behind(&rt, rt.alloc(), *width, *steps) {
+        match lines_after(&rt, rt.alloc(), *width, *steps) {
             Ok(shown) => assert_eq!(rt; shown.as_str(), *lines),
             Err(error) => assert!(rt; error == Error::OutOfMemory),
         }

@@ -5,7 +5,7 @@ use crate::expected::{Example, meet_all};
 use crate::steps::Step;
 use crate::steps::Step::{Normal, Pre, PreWrap};
 
-const BEHIND_AN_EM_SPACE: &[Step<'_>] = &[PreWrap("ab\u{2003}"), Pre("\u{a0}cd")];
+const AFTER_AN_EM_SPACE: &[Step<'_>] = &[PreWrap("ab\u{2003}"), Pre("\u{a0}cd")];
 
 const WHITE_SPACE: &[Example] = &[
     Example {
@@ -57,7 +57,7 @@ const WHITE_SPACE: &[Example] = &[
         expected: Lines("     \nb\n"),
     },
     Example {
-        name: "a tab behind a full line goes from the first column of the next",
+        name: "a tab after a full line goes from the first column of the next",
         on: Columns(8),
         steps: &[Pre("abcdefgh\tb")],
         expected: Lines("abcdefgh\n        \nb\n"),
@@ -81,15 +81,15 @@ const WHITE_SPACE: &[Example] = &[
         expected: Lines("ab\ncdef\n"),
     },
     Example {
-        name: "white space of no width is no pending space, and takes nothing from the word behind it",
+        name: "white space of no width is no pending space, and takes nothing from the word after it",
         on: NoEmSpace(3),
-        steps: BEHIND_AN_EM_SPACE,
+        steps: AFTER_AN_EM_SPACE,
         expected: Lines("ab\n\u{a0}cd\n"),
     },
     Example {
-        name: "white space of a column takes white space from the word behind it",
+        name: "white space of a column takes white space from the word after it",
         on: EveryOne(3),
-        steps: BEHIND_AN_EM_SPACE,
+        steps: AFTER_AN_EM_SPACE,
         expected: Lines("ab\ncd\n"),
     },
 ];
@@ -108,7 +108,7 @@ const CONTINUED: &[Example] = &[
         expected: Pieces("abc:First \nd:Second \nef:Second \n"),
     },
     Example {
-        name: "a call begins under the main tag behind a word that fits",
+        name: "a call begins under the main tag after a word that fits",
         on: Columns(9),
         steps: &[Pre("abcdefghij\tx\t"), Pre("y")],
         expected: Pieces("abcdefghi:First \nj       x:Second \n        :Second y:First \n"),
@@ -162,7 +162,7 @@ const CONTINUED: &[Example] = &[
         expected: Pieces("abc:First \n :First \n"),
     },
     Example {
-        name: "the character behind a space that passes the line begins the continuation tag",
+        name: "the character after a space that passes the line begins the continuation tag",
         on: Columns(3),
         steps: &[Pre("abc d")],
         expected: Pieces("abc:First \n :First d:Second \n"),
@@ -180,7 +180,7 @@ const CONTINUED: &[Example] = &[
         expected: Pieces("a       b:First \n"),
     },
     Example {
-        name: "a word passes the line by a column behind columns of the open line",
+        name: "a word passes the line by a column after columns of the open line",
         on: Columns(9),
         steps: &[Pre("a\tbc")],
         expected: Pieces("a       :First \nb:First c:Second \n"),
@@ -198,7 +198,7 @@ const CONTINUED: &[Example] = &[
         expected: Pieces("漢:First \n漢:Second \n"),
     },
     Example {
-        name: "one column of a wide character passes the line behind a no-break space",
+        name: "one column of a wide character passes the line after a no-break space",
         on: Columns(3),
         steps: &[Pre("漢\u{a0}漢")],
         expected: Pieces("漢\u{a0}:First \n漢:Second \n"),

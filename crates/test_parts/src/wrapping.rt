@@ -19,7 +19,7 @@ const EXAMPLES: &[Example] = &[
         expected: Lines("Hello,\nworld.\nSuperlon\ngwordrea\nlly\n"),
     },
     Example {
-        name: "a wider word never fills the line behind another",
+        name: "a wider word never fills the line after another",
         on: Columns(4),
         steps: &[Normal("Hello there boo")],
         expected: Lines("Hell\no\nther\ne\nboo\n"),
@@ -81,19 +81,19 @@ const EXAMPLES: &[Example] = &[
         expected: Lines("漢\n字é\n"),
     },
     Example {
-        name: "characters of no width stay with what stands before",
+        name: "characters of no width stay with what is before",
         on: Columns(2),
         steps: &[Normal("a\u{336}b\u{336}c")],
         expected: Lines("a\u{336}b\u{336}\nc\n"),
     },
     Example {
-        name: "a space behind a character of no width begins no line",
+        name: "a space after a character of no width begins no line",
         on: Columns(9),
         steps: &[Normal("\u{336} a")],
         expected: Lines("\u{336}a\n"),
     },
     Example {
-        name: "a character of no width stands behind a space",
+        name: "a character of no width is after a space",
         on: Columns(9),
         steps: &[Normal("b \u{336} a")],
         expected: Lines("b \u{336}a\n"),

@@ -10,7 +10,7 @@ use test_calls::told::Told;
 
 const EXAMPLES: &[Example] = &[
     Example {
-        name: "a block ends, and white space behind it is ignored",
+        name: "a block ends, and white space after it is ignored",
         told: Told::Nothing,
         width: 5,
         calls: &[
@@ -24,7 +24,7 @@ const EXAMPLES: &[Example] = &[
         expected: &[Lines("a\n\nb\n")],
     },
     Example {
-        name: "preserved white space behind a block is not ignored",
+        name: "preserved white space after a block is not ignored",
         told: Told::Nothing,
         width: 5,
         calls: &[
@@ -37,7 +37,7 @@ const EXAMPLES: &[Example] = &[
         expected: &[Lines("a\n\n  b\n")],
     },
     Example {
-        name: "a block begins behind an empty line where any line has content",
+        name: "a block begins after an empty line where any line has content",
         told: Told::Nothing,
         width: 5,
         calls: &[StartBlock, Text("a"), StartBlock, StartTable, Text("b")],

@@ -51,13 +51,13 @@ const EXAMPLES: &[Example] = &[
         ..FOUR_COLUMNS
     },
     Example {
-        name: "a marker behind a text waits across two, for an empty line",
+        name: "a marker after a text waits across two, for an empty line",
         calls: &[Text("a "), Marker("x"), Border, Border, EmptyLine],
         expected: &[Markers("a\n────\n────\n<x>\n")],
         ..FOUR_COLUMNS
     },
     Example {
-        name: "a marker behind the last border is dropped",
+        name: "a marker after the last border is dropped",
         calls: &[Marker("x"), Border],
         expected: &[Markers("────\n")],
         ..FOUR_COLUMNS
@@ -98,7 +98,7 @@ const EXAMPLES: &[Example] = &[
         ..PADDED
     },
     Example {
-        name: "a border that becomes text stands under the annotations, as its filling does",
+        name: "a border that becomes text is under the annotations, as its filling does",
         calls: &[Border, Opens(Opening::Emphasis), BorderWidth(3)],
         expected: &[Pieces(Under::Rich, "──────:[] \n───   :[Emphasis] \n")],
         ..PADDED

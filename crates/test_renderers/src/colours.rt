@@ -10,14 +10,14 @@ const BLUE: Paint = Paint { r: 0, g: 0, b: 255 };
 
 const EXAMPLES: &[Example] = &[
     Example {
-        name: "text in a colour stands under its annotation",
+        name: "text in a colour is under its annotation",
         told: Told::Nothing,
         width: 9,
         calls: &[Colour(RED), Text("a")],
         expected: &[Pieces(Under::Rich, "a:[Colour(Colour { r: 255, g: 0, b: 0 })] \n")],
     },
     Example {
-        name: "text on a background stands under its annotation",
+        name: "text on a background is under its annotation",
         told: Told::Nothing,
         width: 9,
         calls: &[Background(BLUE), Text("a")],

@@ -7,7 +7,7 @@ use test_calls::told::{Told, Under};
 
 const EXAMPLES: &[Example] = &[
     Example {
-        name: "a link stands in emphasis in strong text",
+        name: "a link is in emphasis in strong text",
         told: Told::Nothing,
         width: 9,
         calls: &[
@@ -34,7 +34,7 @@ const EXAMPLES: &[Example] = &[
         ],
     },
     Example {
-        name: "code and a superscript stand in text",
+        name: "code and a superscript are in text",
         told: Told::Nothing,
         width: 20,
         calls: &[
@@ -65,7 +65,7 @@ const EXAMPLES: &[Example] = &[
         expected: &[Lines("x^{2}\n")],
     },
     Example {
-        name: "an image stands in emphasis",
+        name: "an image is in emphasis",
         told: Told::Nothing,
         width: 9,
         calls: &[

@@ -155,7 +155,7 @@ const STATES: &[State] = &[
 ];
 
 /// What a renderer tells after calls.
-fn tells_behind<D: TextDecorator, W: CharWidth>(
+fn tells_after<D: TextDecorator, W: CharWidth>(
     alloc: Global,
     mut r: SubRenderer<D, W>,
     calls: &[Call<'_>],
@@ -169,7 +169,7 @@ fn a_renderer_tells_what_it_has(rt: HostRuntime) {
     let alloc = rt.alloc();
     for state in STATES {
         let (empty, preformatted, struck) = state.tells;
-        let told = tells_behind(alloc, plain(alloc, 9, state.told), state.calls);
+        let told = tells_after(alloc, plain(alloc, 9, state.told), state.calls);
         assert!(rt;
             told == (None, empty, 9, preformatted, struck),
             "{}",

@@ -126,7 +126,7 @@ const EXAMPLES: &[Example<'static>] = &[
         ..TARGET
     },
     Example {
-        name: "each piece stands under its one annotation, and pieces don't matter where a line is cut",
+        name: "each piece is under its one annotation, and pieces don't matter where a line is cut",
         width: 8,
         footnotes: &[&[
             Plain("plain "),
@@ -140,7 +140,7 @@ const EXAMPLES: &[Example<'static>] = &[
         ..TARGET
     },
     Example {
-        name: "footnotes come behind the markers that wait",
+        name: "footnotes come after the markers that wait",
         calls: &[Marker("x"), Line],
         footnotes: &[&[Plain("a")], &[Plain("b")]],
         shown: Shown::Markers,

@@ -75,7 +75,7 @@ const EXAMPLES: &[(&str, ImageRenderMode, &[Call<'static>], &str)] = &[
         "Hello x[foo.jpg]y\n",
     ),
     (
-        "the name of a file is empty behind the last slash",
+        "the name of a file is empty after the last slash",
         Filename,
         &[Text("Hello x"), Image("a/b/", ""), Text("y")],
         "Hello x[]y\n",

@@ -14,7 +14,7 @@ const EXAMPLES: &[Example] = &[
         expected: &[Markers("ab\n<x>cde\n")],
     },
     Example {
-        name: "where the word is cut it stays behind the character before",
+        name: "where the word is cut it stays after the character before",
         told: Told::Nothing,
         width: 3,
         calls: &[Text("abc"), Marker("x"), Text("def")],
@@ -35,7 +35,7 @@ const EXAMPLES: &[Example] = &[
         expected: &[Markers("<x>\na\n")],
     },
     Example {
-        name: "markers that wait stand before those of the line",
+        name: "markers that wait are before those of the line",
         told: Told::Nothing,
         width: 9,
         calls: &[Marker("x"), Line, Marker("y"), Text("a")],

@@ -17,7 +17,7 @@ use test_support::odd::OddDecorator;
 
 const EXAMPLES: &[Example] = &[
     Example {
-        name: "a wide character stands on a line of two columns",
+        name: "a wide character is on a line of two columns",
         told: Told::Nothing,
         width: 2,
         calls: &[Text("a漢b")],
@@ -49,7 +49,7 @@ const EXAMPLES: &[Example] = &[
         ],
     },
     Example {
-        name: "characters of no width stay with what stands before",
+        name: "characters of no width stay with what is before",
         told: Told::Nothing,
         width: 2,
         calls: &[Text("a\u{336}b\u{336}c")],
@@ -60,7 +60,7 @@ const EXAMPLES: &[Example] = &[
         ],
     },
     Example {
-        name: "a space behind a character of no width begins no line",
+        name: "a space after a character of no width begins no line",
         told: Told::Nothing,
         width: 9,
         calls: &[Text("\u{336} a")],
@@ -71,7 +71,7 @@ const EXAMPLES: &[Example] = &[
         ],
     },
     Example {
-        name: "a character of no width stands behind a space",
+        name: "a character of no width is after a space",
         told: Told::Nothing,
         width: 9,
         calls: &[Text("b \u{336} a")],
@@ -93,7 +93,7 @@ const EXAMPLES: &[Example] = &[
         ],
     },
     Example {
-        name: "a character of no width stands before a wide one that overflows",
+        name: "a character of no width is before a wide one that overflows",
         told: Told::Overflow,
         width: 1,
         calls: &[Text("\u{336}漢b")],

@@ -13,7 +13,7 @@ const EXAMPLES: &[Example] = &[
         expected: &[LinesUnder(Under::Plain, "hello   \nworld   \n")],
     },
     Example {
-        name: "empty lines are padded behind the markers that wait",
+        name: "empty lines are padded after the markers that wait",
         told: Told::Padding,
         width: 8,
         calls: &[Marker("x"), EmptyLine, Text("a")],

@@ -51,11 +51,11 @@ pub fn prefixes_under<D: TextDecorator>(
     rt: &impl Abort,
     alloc: Global,
     decorator: D,
-    behind_refusal: bool,
+    after_refusal: bool,
     level: usize,
 ) -> Result<String, Error> {
     let mut r: SubRenderer<D> = SubRenderer::new(alloc, 9, options(Told::Nothing), decorator);
-    if behind_refusal {
+    if after_refusal {
         refuses_greatest_header(rt, &mut r);
     }
     prefixes_of(rt, &mut r, level)
@@ -70,8 +70,8 @@ fn prefixes_are_those_of_the_decorator(rt: HostRuntime) {
     shows(&rt, rich, "### |> |* |-1. ");
     let without_level = prefixes_under(&rt, alloc, RichDecorator::new(), false, 0);
     shows(&rt, without_level, " |> |* |-1. ");
-    for behind_refusal in [false, true] {
-        let plain = prefixes_under(&rt, alloc, PlainDecorator::new(), behind_refusal, 3);
+    for after_refusal in [false, true] {
+        let plain = prefixes_under(&rt, alloc, PlainDecorator::new(), after_refusal, 3);
         shows(&rt, plain, "### |> |* |-1. ");
     }
 }
@@ -94,12 +94,12 @@ const LEFT: &[(usize, usize, Option<usize>, usize)] = &[
 ];
 
 #[test]
-fn columns_are_left_behind_a_prefix(rt: HostRuntime) {
+fn columns_are_left_after_a_prefix(rt: HostRuntime) {
     let alloc = rt.alloc();
     for &(prefix, least, narrow, wide) in LEFT {
         let seen = left(alloc, Told::Nothing, prefix, least);
-        assert!(rt; seen == narrow, "{least} behind {prefix}");
+        assert!(rt; seen == narrow, "{least} after {prefix}");
         let seen = left(alloc, Told::Overflow, prefix, least);
-        assert!(rt; seen == Some(wide), "{least} behind {prefix}, or wider");
+        assert!(rt; seen == Some(wide), "{least} after {prefix}, or wider");
     }
 }

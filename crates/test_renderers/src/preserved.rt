@@ -95,7 +95,7 @@ const EXAMPLES: &[Example] = &[
         )],
     },
     Example {
-        name: "a preformatted line goes on behind a space",
+        name: "a preformatted line goes on after a space",
         told: Told::Nothing,
         width: 3,
         calls: &[Preformat, Mode(Pre), Text(" abcd")],

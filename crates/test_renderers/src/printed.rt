@@ -10,14 +10,14 @@ use test_calls::calls::{Call, make_all};
 use test_calls::told::{Told, plain};
 
 /// A plain renderer of four columns after calls.
-fn behind(alloc: Global, calls: &[Call<'_>]) -> Result<SubRenderer<PlainDecorator>, Error> {
+fn after(alloc: Global, calls: &[Call<'_>]) -> Result<SubRenderer<PlainDecorator>, Error> {
     let mut r = plain(alloc, 4, Told::Nothing);
     make_all(alloc, &mut r, calls)?;
     Ok(r)
 }
 
 fn displayed(alloc: Global, calls: &[Call<'_>]) -> Result<String, Error> {
-    let r = behind(alloc, calls)?;
+    let r = after(alloc, calls)?;
     Ok(format!(in alloc; "{r}")?)
 }
 
@@ -40,7 +40,7 @@ fn lines_of_a_renderer_are_displayed(rt: HostRuntime) -> Result<(), Fail> {
 #[test]
 fn renderers_and_stacks_are_printed_for_debugging(rt: HostRuntime) -> Result<(), Fail> {
     let alloc = rt.alloc();
-    let mut r = behind(alloc, &[Mode(WhiteSpace::Pre)])?;
+    let mut r = after(alloc, &[Mode(WhiteSpace::Pre)])?;
     r.fail(OutOfMemory);
     let printed = format!(in alloc; "{r:?}")?;
     assert_eq!(rt;

@@ -26,7 +26,7 @@ const NARROW: Cell<'static> = Cell(1, Block(1, &[Inner::Text("漢")]));
 const HUGE: Cell<'static> = Cell(1, Block(usize::MAX, &[Inner::Text("a")]));
 
 const ROW: Example = Example {
-    name: "a vertical line stands between cells, and a border below, which is plain where none stands above",
+    name: "a vertical line is between cells, and a border below, which is plain where none is above",
     told: Told::Nothing,
     width: 9,
     calls: &[Row(&[A, B], false)],
@@ -36,7 +36,7 @@ const ROW: Example = Example {
 const EXAMPLES: &[Example] = &[
     ROW,
     Example {
-        name: "without drawn borders a space stands between cells, and nothing below",
+        name: "without drawn borders a space is between cells, and nothing below",
         told: Told::NoBorders,
         expected: &[Lines("a b\n")],
         ..ROW
@@ -111,7 +111,7 @@ const EXAMPLES: &[Example] = &[
         ..ROW
     },
     Example {
-        name: "a marker of a cell stands before the cell's text",
+        name: "a marker of a cell is before the cell's text",
         calls: &[Row(
             &[
                 A,

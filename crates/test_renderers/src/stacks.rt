@@ -51,7 +51,7 @@ const NESTED: Example<'static> = Example {
 const EXAMPLES: &[Example<'static>] = &[
     NESTED,
     Example {
-        name: "links behind one another",
+        name: "links after one another",
         calls: &[Link("a"), Text("x"), EndLink, Link("b"), Text("y"), EndLink],
         text: "[x][1][y][2]\n",
         ..NESTED
@@ -63,7 +63,7 @@ const EXAMPLES: &[Example<'static>] = &[
         ..NESTED
     },
     Example {
-        name: "a link goes on behind a block inside, whose own links are forgotten",
+        name: "a link goes on after a block inside, whose own links are forgotten",
         calls: &[Link("a"), Push(9), Link("b"), Text("y"), Append, EndLink],
         text: "[\n[y\n][1]\n",
         ..NESTED
@@ -171,7 +171,7 @@ fn make(
 }
 
 /// The stack after an example's calls.
-fn behind(
+fn after(
     rt: &impl Abort,
     alloc: Global,
     example: &Example<'_>,
@@ -214,7 +214,7 @@ fn taken_apart(
 
 /// The example leaves what is expected.
 fn meets(rt: &impl Abort, alloc: Global, example: &Example<'_>) -> Result<(), Error> {
-    let stack = behind(rt, alloc, example)?;
+    let stack = after(rt, alloc, example)?;
     assert_eq!(rt; open_links(rt, &stack), example.open, "{}", example.name);
     let (renderer, links) = taken_apart(rt, stack);
     assert_eq!(rt;

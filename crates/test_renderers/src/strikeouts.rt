@@ -7,7 +7,7 @@ use test_calls::told::{Told, Under};
 
 const EXAMPLES: &[Example] = &[
     Example {
-        name: "a stroke stands behind each character",
+        name: "a stroke is after each character",
         told: Told::Nothing,
         width: 3,
         calls: &[

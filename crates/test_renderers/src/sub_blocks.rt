@@ -42,7 +42,7 @@ const LINES: Example = Example {
 const EXAMPLES: &[Example] = &[
     LINES,
     Example {
-        name: "a quote stands between two blocks",
+        name: "a quote is between two blocks",
         width: 12,
         calls: &[
             Text("Hello"),
@@ -112,14 +112,14 @@ const EXAMPLES: &[Example] = &[
         ..LINES
     },
     Example {
-        name: "a border is behind its prefix",
+        name: "a border is after its prefix",
         width: 10,
         calls: &[Append(Block(4, &[Inner::Border]), "-|+|")],
         expected: &[Lines("-────\n"), Pieces(Under::Plain, "-────:[] \n")],
         ..LINES
     },
     Example {
-        name: "prefixes and borders stand under the annotations, and texts keep their own",
+        name: "prefixes and borders are under the annotations, and texts keep their own",
         calls: &[
             Opens(Opening::Emphasis),
             Append(
@@ -147,7 +147,7 @@ const EXAMPLES: &[Example] = &[
         ..LINES
     },
     Example {
-        name: "a marker that waits stands before the prefix, and one of the line behind it",
+        name: "a marker that waits is before the prefix, and one of the line after it",
         calls: &[
             Marker("x"),
             Append(
@@ -163,7 +163,7 @@ const EXAMPLES: &[Example] = &[
         ..LINES
     },
     Example {
-        name: "a border behind a prefix is text, also for a marker that waits",
+        name: "a border after a prefix is text, also for a marker that waits",
         calls: &[Marker("x"), Append(Block(4, &[Inner::Border]), "-|")],
         expected: &[Markers("<x>-────\n")],
         ..LINES
@@ -205,7 +205,7 @@ const EXAMPLES: &[Example] = &[
 ];
 
 #[test]
-fn lines_of_blocks_stand_behind_prefixes(rt: HostRuntime) {
+fn lines_of_blocks_stand_after_prefixes(rt: HostRuntime) {
     meet_all(&rt, rt.alloc(), EXAMPLES);
 }
 
@@ -241,7 +241,7 @@ fn nested(alloc: Global, depth: usize) -> Result<String, Error> {
 }
 
 /// A line of as many prefixes and a letter.
-fn behind_prefixes(alloc: Global, depth: usize) -> Result<String, Error> {
+fn after_prefixes(alloc: Global, depth: usize) -> Result<String, Error> {
     let mut line = String::new(alloc);
     for _ in 0..depth {
         line.push('>')?;
@@ -255,7 +255,7 @@ fn blocks_nest_to_any_depth(rt: HostRuntime) -> Result<(), Fail> {
     let alloc = rt.alloc();
     assert_eq!(rt; quoted_item(alloc)?.as_str(), "> - a b\n>   c d\n");
     for depth in [200, 2000] {
-        let line = behind_prefixes(alloc, depth)?;
+        let line = after_prefixes(alloc, depth)?;
         assert_eq!(rt; nested(alloc, depth)?.as_str(), line.as_str());
     }
     Ok(())

@@ -20,7 +20,7 @@ const NARROW: Block<'static> = Block(1, &[Inner::Text("漢")]);
 const HUGE: Block<'static> = Block(usize::MAX, &[Inner::Text("a")]);
 
 const ROW: Example = Example {
-    name: "slashes stand between cells, and a border behind the last",
+    name: "slashes are between cells, and a border after the last",
     told: Told::Nothing,
     width: 4,
     calls: &[VertRow(&[A, B])],
@@ -78,7 +78,7 @@ const EXAMPLES: &[Example] = &[
         ..ROW
     },
     Example {
-        name: "a marker that waits goes to the first line of a cell, behind borders",
+        name: "a marker that waits goes to the first line of a cell, after borders",
         calls: &[Marker("x"), VertRow(&[EMPTY, B])],
         expected: &[Markers("////\n<x>b\n────\n")],
         ..ROW
@@ -96,7 +96,7 @@ const EXAMPLES: &[Example] = &[
         ..ROW
     },
     Example {
-        name: "markers behind the lines of a cell are dropped",
+        name: "markers after the lines of a cell are dropped",
         calls: &[VertRow(&[
             Block(
                 4,

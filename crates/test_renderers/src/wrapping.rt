@@ -19,7 +19,7 @@ const EXAMPLES: &[Example] = &[
         expected: &[Lines("Hello,\nworld.\nSuperlon\ngwordrea\nlly\n")],
     },
     Example {
-        name: "a wider word never fills the line behind another",
+        name: "a wider word never fills the line after another",
         told: Told::Nothing,
         width: 4,
         calls: &[Text("Hello there boo")],

@@ -51,7 +51,7 @@ const EXAMPLES: &[Example] = &[
         told: "3: write failed\n",
     },
     Example {
-        name: "a writer that fails behind six bytes",
+        name: "a writer that fails after six bytes",
         script: SCRIPT,
         bytes_a_call: 3,
         calls: 2,
@@ -86,7 +86,7 @@ fn failing_streams_are_told(rt: HostRuntime) -> Result<(), Fail> {
 const TEXT: &[u8] = b"Hello,\nworld.\nSuperlon\ngwordrea\nlly\n";
 
 /// What a writer holds that takes three bytes a call and fails after so many calls.
-fn told_behind(alloc: Global, calls: usize) -> Result<Vec<u8>, Fail> {
+fn told_after(alloc: Global, calls: usize) -> Result<Vec<u8>, Fail> {
     let mut told = Vec::new(alloc);
     for byte in TEXT.iter().take(calls.saturating_mul(3)) {
         told.push(*byte)?;
@@ -101,10 +101,10 @@ fn told_behind(alloc: Global, calls: usize) -> Result<Vec<u8>, Fail> {
 fn writers_fail(rt: &impl Abort, alloc: Global) -> Result<(), Fail> {
     for calls in 0..TEXT.len() {
         let told = outcome(alloc, SCRIPT, Slow::new(alloc, 3, calls))?;
-        let expected = told_behind(alloc, calls)?;
+        let expected = told_after(alloc, calls)?;
         assert!(rt;
             told.as_bytes() == expected.as_slice(),
-            "behind {calls} calls"
+            "after {calls} calls"
         );
     }
     Ok(())
@@ -118,10 +118,7 @@ fn readers_fail(rt: &impl Abort, alloc: Global) -> Result<(), Fail> {
             bytes_a_call: 3,
         };
         let told = outcome(alloc, reader, Slow::new(alloc, usize::MAX, usize::MAX))?;
-        assert!(rt;
-            told.as_str() == "3: read failed\n",
-            "behind {length} bytes"
-        );
+        assert!(rt; told.as_str() == "3: read failed\n", "after {length} bytes");
     }
     Ok(())
 }

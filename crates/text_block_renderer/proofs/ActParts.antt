@@ -123,7 +123,7 @@ module _ {D A : Type 0} (columns : ℕ → Option ℕ) where
       let seen = puts.row in
       let above = before_border m.lines ++ border_lines seen.above in
       let new = lines_laid columns m seen.lines ++ border_lines_of columns m seen.next in
-      let one : Piece D A columns = put (record { before = m; behind = s; collapses = collapses; cells = cells; puts = puts }) in
+      let one : Piece D A columns = put (record { before = m; after = s; collapses = collapses; cells = cells; puts = puts }) in
       let es = laid_entries (joined seen.lines) in
       let upper : AllZip StaysLine m.lines above =
       subst (λ (o : Option (Border (List A))). AllZip StaysLine m.lines (before_border m.lines ++ border_lines o)) (sym puts.means.upper) (top_put_back collapses puts.means.cells m.lines) in
@@ -160,7 +160,7 @@ module _ {D A : Type 0} (columns : ℕ → Option ℕ) where
     along_on : (xs ys : List (List (GivenCell (List A)))) (rs ss : List (EndedRun D A)) (r q s : Renderer D A (List A)) (es fs : List (Entry (List A))) → Along xs rs r es q → Along ys ss q fs s → Along (xs ++ ys) (rs ++ ss) r (es ++ fs) s
     unfolding come_on
     along_on xs ys rs ss r q s es fs h k =
-        let behind : Chain columns r.options.draw_borders q.hanging (rows_in k.came.pieces) s.hanging =
+        let chained : Chain columns r.options.draw_borders q.hanging (rows_in k.came.pieces) s.hanging =
         subst (λ (o : RenderOptions). Chain columns o.draw_borders q.hanging (rows_in k.came.pieces) s.hanging) h.options k.chain in
         record {
           width = k.width ∙ h.width;
@@ -168,7 +168,7 @@ module _ {D A : Type 0} (columns : ℕ → Option ℕ) where
           came = come_on xs ys r q s es fs h.width h.options h.came k.came;
           runs = flat_map-append (run_of_piece columns) h.came.pieces k.came.pieces ∙ ap (λ ts. ts ++ flat_map (run_of_piece columns) k.came.pieces) h.runs ∙ ap (λ ts. rs ++ ts) k.runs;
           chain = subst (λ rows. Chain columns r.options.draw_borders r.hanging rows s.hanging) (sym (rows_append h.came.pieces k.came.pieces))
-              (chain_append columns r.options.draw_borders r.hanging (rows_in h.came.pieces) q.hanging (rows_in k.came.pieces) s.hanging h.chain behind);
+              (chain_append columns r.options.draw_borders r.hanging (rows_in h.came.pieces) q.hanging (rows_in k.came.pieces) s.hanging h.chain chained);
         }
 
     -- what a call alone ends

@@ -6,7 +6,7 @@ use Rattle.std.proofs.lemmas.List.Concat.{flat_map-append}
 use Rattle.std.proofs.lemmas.Grind.{fold-append}
 use Rattle.tbr_model.specs.Run.{Entry, character, marker_entry, Item, glyph, marker, is_kept, items_of, kept_items}
 use Rattle.tbr_model.specs.Layout.{joined}
-use Rattle.tbr_model.specs.Markers.{names_in_items, names_in_run, marker_items, marker_run, marked_behind, names_behind}
+use Rattle.tbr_model.specs.Markers.{names_in_items, names_in_run, marker_items, marker_run, marked_after, names_after}
 use Rattle.tbr_model.specs.Hard.{HasMode, is_visible}
 use Rattle.tbr_model.specs.declared.white_space.WhiteSpace.TheVariants.{Normal, Pre}
 use Rattle.tbr_model.specs.Shown.{without_spaces, is_visible_or_marker, is_entry_to_show, ShowsEntry}
@@ -31,7 +31,7 @@ use Rattle.text_block_renderer.specs.MarkersStand.{items_so_far, Stands}
 use Rattle.text_block_renderer.proofs.Moves.{Move, flush, line, rule, join, turn, SameText, brought_by, Makes, no_block, undrawn}
 use Rattle.text_block_renderer.proofs.DrawnBorders.{brings_on, brings_on_all, border_stays}
 use Rattle.tbr_renderer.proofs.JoinedTexts.{run_joined}
-use Rattle.text_block_renderer.proofs.LineContents.{Looks, seen_line, seen_flushed, no_text_behind}
+use Rattle.text_block_renderer.proofs.LineContents.{Looks, seen_line, seen_flushed, no_text_after}
 use Rattle.text_block_renderer.proofs.VisibleCharacters.{space_unseen}
 
 -- ---- three ways to look at items
@@ -71,8 +71,8 @@ pub record StandFor {T : Type 0} (columns : ℕ → Option ℕ) (is : List (Item
   pub kept : IsNormal es → without_spaces is ≡ kept_items columns es
 
 -- Whoever looks sees in the new items what is seen in the old ones and then in more.
-abbrev pub SeenBehind : {T : Type 0} → List (Item T) → List (Item T) → List (Item T) → Type 1
-SeenBehind {T} old more new = (Y : Type 0) (look : List (Item T) → List Y) → Looks look → look new ≡ look old ++ look more
+abbrev pub SeenAfter : {T : Type 0} → List (Item T) → List (Item T) → List (Item T) → Type 1
+SeenAfter {T} old more new = (Y : Type 0) (look : List (Item T) → List Y) → Looks look → look new ≡ look old ++ look more
 
 names_of_markers : (T : Type 0) (names : List (List ℕ)) → names_in_items (let is : List (Item T) = marker_items names in is) ≡ names
 names_of_markers T [] = refl
@@ -88,8 +88,8 @@ module _ {T : Type 0} (columns : ℕ → Option ℕ) where
   nothing_stands = record { order = tt; names = refl; kept = λ normal. refl }
 
   -- one after the other
-  pub stand_behind : (old more new : List (Item T)) (es fs : List (Entry T)) → SeenBehind old more new → StandFor columns old es → StandFor columns more fs → StandFor columns new (es ++ fs)
-  stand_behind old more new es fs seen h k = record {
+  pub stand_after : (old more new : List (Item T)) (es fs : List (Entry T)) → SeenAfter old more new → StandFor columns old es → StandFor columns more fs → StandFor columns new (es ++ fs)
+  stand_after old more new es fs seen h k = record {
     order =
         let both = all_zip_append (ShowsEntry (λ a b. a ≡ b)) (filter (is_visible_or_marker columns) old) (filter (is_visible_or_marker columns) more) (filter (is_entry_to_show columns) es) (filter (is_entry_to_show columns) fs) h.order k.order in
         subst (λ (gs : List (Entry T)). AllZip (ShowsEntry (λ a b. a ≡ b)) (filter (is_visible_or_marker columns) new) gs) (sym (filter-append (is_entry_to_show columns) es fs))
@@ -167,61 +167,61 @@ module _ {T : Type 0} (columns : ℕ → Option ℕ) where
 
 module _ {T : Type 0} (test : ℕ → Bool) where
   -- the markers after the last character that passes, of items
-  abbrev item_behind : List (List ℕ) → Item T → List (List ℕ)
-  item_behind names (glyph c a) = if test c then [] else names
-  item_behind names (marker name) = names ++ name ∷ []
+  abbrev item_after : List (List ℕ) → Item T → List (List ℕ)
+  item_after names (glyph c a) = if test c then [] else names
+  item_after names (marker name) = names ++ name ∷ []
 
-  markers_behind : (names more : List (List ℕ)) (is : List (Item T)) → is ≡ marker_items more → fold item_behind names is ≡ names ++ more
-  markers_behind names [] is e = ap (fold item_behind names) e ∙ sym (append-nil names)
-  markers_behind names (name ∷ more) is e = ap (fold item_behind names) e ∙ markers_behind (names ++ name ∷ []) more (marker_items more) refl ∙ append_assoc names (name ∷ []) more
+  markers_after : (names more : List (List ℕ)) (is : List (Item T)) → is ≡ marker_items more → fold item_after names is ≡ names ++ more
+  markers_after names [] is e = ap (fold item_after names) e ∙ sym (append-nil names)
+  markers_after names (name ∷ more) is e = ap (fold item_after names) e ∙ markers_after (names ++ name ∷ []) more (marker_items more) refl ∙ append_assoc names (name ∷ []) more
 
   -- markers at the end of items are the last of those
-  last_behind : (is : List (Item T)) (names all : List (List ℕ)) → fold item_behind [] (is ++ marker_items names) ≡ all → AreLastOf names all
-  last_behind is names all e = (fold item_behind [] is, sym (markers_behind (fold item_behind [] is) names (marker_items names) refl) ∙ sym (fold-append item_behind [] is (marker_items names)) ∙ e)
+  last_after : (is : List (Item T)) (names all : List (List ℕ)) → fold item_after [] (is ++ marker_items names) ≡ all → AreLastOf names all
+  last_after is names all e = (fold item_after [] is, sym (markers_after (fold item_after [] is) names (marker_items names) refl) ∙ sym (fold-append item_after [] is (marker_items names)) ∙ e)
 
-  behind_alike : (names : List (List ℕ)) (is : List (Item T)) (es : List (Entry T)) → AllZip (ShowsEntry (λ a b. a ≡ b)) is es → fold item_behind names is ≡ fold (marked_behind test) names es
-  behind_alike names [] [] h = refl
-  behind_alike names [] (e ∷ es) h = elim h [ ]
-  behind_alike names (i ∷ is) [] h = elim h [ ]
-  behind_alike names (glyph c x ∷ is) (character d a b m ∷ es) h = rw (h.0.0) (behind_alike (if test d then [] else names) is es h.1)
-  behind_alike names (glyph c x ∷ is) (marker_entry name ∷ es) h = elim h.0 [ ]
-  behind_alike names (marker name ∷ is) (character d a b m ∷ es) h = elim h.0 [ ]
-  behind_alike names (marker name ∷ is) (marker_entry other ∷ es) h = rw (h.0) (behind_alike (names ++ other ∷ []) is es h.1)
+  after_alike : (names : List (List ℕ)) (is : List (Item T)) (es : List (Entry T)) → AllZip (ShowsEntry (λ a b. a ≡ b)) is es → fold item_after names is ≡ fold (marked_after test) names es
+  after_alike names [] [] h = refl
+  after_alike names [] (e ∷ es) h = elim h [ ]
+  after_alike names (i ∷ is) [] h = elim h [ ]
+  after_alike names (glyph c x ∷ is) (character d a b m ∷ es) h = rw (h.0.0) (after_alike (if test d then [] else names) is es h.1)
+  after_alike names (glyph c x ∷ is) (marker_entry name ∷ es) h = elim h.0 [ ]
+  after_alike names (marker name ∷ is) (character d a b m ∷ es) h = elim h.0 [ ]
+  after_alike names (marker name ∷ is) (marker_entry other ∷ es) h = rw (h.0) (after_alike (names ++ other ∷ []) is es h.1)
 
 module _ {T : Type 0} (columns : ℕ → Option ℕ) where
   -- what isn't shown doesn't count
-  behind_shown : (names : List (List ℕ)) (es : List (Entry T)) → fold (marked_behind (is_visible columns)) names (filter (is_entry_to_show columns) es) ≡ fold (marked_behind (is_visible columns)) names es
-  behind_shown names [] = refl
-  behind_shown names (marker_entry name ∷ es) = behind_shown (names ++ name ∷ []) es
-  behind_shown names (character c a b m ∷ es) = go (λ ns. behind_shown ns es) (is_visible columns c) refl
+  after_shown : (names : List (List ℕ)) (es : List (Entry T)) → fold (marked_after (is_visible columns)) names (filter (is_entry_to_show columns) es) ≡ fold (marked_after (is_visible columns)) names es
+  after_shown names [] = refl
+  after_shown names (marker_entry name ∷ es) = after_shown (names ++ name ∷ []) es
+  after_shown names (character c a b m ∷ es) = go (λ ns. after_shown ns es) (is_visible columns c) refl
     where
-      go : ((ns : List (List ℕ)) → fold (marked_behind (is_visible columns)) ns (filter (is_entry_to_show columns) es) ≡ fold (marked_behind (is_visible columns)) ns es) → (v : Bool) → is_visible columns c ≡ v →
-          fold (marked_behind (is_visible columns)) names (if v then character c a b m ∷ filter (is_entry_to_show columns) es else filter (is_entry_to_show columns) es) ≡ fold (marked_behind (is_visible columns)) (if v then [] else names) es
-      go rest true e = ap (λ (v : Bool). fold (marked_behind (is_visible columns)) (if v then [] else names) (filter (is_entry_to_show columns) es)) e ∙ rest []
+      go : ((ns : List (List ℕ)) → fold (marked_after (is_visible columns)) ns (filter (is_entry_to_show columns) es) ≡ fold (marked_after (is_visible columns)) ns es) → (v : Bool) → is_visible columns c ≡ v →
+          fold (marked_after (is_visible columns)) names (if v then character c a b m ∷ filter (is_entry_to_show columns) es else filter (is_entry_to_show columns) es) ≡ fold (marked_after (is_visible columns)) (if v then [] else names) es
+      go rest true e = ap (λ (v : Bool). fold (marked_after (is_visible columns)) (if v then [] else names) (filter (is_entry_to_show columns) es)) e ∙ rest []
       go rest false e = rest names
 
-  behind_kept : (names : List (List ℕ)) (es : List (Entry T)) → fold (item_behind (is_kept columns)) names (kept_items columns es) ≡ fold (marked_behind (is_kept columns)) names es
-  behind_kept names [] = refl
-  behind_kept names (marker_entry name ∷ es) = behind_kept (names ++ name ∷ []) es
-  behind_kept names (character c a b m ∷ es) = go (λ ns. behind_kept ns es) (is_kept columns c) refl
+  after_kept : (names : List (List ℕ)) (es : List (Entry T)) → fold (item_after (is_kept columns)) names (kept_items columns es) ≡ fold (marked_after (is_kept columns)) names es
+  after_kept names [] = refl
+  after_kept names (marker_entry name ∷ es) = after_kept (names ++ name ∷ []) es
+  after_kept names (character c a b m ∷ es) = go (λ ns. after_kept ns es) (is_kept columns c) refl
     where
-      go : ((ns : List (List ℕ)) → fold (item_behind (is_kept columns)) ns (kept_items columns es) ≡ fold (marked_behind (is_kept columns)) ns es) → (v : Bool) → is_kept columns c ≡ v →
-          fold (item_behind (is_kept columns)) names ((if v then glyph c a ∷ [] else []) ++ kept_items columns es) ≡ fold (marked_behind (is_kept columns)) (if v then [] else names) es
-      go rest true e = ap (λ (v : Bool). fold (item_behind (is_kept columns)) (if v then [] else names) (kept_items columns es)) e ∙ rest []
+      go : ((ns : List (List ℕ)) → fold (item_after (is_kept columns)) ns (kept_items columns es) ≡ fold (marked_after (is_kept columns)) ns es) → (v : Bool) → is_kept columns c ≡ v →
+          fold (item_after (is_kept columns)) names ((if v then glyph c a ∷ [] else []) ++ kept_items columns es) ≡ fold (marked_after (is_kept columns)) (if v then [] else names) es
+      go rest true e = ap (λ (v : Bool). fold (item_after (is_kept columns)) (if v then [] else names) (kept_items columns es)) e ∙ rest []
       go rest false e = rest names
 
   -- the markers at the end of items that stand for entries come after the last visible character, and the last kept one
-  pub waits_behind : (is : List (Item T)) (names : List (List ℕ)) (es : List (Entry T)) → StandFor columns (is ++ marker_items names) es → AreLastOf names (names_behind (is_visible columns) es)
-  waits_behind is names es h =
-      last_behind (is_visible columns) (filter (is_visible_or_marker columns) is) names (names_behind (is_visible columns) es)
-      (ap (fold (item_behind (is_visible columns)) []) (sym (shown_before columns is names))
-      ∙ behind_alike (is_visible columns) [] (filter (is_visible_or_marker columns) (is ++ marker_items names)) (filter (is_entry_to_show columns) es) h.order
-      ∙ behind_shown [] es)
+  pub waits_after : (is : List (Item T)) (names : List (List ℕ)) (es : List (Entry T)) → StandFor columns (is ++ marker_items names) es → AreLastOf names (names_after (is_visible columns) es)
+  waits_after is names es h =
+      last_after (is_visible columns) (filter (is_visible_or_marker columns) is) names (names_after (is_visible columns) es)
+      (ap (fold (item_after (is_visible columns)) []) (sym (shown_before columns is names))
+      ∙ after_alike (is_visible columns) [] (filter (is_visible_or_marker columns) (is ++ marker_items names)) (filter (is_entry_to_show columns) es) h.order
+      ∙ after_shown [] es)
 
-  pub waits_behind_kept : (is : List (Item T)) (names : List (List ℕ)) (es : List (Entry T)) → StandFor columns (is ++ marker_items names) es → IsNormal es → AreLastOf names (names_behind (is_kept columns) es)
-  waits_behind_kept is names es h normal =
-      last_behind (is_kept columns) (without_spaces is) names (names_behind (is_kept columns) es)
-      (ap (fold (item_behind (is_kept columns)) []) (sym (unspaced_before columns is names) ∙ h.kept normal) ∙ behind_kept [] es)
+  pub waits_after_kept : (is : List (Item T)) (names : List (List ℕ)) (es : List (Entry T)) → StandFor columns (is ++ marker_items names) es → IsNormal es → AreLastOf names (names_after (is_kept columns) es)
+  waits_after_kept is names es h normal =
+      last_after (is_kept columns) (without_spaces is) names (names_after (is_kept columns) es)
+      (ap (fold (item_after (is_kept columns)) []) (sym (unspaced_before columns is names) ∙ h.kept normal) ∙ after_kept [] es)
 
 -- ---- moves
 
@@ -232,9 +232,9 @@ module _ {D A : Type 0} (columns : ℕ → Option ℕ) where
     whole = whole;
     order = h.order;
     markers = sym (names_before columns (text_of_lines r.lines) r.waiting) ∙ h.names;
-    waits = waits_behind columns (text_of_lines r.lines) r.waiting ended h;
+    waits = waits_after columns (text_of_lines r.lines) r.waiting ended h;
     kept = h.kept;
-    waits_kept = waits_behind_kept columns (text_of_lines r.lines) r.waiting ended h;
+    waits_kept = waits_after_kept columns (text_of_lines r.lines) r.waiting ended h;
   }
 
   pub stand : (r : Renderer D A (List A)) (es : List (Entry (List A))) → (h : Stands columns r es) → StandFor columns (items_so_far r) h.ended
@@ -244,12 +244,12 @@ module _ {D A : Type 0} (columns : ℕ → Option ℕ) where
   new_stands width options decorator = stands (new_renderer width options decorator) [] [] refl (nothing_stands columns)
 
   -- nothing more is there
-  pub as_before : (r s : Renderer D A (List A)) (es ended : List (Entry (List A))) → SeenBehind (items_so_far r) [] (items_so_far s) → ended ++ open_run s.block ≡ es → StandFor columns (items_so_far r) ended → Stands columns s es
+  pub as_before : (r s : Renderer D A (List A)) (es ended : List (Entry (List A))) → SeenAfter (items_so_far r) [] (items_so_far s) → ended ++ open_run s.block ≡ es → StandFor columns (items_so_far r) ended → Stands columns s es
   as_before r s es ended seen whole h =
-      let k : StandFor columns (items_so_far s) (ended ++ []) = stand_behind columns (items_so_far r) [] (items_so_far s) ended [] seen h (nothing_stands columns) in
+      let k : StandFor columns (items_so_far s) (ended ++ []) = stand_after columns (items_so_far r) [] (items_so_far s) ended [] seen h (nothing_stands columns) in
       stands s es ended whole (subst (λ (fs : List (Entry (List A))). StandFor columns (items_so_far s) fs) (append-nil ended) k)
 
-  pub same_seen : (r s : Renderer D A (List A)) → items_so_far s ≡ items_so_far r → SeenBehind (items_so_far r) [] (items_so_far s)
+  pub same_seen : (r s : Renderer D A (List A)) → items_so_far s ≡ items_so_far r → SeenAfter (items_so_far r) [] (items_so_far s)
   same_seen r s e Y look looks = ap look e ∙ sym (append-nil (look (items_so_far r))) ∙ ap (λ ys. look (items_so_far r) ++ ys) (sym looks.nothing)
 
   flush_stands : (r s : Renderer D A (List A)) (o : Option (Open (List A))) (es : List (Entry (List A))) → o ≡ r.block → FlushesBlock columns r o s → IsSound columns r → Stands columns r es → Stands columns s es
@@ -258,7 +258,7 @@ module _ {D A : Type 0} (columns : ℕ → Option ℕ) where
       let after : Renderer D A (List A) = flushed columns r (block_lines columns r b (lines_at_end columns r b)) (names_at_end columns r b) in
       let more : List (Item (List A)) = joined (lines_at_end columns r b) ++ marker_items (names_at_end columns r b) in
       let all : StandFor columns (items_so_far after) (k.ended ++ (run_of b.events)) =
-      stand_behind columns (items_so_far r) more (items_so_far after) k.ended (run_of b.events) (λ Y look looks. seen_flushed look looks columns r b (lines_at_end columns r b) (names_at_end columns r b)) (stand r es k)
+      stand_after columns (items_so_far r) more (items_so_far after) k.ended (run_of b.events) (λ Y look looks. seen_flushed look looks columns r b (lines_at_end columns r b) (names_at_end columns r b)) (stand r es k)
       (run_stands columns (block_width r) (may_overflow r) (run_of b.events) (lines_at_end columns r b) (names_at_end columns r b) (h.ends sound)) in
       let nothing : open_run after.block ≡ [] = ap open_run (no_block columns (block_lines columns r b (lines_at_end columns r b)) (record r { block = None }) refl) in
       let whole : (k.ended ++ (run_of b.events)) ++ open_run after.block ≡ es =
@@ -270,7 +270,7 @@ module _ {D A : Type 0} (columns : ℕ → Option ℕ) where
       let more : List (Entry (List A)) = laid_entries is in
       let after : Renderer D A (List A) = with_line columns r is in
       let all : StandFor columns (items_so_far after) (k.ended ++ more) =
-      stand_behind columns (items_so_far r) is (items_so_far after) k.ended more (λ Y look looks. seen_line look looks columns r is) (stand r es k) (laid_stand columns is) in
+      stand_after columns (items_so_far r) is (items_so_far after) k.ended more (λ Y look looks. seen_line look looks columns r is) (stand r es k) (laid_stand columns is) in
       let nothing : k.ended ≡ es = sym (append-nil k.ended) ∙ ap (λ (o : Option (Open (List A))). k.ended ++ open_run o) (sym none) ∙ k.whole in
       let whole : (k.ended ++ more) ++ open_run r.block ≡ es ++ more =
       ap (λ (o : Option (Open (List A))). (k.ended ++ more) ++ open_run o) none ∙ append-nil (k.ended ++ more) ∙ ap (λ fs. fs ++ more) nothing in
@@ -279,7 +279,7 @@ module _ {D A : Type 0} (columns : ℕ → Option ℕ) where
   pub rule_stands : (r s : Renderer D A (List A)) (b : Border (List A)) (es : List (Entry (List A))) → r.options.pad_block_width ≡ false → s ≡ with_border columns r b → Stands columns r es → Stands columns s es
   rule_stands r s b es unpadded e k =
       let same : items_so_far (with_border columns r b) ≡ items_so_far r =
-      ap (λ l. text_of_lines (r.lines ++ l ∷ []) ++ marker_items r.waiting) (border_stays columns r b unpadded) ∙ ap (λ is. is ++ marker_items r.waiting) (no_text_behind r.lines b) in
+      ap (λ l. text_of_lines (r.lines ++ l ∷ []) ++ marker_items r.waiting) (border_stays columns r b unpadded) ∙ ap (λ is. is ++ marker_items r.waiting) (no_text_after r.lines b) in
       subst (λ (q : Renderer D A (List A)). Stands columns q es) (sym e) (as_before r (with_border columns r b) es k.ended (same_seen r (with_border columns r b) same) k.whole (stand r es k))
 
   join_stands : (r s : Renderer D A (List A)) (more : List (Event (List A))) (es : List (Entry (List A))) → s ≡ with_events r more → Stands columns r es → Stands columns s (es ++ run_of more)

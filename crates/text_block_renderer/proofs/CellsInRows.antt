@@ -31,7 +31,7 @@ use Rattle.tbr_renderer.specs.Renderer.{Renderer, with_line}
 use Rattle.tbr_renderer.specs.Rows.{GivenCell, FillsCell, ComesAs, PutsRow}
 use Rattle.tbr_model.specs.Run.{glyph}
 use Rattle.text_block_renderer.specs.Taken.{StandWithin, text_before, written}
-use Rattle.text_block_renderer.proofs.Within.{within_behind, within_more, within_on, two_within, itself_within, middle_within}
+use Rattle.text_block_renderer.proofs.Within.{within_after, within_more, within_on, two_within, itself_within, middle_within}
 use Rattle.text_block_renderer.proofs.Written.{written-append, border_shown, written_texts}
 use Rattle.text_block_renderer.proofs.VisibleCharacters.{glyphs-append}
 use Rattle.text_block_renderer.proofs.RowsOfCells.{under_row, next_grows}
@@ -261,7 +261,7 @@ cell_within_row columns collapses cells m s puts cell among one =
     within_on inside (visible_glyphs columns (items_in c.lines)) laid (filled_within columns m.annotations cell.align cell.width cell.lines c.lines comes.2)
     (cell_in_row columns m.annotations _ _ _ _ row puts.means c (comes.1 ∙ one) own) in
     let in_full : StandWithin inside (visible_glyphs columns (written full.lines)) =
-    subst (StandWithin inside) (sym (written_texts columns row.lines top)) (within_behind (visible_glyphs columns (written top.lines)) inside laid in_row) in
+    subst (StandWithin inside) (sym (written_texts columns row.lines top)) (within_after (visible_glyphs columns (written top.lines)) inside laid in_row) in
     let whole : visible_glyphs columns (written s.lines) ≡ visible_glyphs columns (written full.lines) ++ visible_glyphs columns (written next.0) =
     ap (λ (q : Renderer _ _ _). visible_glyphs columns (written q.lines)) puts.is ∙ ap (λ ls. visible_glyphs columns (written ls)) next.1 ∙ ap (visible_glyphs columns) (written-append full.lines next.0)
     ∙ glyphs-append columns (written full.lines) (written next.0) in

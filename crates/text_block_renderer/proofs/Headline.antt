@@ -48,8 +48,8 @@ module _ {D A : Type 0} (columns : ℕ → Option ℕ) where
           runs = along.runs;
           no_layout_is_ahead = each_gives (IsPiece columns r) (NoLayoutIsAhead columns) (no_layout r) along.came.pieces along.came.are;
           visible_characters_stand_once = each_gives (IsPiece columns r) (StandsOnce columns) (once r) along.came.pieces along.came.are;
-          each_cell_shows_its_texts_once = λ one none fit before rows behind cell are is_cell span.
-              cells_shown columns one r.options.draw_borders before rows behind cell r.hanging s.hanging span is_cell
+          each_cell_shows_its_texts_once = λ one none fit before rows after cell are is_cell span.
+              cells_shown columns one r.options.draw_borders before rows after cell r.hanging s.hanging span is_cell
               (each_gives (λ p. CellsFit columns (cells_in p)) (λ p. HasFilledCells columns (made p)) (cells_filled columns one) _
               (subst (Each (λ p. CellsFit columns (cells_in p))) are (each_unmap (CellsFit columns) cells_in (rows_in along.came.pieces) (subst (Each (CellsFit columns)) (sym along.came.put_rows) fit))))
               (subst (λ cells. AreApart 0 cells × Each (IsFilled columns) cells) (sym none) (tt, tt))

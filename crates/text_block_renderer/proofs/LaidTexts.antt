@@ -17,19 +17,19 @@ use Rattle.tbr_renderer.proofs.OutcomeParts.{done_before}
 use Rattle.tbr_renderer.specs.Appended.{as_text, prefixed}
 use Rattle.tbr_renderer.specs.Calls.{append_subrender, Does, text_of_lines}
 use Rattle.text_block_renderer.specs.Stretches.{padded_line, lines_laid}
-use Rattle.text_block_renderer.specs.Nested.{visible_behind}
+use Rattle.text_block_renderer.specs.Nested.{visible_after}
 use Rattle.text_block_renderer.proofs.VisibleCharacters.{space_unseen, glyphs-append, shown_line}
 
 -- ---- after prefixes
 
 module _ {T : Type 0} (columns : ℕ → Option ℕ) where
-  shown_behind : (tag : T) (prefixes : List (List ℕ)) (lines : List (Line T)) → visible_glyphs columns (joined (prefixed tag prefixes lines)) ≡ flat_map (visible_behind columns tag) (zip prefixes lines)
-  shown_behind tag [] lines = refl
-  shown_behind tag (p ∷ ps) [] = refl
-  shown_behind tag (p ∷ ps) (l ∷ ls) =
+  shown_after : (tag : T) (prefixes : List (List ℕ)) (lines : List (Line T)) → visible_glyphs columns (joined (prefixed tag prefixes lines)) ≡ flat_map (visible_after columns tag) (zip prefixes lines)
+  shown_after tag [] lines = refl
+  shown_after tag (p ∷ ps) [] = refl
+  shown_after tag (p ∷ ps) (l ∷ ls) =
       glyphs-append columns (text_items p tag ++ as_text tag l) (joined (prefixed tag ps ls))
       ∙ ap (λ gs. gs ++ visible_glyphs columns (joined (prefixed tag ps ls))) (glyphs-append columns (text_items p tag) (as_text tag l))
-      ∙ ap (λ gs. visible_behind columns tag (p, l) ++ gs) (shown_behind tag ps ls)
+      ∙ ap (λ gs. visible_after columns tag (p, l) ++ gs) (shown_after tag ps ls)
 
   unseen_spaces : (tag : T) (cs : List ℕ) → IsSpaces cs → visible_glyphs columns (text_items cs tag) ≡ []
   unseen_spaces tag [] h = refl
@@ -82,9 +82,9 @@ module _ {D A : Type 0} (columns : ℕ → Option ℕ) where
       let change : Renderer D A (List A) → Renderer D A (List A) = λ m. fold (with_line columns) m (prefixed r.annotations prefixes lines) in
       done_before change (after_flush columns r) s (live_done r.failure (changed change (after_flush columns r)) s h).1
 
-  pub appended_behind : (decoration : Decoration D A) (prefixes : List (List ℕ)) (lines : List (Line (List A))) (r s : Renderer D A (List A)) → Does columns decoration (append_subrender prefixes lines) r s →
+  pub appended_after : (decoration : Decoration D A) (prefixes : List (List ℕ)) (lines : List (Line (List A))) (r s : Renderer D A (List A)) → Does columns decoration (append_subrender prefixes lines) r s →
       (m : Renderer D A (List A)) × (after_flush columns r ≡ done m) × (s.lines ≡ m.lines ++ lines_laid columns m (prefixed r.annotations prefixes lines))
-  appended_behind decoration prefixes lines r s h =
+  appended_after decoration prefixes lines r s h =
       let (m, flushed, is) = lines_after decoration prefixes lines r s h in
       (m, flushed, ap (λ (q : Renderer D A (List A)). q.lines) is ∙ laid_lines (prefixed r.annotations prefixes lines) m)
 
@@ -103,11 +103,11 @@ module _ {D A : Type 0} (columns : ℕ → Option ℕ) where
       let (m, flushed, is) = lines_after decoration prefixes lines r s h in
       (m, flushed, ap (λ (q : Renderer D A (List A)). visible_glyphs columns (text_of_lines q.lines)) is ∙ shown_texts (prefixed r.annotations prefixes lines) m)
 
-  pub characters_behind : (decoration : Decoration D A) (prefixes : List (List ℕ)) (lines : List (Line (List A))) (r s : Renderer D A (List A)) → Does columns decoration (append_subrender prefixes lines) r s →
-      (m : Renderer D A (List A)) × (after_flush columns r ≡ done m) × (visible_glyphs columns (text_of_lines s.lines) ≡ visible_glyphs columns (text_of_lines m.lines) ++ flat_map (visible_behind columns r.annotations) (zip prefixes lines))
-  characters_behind decoration prefixes lines r s h =
+  pub characters_after : (decoration : Decoration D A) (prefixes : List (List ℕ)) (lines : List (Line (List A))) (r s : Renderer D A (List A)) → Does columns decoration (append_subrender prefixes lines) r s →
+      (m : Renderer D A (List A)) × (after_flush columns r ≡ done m) × (visible_glyphs columns (text_of_lines s.lines) ≡ visible_glyphs columns (text_of_lines m.lines) ++ flat_map (visible_after columns r.annotations) (zip prefixes lines))
+  characters_after decoration prefixes lines r s h =
       let (m, flushed, shown) = characters_appended decoration prefixes lines r s h in
-      (m, flushed, shown ∙ ap (λ gs. visible_glyphs columns (text_of_lines m.lines) ++ gs) (shown_behind columns r.annotations prefixes lines))
+      (m, flushed, shown ∙ ap (λ gs. visible_glyphs columns (text_of_lines m.lines) ++ gs) (shown_after columns r.annotations prefixes lines))
 
   pub characters_indented : (decoration : Decoration D A) (prefixes : List (List ℕ)) (lines : List (Line (List A))) (r s : Renderer D A (List A)) → Does columns decoration (append_subrender prefixes lines) r s →
       length lines ≤ length prefixes → Each IsSpaces prefixes → (m : Renderer D A (List A)) × (after_flush columns r ≡ done m)

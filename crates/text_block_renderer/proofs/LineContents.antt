@@ -20,8 +20,8 @@ text_of_lines-append (text is ∷ ls) ms = ap (λ js. is ++ js) (text_of_lines-a
 text_of_lines-append (border b ∷ ls) ms = text_of_lines-append ls ms
 
 -- a border is no text
-pub no_text_behind : {T : Type 0} (ls : List (Line T)) (b : Border T) → text_of_lines (ls ++ border b ∷ []) ≡ text_of_lines ls
-no_text_behind ls b = text_of_lines-append ls (border b ∷ []) ∙ append-nil (text_of_lines ls)
+pub no_text_after : {T : Type 0} (ls : List (Line T)) (b : Border T) → text_of_lines (ls ++ border b ∷ []) ≡ text_of_lines ls
+no_text_after ls b = text_of_lines-append ls (border b ∷ []) ∙ append-nil (text_of_lines ls)
 
 pub marker_items-append : {T : Type 0} (ms ns : List (List ℕ)) → (let is : List (Item T) = marker_items (ms ++ ns) in is) ≡ marker_items ms ++ marker_items ns
 marker_items-append {T} ms ns = map-append (λ n. let i : Item T = marker n in i) ms ns

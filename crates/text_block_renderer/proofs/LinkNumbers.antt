@@ -26,17 +26,17 @@ Stands (n ∷ []) (o ∷ opens) k = slice_get o n ≡ Some k
 Stands (n ∷ m ∷ numbers) (o ∷ opens) k = (length o ≡ n) × Stands (m ∷ numbers) opens k
 
 -- what a call makes of the links that are open, where so many targets are there
-abbrev opens_behind : StackCall → ℕ → List (List ℕ) → List (List ℕ)
-opens_behind change_top n opens = opens
-opens_behind (set_table_depth depth) n opens = opens
-opens_behind push n opens = [] ∷ opens
-opens_behind pop n opens = drop 1 opens
-opens_behind (start_link target) n opens = in_first (λ o. (n + 1) ∷ o) opens
-opens_behind end_link n opens = in_first (drop 1) opens
+abbrev opens_after : StackCall → ℕ → List (List ℕ) → List (List ℕ)
+opens_after change_top n opens = opens
+opens_after (set_table_depth depth) n opens = opens
+opens_after push n opens = [] ∷ opens
+opens_after pop n opens = drop 1 opens
+opens_after (start_link target) n opens = in_first (λ o. (n + 1) ∷ o) opens
+opens_after end_link n opens = in_first (drop 1) opens
 
 -- After a call there is a link that is the next to end.
 abbrev GoesOn : StackCall → List StackCall → ℕ → List (List ℕ) → ℕ → Type 0
-GoesOn call calls n opens k = (numbers : List ℕ) × IsNextToEnd numbers calls × Stands numbers (opens_behind call n opens) k
+GoesOn call calls n opens k = (numbers : List ℕ) × IsNextToEnd numbers calls × Stands numbers (opens_after call n opens) k
 
 goes_on : (call : StackCall) (calls : List StackCall) (n : ℕ) (numbers : List ℕ) (opens : List (List ℕ)) (k : ℕ) → IsNextToEnd numbers (call ∷ calls) → Stands numbers opens k → GoesOn call calls n opens k
 goes_on call calls n [] opens k next h = elim h [ ]
@@ -65,7 +65,7 @@ CameFrom call calls n opens k =
 some_same : (x y : ℕ) → Some x ≡ Some y → y ≡ x
 some_same x y h = cc
 
-came_from : (call : StackCall) (calls : List StackCall) (n : ℕ) (numbers : List ℕ) (opens : List (List ℕ)) (k : ℕ) → IsNextToEnd numbers calls → Stands numbers (opens_behind call n opens) k → CameFrom call calls n opens k
+came_from : (call : StackCall) (calls : List StackCall) (n : ℕ) (numbers : List ℕ) (opens : List (List ℕ)) (k : ℕ) → IsNextToEnd numbers calls → Stands numbers (opens_after call n opens) k → CameFrom call calls n opens k
 came_from change_top calls n numbers opens k next h = inl (numbers, next, h)
 came_from (set_table_depth depth) calls n numbers opens k next h = inl (numbers, next, h)
 came_from push calls n [] opens k next h = elim h [ ]
@@ -166,7 +166,7 @@ module _ {D A : Type 0} (columns : ℕ → Option ℕ) (decoration : Decoration 
   links_top_changed : (Step : Renderer D A (List A) → Renderer D A (List A) → Type 0) (s t : Tops) → ChangesTop Step s t → t.links ≡ s.links
   links_top_changed Step s t h = ap (λ (q : Tops). q.links) h.4
 
-  does_open : (call : StackCall) (s t : Tops) → StackDoes columns decoration call s t → opens_of t ≡ opens_behind call (length s.links) (opens_of s)
+  does_open : (call : StackCall) (s t : Tops) → StackDoes columns decoration call s t → opens_of t ≡ opens_after call (length s.links) (opens_of s)
   does_open change_top s t h = ap (λ (q : Tops). opens_of q) h.1 ∙ opens_top s h.0
   does_open (set_table_depth depth) s t h = ap (λ (q : Tops). opens_of q) h
   does_open push s t h = ap (λ (q : Tops). opens_of q) h.1

@@ -62,11 +62,11 @@ module _ {D A : Type 0} (columns : ℕ → Option ℕ) where
   chain_append draws hanging [] between others left h k = subst (λ cells. Chain draws cells others left) h k
   chain_append draws hanging (p ∷ rows) between others left h k = (h.0, h.1, chain_append draws p.puts.row.overhang rows between others left h.2 k)
 
-  chain_front : (draws : Bool) (hanging : List (Cell (List A))) (rows behind : List (PutRow D A columns)) (left : List (Cell (List A))) → Chain draws hanging (rows ++ behind) left →
+  chain_front : (draws : Bool) (hanging : List (Cell (List A))) (rows after : List (PutRow D A columns)) (left : List (Cell (List A))) → Chain draws hanging (rows ++ after) left →
       (between : List (Cell (List A))) × Chain draws hanging rows between
-  chain_front draws hanging [] behind left h = (hanging, refl)
-  chain_front draws hanging (p ∷ rows) behind left h =
-      let rest = chain_front draws p.puts.row.overhang rows behind left h.2 in (rest.0, (h.0, h.1, rest.1))
+  chain_front draws hanging [] after left h = (hanging, refl)
+  chain_front draws hanging (p ∷ rows) after left h =
+      let rest = chain_front draws p.puts.row.overhang rows after left h.2 in (rest.0, (h.0, h.1, rest.1))
 
   follow : (draws : Bool) (hanging : List (Cell (List A))) (rows : List (PutRow D A columns)) (left : List (Cell (List A))) → Chain draws hanging rows left → FollowOneAnother columns draws (map made rows)
   follow draws hanging [] left h = tt
@@ -82,18 +82,18 @@ module _ {D A : Type 0} (columns : ℕ → Option ℕ) where
     all_cells_filled (p ∷ rows) h = (h.0, all_cells_filled rows h.1)
 
     -- of a stretch of the rows
-    pub cells_shown : (draws : Bool) (before rows behind : List (PutRow D A columns)) (cell : Cell (List A)) (hanging left : List (Cell (List A))) → length rows ≡ cell.span → IsCellOf cell rows →
-        Each (λ p. HasFilledCells columns (made p)) (before ++ rows ++ behind) → AreApart 0 hanging × Each (IsFilled columns) hanging → Chain draws hanging (before ++ rows ++ behind) left →
+    pub cells_shown : (draws : Bool) (before rows after : List (PutRow D A columns)) (cell : Cell (List A)) (hanging left : List (Cell (List A))) → length rows ≡ cell.span → IsCellOf cell rows →
+        Each (λ p. HasFilledCells columns (made p)) (before ++ rows ++ after) → AreApart 0 hanging × Each (IsFilled columns) hanging → Chain draws hanging (before ++ rows ++ after) left →
         ShowsTexts columns draws (map made rows) cell
-    cells_shown draws [] [] behind cell hanging left span is fill hang chain = elim is [ ]
-    cells_shown draws [] (p ∷ rows) behind cell hanging left span is fill hang chain =
-        let own = each_front (λ q. HasFilledCells columns (made q)) (p ∷ rows) behind fill in
-        let stretch = chain_front draws hanging (p ∷ rows) behind left chain in
+    cells_shown draws [] [] after cell hanging left span is fill hang chain = elim is [ ]
+    cells_shown draws [] (p ∷ rows) after cell hanging left span is fill hang chain =
+        let own = each_front (λ q. HasFilledCells columns (made q)) (p ∷ rows) after fill in
+        let stretch = chain_front draws hanging (p ∷ rows) after left chain in
         let first : AreApart 0 p.before.hanging × Each (IsFilled columns) p.before.hanging = subst (λ cells. AreApart 0 cells × Each (IsFilled columns) cells) (sym chain.0) hang in
         shown_over columns one draws (map made (p ∷ rows)) cell (follow draws hanging (p ∷ rows) stretch.0 stretch.1) (all_cells_filled (p ∷ rows) own) (is, first.0, first.1)
         (let fewer : length (map made (p ∷ rows)) ≡ cell.span = length-map (p ∷ rows) made ∙ span in fewer)
-    cells_shown draws (q ∷ before) rows behind cell hanging left span is fill hang chain =
+    cells_shown draws (q ∷ before) rows after cell hanging left span is fill hang chain =
         let first : AreApart 0 q.before.hanging × Each (IsFilled columns) q.before.hanging = subst (λ cells. AreApart 0 cells × Each (IsFilled columns) cells) (sym chain.0) hang in
         let apart = overhang_apart columns one (made q) first.0 in
         let filled = overhang_filled columns one (made q) (all_filled columns one (made q) first.1 fill.0) in
-        cells_shown draws before rows behind cell q.puts.row.overhang left span is fill.1 (apart, filled) chain.2
+        cells_shown draws before rows after cell q.puts.row.overhang left span is fill.1 (apart, filled) chain.2

@@ -36,9 +36,9 @@ text_append [] ys = refl
 text_append (text is ∷ xs) ys = ap (λ js. is ++ js) (text_append xs ys) ∙ sym (append_assoc is (text_of_lines xs) (text_of_lines ys))
 text_append (border b ∷ xs) ys = text_append xs ys
 
-text_behind : {T : Type 0} (l : Line T) (xs ys : List (Line T)) → text_of_lines xs ≡ text_of_lines ys → text_of_lines (l ∷ xs) ≡ text_of_lines (l ∷ ys)
-text_behind (text is) xs ys h = ap (λ js. is ++ js) h
-text_behind (border b) xs ys h = h
+text_after : {T : Type 0} (l : Line T) (xs ys : List (Line T)) → text_of_lines xs ≡ text_of_lines ys → text_of_lines (l ∷ xs) ≡ text_of_lines (l ∷ ys)
+text_after (text is) xs ys h = ap (λ js. is ++ js) h
+text_after (border b) xs ys h = h
 
 -- a border at the end is no text
 without_border : {T : Type 0} (ls : List (Line T)) (b : Border T) → last_border ls ≡ Some b → text_of_lines (without_last ls) ≡ text_of_lines ls
@@ -47,7 +47,7 @@ without_border (text is ∷ []) b e = absurd (let no : ⊥ = cc in no)
 without_border (border c ∷ []) b e = ap (λ n. text_of_lines (take n (border c ∷ []))) (let none : length (border c ∷ []) - 1 ≡ 0 = omega arith in none)
 without_border (l ∷ m ∷ ls) b e =
     let next : length (l ∷ m ∷ ls) - 1 ≡ suc (length (m ∷ ls) - 1) = omega arith in
-    ap (λ n. text_of_lines (take n (l ∷ m ∷ ls))) next ∙ text_behind l (without_last (m ∷ ls)) (m ∷ ls) (without_border (m ∷ ls) b e)
+    ap (λ n. text_of_lines (take n (l ∷ m ∷ ls))) next ∙ text_after l (without_last (m ∷ ls)) (m ∷ ls) (without_border (m ∷ ls) b e)
 
 cut_texts : {T : Type 0} (ls : List (Line T)) → text_of_lines (before_border ls) ≡ text_of_lines ls
 cut_texts {T} ls = go (last_border ls) refl
@@ -94,9 +94,9 @@ module _ {D A : Type 0} (columns : ℕ → Option ℕ) where
   texts_only_come collapses cells r s h =
       let (m, flushed, puts) = h in
       let first = moves_grow columns (flush r ∷ []) r m (m, (refl, row_flushes columns r m flushed), refl) in
-      let behind = row_texts m puts.row in (
-        text_of_lines first.0 ++ behind.0,
-        ap (λ (q : Renderer D A (List A)). text_of_lines q.lines) puts.is ∙ behind.1 ∙ ap (λ is. is ++ behind.0) (ap text_of_lines first.1 ∙ text_append r.lines first.0) ∙ append_assoc (text_of_lines r.lines) (text_of_lines first.0) behind.0,
+      let after = row_texts m puts.row in (
+        text_of_lines first.0 ++ after.0,
+        ap (λ (q : Renderer D A (List A)). text_of_lines q.lines) puts.is ∙ after.1 ∙ ap (λ is. is ++ after.0) (ap text_of_lines first.1 ∙ text_append r.lines first.0) ∙ append_assoc (text_of_lines r.lines) (text_of_lines first.0) after.0,
       )
 
   -- ---- settings
@@ -182,8 +182,8 @@ module _ {A : Type 0} (columns : ℕ → Option ℕ) (a : A) where
   one_own at (g ∷ gs) (c ∷ cs) [] h k p q = absurd k
   one_own at (g ∷ gs) (c ∷ cs) (d ∷ ds) h k p q =
       let first : c ≡ d = one_cell g c d (p.0 ∙ sym q.0) h.0 k.0 in
-      let behind : AreSideBySide (d.place + d.width + 1) cs = subst (λ (e : Cell A). AreSideBySide (e.place + e.width + 1) cs) first p.1 in
-      ap (λ (e : Cell A). e ∷ cs) first ∙ ap (λ (es : List (Cell A)). d ∷ es) (one_own (d.place + d.width + 1) gs cs ds h.1 k.1 behind q.1)
+      let after : AreSideBySide (d.place + d.width + 1) cs = subst (λ (e : Cell A). AreSideBySide (e.place + e.width + 1) cs) first p.1 in
+      ap (λ (e : Cell A). e ∷ cs) first ∙ ap (λ (es : List (Cell A)). d ∷ es) (one_own (d.place + d.width + 1) gs cs ds h.1 k.1 after q.1)
 
 module _ {D A : Type 0} (columns : ℕ → Option ℕ) (collapses : Bool) (cells : List (GivenCell (List A))) where
   puts_once : (r s t : Renderer D A (List A)) → PutsRow columns collapses cells r s → PutsRow columns collapses cells r t → t ≡ s

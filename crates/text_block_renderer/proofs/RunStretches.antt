@@ -158,7 +158,7 @@ module _ {D A : Type 0} (columns : ℕ → Option ℕ) where
     names = (names_at_end columns r b);
     ends = h.ends sound;
     ahead = λ narrow normal. none_ahead columns (block_width r) (run_of b.events) (lines_at_end columns r b) ((h.ends sound).shown.best narrow normal);
-    behind = grows.0;
+    after = grows.0;
     is = grows.1 ∙ ap (λ ls. ls ++ grows.0) (flush_adds r q b h);
   }
 
@@ -170,8 +170,8 @@ module _ {D A : Type 0} (columns : ℕ → Option ℕ) where
     names = h.names;
     ends = ends;
     ahead = λ narrow normal. none_ahead columns (block_width r) (run_of b.events) h.texts (ends.shown.best narrow normal);
-    behind = h.behind;
-    is = h.is ∙ ap (λ ls. ls ++ stretch columns q b h.texts ++ h.behind) same ∙ ap (λ ls. r.lines ++ ls ++ h.behind) (same_stretch r q b b h.texts width options annotations waiting refl);
+    after = h.after;
+    is = h.is ∙ ap (λ ls. ls ++ stretch columns q b h.texts ++ h.after) same ∙ ap (λ ls. r.lines ++ ls ++ h.after) (same_stretch r q b b h.texts width options annotations waiting refl);
   }
     where
       ends : EndsRun columns (block_width r) (may_overflow r) (run_of b.events) h.texts h.names

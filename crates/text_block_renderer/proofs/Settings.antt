@@ -109,10 +109,10 @@ module _ {D A : Type 0} (columns : ℕ → Option ℕ) where
 
     -- ---- the kept refusal, and the preformatted stretches that are open
 
-    abbrev pub preformats_behind : Call (List A) → ℕ → ℕ
-    preformats_behind push_preformat n = suc n
-    preformats_behind pop_preformat n = n - 1
-    preformats_behind other n = n
+    abbrev pub preformats_after : Call (List A) → ℕ → ℕ
+    preformats_after push_preformat n = suc n
+    preformats_after pop_preformat n = n - 1
+    preformats_after other n = n
 
     -- neither is changed
     Beside : Renderer D A (List A) → Renderer D A (List A) → Type 0
@@ -143,7 +143,7 @@ module _ {D A : Type 0} (columns : ℕ → Option ℕ) where
     image_beside source None r = (refl, refl)
     image_beside source (Some title) r = (refl, refl)
 
-    settled_beside : (call : Call (List A)) (r : Renderer D A (List A)) → (let s = settled decoration call r in (s.failure ≡ r.failure) × (s.preformatted ≡ preformats_behind call r.preformatted))
+    settled_beside : (call : Call (List A)) (r : Renderer D A (List A)) → (let s = settled decoration call r in (s.failure ≡ r.failure) × (s.preformatted ≡ preformats_after call r.preformatted))
     unfolding Beside
     settled_beside start_strikeout r = struck_from_beside (annotated decoration start.strikeout r) r.options.use_unicode_strikeout refl
     settled_beside end_strikeout r = struck_until_beside r r.options.use_unicode_strikeout refl
@@ -152,8 +152,8 @@ module _ {D A : Type 0} (columns : ℕ → Option ℕ) where
     settled_beside (pop_colour g) r = uncoloured_beside g r (decoration.ends_colour r.decorator g) refl
     settled_beside call r = (refl, refl)
 
-    pub call_beside : (call : Call (List A)) (r s : Renderer D A (List A)) → Does columns decoration call r s → (s.failure ≡ r.failure) × (s.preformatted ≡ preformats_behind call r.preformatted)
+    pub call_beside : (call : Call (List A)) (r s : Renderer D A (List A)) → Does columns decoration call r s → (s.failure ≡ r.failure) × (s.preformatted ≡ preformats_after call r.preformatted)
     call_beside call r s h =
         let e = call_settings call r s h in
-        let behind = settled_beside call r in
-        (ap (λ (x : Steady D A). x.failure) e ∙ behind.0, ap (λ (x : Steady D A). x.settings.kept.preformatted) e ∙ behind.1)
+        let after = settled_beside call r in
+        (ap (λ (x : Steady D A). x.failure) e ∙ after.0, ap (λ (x : Steady D A). x.settings.kept.preformatted) e ∙ after.1)

@@ -27,7 +27,7 @@ use Rattle.text_block_renderer.specs.Drawn.{Put, as_it_is, drawn, line_put, not_
 use Rattle.text_block_renderer.specs.Taken.{StandWithin, text_before, written, CallTakes, Takes, AreTakenIn}
 use Rattle.text_block_renderer.proofs.AddedLines.{Grows, moves_grow, steps_grow}
 use Rattle.text_block_renderer.proofs.CellsInRows.{cell_within_row}
-use Rattle.text_block_renderer.proofs.Within.{within_behind, within_itself, within_more, within_on, two_within, itself_within, behind_within}
+use Rattle.text_block_renderer.proofs.Within.{within_after, within_itself, within_more, within_on, two_within, itself_within, after_within}
 use Rattle.text_block_renderer.proofs.Written.{written-append, stays_written, texts_written, border_shown, written_texts}
 use Rattle.text_block_renderer.proofs.LastingLines.{top_put_back}
 use Rattle.text_block_renderer.proofs.VisibleCharacters.{glyphs-append, handed_out_less}
@@ -48,7 +48,7 @@ module _ {T : Type 0} (columns : ℕ → Option ℕ) where
   first_within : (tag : T) (line : Line T) (lines : List (Line T)) (front rest : List (Item T)) → StandWithin (seen columns lines) (visible_glyphs columns rest) → StandWithin (seen columns (line ∷ lines)) (visible_glyphs columns ((front ++ as_text tag line) ++ rest))
   first_within tag line lines front rest h =
       subst (λ is. StandWithin (visible_glyphs columns is) (visible_glyphs columns ((front ++ as_text tag line) ++ rest))) (sym (written-append (line ∷ []) lines))
-      (two_within columns (written (line ∷ [])) (written lines) (front ++ as_text tag line) rest (behind_within columns front (written (line ∷ [])) (as_text tag line) (line_within tag line)) h)
+      (two_within columns (written (line ∷ [])) (written lines) (front ++ as_text tag line) rest (after_within columns front (written (line ∷ [])) (as_text tag line) (line_within tag line)) h)
 
   texts_within : (tag : T) (lines : List (Line T)) → StandWithin (seen columns lines) (visible_glyphs columns (joined (map (as_text tag) lines)))
   texts_within tag [] = tt
@@ -69,7 +69,7 @@ module _ {T : Type 0} (columns : ℕ → Option ℕ) where
       subst (λ is. StandWithin (visible_glyphs columns is) (seen columns (line ∷ map line_put puts))) (sym (written-append (line ∷ []) (flat_map not_drawn puts)))
       (subst (λ is. StandWithin (visible_glyphs columns (written (line ∷ []) ++ written (flat_map not_drawn puts))) (visible_glyphs columns is)) (sym (written-append (line ∷ []) (map line_put puts)))
       (two_within columns (written (line ∷ [])) (written (flat_map not_drawn puts)) (written (line ∷ [])) (written (map line_put puts)) (itself_within columns (written (line ∷ []))) (undrawn_within puts)))
-  undrawn_within (drawn cells n tag ∷ puts) = behind_within columns (shown tag (without_holes cells tag) ++ text_items (spaces n) tag) (written (flat_map not_drawn puts)) (written (map line_put puts)) (undrawn_within puts)
+  undrawn_within (drawn cells n tag ∷ puts) = after_within columns (shown tag (without_holes cells tag) ++ text_items (spaces n) tag) (written (flat_map not_drawn puts)) (written (map line_put puts)) (undrawn_within puts)
 
 -- ---- calls
 
@@ -111,7 +111,7 @@ module _ {D A : Type 0} (columns : ℕ → Option ℕ) where
   cell_within : (lines : List (Line (List A))) (r : Renderer D A (List A)) → StandWithin (seen columns lines) (seen columns (with_cell columns r lines).lines)
   cell_within lines r =
       subst (StandWithin (seen columns lines)) (sym (cell_shown lines r))
-      (within_behind (seen columns r.lines) (seen columns lines) (visible_glyphs columns (joined (map (as_text r.annotations) lines))) (texts_within columns r.annotations lines))
+      (within_after (seen columns r.lines) (seen columns lines) (visible_glyphs columns (joined (map (as_text r.annotations) lines))) (texts_within columns r.annotations lines))
 
   row_within : (front back : List (List (Line (List A)))) (lines : List (Line (List A))) (r : Renderer D A (List A)) → StandWithin (seen columns lines) (seen columns (with_cells columns r (front ++ lines ∷ back)).lines)
   row_within [] back lines r = cells_keep (seen columns lines) back (with_cell columns r lines) (cell_within lines r)
@@ -130,7 +130,7 @@ module _ {D A : Type 0} (columns : ℕ → Option ℕ) where
         let shown = ap (λ (q : Renderer D A (List A)). seen columns q.lines) is ∙ written_texts columns (prefixed tag prefixes taken) m in
         subst (λ (ls : List (Line (List A))). StandWithin (seen columns ls) (seen columns s.lines)) t.0
         (subst (StandWithin (seen columns taken)) (sym shown)
-        (within_behind (seen columns m.lines) (seen columns taken) (visible_glyphs columns (joined (prefixed tag prefixes taken))) all))
+        (within_after (seen columns m.lines) (seen columns taken) (visible_glyphs columns (joined (prefixed tag prefixes taken))) all))
     taken_within (append_vert_row cells) r s lines t h =
         let (front, back, is) = t in
         let (m, flushed, whole) = cells_after columns decoration cells r s h in
@@ -165,14 +165,14 @@ module _ {D A : Type 0} (columns : ℕ → Option ℕ) where
         let (m, flushed, puts, brings) = h in
         subst (λ (ls : List (Line (List A))). StandWithin (seen columns ls) (seen columns s.lines)) is (cell_within_row columns collapses cells m s puts cell among one)
 
-    steps_within : (before : List (Act (List A))) (act : Act (List A)) (behind : List (Act (List A))) (r s : Renderer D A (List A)) (es : List (Entry (List A))) (lines : List (Line (List A))) → Takes lines act → ActsBring columns decoration (before ++ act ∷ behind) r es s →
+    steps_within : (before : List (Act (List A))) (act : Act (List A)) (after : List (Act (List A))) (r s : Renderer D A (List A)) (es : List (Entry (List A))) (lines : List (Line (List A))) → Takes lines act → ActsBring columns decoration (before ++ act ∷ after) r es s →
         StandWithin (seen columns lines) (seen columns s.lines)
-    steps_within [] act behind r s es lines t h =
+    steps_within [] act after r s es lines t h =
         let (m, first, rest, does, others, is) = h in
-        acts_within (seen columns lines) behind m s rest others (act_within act r m first lines t does)
-    steps_within (d ∷ before) act behind r s es lines t h =
+        acts_within (seen columns lines) after m s rest others (act_within act r m first lines t does)
+    steps_within (d ∷ before) act after r s es lines t h =
         let (m, first, rest, does, others, is) = h in
-        steps_within before act behind m s rest lines t others
+        steps_within before act after m s rest lines t others
 
     handed_within : (gs : List (ℕ × List A)) (r : Renderer D A (List A)) (lines : List (Line (List A))) → handed_out columns r ≡ done lines → StandWithin gs (seen columns r.lines) → StandWithin gs (seen columns lines)
     handed_within gs r lines h k =
@@ -183,7 +183,7 @@ module _ {D A : Type 0} (columns : ℕ → Option ℕ) where
     all_within zero inside outside h = subst (λ (ls : List (Line (List A))). StandWithin (seen columns inside) (seen columns ls)) (sym h) (within_itself (seen columns inside))
     all_within (suc depth) inside outside h =
         let (between, taken, others) = h in
-        let here = handed_within (seen columns inside) taken.last between taken.gives (steps_within taken.before taken.taking taken.behind taken.first taken.last taken.es inside taken.takes taken.bring) in
+        let here = handed_within (seen columns inside) taken.last between taken.gives (steps_within taken.before taken.taking taken.after taken.first taken.last taken.es inside taken.takes taken.bring) in
         within_on (seen columns inside) (seen columns between) (seen columns outside) here (all_within depth between outside others)
 
     pub brought_within : (depth : ℕ) (r : Renderer D A (List A)) (borders : List (List Cell)) (es : List (Entry (List A))) (inside outside : List (Line (List A))) →

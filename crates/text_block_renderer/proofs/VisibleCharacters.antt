@@ -28,7 +28,7 @@ use Rattle.text_block_renderer.specs.Drawn.{AreDrawnAmong, WithoutDrawnBorders, 
 use Rattle.text_block_renderer.proofs.Moves.{Move, flush, line, rule, join, turn, brought_by, Makes, no_block, flushed_none, undrawn}
 use Rattle.text_block_renderer.proofs.DrawnBorders.{if_drawn, if_none_drawn, moves_on, brings_on, brings_on_all, border_stays}
 use Rattle.tbr_renderer.proofs.JoinedTexts.{run_joined}
-use Rattle.text_block_renderer.proofs.LineContents.{Looks, seen_line, seen_lines, no_text_behind}
+use Rattle.text_block_renderer.proofs.LineContents.{Looks, seen_line, seen_lines, no_text_after}
 use Rattle.text_block_renderer.specs.MarkersStand.{items_so_far}
 
 -- ---- items and entries
@@ -137,7 +137,7 @@ module _ {D A : Type 0} (columns : ℕ → Option ℕ) where
   -- a border that stays one
   pub shows_rule : (r s : Renderer D A (List A)) (b : Border (List A)) (es : List (Entry (List A))) → r.options.pad_block_width ≡ false → s ≡ with_border columns r b → Shows columns r es → Shows columns s es
   shows_rule r s b es unpadded e k =
-      let same : text_of_lines (r.lines ++ border_line columns r b ∷ []) ≡ text_of_lines r.lines = ap (λ l. text_of_lines (r.lines ++ l ∷ [])) (border_stays columns r b unpadded) ∙ no_text_behind r.lines b in
+      let same : text_of_lines (r.lines ++ border_line columns r b ∷ []) ≡ text_of_lines r.lines = ap (λ l. text_of_lines (r.lines ++ l ∷ [])) (border_stays columns r b unpadded) ∙ no_text_after r.lines b in
       subst (λ (q : Renderer D A (List A)). Shows columns q es) (sym e) (record {
         ended = k.ended;
         shown = subst (λ is. AllZip (IsShown (λ x y. x ≡ y)) (visible_glyphs columns is) (visible_entries columns k.ended)) (sym same) k.shown;

@@ -3,7 +3,7 @@ use Rattle.std.proofs.Common.{◌≡◌, ℕ, ◌&&◌, ◌||◌, nat_lt, Bool, 
 use Rattle.tbr_model.specs.Rule.{run_of}
 use Rattle.tbr_model.specs.Run.{Entry, Item, is_kept, items_of, kept_items, first_of, blank_of, has_character, is_break_entry, Reading, start, works, read, trailing}
 use Rattle.tbr_model.specs.Layout.{slots_of, line_text, joined, HasNoEmptyLine}
-use Rattle.tbr_model.specs.Markers.{names_in_items, names_in_run, marker_items, marker_run, marked_behind, names_behind}
+use Rattle.tbr_model.specs.Markers.{names_in_items, names_in_run, marker_items, marker_run, marked_after, names_after}
 use Rattle.tbr_model.specs.Hard.{is_visible}
 use Rattle.tbr_model.specs.Shown.{without_spaces}
 use Rattle.tbr_model.proofs.words.Items.{no_character_no_width, has_character-append}
@@ -23,7 +23,7 @@ use Rattle.text_block_renderer.specs.MarkersStand.{items_so_far, FlushStands, fi
 use Rattle.text_block_renderer.proofs.Moves.{Move, flush, line, rule, join, turn, Makes, undrawn}
 use Rattle.text_block_renderer.proofs.DrawnBorders.{steps_on, steps_on_all, border_stays}
 use Rattle.text_block_renderer.proofs.LineContents.{marker_items-append, seen_flushed}
-use Rattle.text_block_renderer.proofs.BroughtEntries.{StandFor, at_unspaced, stand_behind, markers_stand, run_stands, waits_behind, waits_behind_kept}
+use Rattle.text_block_renderer.proofs.BroughtEntries.{StandFor, at_unspaced, stand_after, markers_stand, run_stands, waits_after, waits_after_kept}
 
 -- ---- a run without a kept character
 
@@ -66,13 +66,13 @@ no_character : {T : Type 0} (names : List (List ℕ)) (is : List (Item T)) → i
 no_character [] is e = ap has_character e
 no_character (name ∷ names) is e = ap has_character e ∙ no_character names (marker_items names) refl
 
-normal_behind : {T : Type 0} (names : List (List ℕ)) (run : List (Entry T)) → IsNormal run → IsNormal (marker_run names ++ run)
-normal_behind [] run h = h
-normal_behind (name ∷ names) run h = (tt, normal_behind names run h)
+normal_after : {T : Type 0} (names : List (List ℕ)) (run : List (Entry T)) → IsNormal run → IsNormal (marker_run names ++ run)
+normal_after [] run h = h
+normal_after (name ∷ names) run h = (tt, normal_after names run h)
 
-names_of_marker_run : {T : Type 0} (test : ℕ → Bool) (run : List (Entry T)) (old names : List (List ℕ)) → run ≡ marker_run names → fold (marked_behind test) old run ≡ old ++ names
-names_of_marker_run test run old [] e = ap (fold (marked_behind test) old) e ∙ sym (append-nil old)
-names_of_marker_run test run old (name ∷ names) e = ap (fold (marked_behind test) old) e ∙ names_of_marker_run test (marker_run names) (old ++ name ∷ []) names refl ∙ append_assoc old (name ∷ []) names
+names_of_marker_run : {T : Type 0} (test : ℕ → Bool) (run : List (Entry T)) (old names : List (List ℕ)) → run ≡ marker_run names → fold (marked_after test) old run ≡ old ++ names
+names_of_marker_run test run old [] e = ap (fold (marked_after test) old) e ∙ sym (append-nil old)
+names_of_marker_run test run old (name ∷ names) e = ap (fold (marked_after test) old) e ∙ names_of_marker_run test (marker_run names) (old ++ name ∷ []) names refl ∙ append_assoc old (name ∷ []) names
 
 module _ {D A : Type 0} (columns : ℕ → Option ℕ) where
   pub none_wait : (q : Renderer D A (List A)) (ts : List (List (Item (List A)))) → q.waiting ≡ [] → (fold (with_line columns) q ts).waiting ≡ []
@@ -95,7 +95,7 @@ module _ {D A : Type 0} (columns : ℕ → Option ℕ) where
     where
       all : StandFor columns (marker_items r.waiting ++ (joined (lines_at_end columns r b) ++ marker_items (names_at_end columns r b))) (marker_run r.waiting ++ (run_of b.events))
       all =
-          stand_behind columns (marker_items r.waiting) (joined (lines_at_end columns r b) ++ marker_items (names_at_end columns r b)) (marker_items r.waiting ++ (joined (lines_at_end columns r b) ++ marker_items (names_at_end columns r b))) (marker_run r.waiting) (run_of b.events)
+          stand_after columns (marker_items r.waiting) (joined (lines_at_end columns r b) ++ marker_items (names_at_end columns r b)) (marker_items r.waiting ++ (joined (lines_at_end columns r b) ++ marker_items (names_at_end columns r b))) (marker_run r.waiting) (run_of b.events)
           (λ Y look looks. looks.append (marker_items r.waiting) (joined (lines_at_end columns r b) ++ marker_items (names_at_end columns r b))) (markers_stand columns r.waiting)
           (run_stands columns (block_width r) (may_overflow r) (run_of b.events) (lines_at_end columns r b) (names_at_end columns r b) (h.ends sound))
 
@@ -138,12 +138,12 @@ module _ {D A : Type 0} (columns : ℕ → Option ℕ) where
       first : List (Entry (List A))
       first = marker_run r.waiting
 
-      same : (test : ℕ → Bool) → s.waiting ≡ names_behind {A = List A} test (first ++ [])
-      same test = ap (λ (q : Renderer D A (List A)). q.waiting) h ∙ sym (names_of_marker_run test first [] r.waiting refl) ∙ ap (names_behind test) (sym (append-nil first))
+      same : (test : ℕ → Bool) → s.waiting ≡ names_after {A = List A} test (first ++ [])
+      same test = ap (λ (q : Renderer D A (List A)). q.waiting) h ∙ sym (names_of_marker_run test first [] r.waiting refl) ∙ ap (names_after test) (sym (append-nil first))
   flush_stands r s (Some b) h sound =
       let (is, all) = stand_flushed r s b h sound in record {
-        waits = waits_behind columns is s.waiting (marker_run r.waiting ++ (run_of b.events)) all;
-        waits_kept = λ normal. waits_behind_kept columns is s.waiting (marker_run r.waiting ++ (run_of b.events)) all (normal_behind r.waiting (run_of b.events) normal);
+        waits = waits_after columns is s.waiting (marker_run r.waiting ++ (run_of b.events)) all;
+        waits_kept = λ normal. waits_after_kept columns is s.waiting (marker_run r.waiting ++ (run_of b.events)) all (normal_after r.waiting (run_of b.events) normal);
         kept = λ normal.
             ap (λ (q : Renderer D A (List A)). without_spaces (items_so_far q)) h.is ∙ seen_flushed without_spaces at_unspaced columns r b (lines_at_end columns r b) (names_at_end columns r b)
             ∙ ap (λ js. without_spaces (items_so_far r) ++ js) ((run_stands columns (block_width r) (may_overflow r) (run_of b.events) (lines_at_end columns r b) (names_at_end columns r b) (h.ends sound)).kept normal);
@@ -186,11 +186,11 @@ module _ {D A : Type 0} where
             more = g.more ++ h.more;
             lines = lines;
             stand = λ is first.
-                let (behind, there) = h.stand is (sym same ∙ first) in
-                (marker_items rest ++ behind, there ∙ ap (λ ns. marker_items ns ++ behind) here ∙ ap (λ js. js ++ behind) (marker_items-append r.waiting rest) ∙ append_assoc (marker_items r.waiting) (marker_items rest) behind);
+                let (later, there) = h.stand is (sym same ∙ first) in
+                (marker_items rest ++ later, there ∙ ap (λ ns. marker_items ns ++ later) here ∙ ap (λ js. js ++ later) (marker_items-append r.waiting rest) ∙ append_assoc (marker_items r.waiting) (marker_items rest) later);
             wait = λ none.
-                let (behind, there) = h.wait (sym same ∙ none) in
-                (rest ++ behind, there ∙ ap (λ ns. ns ++ behind) here ∙ append_assoc r.waiting rest behind);
+                let (later, there) = h.wait (sym same ∙ none) in
+                (rest ++ later, there ∙ ap (λ ns. ns ++ later) here ∙ append_assoc r.waiting rest later);
           }
 
   -- no line came, and more markers may wait

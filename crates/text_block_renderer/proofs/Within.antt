@@ -6,13 +6,13 @@ use Rattle.text_block_renderer.specs.Taken.{StandWithin}
 use Rattle.text_block_renderer.proofs.VisibleCharacters.{glyphs-append}
 
 module _ {X : Type 0} where
-  pub within_behind : (front xs ys : List X) → StandWithin xs ys → StandWithin xs (front ++ ys)
-  within_behind [] xs ys h = h
-  within_behind (f ∷ front) [] ys h = tt
-  within_behind (f ∷ front) (x ∷ xs) ys h = inr (within_behind front (x ∷ xs) ys h)
+  pub within_after : (front xs ys : List X) → StandWithin xs ys → StandWithin xs (front ++ ys)
+  within_after [] xs ys h = h
+  within_after (f ∷ front) [] ys h = tt
+  within_after (f ∷ front) (x ∷ xs) ys h = inr (within_after front (x ∷ xs) ys h)
 
   pub within_both : (xs ys us vs : List X) → StandWithin xs us → StandWithin ys vs → StandWithin (xs ++ ys) (us ++ vs)
-  within_both [] ys us vs h k = within_behind us ys vs k
+  within_both [] ys us vs h k = within_after us ys vs k
   within_both (x ∷ xs) ys [] vs h k = elim h [ ]
   within_both (x ∷ xs) ys (u ∷ us) vs (inl h) k = inl (h.0, within_both xs ys us vs h.1 k)
   within_both (x ∷ xs) ys (u ∷ us) vs (inr h) k = inr (within_both (x ∷ xs) ys us vs h k)
@@ -51,8 +51,8 @@ module _ {T : Type 0} (columns : ℕ → Option ℕ) where
   middle_within front is back = subst (λ js. StandWithin (glyphs js) (glyphs (front ++ (is ++ back)))) (append-nil is) (two_within [] (is ++ []) front (is ++ back) tt (two_within is [] is back (itself_within is) tt))
 
   -- in front come others
-  pub behind_within : (front is js : List (Item T)) → StandWithin (glyphs is) (glyphs js) → StandWithin (glyphs is) (glyphs (front ++ js))
-  behind_within front is js h = two_within [] is front js tt h
+  pub after_within : (front is js : List (Item T)) → StandWithin (glyphs is) (glyphs js) → StandWithin (glyphs is) (glyphs (front ++ js))
+  after_within front is js h = two_within [] is front js tt h
 
   -- and after it
   pub before_within : (is js back : List (Item T)) → StandWithin (glyphs is) (glyphs js) → StandWithin (glyphs is) (glyphs (js ++ back))

@@ -15,7 +15,7 @@ use Rattle.tbr_renderer.specs.Calls.{text_of_lines}
 use Rattle.text_block_renderer.specs.Acts.{StaysLine}
 use Rattle.text_block_renderer.specs.Stretches.{padded_line, lines_laid}
 use Rattle.text_block_renderer.specs.Taken.{StandWithin, text_before, written}
-use Rattle.text_block_renderer.proofs.Within.{two_within, itself_within, behind_within}
+use Rattle.text_block_renderer.proofs.Within.{two_within, itself_within, after_within}
 use Rattle.text_block_renderer.proofs.LaidTexts.{laid_lines, shown_texts}
 use Rattle.text_block_renderer.proofs.VisibleCharacters.{glyphs-append}
 
@@ -40,14 +40,14 @@ module _ {T : Type 0} where
     pub texts_written : (ls : List (Line T)) → StandWithin (visible_glyphs columns (text_of_lines ls)) (visible_glyphs columns (written ls))
     texts_written [] = tt
     texts_written (text is ∷ ls) = two_within columns is (text_of_lines ls) is (written ls) (itself_within columns is) (texts_written ls)
-    texts_written (border b ∷ ls) = behind_within columns (text_before b) (text_of_lines ls) (written ls) (texts_written ls)
+    texts_written (border b ∷ ls) = after_within columns (text_before b) (text_of_lines ls) (written ls) (texts_written ls)
 
     -- a border shows the text in front of it
     holes_shown : (tag : T) (cells : List Cell) (at : ℕ) (hs : List (Hole T)) → StandWithin (visible_glyphs columns (flat_map (λ (h : Hole T). element_items h.element) hs)) (visible_glyphs columns (shown_from tag cells at hs))
     holes_shown tag cells at [] = tt
     holes_shown tag cells at (h ∷ hs) =
         let rest = flat_map (λ (k : Hole T). element_items k.element) hs in
-        behind_within columns (drawn (slice_range cells at h.place) tag) (element_items h.element ++ rest) (element_items h.element ++ shown_from tag cells (h.place + h.width) hs)
+        after_within columns (drawn (slice_range cells at h.place) tag) (element_items h.element ++ rest) (element_items h.element ++ shown_from tag cells (h.place + h.width) hs)
         (two_within columns (element_items h.element) rest (element_items h.element) (shown_from tag cells (h.place + h.width) hs) (itself_within columns (element_items h.element)) (holes_shown tag cells (h.place + h.width) hs))
 
     pub border_shown : (tag : T) (b : Border T) → StandWithin (visible_glyphs columns (text_before b)) (visible_glyphs columns (shown tag b))

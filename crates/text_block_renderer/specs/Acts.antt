@@ -65,10 +65,10 @@ module _ {D A : Type 0} (columns : ℕ → Option ℕ) (decoration : Decoration 
 -- A row that was put: to which renderer, after the flush, and what came of it.
 pub record PutRow (D A : Type 0) (columns : ℕ → Option ℕ) : Type 0 where
   pub before : Renderer D A (List A)
-  pub behind : Renderer D A (List A)
+  pub after : Renderer D A (List A)
   pub collapses : Bool
   pub cells : List (GivenCell (List A))
-  pub puts : PutsRow columns collapses cells before behind
+  pub puts : PutsRow columns collapses cells before after
 
 -- What adds lines: a part as calls have it, or a row.
 pub data Piece (D A : Type 0) (columns : ℕ → Option ℕ) : Type 0 where

@@ -81,8 +81,8 @@ pub record Headline {D A : Type 0} (columns : ℕ → Option ℕ) (decoration : 
   pub visible_characters_stand_once : Each (StandsOnce columns) came.pieces
   -- Where no cell overhung before, and the lines of all cells fit: of each cell of a row, over the rows of its span.
   pub each_cell_shows_its_texts_once : DrawsInOne columns → r.hanging ≡ [] → Each (CellsFit columns) (rows_of acts) →
-      (before rows behind : List (PutRow D A columns)) (cell : Cell (List A)) →
-      rows_in came.pieces ≡ before ++ rows ++ behind → IsCellOf cell rows → length rows ≡ cell.span →
+      (before rows after : List (PutRow D A columns)) (cell : Cell (List A)) →
+      rows_in came.pieces ≡ before ++ rows ++ after → IsCellOf cell rows → length rows ≡ cell.span →
       ShowsTexts columns r.options.draw_borders (map made rows) cell
   -- a renderer of two columns or more isn't too narrow for anything that comes next
   pub two_columns_are_enough : TakeTwoAtMost columns → 2 ≤ block_width r →

@@ -2,7 +2,7 @@
 use Rattle.std.specs.Prelude.{◌≡◌, ℕ, true, false, Option, None, Some, List, [], ◌∷◌, ◌++◌, filter}
 use Rattle.std.specs.List.{AllZip}
 use Rattle.tbr_model.specs.Run.{Entry, Item, is_kept, kept_items, has_character, trailing}
-use Rattle.tbr_model.specs.Markers.{names_in_items, names_in_run, marker_items, marker_run, names_behind}
+use Rattle.tbr_model.specs.Markers.{names_in_items, names_in_run, marker_items, marker_run, names_after}
 use Rattle.tbr_model.specs.Hard.{is_visible}
 use Rattle.tbr_model.specs.Shown.{without_spaces, is_visible_or_marker, is_entry_to_show, ShowsEntry}
 use Rattle.tbr_wrap.specs.Runs.{IsNormal, AreLastOf}
@@ -26,16 +26,16 @@ pub record Stands {D A : Type 0} (columns : ℕ → Option ℕ) (r : Renderer D 
       (filter (is_visible_or_marker columns) (items_so_far r)) (filter (is_entry_to_show columns) ended)
   pub markers : names_in_items (text_of_lines r.lines) ++ r.waiting ≡ names_in_run ended
   -- no marker waits that has a visible character after it
-  pub waits : AreLastOf r.waiting (names_behind (is_visible columns) ended)
+  pub waits : AreLastOf r.waiting (names_after (is_visible columns) ended)
   -- the same of kept characters in `Normal`; gaps and padding are U+0020
   pub kept : IsNormal ended → without_spaces (items_so_far r) ≡ kept_items columns ended
-  pub waits_kept : IsNormal ended → AreLastOf r.waiting (names_behind (is_kept columns) ended)
+  pub waits_kept : IsNormal ended → AreLastOf r.waiting (names_after (is_kept columns) ended)
 
 -- What a flush puts into lines, and what it makes wait. Markers that waited count as the first of the run.
 pub record FlushStands {D A : Type 0} (columns : ℕ → Option ℕ) (run : List (Entry (List A)))
     (r s : Renderer D A (List A)) : Type 0 where
-  pub waits : AreLastOf s.waiting (names_behind (is_visible columns) (marker_run r.waiting ++ run))
-  pub waits_kept : IsNormal run → AreLastOf s.waiting (names_behind (is_kept columns) (marker_run r.waiting ++ run))
+  pub waits : AreLastOf s.waiting (names_after (is_visible columns) (marker_run r.waiting ++ run))
+  pub waits_kept : IsNormal run → AreLastOf s.waiting (names_after (is_kept columns) (marker_run r.waiting ++ run))
   pub kept : IsNormal run →
       without_spaces (items_so_far s) ≡ without_spaces (items_so_far r) ++ kept_items columns run
   -- of a run with a kept character just the trailing markers wait

@@ -34,8 +34,8 @@ shortest [] n = n
 shortest (level ∷ levels) n = min (length level.prefixes) (shortest levels n)
 
 -- the visible characters of a prefix and of the line after it
-abbrev pub visible_behind : {T : Type 0} → (ℕ → Option ℕ) → T → List ℕ × Line T → List (ℕ × T)
-visible_behind columns tag p = visible_glyphs columns (text_items p.0 tag) ++ visible_glyphs columns (as_text tag p.1)
+abbrev pub visible_after : {T : Type 0} → (ℕ → Option ℕ) → T → List ℕ × Line T → List (ℕ × T)
+visible_after columns tag p = visible_glyphs columns (text_items p.0 tag) ++ visible_glyphs columns (as_text tag p.1)
 
 -- A renderer to which nothing was added takes the lines inside after the prefixes, and hands out its lines.
 pub record HandsOn {D A : Type 0} (columns : ℕ → Option ℕ) (decoration : Decoration D A) (level : Level (List A))

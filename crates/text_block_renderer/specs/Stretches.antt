@@ -50,8 +50,8 @@ pub record StandsAsStretch {D A : Type 0} (columns : ℕ → Option ℕ) (r : Re
   pub ends : EndsRun columns (block_width r) (may_overflow r) (run_of b.events) texts names
   pub ahead : may_overflow r ≡ false → IsNormal (run_of b.events) →
       NoneIsAhead columns (block_width r) (run_of b.events) texts
-  pub behind : List (Line (List A))
-  pub is : lines ≡ r.lines ++ stretch columns r b texts ++ behind
+  pub after : List (Line (List A))
+  pub is : lines ≡ r.lines ++ stretch columns r b texts ++ after
 
 -- Entries joined the run of the open block, and no line came.
 pub record StaysOpen {D A : Type 0} (r : Renderer D A (List A)) (b : Open (List A)) (es : List (Entry (List A)))

@@ -48,9 +48,9 @@ pub record TakesIn {D A : Type 0} (columns : ℕ → Option ℕ) (decoration : D
   pub last : Renderer D A (List A)
   pub before : List (Act (List A))
   pub taking : Act (List A)
-  pub behind : List (Act (List A))
+  pub after : List (Act (List A))
   pub es : List (Entry (List A))
-  pub bring : ActsBring columns decoration (before ++ taking ∷ behind) first es last
+  pub bring : ActsBring columns decoration (before ++ taking ∷ after) first es last
   pub takes : Takes inside taking
   pub gives : handed_out columns last ≡ done outside
 

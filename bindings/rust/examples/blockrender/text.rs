@@ -7,10 +7,10 @@ pub fn text(writing: &str) -> Option<String> {
     let mut text = String::with_capacity(writing.len());
     let mut rest = writing;
     while let Some((before, after)) = rest.split_once('\\') {
-        let (c, behind) = escape(after)?;
+        let (c, later) = escape(after)?;
         text.push_str(before);
         text.push(c);
-        rest = behind;
+        rest = later;
     }
     text.push_str(rest);
     Some(text)

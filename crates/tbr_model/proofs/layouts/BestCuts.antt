@@ -2,12 +2,12 @@
 use Rattle.std.proofs.Common.{◌≡◌, ℕ, ◌+◌, ◌-◌, ◌<◌, ◌≤◌, List, [], ◌∷◌, ◌++◌, length, take, drop, slice_range, refl, ap, sym, arith, length-drop, append_assoc, append-nil, subst, drop-drop, drop_of_length-le}
 use Rattle.std.specs.List.{AllByRecursion as Each}
 use Rattle.tbr_model.specs.Layout.{Slot, joined, IsLegalLine, IsLegal, IsLongest, IsGreedy, HasNoEmptyLine}
-use Rattle.tbr_model.specs.Cuts.{lines_behind, HasLegalLayout, IsBestLayout}
+use Rattle.tbr_model.specs.Cuts.{lines_after, HasLegalLayout, IsBestLayout}
 use Rattle.tbr_model.specs.Longest.{IsLongestLine}
 use Rattle.tbr_model.proofs.lists.Joined.{joined-append}
 use Rattle.tbr_model.proofs.lists.Each.{each_append}
 use Rattle.tbr_model.proofs.layouts.Ahead.{greedy_best}
-use Rattle.tbr_model.proofs.layouts.Cuts.{RisesTo, joined_behind, length-line, layout_rises, line_and_rest, best_alike}
+use Rattle.tbr_model.proofs.layouts.Cuts.{RisesTo, joined_after, length-line, layout_rises, line_and_rest, best_alike}
 
 -- lines are as long as can be, before what is left
 abbrev pub GreedyBefore : {A : Type 0} → ℕ → List (List (Slot A)) → List (Slot A) → Type 0
@@ -29,7 +29,7 @@ rises_more : (c n d : ℕ) (ds : List ℕ) → RisesTo c ds n → n ≤ d → Ri
 rises_more c n d [] h k = (omega arith, refl)
 rises_more c n d (e ∷ ds) h k = (h.0, rises_more e n d ds h.1 k)
 
-lines_more : {X : Type 0} (xs : List X) (c n d : ℕ) (ds : List ℕ) → RisesTo c ds n → lines_behind xs c (ds ++ d ∷ []) ≡ lines_behind xs c ds ++ slice_range xs n d ∷ []
+lines_more : {X : Type 0} (xs : List X) (c n d : ℕ) (ds : List ℕ) → RisesTo c ds n → lines_after xs c (ds ++ d ∷ []) ≡ lines_after xs c ds ++ slice_range xs n d ∷ []
 lines_more {X} xs c n d [] h = ap (λ k. let ls : List (List X) = slice_range xs k d ∷ [] in ls) h
 lines_more xs c n d (e ∷ ds) h = ap (λ ls. slice_range xs c e ∷ ls) (lines_more xs e n d ds h.1)
 
@@ -39,9 +39,9 @@ pub record CutsSoFar {A : Type 0} (width : ℕ) (slots : List (Slot A)) (cuts : 
   pub is : cuts ≡ 0 ∷ later
   pub rises : RisesTo 0 later from
   pub within : from ≤ length slots
-  pub legal : Each (IsLegalLine width) (lines_behind slots 0 later)
-  pub full : HasNoEmptyLine (lines_behind slots 0 later)
-  pub greedy : GreedyBefore width (lines_behind slots 0 later) (drop from slots)
+  pub legal : Each (IsLegalLine width) (lines_after slots 0 later)
+  pub full : HasNoEmptyLine (lines_after slots 0 later)
+  pub greedy : GreedyBefore width (lines_after slots 0 later) (drop from slots)
   pub left : HasLegalLayout width slots → HasLegalLayout width (drop from slots)
 
 pub next_cut : {A : Type 0} (width : ℕ) (slots : List (Slot A)) (cuts : List ℕ) (from end : ℕ) → CutsSoFar width slots cuts from → IsLongestLine width (drop from slots) end →
@@ -51,12 +51,12 @@ next_cut {A} width slots cuts from end h line = record {
   is = ap (λ (l : List ℕ). l ++ to ∷ []) h.is;
   rises = rises_more 0 from to h.later h.rises (omega arith);
   within = omega (arith, line.within, length-drop from slots, h.within);
-  legal = rw more (each_append (IsLegalLine width) (lines_behind slots 0 h.later) (new ∷ []) h.legal (subst (IsLegalLine width) (sym taken) line.legal, tt));
-  full = rw more (each_append (λ l. 0 < length l) (lines_behind slots 0 h.later) (new ∷ []) h.full (omega (arith, line.some, length-line slots from to (omega arith) (omega (arith, line.within, length-drop from slots, h.within))), tt));
-  greedy = rw more (greedy_more width (lines_behind slots 0 h.later) new (drop to slots)
-      (subst (GreedyBefore width (lines_behind slots 0 h.later)) (sym (line_and_rest slots from to (omega arith))) h.greedy)
-      (subst (λ (l : List (Slot A)). IsLongest width l (drop to slots)) (sym taken) (subst (IsLongest width (take end (drop from slots))) behind line.longest)));
-  left = λ _. subst (HasLegalLayout width) behind line.rest;
+  legal = rw more (each_append (IsLegalLine width) (lines_after slots 0 h.later) (new ∷ []) h.legal (subst (IsLegalLine width) (sym taken) line.legal, tt));
+  full = rw more (each_append (λ l. 0 < length l) (lines_after slots 0 h.later) (new ∷ []) h.full (omega (arith, line.some, length-line slots from to (omega arith) (omega (arith, line.within, length-drop from slots, h.within))), tt));
+  greedy = rw more (greedy_more width (lines_after slots 0 h.later) new (drop to slots)
+      (subst (GreedyBefore width (lines_after slots 0 h.later)) (sym (line_and_rest slots from to (omega arith))) h.greedy)
+      (subst (λ (l : List (Slot A)). IsLongest width l (drop to slots)) (sym taken) (subst (IsLongest width (take end (drop from slots))) after line.longest)));
+  left = λ _. subst (HasLegalLayout width) after line.rest;
 }
   where
     to : ℕ
@@ -68,16 +68,16 @@ next_cut {A} width slots cuts from end h line = record {
     taken : new ≡ take end (drop from slots)
     taken = ap (λ k. take k (drop from slots)) (let e : to - from ≡ end = omega arith in e)
 
-    behind : drop end (drop from slots) ≡ drop to slots
-    behind = drop-drop end from slots
+    after : drop end (drop from slots) ≡ drop to slots
+    after = drop-drop end from slots
 
-    more : lines_behind slots 0 (h.later ++ to ∷ []) ≡ lines_behind slots 0 h.later ++ new ∷ []
+    more : lines_after slots 0 (h.later ++ to ∷ []) ≡ lines_after slots 0 h.later ++ new ∷ []
     more = lines_more slots 0 from to h.later h.rises
 
 pub last_cut : {A : Type 0} (width : ℕ) (slots : List (Slot A)) (cuts : List ℕ) (from : ℕ) → CutsSoFar width slots cuts from → length slots ≤ from → IsBestLayout width slots cuts
 last_cut {A} width slots cuts from h all =
     let rises : RisesTo 0 h.later (length slots) = subst (RisesTo 0 h.later) (omega (arith, h.within)) h.rises in
     let none : drop from slots ≡ [] = drop_of_length-le slots all in
-    let legal : IsLegal width slots (lines_behind slots 0 h.later) = record { whole = joined_behind slots 0 h.later rises; each = h.legal } in
-    let best = greedy_best width slots (lines_behind slots 0 h.later) legal h.full (greedy_all width (lines_behind slots 0 h.later) (subst (GreedyBefore width (lines_behind slots 0 h.later)) none h.greedy)) in
+    let legal : IsLegal width slots (lines_after slots 0 h.later) = record { whole = joined_after slots 0 h.later rises; each = h.legal } in
+    let best = greedy_best width slots (lines_after slots 0 h.later) legal h.full (greedy_all width (lines_after slots 0 h.later) (subst (GreedyBefore width (lines_after slots 0 h.later)) none h.greedy)) in
     subst (IsBestLayout width slots) (sym h.is) ((best_alike width slots (0 ∷ h.later)).1 (layout_rises (length slots) h.later rises, best))

@@ -7,7 +7,7 @@ use Rattle.std.specs.List.Sorted.{IsNonDecreasing, IsStrictlyIncreasing}
 use Rattle.std.proofs.lemmas.Option.{slice_get_within}
 use Rattle.std.proofs.lemmas.Bool.{cases_lt}
 use Rattle.tbr_model.specs.Layout.{Slot, joined, placed, line_width, line_text, MayBegin, MayFollow, FirstMayBegin, OthersMayFollow, IsLegalLine, IsLegal, HasNoEmptyLine, IsAhead, IsBest}
-use Rattle.tbr_model.specs.Cuts.{IsLayout, lines_behind, lines_between, ends_of, cuts_of, placed_by_cuts, BeginsWider, IsLegalLayout, IsBestLayout, with_gap}
+use Rattle.tbr_model.specs.Cuts.{IsLayout, lines_after, lines_between, ends_of, cuts_of, placed_by_cuts, BeginsWider, IsLegalLayout, IsBestLayout, with_gap}
 use Rattle.tbr_model.proofs.layouts.Ahead.{joined_begins}
 
 -- ---- parts of lists
@@ -80,49 +80,49 @@ by_rising n (c ∷ ds) P f h =
 
 -- ---- lines and their cuts
 
-pub joined_behind : {X : Type 0} (xs : List X) (c : ℕ) (ds : List ℕ) → RisesTo c ds (length xs) → joined (lines_behind xs c ds) ≡ drop c xs
-joined_behind xs c [] h = sym (drop_of_length-le xs (omega (arith, h)))
-joined_behind xs c (d ∷ ds) h = ap (λ r. slice_range xs c d ++ r) (joined_behind xs d ds h.1) ∙ line_and_rest xs c d h.0
+pub joined_after : {X : Type 0} (xs : List X) (c : ℕ) (ds : List ℕ) → RisesTo c ds (length xs) → joined (lines_after xs c ds) ≡ drop c xs
+joined_after xs c [] h = sym (drop_of_length-le xs (omega (arith, h)))
+joined_after xs c (d ∷ ds) h = ap (λ r. slice_range xs c d ++ r) (joined_after xs d ds h.1) ∙ line_and_rest xs c d h.0
 
-ends_behind : {X : Type 0} (xs : List X) (c : ℕ) (ds : List ℕ) → RisesTo c ds (length xs) → ends_of c (lines_behind xs c ds) ≡ ds
-ends_behind xs c [] h = refl
-ends_behind {X} xs c (d ∷ ds) h =
+ends_after : {X : Type 0} (xs : List X) (c : ℕ) (ds : List ℕ) → RisesTo c ds (length xs) → ends_of c (lines_after xs c ds) ≡ ds
+ends_after xs c [] h = refl
+ends_after {X} xs c (d ∷ ds) h =
     let end : c + length (slice_range xs c d) ≡ d = omega (arith, h.0, length-line xs c d h.0 (rises_below d (length xs) ds h.1)) in
-    rw end (ap (λ (es : List ℕ). d ∷ es) (ends_behind xs d ds h.1))
+    rw end (ap (λ (es : List ℕ). d ∷ es) (ends_after xs d ds h.1))
 
 rises_ends : {X : Type 0} (c : ℕ) (ls : List (List X)) → RisesTo c (ends_of c ls) (c + length (joined ls))
 rises_ends c [] = omega arith
 rises_ends {X} c (l ∷ ls) = (omega arith, subst (RisesTo (c + length l) (ends_of (c + length l) ls)) (omega (arith, length-append l (joined ls))) (rises_ends (c + length l) ls))
 
-lines_of_ends : {X : Type 0} (xs : List X) (c : ℕ) (ls : List (List X)) → drop c xs ≡ joined ls → lines_behind xs c (ends_of c ls) ≡ ls
+lines_of_ends : {X : Type 0} (xs : List X) (c : ℕ) (ls : List (List X)) → drop c xs ≡ joined ls → lines_after xs c (ends_of c ls) ≡ ls
 lines_of_ends xs c [] h = refl
 lines_of_ends {X} xs c (l ∷ ls) h =
     let room : (c + length l) - c ≡ length l = omega arith in
     let line : slice_range xs c (c + length l) ≡ l = ap (λ (n : ℕ). take n (drop c xs)) room ∙ ap (take (length l)) h ∙ take_at l (joined ls) (length l) refl in
     let rest : drop (c + length l) xs ≡ joined ls = sym (drop-drop (length l) c xs) ∙ ap (drop (length l)) h ∙ drop_at l (joined ls) (length l) refl in
-    let later : lines_behind xs (c + length l) (ends_of (c + length l) ls) ≡ ls = lines_of_ends xs (c + length l) ls rest in
+    let later : lines_after xs (c + length l) (ends_of (c + length l) ls) ≡ ls = lines_of_ends xs (c + length l) ls rest in
     cc
 
-placed_behind : {X : Type 0} (xs : List X) (c : ℕ) (ds : List ℕ) (n : ℕ) → RisesTo c ds (length xs) → placed n (lines_behind xs c ds) + c ≡ get_or (c ∷ ds) n (length xs)
-placed_behind xs c ds zero h = omega arith
-placed_behind xs c [] (suc n) h = omega (arith, h)
-placed_behind xs c (d ∷ ds) (suc n) h =
-    omega (arith, h.0, placed_behind xs d ds n h.1, length-line xs c d h.0 (rises_below d (length xs) ds h.1), length-append (slice_range xs c d) (joined (take n (lines_behind xs d ds))))
+placed_after : {X : Type 0} (xs : List X) (c : ℕ) (ds : List ℕ) (n : ℕ) → RisesTo c ds (length xs) → placed n (lines_after xs c ds) + c ≡ get_or (c ∷ ds) n (length xs)
+placed_after xs c ds zero h = omega arith
+placed_after xs c [] (suc n) h = omega (arith, h)
+placed_after xs c (d ∷ ds) (suc n) h =
+    omega (arith, h.0, placed_after xs d ds n h.1, length-line xs c d h.0 (rises_below d (length xs) ds h.1), length-append (slice_range xs c d) (joined (take n (lines_after xs d ds))))
 
-line_at : {X : Type 0} (xs : List X) (c : ℕ) (ds : List ℕ) (n : ℕ) → n < length ds → slice_get (lines_behind xs c ds) n ≡ Some (slice_range xs (get_or (c ∷ ds) n 0) (get_or ds n 0))
+line_at : {X : Type 0} (xs : List X) (c : ℕ) (ds : List ℕ) (n : ℕ) → n < length ds → slice_get (lines_after xs c ds) n ≡ Some (slice_range xs (get_or (c ∷ ds) n 0) (get_or ds n 0))
 line_at xs c [] n h = absurd (omega arith)
 line_at xs c (d ∷ ds) zero h = refl
 line_at xs c (d ∷ ds) (suc n) h = line_at xs d ds n (omega arith)
 
 pub lines_joined : {X : Type 0} (items : List X) (cuts : List ℕ) → IsLayout (length items) cuts → joined (lines_between items cuts) ≡ items
-lines_joined items cuts = by_rising (length items) cuts (λ cs. joined (lines_between items cs) ≡ items) (λ ds h. joined_behind items 0 ds h)
+lines_joined items cuts = by_rising (length items) cuts (λ cs. joined (lines_between items cs) ≡ items) (λ ds h. joined_after items 0 ds h)
 
 pub line_of : {X : Type 0} (items : List X) (cuts : List ℕ) (n : ℕ) → n + 1 < length cuts → slice_get (lines_between items cuts) n ≡ Some (slice_range items (get_or cuts n 0) (get_or cuts (n + 1) 0))
 line_of items [] n h = absurd (omega arith)
 line_of items (c ∷ ds) n h = rw add-one (line_at items c ds n (omega arith))
 
 pub cuts_again : {X : Type 0} (items : List X) (cuts : List ℕ) → IsLayout (length items) cuts → cuts_of (lines_between items cuts) ≡ cuts
-cuts_again items cuts = by_rising (length items) cuts (λ cs. cuts_of (lines_between items cs) ≡ cs) (λ ds h. ap (λ (es : List ℕ). 0 ∷ es) (ends_behind items 0 ds h))
+cuts_again items cuts = by_rising (length items) cuts (λ cs. cuts_of (lines_between items cs) ≡ cs) (λ ds h. ap (λ (es : List ℕ). 0 ∷ es) (ends_after items 0 ds h))
 
 pub lines_again : {X : Type 0} (lines : List (List X)) → IsLayout (length (joined lines)) (cuts_of lines) × (lines_between (joined lines) (cuts_of lines) ≡ lines)
 lines_again lines = (
@@ -133,7 +133,7 @@ lines_again lines = (
 pub placed_alike : {X : Type 0} (items : List X) (cuts : List ℕ) (n : ℕ) → IsLayout (length items) cuts → placed n (lines_between items cuts) ≡ placed_by_cuts (length items) n cuts
 placed_alike items cuts n =
     by_rising (length items) cuts (λ cs. placed n (lines_between items cs) ≡ placed_by_cuts (length items) n cs)
-    (λ ds h. let e : placed n (lines_behind items 0 ds) + 0 ≡ get_or (0 ∷ ds) n (length items) = placed_behind items 0 ds n h in omega arith)
+    (λ ds h. let e : placed n (lines_after items 0 ds) + 0 ≡ get_or (0 ∷ ds) n (length items) = placed_after items 0 ds n h in omega arith)
 
 -- ---- legal
 
@@ -185,10 +185,10 @@ contains_later c ds x h (suc k, p, q) = (k, omega arith, q)
 
 -- the cuts after a position say which lines there are legal
 lines_legal : {A : Type 0} (width : ℕ) (slots : List (Slot A)) (c : ℕ) (ds : List ℕ) → RisesTo c ds (length slots) →
-    Each (λ line. line_width line ≤ width) (lines_behind slots c ds) →
+    Each (λ line. line_width line ≤ width) (lines_after slots c ds) →
     ((cut : ℕ) (s : Slot A) → Contains (c ∷ ds) cut → slice_get slots cut ≡ Some s → MayBegin s) →
     ((place : ℕ) (s : Slot A) → c < place → slice_get slots place ≡ Some s → BeginsWider s → Contains ds place) →
-    Each (IsLegalLine width) (lines_behind slots c ds)
+    Each (IsLegalLine width) (lines_after slots c ds)
 lines_legal width slots c [] h fits begins wider = tt
 lines_legal {A} width slots c (d ∷ ds) h fits begins wider = (
   record {
@@ -217,22 +217,22 @@ lines_legal {A} width slots c (d ∷ ds) h fits begins wider = (
         let at = wider (c + suc k) s (omega arith) (place (suc k) s e) b in
         omega (arith, contains_above d (length slots) ds (c + suc k) h.1 at, within (suc k) s e, h.0)
 
-begins_at_cuts : {A : Type 0} (width : ℕ) (slots : List (Slot A)) (c : ℕ) (ds : List ℕ) → RisesTo c ds (length slots) → Each (IsLegalLine width) (lines_behind slots c ds) →
+begins_at_cuts : {A : Type 0} (width : ℕ) (slots : List (Slot A)) (c : ℕ) (ds : List ℕ) → RisesTo c ds (length slots) → Each (IsLegalLine width) (lines_after slots c ds) →
     (k cut : ℕ) (s : Slot A) → k < length (c ∷ ds) → get_or (c ∷ ds) k cut ≡ cut → slice_get slots cut ≡ Some s → MayBegin s
 begins_at_cuts {A} width slots c ds h legal zero cut s p q e =
-    slot_begins (drop c slots) s (subst FirstMayBegin (joined_behind slots c ds h) (joined_begins width (lines_behind slots c ds) legal))
+    slot_begins (drop c slots) s (subst FirstMayBegin (joined_after slots c ds h) (joined_begins width (lines_after slots c ds) legal))
     (slice_get-drop c 0 slots ∙ ap (slice_get slots) (let i : c + 0 ≡ cut = omega (arith, q) in i) ∙ e)
 begins_at_cuts width slots c [] h legal (suc k) cut s p q e = absurd (omega arith)
 begins_at_cuts width slots c (d ∷ ds) h legal (suc k) cut s p q e = begins_at_cuts width slots d ds h.1 legal.1 k cut s (omega arith) q e
 
-wider_at_cuts : {A : Type 0} (width : ℕ) (slots : List (Slot A)) (c : ℕ) (ds : List ℕ) → RisesTo c ds (length slots) → Each (IsLegalLine width) (lines_behind slots c ds) →
+wider_at_cuts : {A : Type 0} (width : ℕ) (slots : List (Slot A)) (c : ℕ) (ds : List ℕ) → RisesTo c ds (length slots) → Each (IsLegalLine width) (lines_after slots c ds) →
     (place : ℕ) (s : Slot A) → c ≤ place → slice_get slots place ≡ Some s → BeginsWider s → Contains (c ∷ ds) place
 wider_at_cuts width slots c [] h legal place s p e b = absurd (omega (arith, h, slice_get_within slots place s e))
 wider_at_cuts {A} width slots c (d ∷ ds) h legal place s p e b =
     elim (cases_lt c place) [
       | inl after ↦ elim (cases_lt place d) [
         | inl before ↦ absurd (not_both _ b (inside (place - suc c) (omega arith) before))
-        | inr behind ↦ later (wider_at_cuts width slots d ds h.1 legal.1 place s behind e b)
+        | inr further ↦ later (wider_at_cuts width slots d ds h.1 legal.1 place s further e b)
       ]
       | inr same ↦ (0, omega arith, omega arith)
     ]
@@ -249,18 +249,18 @@ each_fits : {A : Type 0} (width : ℕ) (ls : List (List (Slot A))) → Each (IsL
 each_fits width [] h = tt
 each_fits width (l ∷ ls) h = (h.0.fits, each_fits width ls h.1)
 
-legal_lines : {A : Type 0} (width : ℕ) (slots : List (Slot A)) (ds : List ℕ) → IsLegalLayout width slots (0 ∷ ds) → IsLegal width slots (lines_behind slots 0 ds)
+legal_lines : {A : Type 0} (width : ℕ) (slots : List (Slot A)) (ds : List ℕ) → IsLegalLayout width slots (0 ∷ ds) → IsLegal width slots (lines_after slots 0 ds)
 legal_lines width slots ds h =
     let rises = rises_layout (length slots) ds h.layout in
     record {
-      whole = joined_behind slots 0 ds rises;
+      whole = joined_after slots 0 ds rises;
       each = lines_legal width slots 0 ds rises h.fits h.between_words (λ place s p e b. contains_later 0 ds place p (h.wider_at_cut place s e b));
     }
 
-legal_cuts : {A : Type 0} (width : ℕ) (slots : List (Slot A)) (ds : List ℕ) → RisesTo 0 ds (length slots) → IsLegal width slots (lines_behind slots 0 ds) → IsLegalLayout width slots (0 ∷ ds)
+legal_cuts : {A : Type 0} (width : ℕ) (slots : List (Slot A)) (ds : List ℕ) → RisesTo 0 ds (length slots) → IsLegal width slots (lines_after slots 0 ds) → IsLegalLayout width slots (0 ∷ ds)
 legal_cuts width slots ds rises h = record {
   layout = layout_rises (length slots) ds rises;
-  fits = each_fits width (lines_behind slots 0 ds) h.each;
+  fits = each_fits width (lines_after slots 0 ds) h.each;
   between_words = λ cut s k e. begins_at_cuts width slots 0 ds rises h.each k.0 cut s k.1 k.2 e;
   wider_at_cut = λ place s e b. wider_at_cuts width slots 0 ds rises h.each place s (omega arith) e b;
 }
@@ -273,27 +273,27 @@ legal_alike {A} width slots cuts = (
 
 -- ---- best
 
-full_behind : {X : Type 0} (xs : List X) (c : ℕ) (ds : List ℕ) → RisesTo c ds (length xs) → ((k : ℕ) → k < length ds → get_or (c ∷ ds) k 0 < get_or ds k 0) → HasNoEmptyLine (lines_behind xs c ds)
-full_behind xs c [] h increases = tt
-full_behind xs c (d ∷ ds) h increases = (
+full_after : {X : Type 0} (xs : List X) (c : ℕ) (ds : List ℕ) → RisesTo c ds (length xs) → ((k : ℕ) → k < length ds → get_or (c ∷ ds) k 0 < get_or ds k 0) → HasNoEmptyLine (lines_after xs c ds)
+full_after xs c [] h increases = tt
+full_after xs c (d ∷ ds) h increases = (
   omega (arith, increases 0 (omega arith), length-line xs c d h.0 (rises_below d (length xs) ds h.1)),
-  full_behind xs d ds h.1 (λ k p. increases (suc k) (omega arith)),
+  full_after xs d ds h.1 (λ k p. increases (suc k) (omega arith)),
 )
 
-increases_behind : {X : Type 0} (xs : List X) (c : ℕ) (ds : List ℕ) → RisesTo c ds (length xs) → HasNoEmptyLine (lines_behind xs c ds) → (k : ℕ) → k < length ds → get_or (c ∷ ds) k 0 < get_or ds k 0
-increases_behind xs c [] h full k p = absurd (omega arith)
-increases_behind xs c (d ∷ ds) h full zero p = omega (arith, full.0, length-line xs c d h.0 (rises_below d (length xs) ds h.1))
-increases_behind xs c (d ∷ ds) h full (suc k) p = increases_behind xs d ds h.1 full.1 k (omega arith)
+increases_after : {X : Type 0} (xs : List X) (c : ℕ) (ds : List ℕ) → RisesTo c ds (length xs) → HasNoEmptyLine (lines_after xs c ds) → (k : ℕ) → k < length ds → get_or (c ∷ ds) k 0 < get_or ds k 0
+increases_after xs c [] h full k p = absurd (omega arith)
+increases_after xs c (d ∷ ds) h full zero p = omega (arith, full.0, length-line xs c d h.0 (rises_below d (length xs) ds h.1))
+increases_after xs c (d ∷ ds) h full (suc k) p = increases_after xs d ds h.1 full.1 k (omega arith)
 
 full_if_increasing : {X : Type 0} (xs : List X) (cuts : List ℕ) → IsLayout (length xs) cuts → IsStrictlyIncreasing cuts → HasNoEmptyLine (lines_between xs cuts)
 full_if_increasing xs cuts =
     by_rising (length xs) cuts (λ cs. IsStrictlyIncreasing cs → HasNoEmptyLine (lines_between xs cs))
-    (λ ds rises h. full_behind xs 0 ds rises (λ k p. rw add-one at (h k (omega arith))))
+    (λ ds rises h. full_after xs 0 ds rises (λ k p. rw add-one at (h k (omega arith))))
 
 increasing_if_full : {X : Type 0} (xs : List X) (cuts : List ℕ) → IsLayout (length xs) cuts → HasNoEmptyLine (lines_between xs cuts) → IsStrictlyIncreasing cuts
 increasing_if_full xs cuts =
     by_rising (length xs) cuts (λ cs. HasNoEmptyLine (lines_between xs cs) → IsStrictlyIncreasing cs)
-    (λ ds rises h k p. rw add-one (increases_behind xs 0 ds rises h k (omega arith)))
+    (λ ds rises h k p. rw add-one (increases_after xs 0 ds rises h k (omega arith)))
 
 -- the cuts of legal lines
 pub others_cuts : {A : Type 0} (width : ℕ) (slots : List (Slot A)) (others : List (List (Slot A))) → IsLegal width slots others →
@@ -334,17 +334,17 @@ best_alike {A} width slots cuts = (
 -- ---- cuts that are tried one after another
 
 -- what is left to try after a cut
-abbrev pub LegalBehind : {A : Type 0} → ℕ → List (Slot A) → ℕ → List ℕ → Type 0
-LegalBehind width slots c ds = RisesTo c ds (length slots) × Each (IsLegalLine width) (lines_behind slots c ds)
+abbrev pub LegalAfter : {A : Type 0} → ℕ → List (Slot A) → ℕ → List ℕ → Type 0
+LegalAfter width slots c ds = RisesTo c ds (length slots) × Each (IsLegalLine width) (lines_after slots c ds)
 
-pub legal_from_first : {A : Type 0} (width : ℕ) (slots : List (Slot A)) (ds : List ℕ) → IsLegalLayout width slots (0 ∷ ds) ↔ LegalBehind width slots 0 ds
+pub legal_from_first : {A : Type 0} (width : ℕ) (slots : List (Slot A)) (ds : List ℕ) → IsLegalLayout width slots (0 ∷ ds) ↔ LegalAfter width slots 0 ds
 legal_from_first width slots ds = (
   λ h. (rises_layout (length slots) ds h.layout, (legal_lines width slots ds h).each),
-  λ h. legal_cuts width slots ds h.0 (record { whole = joined_behind slots 0 ds h.0; each = h.1 }),
+  λ h. legal_cuts width slots ds h.0 (record { whole = joined_after slots 0 ds h.0; each = h.1 }),
 )
 
 pub legal_on : {A : Type 0} (width : ℕ) (slots : List (Slot A)) (c d : ℕ) (ds : List ℕ) → c ≤ d → IsLegalLine width (slice_range slots c d) →
-    LegalBehind width slots c (d ∷ ds) ↔ LegalBehind width slots d ds
+    LegalAfter width slots c (d ∷ ds) ↔ LegalAfter width slots d ds
 legal_on width slots c d ds h legal = (λ k. (k.0.1, k.1.1), λ k. ((h, k.0), (legal, k.1)))
 
 -- ---- the first gap

@@ -10,11 +10,11 @@ use Rattle.tbr_model.specs.Layout.{gap_width, rest_width, line_width, MayFollow,
 use Rattle.tbr_model.specs.Slot.{slot_value, slot_values}
 
 -- the columns of a slot that is after others
-abbrev pub width_behind : {A : Type 0} → StoredSlot A → ℕ
-width_behind s = gap_width (option_copied s.gap) + s.width
+abbrev pub width_after : {A : Type 0} → StoredSlot A → ℕ
+width_after s = gap_width (option_copied s.gap) + s.width
 
 pub rest_width_more : {A : Type 0} (xs : List (StoredSlot A)) (i : ℕ) (s : StoredSlot A) → i < length xs → s ≡ get_or xs i s →
-    rest_width (slot_values (take (suc i) xs)) ≡ rest_width (slot_values (take i xs)) + width_behind s
+    rest_width (slot_values (take (suc i) xs)) ≡ rest_width (slot_values (take i xs)) + width_after s
 rest_width_more [] i s h e = absurd (omega arith)
 rest_width_more (x ∷ xs) zero s h e = rw (← e) (omega arith)
 rest_width_more (x ∷ xs) (suc i) s h e = omega (arith, rest_width_more xs i s (omega arith) e)

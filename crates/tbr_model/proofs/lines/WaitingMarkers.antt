@@ -9,7 +9,7 @@ use Rattle.tbr_model.specs.declared.white_space.WhiteSpace.TheVariants.{Normal}
 use Rattle.tbr_model.specs.Run.{Entry, Item, glyph, marker, has_character, is_kept}
 use Rattle.tbr_model.specs.Layout.{joined}
 use Rattle.tbr_model.specs.Rule.{Event, run_of, progress, waiting, lines_of}
-use Rattle.tbr_model.specs.Markers.{names_in_items, marked_behind, names_behind}
+use Rattle.tbr_model.specs.Markers.{names_in_items, marked_after, names_after}
 use Rattle.tbr_model.specs.Hard.{HasMode, is_visible}
 use Rattle.tbr_model.proofs.rule.Content.{LooksAtKept, AnyEntry, AnyMode, StandsFor, by_entry, found_at_end}
 use Rattle.tbr_model.proofs.rule.Walk.{any_entries}
@@ -32,54 +32,54 @@ looks_at_kept columns = looks_at_passing columns (HasMode Normal) IsNormalMode (
 -- ---- markers after the last character that passes
 
 module _ {A : Type 0} (test : ℕ → Bool) where
-  abbrev item_behind : List (List ℕ) → Item A → List (List ℕ)
-  item_behind names (glyph c a) = if test c then [] else names
-  item_behind names (marker name) = names ++ name ∷ []
+  abbrev item_after : List (List ℕ) → Item A → List (List ℕ)
+  item_after names (glyph c a) = if test c then [] else names
+  item_after names (marker name) = names ++ name ∷ []
 
   -- they are the same where items stand for entries
-  behind_alike : (Modes : WhiteSpace → Type 0) (is : List (Item A)) (es : List (Entry A)) → AllZip (StandsFor Modes) is es → (names : List (List ℕ)) → fold item_behind names is ≡ fold (marked_behind test) names es
-  behind_alike Modes =
-      by_entry Modes (λ is es. (names : List (List ℕ)) → fold item_behind names is ≡ fold (marked_behind test) names es) (λ names. refl)
+  after_alike : (Modes : WhiteSpace → Type 0) (is : List (Item A)) (es : List (Entry A)) → AllZip (StandsFor Modes) is es → (names : List (List ℕ)) → fold item_after names is ≡ fold (marked_after test) names es
+  after_alike Modes =
+      by_entry Modes (λ is es. (names : List (List ℕ)) → fold item_after names is ≡ fold (marked_after test) names es) (λ names. refl)
       (λ c x a b m is es either rest names. rest (if test c then [] else names)) (λ name is es rest names. rest (names ++ name ∷ []))
 
   -- what doesn't pass doesn't count
-  behind_passing : (names : List (List ℕ)) (is : List (Item A)) → fold item_behind names (passing test is) ≡ fold item_behind names is
-  behind_passing names [] = refl
-  behind_passing names (marker name ∷ is) = behind_passing (names ++ name ∷ []) is
-  behind_passing names (glyph c a ∷ is) = go (λ ns. behind_passing ns is) (test c) refl
+  after_passing : (names : List (List ℕ)) (is : List (Item A)) → fold item_after names (passing test is) ≡ fold item_after names is
+  after_passing names [] = refl
+  after_passing names (marker name ∷ is) = after_passing (names ++ name ∷ []) is
+  after_passing names (glyph c a ∷ is) = go (λ ns. after_passing ns is) (test c) refl
     where
-      go : ((ns : List (List ℕ)) → fold item_behind ns (passing test is) ≡ fold item_behind ns is) → (b : Bool) → test c ≡ b →
-          fold item_behind names (if b then glyph c a ∷ passing test is else passing test is) ≡ fold item_behind (if b then [] else names) is
-      go rest true e = ap (λ (b : Bool). fold item_behind (if b then [] else names) (passing test is)) e ∙ rest []
+      go : ((ns : List (List ℕ)) → fold item_after ns (passing test is) ≡ fold item_after ns is) → (b : Bool) → test c ≡ b →
+          fold item_after names (if b then glyph c a ∷ passing test is else passing test is) ≡ fold item_after (if b then [] else names) is
+      go rest true e = ap (λ (b : Bool). fold item_after (if b then [] else names) (passing test is)) e ∙ rest []
       go rest false e = rest names
 
   -- markers alone are all after
-  behind_markers : (names : List (List ℕ)) (is : List (Item A)) → has_character is ≡ false → fold item_behind names is ≡ names ++ names_in_items is
-  behind_markers names [] h = sym (append-nil names)
-  behind_markers names (glyph c a ∷ is) h = cc
-  behind_markers names (marker name ∷ is) h = behind_markers (names ++ name ∷ []) is h ∙ append_assoc names (name ∷ []) (names_in_items is)
+  after_markers : (names : List (List ℕ)) (is : List (Item A)) → has_character is ≡ false → fold item_after names is ≡ names ++ names_in_items is
+  after_markers names [] h = sym (append-nil names)
+  after_markers names (glyph c a ∷ is) h = cc
+  after_markers names (marker name ∷ is) h = after_markers (names ++ name ∷ []) is h ∙ append_assoc names (name ∷ []) (names_in_items is)
 
-  waits_behind : (columns : ℕ → Option ℕ) (Comes : Entry A → Type 0) (Modes : WhiteSpace → Type 0) → LooksAtKept columns Comes Modes (passing test) → (width : ℕ) (es : List (Event A)) → Each Comes (run_of es) →
-      (front : List (List ℕ)) × (front ++ names_in_items (waiting columns width (progress columns width es)) ≡ names_behind test (run_of es))
-  waits_behind columns Comes Modes looks width es comes =
+  waits_after : (columns : ℕ → Option ℕ) (Comes : Entry A → Type 0) (Modes : WhiteSpace → Type 0) → LooksAtKept columns Comes Modes (passing test) → (width : ℕ) (es : List (Event A)) → Each Comes (run_of es) →
+      (front : List (List ℕ)) × (front ++ names_in_items (waiting columns width (progress columns width es)) ≡ names_after test (run_of es))
+  waits_after columns Comes Modes looks width es comes =
       let left : List (Item A) = waiting columns width (progress columns width es) in
       let lines : List (Item A) = joined (lines_of columns width es) in
       let g = found_at_end looks width es comes in (
-        fold item_behind [] lines,
-        sym (behind_markers (fold item_behind [] lines) left (waiting_none columns width (progress columns width es)))
-            ∙ sym (fold-append item_behind [] lines left)
-            ∙ sym (behind_passing [] (lines ++ left))
-            ∙ ap (fold item_behind []) g.are
-            ∙ behind_passing [] g.items
-            ∙ behind_alike Modes g.items (run_of es) g.stand [],
+        fold item_after [] lines,
+        sym (after_markers (fold item_after [] lines) left (waiting_none columns width (progress columns width es)))
+            ∙ sym (fold-append item_after [] lines left)
+            ∙ sym (after_passing [] (lines ++ left))
+            ∙ ap (fold item_after []) g.are
+            ∙ after_passing [] g.items
+            ∙ after_alike Modes g.items (run_of es) g.stand [],
       )
 
 -- those that wait come after the last visible character
-pub waits_behind_visible : {A : Type 0} (columns : ℕ → Option ℕ) (width : ℕ) (es : List (Event A)) →
-    (front : List (List ℕ)) × (front ++ names_in_items (waiting columns width (progress columns width es)) ≡ names_behind (is_visible columns) (run_of es))
-waits_behind_visible columns width es = waits_behind (is_visible columns) columns AnyEntry AnyMode (looks_at_visible columns) width es (any_entries (run_of es))
+pub waits_after_visible : {A : Type 0} (columns : ℕ → Option ℕ) (width : ℕ) (es : List (Event A)) →
+    (front : List (List ℕ)) × (front ++ names_in_items (waiting columns width (progress columns width es)) ≡ names_after (is_visible columns) (run_of es))
+waits_after_visible columns width es = waits_after (is_visible columns) columns AnyEntry AnyMode (looks_at_visible columns) width es (any_entries (run_of es))
 
 -- and in a run of `Normal` alone after the last kept one
-pub waits_behind_kept : {A : Type 0} (columns : ℕ → Option ℕ) (width : ℕ) (es : List (Event A)) → Each (HasMode Normal) (run_of es) →
-    (front : List (List ℕ)) × (front ++ names_in_items (waiting columns width (progress columns width es)) ≡ names_behind (is_kept columns) (run_of es))
-waits_behind_kept columns width es modes = waits_behind (is_kept columns) columns (HasMode Normal) IsNormalMode (looks_at_kept columns) width es modes
+pub waits_after_kept : {A : Type 0} (columns : ℕ → Option ℕ) (width : ℕ) (es : List (Event A)) → Each (HasMode Normal) (run_of es) →
+    (front : List (List ℕ)) × (front ++ names_in_items (waiting columns width (progress columns width es)) ≡ names_after (is_kept columns) (run_of es))
+waits_after_kept columns width es modes = waits_after (is_kept columns) columns (HasMode Normal) IsNormalMode (looks_at_kept columns) width es modes

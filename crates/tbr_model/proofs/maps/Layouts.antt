@@ -103,6 +103,6 @@ best-map {A} {B} f width slots lines best = record {
   ahead = λ others other n.
       let w = lines_from_map (map_slot f) slots others other.whole in
       let each : Each (IsLegalLine width) w.0 = each_unmap (map_slots f) (IsLegalLine width) (IsLegalLine width) (legal_line-unmap f width) w.0 (subst (Each (IsLegalLine width)) w.1 other.each) in
-      let behind = best.ahead w.0 (record { whole = w.2; each = each }) n in
-      omega (arith, behind, ap (placed n) w.1, placed-map (map_slot f) n w.0, placed-map (map_slot f) n lines);
+      let after = best.ahead w.0 (record { whole = w.2; each = each }) n in
+      omega (arith, after, ap (placed n) w.1, placed-map (map_slot f) n w.0, placed-map (map_slot f) n lines);
 }

@@ -16,9 +16,9 @@ use Rattle.tbr_model.proofs.words.BestLayout.{rest_width_within}
 use Rattle.tbr_model.proofs.words.LinesHaveCharacters.{LastHas, Inner, inner_slots, items_within, line_width-one}
 
 -- the gap after what a line has; in front of it none counts
-abbrev pub gap_behind : {A : Type 0} → List (Slot A) → Option A → Option A
-gap_behind [] gap = None
-gap_behind (s ∷ ss) gap = gap
+abbrev pub gap_after : {A : Type 0} → List (Slot A) → Option A → Option A
+gap_after [] gap = None
+gap_after (s ∷ ss) gap = gap
 
 -- what is laid where the lines are
 abbrev pub text_of : {A : Type 0} → Lines A → Laid A
@@ -48,12 +48,12 @@ no_gaps_text (s ∷ ss) h = rw (h.0) (ap (λ is. s.item ∷ is) (no_gaps_text ss
 
 -- slots of a word after those of a line
 word_text : {A : Type 0} (l : List (Slot A)) (s : Slot A) (ss : List (Slot A)) → Each (λ t. t.gap ≡ None) ss →
-    line_text (l ++ (s ∷ ss)) ≡ line_text l ++ (gap_text (gap_behind l s.gap) ++ map (λ t. t.item) (s ∷ ss))
+    line_text (l ++ (s ∷ ss)) ≡ line_text l ++ (gap_text (gap_after l s.gap) ++ map (λ t. t.item) (s ∷ ss))
 word_text [] s ss h = ap (λ is. s.item ∷ is) (no_gaps_text ss h)
 word_text (t ∷ l) s ss h =
     ap (λ is. t.item ∷ is) (rest_text-append l (s ∷ ss) ∙ ap (λ is. rest_text l ++ is) (append_assoc (gap_text s.gap) (s.item ∷ []) (rest_text ss) ∙ ap (λ is. gap_text s.gap ++ (s.item ∷ is)) (no_gaps_text ss h)))
 
-word_width : {A : Type 0} (l : List (Slot A)) (s : Slot A) (ss : List (Slot A)) → line_width (l ++ (s ∷ ss)) ≡ line_width l + (gap_width (gap_behind l s.gap) + line_width (s ∷ ss))
+word_width : {A : Type 0} (l : List (Slot A)) (s : Slot A) (ss : List (Slot A)) → line_width (l ++ (s ∷ ss)) ≡ line_width l + (gap_width (gap_after l s.gap) + line_width (s ∷ ss))
 word_width [] s ss = omega arith
 word_width (t ∷ l) s ss = omega (arith, rest_width-append l (s ∷ ss))
 
@@ -105,7 +105,7 @@ module _ {A : Type 0} (columns : ℕ → Option ℕ) (width : ℕ) where
       text : line_text (last ++ s ∷ []) ≡ line_text last ++ s.item ∷ []
       text = word_text last s [] tt ∙ ap (λ o. line_text last ++ (gap_text o ++ s.item ∷ [])) (hidden last)
         where
-          hidden : (l : List (Slot A)) → gap_behind l s.gap ≡ None
+          hidden : (l : List (Slot A)) → gap_after l s.gap ≡ None
           hidden [] = refl
           hidden (t ∷ l) = h.0
 
@@ -169,7 +169,7 @@ module _ {A : Type 0} (columns : ℕ → Option ℕ) (width : ℕ) where
       ∙ put_all done (first ∷ []) rest (inner_slots columns width wider is narrow.1))
 
   pub word_laid : (lines : Lines A) (gap : Option A) (items : List (Item A)) → LastHas lines.last → IsNarrow columns width items → has_character items ≡ true →
-      laid_word columns width (text_of lines) (gap_behind lines.last gap) items ≡ text_of (place_word columns width lines (record { gap = gap; items = items }))
+      laid_word columns width (text_of lines) (gap_after lines.last gap) items ≡ text_of (place_word columns width lines (record { gap = gap; items = items }))
   word_laid lines gap [] has narrow some = cc
   word_laid lines gap (i ∷ is) has narrow some = go (nat_le (line_width (lines.last ++ slots)) width) refl
     where
@@ -182,11 +182,11 @@ module _ {A : Type 0} (columns : ℕ → Option ℕ) (width : ℕ) where
       rest : List (Slot A)
       rest = map (slot_of columns wider None false) is
 
-      whole : line_width (lines.last ++ slots) ≡ line_width lines.last + (gap_width (gap_behind lines.last gap) + items_width columns (i ∷ is))
+      whole : line_width (lines.last ++ slots) ≡ line_width lines.last + (gap_width (gap_after lines.last gap) + items_width columns (i ∷ is))
       whole = omega (arith, word_width lines.last (slot_of columns wider gap true i) rest, slots_width columns wider gap i is)
 
-      text : line_text (lines.last ++ slots) ≡ line_text lines.last ++ (gap_text (gap_behind lines.last gap) ++ (i ∷ is))
-      text = word_text lines.last (slot_of columns wider gap true i) rest (no_gaps columns wider is) ∙ ap (λ js. line_text lines.last ++ (gap_text (gap_behind lines.last gap) ++ (i ∷ js))) (items_within columns wider is)
+      text : line_text (lines.last ++ slots) ≡ line_text lines.last ++ (gap_text (gap_after lines.last gap) ++ (i ∷ is))
+      text = word_text lines.last (slot_of columns wider gap true i) rest (no_gaps columns wider is) ∙ ap (λ js. line_text lines.last ++ (gap_text (gap_after lines.last gap) ++ (i ∷ js))) (items_within columns wider is)
 
       put : put_items columns width (end_if_character (text_of lines)) (i ∷ is) ≡ text_of (fill width (close lines.done lines.last) [] slots)
       put = ap (λ (l : Laid A). put_items columns width l (i ∷ is)) (end_if_character_text lines has) ∙ put_slots (close lines.done lines.last) wider gap (i ∷ is) narrow
@@ -204,12 +204,12 @@ module _ {A : Type 0} (columns : ℕ → Option ℕ) (width : ℕ) where
           ap text_of (fill_whole (close lines.done lines.last) [] slots fits ∙ ap (λ (d : List (List (Slot A))). let q : Lines A = record { done = d; last = slots } in q) (sym (closed lines.last full fits)))
 
       go : (b : Bool) → nat_le (line_width (lines.last ++ slots)) width ≡ b →
-          laid_word columns width (text_of lines) (gap_behind lines.last gap) (i ∷ is) ≡ text_of (place_word columns width lines (record { gap = gap; items = i ∷ is }))
+          laid_word columns width (text_of lines) (gap_after lines.last gap) (i ∷ is) ≡ text_of (place_word columns width lines (record { gap = gap; items = i ∷ is }))
       go true e =
-          let test : nat_le (line_width lines.last + (gap_width (gap_behind lines.last gap) + items_width columns (i ∷ is))) width ≡ true = ap (λ n. nat_le n width) (sym whole) ∙ e in
+          let test : nat_le (line_width lines.last + (gap_width (gap_after lines.last gap) + items_width columns (i ∷ is))) width ≡ true = ap (λ n. nat_le n width) (sym whole) ∙ e in
           rw (e, test) (laid_same _ _ _ _ _ _ refl (sym text) (sym whole))
       go false e =
-          let test : nat_le (line_width lines.last + (gap_width (gap_behind lines.last gap) + items_width columns (i ∷ is))) width ≡ false = ap (λ n. nat_le n width) (sym whole) ∙ e in
+          let test : nat_le (line_width lines.last + (gap_width (gap_after lines.last gap) + items_width columns (i ∷ is))) width ≡ false = ap (λ n. nat_le n width) (sym whole) ∙ e in
           rw (e, test) (put ∙ pick (leb-false _ _ e) wider refl)
 
   -- a word that takes columns leaves an open line that does

@@ -17,7 +17,7 @@ use Rattle.tbr_model.proofs.words.BestLayout.{wrapped_holds}
 use Rattle.tbr_model.proofs.words.KeptItems.{break_left}
 use Rattle.tbr_model.proofs.words.LinesHaveCharacters.{HasGlyph, LastHas, place_characters, wide_items}
 use Rattle.tbr_model.proofs.words.Regions.{first_of_none}
-use Rattle.tbr_model.proofs.normal.LaidWords.{gap_behind, text_of, normal_space, normal_at, laid_word, word_laid, place_wide, lay_normal}
+use Rattle.tbr_model.proofs.normal.LaidWords.{gap_after, text_of, normal_space, normal_at, laid_word, word_laid, place_wide, lay_normal}
 use Rattle.tbr_model.proofs.normal.StaysLaid.{AllLaid, IsNarrowItem, laid_extended, laid_items, collapse_laid, laid_next}
 
 -- What is laid is the text of lines, the space that waits is that of the gap after them, and the word holds the items.
@@ -26,7 +26,7 @@ pub record NormalStands {A : Type 0} (columns : ℕ → Option ℕ) (limit : ℕ
   pub done : p.laid.done ≡ map line_text lines.done
   pub line : p.laid.line ≡ line_text lines.last
   pub width : p.laid.width ≡ line_width lines.last
-  pub space : p.space ≡ normal_space (gap_behind lines.last gap)
+  pub space : p.space ≡ normal_space (gap_after lines.last gap)
   pub word : p.word ≡ items
   pub continuation_flag : p.continuation_flag ≡ false
   pub in_continuation : p.in_continuation ≡ false
@@ -38,11 +38,11 @@ pub record NormalStands {A : Type 0} (columns : ℕ → Option ℕ) (limit : ℕ
 
 -- a state at lines
 abbrev standing : {A : Type 0} → Lines A → Option A → List (Item A) → Progress A
-standing lines gap items = normal_at (text_of lines) (gap_behind lines.last gap) items
+standing lines gap items = normal_at (text_of lines) (gap_after lines.last gap) items
 
-none_behind : {A : Type 0} (last : List (Slot A)) → gap_behind last None ≡ None
-none_behind [] = refl
-none_behind (s ∷ last) = refl
+none_after : {A : Type 0} (last : List (Slot A)) → gap_after last None ≡ None
+none_after [] = refl
+none_after (s ∷ last) = refl
 
 -- ---- white space
 
@@ -123,14 +123,14 @@ module _ {A : Type 0} (columns : ℕ → Option ℕ) (width : ℕ) where
       (λ _ k. (laid_items P columns width items (end_if_character l) k).1) h
 
   laid_at : (r : Reading A) → has_character r.items ≡ true →
-      lay columns width (state_of r) ≡ normal_at (laid_word columns width (text_of (wrapped columns width r.words)) (gap_behind (wrapped columns width r.words).last r.gap) r.items) None []
-  laid_at r some = lay_normal columns width (text_of (wrapped columns width r.words)) (gap_behind (wrapped columns width r.words).last r.gap) r.items some
+      lay columns width (state_of r) ≡ normal_at (laid_word columns width (text_of (wrapped columns width r.words)) (gap_after (wrapped columns width r.words).last r.gap) r.items) None []
+  laid_at r some = lay_normal columns width (text_of (wrapped columns width r.words)) (gap_after (wrapped columns width r.words).last r.gap) r.items some
 
   -- a word is narrow where all that is laid is
   pub lay_narrow : (r : Reading A) → has_character r.items ≡ true → AllLaid (IsNarrowItem columns width) (lay columns width (state_of r)).laid → IsNarrow columns width r.items
   lay_narrow r some all =
       let lines : Lines A = wrapped columns width r.words in
-      word_kept (IsNarrowItem columns width) (text_of lines) (gap_behind lines.last r.gap) r.items (subst (λ (p : Progress A). AllLaid (IsNarrowItem columns width) p.laid) (laid_at r some) all)
+      word_kept (IsNarrowItem columns width) (text_of lines) (gap_after lines.last r.gap) r.items (subst (λ (p : Progress A). AllLaid (IsNarrowItem columns width) p.laid) (laid_at r some) all)
 
   -- and then it is placed
   pub lay_reading : (r : Reading A) → Lined r.words → has_character r.items ≡ true → IsNarrow columns width r.items →
@@ -149,7 +149,7 @@ module _ {A : Type 0} (columns : ℕ → Option ℕ) (width : ℕ) where
   after r e p = if p then record { words = r.words ++ word_of r ∷ []; gap = blank_of e; items = [] } else record { words = r.words; gap = first_of r.gap (blank_of e); items = r.items ++ items_of columns e }
 
   goes_marker : (r : Reading A) (name : List ℕ) → Lined r.words → Goes r (marker_entry name) (read columns r (marker_entry name))
-  goes_marker r name h = (ap (λ (o : Option A). normal_at (text_of (wrapped columns width r.words)) (gap_behind (wrapped columns width r.words).last o) (r.items ++ marker name ∷ [])) (sym (first_of_none r.gap)), h)
+  goes_marker r name h = (ap (λ (o : Option A). normal_at (text_of (wrapped columns width r.words)) (gap_after (wrapped columns width r.words).last o) (r.items ++ marker name ∷ [])) (sym (first_of_none r.gap)), h)
 
   goes_break : (r : Reading A) (c : ℕ) (a b : A) → is_break c ≡ true → Lined r.words → (0 < items_width columns r.items → IsNarrow columns width r.items) →
       Goes r (character c a b Normal) (read columns r (character c a b Normal))
@@ -166,7 +166,7 @@ module _ {A : Type 0} (columns : ℕ → Option ℕ) (width : ℕ) where
           let words : List (Word A) = r.words ++ word_of r ∷ [] in
           let some : 0 < items_width columns r.items = ltb-true _ _ wide in
           let lined : Lined words = lined_push r.words (word_of r) h (narrow some) some in (
-            ap (collapse c a) (lay_reading r h (wide_items columns r.items some) (narrow some) ∙ ap (λ (o : Option A). normal_at (text_of (wrapped columns width words)) o []) (sym (none_behind (wrapped columns width words).last)))
+            ap (collapse c a) (lay_reading r h (wide_items columns r.items some) (narrow some) ∙ ap (λ (o : Option A). normal_at (text_of (wrapped columns width words)) o []) (sym (none_after (wrapped columns width words).last)))
                 ∙ collapse_standing (wrapped columns width words) None [] c a (lined_positive words lined),
             lined,
           )
@@ -238,7 +238,7 @@ module _ {A : Type 0} (columns : ℕ → Option ℕ) (width : ℕ) where
   runs (call ∷ es) r modes h all = runs es r modes h all
   runs (entry e ∷ es) r modes h all =
       let P : Item A → Type 0 = IsNarrowItem columns width in
-      let waits : WaitsIn Normal (state_of r).space = waits_normally (gap_behind (wrapped columns width r.words).last r.gap) in
+      let waits : WaitsIn Normal (state_of r).space = waits_normally (gap_after (wrapped columns width r.words).last r.gap) in
       let first : AllLaid P (enter columns width (state_of r) e).laid = laid_next columns width P (state_of r) e es modes.0 modes.1 waits all in
       let now = goes r e modes.0 h (λ breaks. enter_narrow r e modes.0 breaks first) in
       let later = runs es (read columns r e) modes.1 now.1 (subst (λ (p : Progress A). AllLaid P (fold (step columns width) p es).laid) now.0 all) in

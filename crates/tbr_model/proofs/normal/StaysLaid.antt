@@ -30,20 +30,20 @@ module _ {A : Type 0} (P : Item A → Type 0) where
   all_lines (l ∷ ls) h = (each_front P l (joined ls) h, all_lines ls (each_back P l (joined ls) h))
 
   -- what is laid, and more after it
-  laid_behind : (l m : Laid A) (is : List (Item A)) → text m ≡ text l ++ is → AllLaid P m → AllLaid P l × Each P is
-  laid_behind l m is e h =
+  laid_after : (l m : Laid A) (is : List (Item A)) → text m ≡ text l ++ is → AllLaid P m → AllLaid P l × Each P is
+  laid_after l m is e h =
       let all : Each P (text l ++ is) = subst (Each P) e (each_append P (joined m.done) m.line (all_joined m.done h.0) h.1) in
       let front : Each P (text l) = each_front P (text l) is all in
       ((all_lines l.done (each_front P (joined l.done) l.line front), each_back P (joined l.done) l.line front), each_back P (text l) is all)
 
   pub laid_extended : (l : Laid A) (is : List (Item A)) (n : ℕ) → AllLaid P (extended l is n) → AllLaid P l × Each P is
-  laid_extended l is n = laid_behind l (extended l is n) is (text-extended l is n)
+  laid_extended l is n = laid_after l (extended l is n) is (text-extended l is n)
 
   pub laid_items : (columns : ℕ → Option ℕ) (width : ℕ) (is : List (Item A)) (l : Laid A) → AllLaid P (put_items columns width l is) → AllLaid P l × Each P is
-  laid_items columns width is l = laid_behind l (put_items columns width l is) is (text-put_items columns width is l)
+  laid_items columns width is l = laid_after l (put_items columns width l is) is (text-put_items columns width is l)
 
   pub laid_end_if_character : (l : Laid A) → AllLaid P (end_if_character l) → AllLaid P l
-  laid_end_if_character l h = (laid_behind l (end_if_character l) [] (text-end_if_character l ∙ sym (append-nil (text l))) h).0
+  laid_end_if_character l h = (laid_after l (end_if_character l) [] (text-end_if_character l ∙ sym (append-nil (text l))) h).0
 
 pub collapse_laid : {A : Type 0} (c : ℕ) (a : A) (p : Progress A) → (collapse c a p).laid ≡ p.laid
 collapse_laid {A} c a p = cond_both (is_blank c && (nat_lt 0 p.laid.width && is_none p.space)) _ _ (λ (q : Progress A). q.laid ≡ p.laid) (λ _. refl) (λ _. refl)
@@ -86,11 +86,11 @@ module _ {A : Type 0} (columns : ℕ → Option ℕ) (width : ℕ) where
       let q : Progress A = enter columns width p e in
       let first = one_entered (more_laid (text p.laid)) [] p e mode (begins p (waits_untrimmed (text p.laid) p.space waits)) in
       let r = (walked (more_laid (text q.laid)) es [] q modes (begins q first.space)).laid in
-      (laid_behind P q.laid (fold (step columns width) q es).laid r.0 r.1 h).0
+      (laid_after P q.laid (fold (step columns width) q es).laid r.0 r.1 h).0
 
   -- by the end of the run
   pub laid_before_end : (P : Item A → Type 0) (es : List (Event A)) → Each (HasMode Normal) (run_of es) → AllLaid P (finished columns width (progress columns width es)) → AllLaid P (progress columns width es).laid
   laid_before_end P es modes h =
       let p : Progress A = progress columns width es in
       let r = run_ended (more_laid (text p.laid)) [] p (begins p (run_walked (more_laid []) es ([], refl) modes).space) in
-      (laid_behind P p.laid (finished columns width p) r.0 r.1 h).0
+      (laid_after P p.laid (finished columns width p) r.0 r.1 h).0

@@ -28,14 +28,14 @@ tagged_main Same width k (suc m) [] (e ∷ es) sum h = absurd h
 tagged_main Same width k (suc m) (g ∷ gs) [] sum h = absurd h
 tagged_main Same width k (suc m) (g ∷ gs) (e ∷ es) sum h = (λ other. (h.0 other).0 (omega arith), tagged_main Same width (suc k) m gs es (omega arith) h.1)
 
-tagged_behind : {A : Type 0} (Same : A → A → Type 0) (width k : ℕ) (gs : List (ℕ × A)) (es : List (Entry A)) → width ≤ k → IsTagged Same width k gs es → StandUnder (HasContinuation Same) gs es
-tagged_behind Same width k [] [] past h = tt
-tagged_behind Same width k [] (e ∷ es) past h = absurd h
-tagged_behind Same width k (g ∷ gs) [] past h = absurd h
-tagged_behind Same width k (g ∷ gs) (e ∷ es) past h = (λ other. (h.0 other).1 past, tagged_behind Same width (suc k) gs es (omega arith) h.1)
+tagged_after : {A : Type 0} (Same : A → A → Type 0) (width k : ℕ) (gs : List (ℕ × A)) (es : List (Entry A)) → width ≤ k → IsTagged Same width k gs es → StandUnder (HasContinuation Same) gs es
+tagged_after Same width k [] [] past h = tt
+tagged_after Same width k [] (e ∷ es) past h = absurd h
+tagged_after Same width k (g ∷ gs) [] past h = absurd h
+tagged_after Same width k (g ∷ gs) (e ∷ es) past h = (λ other. (h.0 other).1 past, tagged_after Same width (suc k) gs es (omega arith) h.1)
 
 pub tagged_continuation : {A : Type 0} (Same : A → A → Type 0) (width k m : ℕ) (gs : List (ℕ × A)) (es : List (Entry A)) → k + m ≡ width → IsTagged Same width k gs es → StandUnder (HasContinuation Same) (drop m gs) (drop m es)
-tagged_continuation Same width k zero gs es sum h = tagged_behind Same width k gs es (omega arith) h
+tagged_continuation Same width k zero gs es sum h = tagged_after Same width k gs es (omega arith) h
 tagged_continuation Same width k (suc m) [] [] sum h = tt
 tagged_continuation Same width k (suc m) [] (e ∷ es) sum h = absurd h
 tagged_continuation Same width k (suc m) (g ∷ gs) [] sum h = absurd h
@@ -71,7 +71,7 @@ module _ {A : Type 0} (columns : ℕ → Option ℕ) (Same : A → A → Type 0)
       (items_width columns q.word + 1 < width → (in_continuation ≡ false) × (continuation_flag ≡ false)) →
       (HasBegunWord columns width s (entry_letters (run_of es)) → AddsTagged columns Same width s (fold (step columns width) s es) (run_of es)) →
       AddsTagged columns Same width q (fold (step columns width) s es) (character c a b Pre ∷ run_of es)
-  joined_tags q c a b x m continuation_flag in_continuation es h one has first rest = behind (rest begun)
+  joined_tags q c a b x m continuation_flag in_continuation es h one has first rest = after (rest begun)
     where
       s : Progress A
       s = record { laid = q.laid; space = q.space; word = q.word ++ glyph c x ∷ []; mode = m; continuation_flag = continuation_flag; in_continuation = in_continuation }
@@ -87,8 +87,8 @@ module _ {A : Type 0} (columns : ℕ → Option ℕ) (Same : A → A → Type 0)
         first = λ less. first (omega (arith, less, wider));
       }
 
-      behind : AddsTagged columns Same width s (fold (step columns width) s es) (run_of es) → AddsTagged columns Same width q (fold (step columns width) s es) (character c a b Pre ∷ run_of es)
-      behind t = record {
+      after : AddsTagged columns Same width s (fold (step columns width) s es) (run_of es) → AddsTagged columns Same width q (fold (step columns width) s es) (character c a b Pre ∷ run_of es)
+      after t = record {
         more = (c, x) ∷ t.more;
         glyphs = t.glyphs ∙ ap (λ gs. gs ++ t.more) (glyphs_of-append q.word (glyph c x ∷ [])) ∙ append_assoc (glyphs_of q.word) ((c, x) ∷ []) t.more;
         tagged = (has, subst (λ (n : ℕ). IsTagged Same width n t.more (run_of es)) (wider ∙ add-one (items_width columns q.word)) t.tagged);
@@ -115,8 +115,8 @@ module _ {A : Type 0} (columns : ℕ → Option ℕ) (Same : A → A → Type 0)
           let columns_before : pending_width q.space ≡ 0 = ap pending_width h.space in
           cond_both (passes columns width 1 q) _ _ Holds
           (λ past.
-          let behind : width ≤ items_width columns q.word = omega (arith, ltb-true _ _ past, h.empty, columns_before) in
-          joined_tags q c a b b (if has_character q.word then q.mode else Pre) true true es h printable.2 (λ _. (λ less. absurd (omega (arith, less, behind)), λ _. reflexive b)) (λ less. absurd (omega (arith, less, behind)))
+          let after : width ≤ items_width columns q.word = omega (arith, ltb-true _ _ past, h.empty, columns_before) in
+          joined_tags q c a b b (if has_character q.word then q.mode else Pre) true true es h printable.2 (λ _. (λ less. absurd (omega (arith, less, after)), λ _. reflexive b)) (λ less. absurd (omega (arith, less, after)))
           (rest _))
           (λ within.
           let before : items_width columns q.word < width = omega (arith, ltb-false _ _ within, h.empty, columns_before) in

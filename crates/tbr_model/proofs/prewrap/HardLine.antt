@@ -23,9 +23,9 @@ spaces_or (c ∷ cs) = go (eqb_tells c 32) (spaces_or cs)
     go (inl w) (inr other) = inr (λ h. other h.1)
     go (inr w) rest = inr (λ h. w.1 h.0)
 
-spaces_behind : (cs : List ℕ) → (rest : List ℕ) × IsSpaces rest × (cs ≡ without_last_spaces cs ++ rest)
-spaces_behind [] = ([], tt, refl)
-spaces_behind (c ∷ cs) = let (rest, spaces, whole) = spaces_behind cs in go (without_last_spaces cs) refl rest spaces whole (eqb_tells c 32)
+spaces_after : (cs : List ℕ) → (rest : List ℕ) × IsSpaces rest × (cs ≡ without_last_spaces cs ++ rest)
+spaces_after [] = ([], tt, refl)
+spaces_after (c ∷ cs) = let (rest, spaces, whole) = spaces_after cs in go (without_last_spaces cs) refl rest spaces whole (eqb_tells c 32)
   where
     go : (ds : List ℕ) → without_last_spaces cs ≡ ds → (rest : List ℕ) → IsSpaces rest → cs ≡ ds ++ rest → (((c == 32) ≡ true) × (c ≡ 32)) ⊎ (((c == 32) ≡ false) × (c ≢ 32)) →
         (more : List ℕ) × IsSpaces more × (c ∷ cs ≡ without_last_spaces (c ∷ cs) ++ more)
@@ -51,7 +51,7 @@ printable_text columns (marker_entry name ∷ es) h = absurd h.0
 -- where it fits, the text is one line
 one_line : (width : ℕ) (cs : List ℕ) → Each (λ c. 32 ≤ c) cs → ¬ (IsSpaces cs) → length (without_last_spaces cs) ≤ width → IsWrapped width [] cs (without_last_spaces cs ∷ [])
 one_line width cs printable other fits =
-    let (rest, spaces, whole) = spaces_behind cs in
+    let (rest, spaces, whole) = spaces_after cs in
     (0, rest, whole, ends_last cs printable (some (without_last_spaces cs) (λ e. subst IsSpaces (sym (whole ∙ ap (λ ds. ds ++ rest) e)) spaces)), fits, inl (refl, refl), spaces)
   where
     some : (ds : List ℕ) → (ds ≡ [] → IsSpaces cs) → 0 < length ds

@@ -2,7 +2,7 @@
 use Rattle.std.proofs.Common.{◌≡◌, ◌≢◌, ℕ, zero, suc, ◌+◌, ◌<◌, ◌≤◌, ◌⊎◌, inl, inr, ◌==◌, true, false, List, [], ◌∷◌, ◌++◌, length, replicate, refl, ap, sym, ◌∙◌, subst, arith, append-nil, length-append}
 use Rattle.std.proofs.lemmas.Bool.Decides.{eqb_tells}
 use Rattle.std.proofs.lemmas.List.{length-replicate}
-use Rattle.tbr_model.specs.Hard.{IsSpaces, BeginsWithNonBlank, EndsWithNonBlank, first_stretch, BeginsBehind, IsWrapped}
+use Rattle.tbr_model.specs.Hard.{IsSpaces, BeginsWithNonBlank, EndsWithNonBlank, first_stretch, BeginsAfter, IsWrapped}
 use Rattle.tbr_model.proofs.lists.Each.{each_front, each_back}
 use Rattle.tbr_model.proofs.lists.Joined.{cut_twice}
 
@@ -84,9 +84,9 @@ same_gap (suc n) (suc k) (x ∷ a) b (y ∷ c) e h p q =
     let same : n ≡ k = same_gap n k (x ∷ a) b (y ∷ c) e rest p q in
     cc
 
-same_behind : (n : ℕ) (a b : List ℕ) → replicate n 32 ++ a ≡ replicate n 32 ++ b → a ≡ b
-same_behind zero a b e = e
-same_behind (suc n) a b e = let rest : replicate n 32 ++ a ≡ replicate n 32 ++ b = cc in same_behind n a b rest
+same_after : (n : ℕ) (a b : List ℕ) → replicate n 32 ++ a ≡ replicate n 32 ++ b → a ≡ b
+same_after zero a b e = e
+same_after (suc n) a b e = let rest : replicate n 32 ++ a ≡ replicate n 32 ++ b = cc in same_after n a b rest
 
 -- ---- lines
 
@@ -98,7 +98,7 @@ filled width l r (m ∷ ls) ends begins h = go h.5
     none : h.0 ≡ 0
     none = no_gap h.0 r (m ++ h.1) h.2 begins
 
-    go : BeginsBehind width l h.0 m → (length l ≡ width) × (first_stretch l ≡ l)
+    go : BeginsAfter width l h.0 m → (length l ≡ width) × (first_stretch l ≡ l)
     go (inl e) = absurd (omega (arith, ends_some l ends, ap length e.0))
     go (inr e) = e.2 none
 
@@ -113,7 +113,7 @@ module _ (width : ℕ) where
       long : length m ≡ length l + length (y ∷ z)
       long = ap length e ∙ length-append l (y ∷ z)
 
-      go : (gap : ℕ) → r ≡ replicate gap 32 ++ (n ++ h.1) → BeginsBehind width l gap n → ⊥
+      go : (gap : ℕ) → r ≡ replicate gap 32 ++ (n ++ h.1) → BeginsAfter width l gap n → ⊥
       go gap is (inl b) = absurd (omega (arith, ends_some l ends, ap length b.0))
       go zero is (inr b) = absurd (omega (arith, (b.2 refl).0, long, fits))
       go (suc gap) is (inr b) =
@@ -151,13 +151,13 @@ module _ (width : ℕ) where
       longer (y ∷ z) p f = absurd (no_earlier l m r q ls ms y z ends others other p f h k)
 
   same_line : (before l m r q : List ℕ) (ls ms : List (List ℕ)) (g n : ℕ) → replicate g 32 ++ (l ++ r) ≡ replicate n 32 ++ (m ++ q) →
-      EndsWithNonBlank l → EndsWithNonBlank m → length l ≤ width → length m ≤ width → BeginsBehind width before g l → BeginsBehind width before n m →
+      EndsWithNonBlank l → EndsWithNonBlank m → length l ≤ width → length m ≤ width → BeginsAfter width before g l → BeginsAfter width before n m →
       IsWrapped width l r ls → IsWrapped width m q ms → (l ≡ m) × (r ≡ q)
   same_line before l m r q ls ms g n e ends others fits other (inl a) (inl b) h k =
       same_place l m r q ls ms (rw (a.1, b.1) at e) ends others fits other h k
   same_line before l m r q ls ms g n e ends others fits other (inr a) (inr b) h k =
       let same : g ≡ n = same_gap g n l r m q e a.0 b.0 in
-      same_place l m r q ls ms (same_behind n (l ++ r) (m ++ q) (rw same at e)) ends others fits other h k
+      same_place l m r q ls ms (same_after n (l ++ r) (m ++ q) (rw same at e)) ends others fits other h k
   same_line before l m r q ls ms g n e ends others fits other (inl a) (inr b) h k =
       absurd (not_kept l m r q ls n ends fits (omega (arith, ap length a.0, b.1)) (some n b.2) (rw (a.1) at e) h)
     where

@@ -5,7 +5,7 @@ use Rattle.std.proofs.lemmas.List.{map-append}
 use Rattle.tbr_model.specs.Run.{Item, glyph, marker}
 use Rattle.tbr_model.specs.Laid.{Laid, extended, end_line, put_item, put_items}
 use Rattle.tbr_model.specs.Rule.{without_trailing}
-use Rattle.tbr_model.specs.Hard.{letters_of, EndsWithNonBlank, first_stretch, BeginsBehind}
+use Rattle.tbr_model.specs.Hard.{letters_of, EndsWithNonBlank, first_stretch, BeginsAfter}
 use Rattle.tbr_model.proofs.lists.Each.{each_append}
 use Rattle.tbr_model.proofs.words.Items.{letters_of-append}
 use Rattle.tbr_model.proofs.prewrap.WordUnderWay.{IsVisibleOrMarker, put_marker, put_here, put_next}
@@ -20,11 +20,11 @@ trailing_whole {A} (marker name ∷ is) h = go (without_trailing is) refl (trail
     go [] e f = rw e (ap (λ (ks : List (Item A)). marker name ∷ ks) f)
     go (j ∷ js) e f = rw e (ap (λ (ks : List (Item A)). marker name ∷ ks) f)
 trailing_whole {A} (glyph c a ∷ is) (inl none) = cc
-trailing_whole {A} (glyph c a ∷ is) (inr ends) = go (without_trailing is) refl (trailing_whole is (behind (last_of c (letters_of is) ends)))
+trailing_whole {A} (glyph c a ∷ is) (inr ends) = go (without_trailing is) refl (trailing_whole is (after (last_of c (letters_of is) ends)))
   where
-    behind : ((letters_of is ≡ []) × (c ≢ 32)) ⊎ EndsWithNonBlank (letters_of is) → (letters_of is ≡ []) ⊎ EndsWithNonBlank (letters_of is)
-    behind (inl h) = inl h.0
-    behind (inr h) = inr h
+    after : ((letters_of is ≡ []) × (c ≢ 32)) ⊎ EndsWithNonBlank (letters_of is) → (letters_of is ≡ []) ⊎ EndsWithNonBlank (letters_of is)
+    after (inl h) = inl h.0
+    after (inr h) = inr h
 
     alone : is ≡ [] → ((letters_of is ≡ []) × (c ≢ 32)) ⊎ EndsWithNonBlank (letters_of is) → c ≢ 32
     alone e (inl h) = h.1
@@ -97,7 +97,7 @@ module _ {A : Type 0} (columns : ℕ → Option ℕ) (width : ℕ) (some : 0 < w
     goes = λ text ls h.
         (let g = k.goes text ls h in
         let next = longer width [] (c ∷ []) (w ++ text) g.all g.goes in
-        let begins : BeginsBehind width y 0 next.more = inr (
+        let begins : BeginsAfter width y 0 next.more = inr (
           (λ e. omega (arith, visible, e)),
           (let one : 1 ≤ length (first_stretch (c ∷ g.goes.more)) = stretch_front (c ∷ []) g.goes.more (visible, tt) in omega (arith, full, one)),
           (λ _. (full, stretch_all y nonblank)),

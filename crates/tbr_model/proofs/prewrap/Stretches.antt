@@ -40,9 +40,9 @@ stretches_gap (x ∷ xs) ys = elim (eqb_tells x 32) [
   | inr w ↦ rw (w.0) (ap (λ b. pushed x b (stretches (xs ++ 32 ∷ ys))) (begins_gap xs ys) ∙ ap (pushed x (begins_stretch xs)) (stretches_gap xs ys) ∙ pushed-append x (begins_stretch xs) (stretches xs) (stretches ys) (begins_some xs))
 ]
 
-stretches_behind : (n : ℕ) (ys : List ℕ) → stretches (replicate n 32 ++ ys) ≡ stretches ys
-stretches_behind zero ys = refl
-stretches_behind (suc n) ys = stretches_behind n ys
+stretches_after : (n : ℕ) (ys : List ℕ) → stretches (replicate n 32 ++ ys) ≡ stretches ys
+stretches_after zero ys = refl
+stretches_after (suc n) ys = stretches_after n ys
 
 pub stretches_spaces : (cs : List ℕ) → IsSpaces cs → stretches cs ≡ []
 stretches_spaces [] h = refl
@@ -124,5 +124,5 @@ module _ (width : ℕ) where
   pub cut_if_wrapped : (before text : List ℕ) (ls : List (List ℕ)) → IsWrapped width before text ls → IsCutOf width (stretches text) (flat_map stretches ls)
   cut_if_wrapped before text [] h = subst (λ (ss : List (List ℕ)). IsCutOf width ss []) (sym (stretches_spaces text h)) refl
   cut_if_wrapped before text (l ∷ ls) h =
-      subst (λ (ss : List (List ℕ)). IsCutOf width ss (stretches l ++ flat_map stretches ls)) (sym (ap stretches h.2 ∙ stretches_behind h.0 (l ++ h.1)))
+      subst (λ (ss : List (List ℕ)). IsCutOf width ss (stretches l ++ flat_map stretches ls)) (sym (ap stretches h.2 ∙ stretches_after h.0 (l ++ h.1)))
       (cut_line l h.1 ls h.3 h.6 (cut_if_wrapped l h.1 ls h.6))

@@ -16,7 +16,7 @@ use Rattle.tbr_model.proofs.prewrap.WordUnderWay.{IsVisibleOrMarker, plain_width
 use Rattle.tbr_model.proofs.prewrap.Entry.{enter_wrap_space, enter_wrap_visible, break_some}
 use Rattle.tbr_model.proofs.rule.Printable.{visible_of}
 use Rattle.tbr_model.proofs.rule.HardLineStart.{BeginsHardLine}
-use Rattle.tbr_model.proofs.prewrap.WrappedText.{GoesOnFrom, GoesOn, IsOpen, ends_nonblank, ends_append, goes_on_some, ended, begun, on_line, from_some, from_none, begins_behind, first_begins, spaces_alone, one_more_space}
+use Rattle.tbr_model.proofs.prewrap.WrappedText.{GoesOnFrom, GoesOn, IsOpen, ends_nonblank, ends_append, goes_on_some, ended, begun, on_line, from_some, from_none, begins_after, first_begins, spaces_alone, one_more_space}
 use Rattle.tbr_model.proofs.prewrap.PutText.{trailing_whole, nonblanks, PutsText, ReachesFrom, put_text}
 
 module _ {A : Type 0} (columns : ℕ → Option ℕ) (width : ℕ) (some : 0 < width) where
@@ -135,7 +135,7 @@ module _ {A : Type 0} (columns : ℕ → Option ℕ) (width : ℕ) (some : 0 < w
               from_some width (letters_of p.laid.line) (replicate n 32 ++ (w ++ text)) (letters_of p.laid.line ∷ g.all) full
                   (ended width (letters_of p.laid.line) (replicate n 32 ++ (w ++ text)) g.all ends.0 ends.1
                   (begun width (letters_of p.laid.line) (w ++ text) g.all n g.goes
-                  (begins_behind width some (letters_of p.laid.line) n w g.goes.more long columns_over apart (λ k wide short. g.reach k wide (omega (arith, short)))))),
+                  (begins_after width some (letters_of p.laid.line) n w g.goes.more long columns_over apart (λ k wide short. g.reach k wide (omega (arith, short)))))),
             )
           ]
             where

@@ -3,7 +3,7 @@ use Rattle.std.proofs.Common.{◌≡◌, ◌≢◌, ℕ, zero, suc, ◌+◌, ◌
 use Rattle.std.specs.List.{AllByRecursion as Each}
 use Rattle.std.proofs.lemmas.Bool.Decides.{eqb_tells}
 use Rattle.std.proofs.lemmas.List.{replicate-append-replicate}
-use Rattle.tbr_model.specs.Hard.{IsSpaces, BeginsWithNonBlank, EndsWithNonBlank, first_stretch, BeginsBehind, IsWrapped}
+use Rattle.tbr_model.specs.Hard.{IsSpaces, BeginsWithNonBlank, EndsWithNonBlank, first_stretch, BeginsAfter, IsWrapped}
 
 -- characters that are neither spaces nor before them
 abbrev pub AreNonBlank : List ℕ → Type 0
@@ -86,7 +86,7 @@ ended width line text ls ends fits wrapped =
     }
 
 -- a line begins
-pub begun : (width : ℕ) (before text : List ℕ) (ls : List (List ℕ)) (gap : ℕ) (h : GoesOnFrom width [] text ls) → BeginsBehind width before gap h.more → IsWrapped width before (replicate gap 32 ++ text) ls
+pub begun : (width : ℕ) (before text : List ℕ) (ls : List (List ℕ)) (gap : ℕ) (h : GoesOnFrom width [] text ls) → BeginsAfter width before gap h.more → IsWrapped width before (replicate gap 32 ++ text) ls
 begun width before text ls gap h begins =
     subst (IsWrapped width before (replicate gap 32 ++ text)) (sym h.lines)
     (gap, h.rest, ap (λ (cs : List ℕ). replicate gap 32 ++ cs) h.text, h.ends, h.fits, begins, h.wrapped)
@@ -124,9 +124,9 @@ begins_nonblank (c ∷ cs) h = elim (eqb_tells c 32) [
 
 -- A word that doesn't fit after the line before begins a line after dropped spaces, if that reaches all of it that a
 -- line has columns for.
-pub begins_behind : (width : ℕ) → 0 < width → (before : List ℕ) (gap : ℕ) (w more : List ℕ) → 0 < length w → width < length before + (gap + length w) → 0 < gap →
-    ((k : ℕ) → k ≤ width → k ≤ length w → k ≤ length (first_stretch more)) → BeginsBehind width before gap more
-begins_behind width some before gap w more long over apart reach = inr (
+pub begins_after : (width : ℕ) → 0 < width → (before : List ℕ) (gap : ℕ) (w more : List ℕ) → 0 < length w → width < length before + (gap + length w) → 0 < gap →
+    ((k : ℕ) → k ≤ width → k ≤ length w → k ≤ length (first_stretch more)) → BeginsAfter width before gap more
+begins_after width some before gap w more long over apart reach = inr (
   begins_nonblank more (reach 1 some long),
   go (nat_le (length w) width) refl,
   λ none. absurd (omega (arith, none, apart)),
@@ -137,9 +137,9 @@ begins_behind width some before gap w more long over apart reach = inr (
     go false e = let all : width ≤ length (first_stretch more) = reach width (omega arith) (omega (arith, leb-false _ _ e)) in omega (arith, apart, all)
 
 pub first_begins : (width : ℕ) → 0 < width → (gap : ℕ) (w more : List ℕ) → 0 < length w → width < gap + length w →
-    ((k : ℕ) → k ≤ width → k ≤ length w → k ≤ length (first_stretch more)) → BeginsBehind width [] gap more
+    ((k : ℕ) → k ≤ width → k ≤ length w → k ≤ length (first_stretch more)) → BeginsAfter width [] gap more
 first_begins width some zero w more long over reach = inl (refl, refl)
-first_begins width some (suc gap) w more long over reach = begins_behind width some [] (suc gap) w more long (omega (arith, over)) (omega arith) reach
+first_begins width some (suc gap) w more long over reach = begins_after width some [] (suc gap) w more long (omega (arith, over)) (omega arith) reach
 
 pub spaces_alone : (n : ℕ) → IsSpaces (replicate n 32 ++ [])
 spaces_alone zero = tt

@@ -79,13 +79,13 @@ module _ {A X : Type 0} {columns : ℕ → Option ℕ} {Comes : Entry A → Type
   trailing_same [] = refl
   trailing_same (i ∷ is) = go (without_trailing is) refl (trailing_same is)
     where
-      behind_first : (js : List (Item A)) → found js ≡ found is → found (i ∷ js) ≡ found (i ∷ is)
-      behind_first js h = looks.append (i ∷ []) js ∙ ap (λ xs. found (i ∷ []) ++ xs) h ∙ sym (looks.append (i ∷ []) is)
+      after_first : (js : List (Item A)) → found js ≡ found is → found (i ∷ js) ≡ found (i ∷ is)
+      after_first js h = looks.append (i ∷ []) js ∙ ap (λ xs. found (i ∷ []) ++ xs) h ∙ sym (looks.append (i ∷ []) is)
 
       go : (js : List (Item A)) → without_trailing is ≡ js → found js ≡ found is → found (without_trailing (i ∷ is)) ≡ found (i ∷ is)
       go [] e h =
-          rw e (cond_both (is_space_item i) _ _ (λ (js : List (Item A)). found js ≡ found (i ∷ is)) (λ s. h ∙ sym (space_first i is s)) (λ _. behind_first [] h))
-      go (j ∷ js) e h = rw e (behind_first (j ∷ js) h)
+          rw e (cond_both (is_space_item i) _ _ (λ (js : List (Item A)). found js ≡ found (i ∷ is)) (λ s. h ∙ sym (space_first i is s)) (λ _. after_first [] h))
+      go (j ∷ js) e h = rw e (after_first (j ∷ js) h)
 
   -- ---- what is found on the lines that are done and the open one, and in the word
 

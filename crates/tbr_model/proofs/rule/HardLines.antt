@@ -11,7 +11,7 @@ use Rattle.tbr_model.specs.Hard.{Preserves, is_newline, onto_first, hard_lines, 
 use Rattle.tbr_model.proofs.lists.Each.{each_append}
 use Rattle.tbr_model.proofs.words.LinesHaveCharacters.{wide_items}
 use Rattle.tbr_model.proofs.rule.HardLineStart.{BeginsHardLine}
-use Rattle.tbr_model.proofs.rule.DoneLines.{behind, fold_behind, finished_behind}
+use Rattle.tbr_model.proofs.rule.DoneLines.{after, fold_after, finished_after}
 
 -- ---- a word that is flushed
 
@@ -59,9 +59,9 @@ newline_fresh columns width p =
 pub start_fresh : {A : Type 0} → BeginsHardLine (at_start {A = A})
 start_fresh = record { done = refl; line = refl; width = refl; space = refl; word = refl; continuation_flag = refl; in_continuation = refl }
 
-pub restart_behind : {A : Type 0} (p : Progress A) → behind p.laid.done (restart p) ≡ p
+pub restart_after : {A : Type 0} (p : Progress A) → after p.laid.done (restart p) ≡ p
 unfolding restart
-restart_behind {A} p = ap (λ ls. record p { laid = record p.laid { done = ls } }) (append-nil p.laid.done)
+restart_after {A} p = ap (λ ls. record p { laid = record p.laid { done = ls } }) (append-nil p.laid.done)
 
 if_break : {A : Type 0} (columns : ℕ → Option ℕ) (width : ℕ) (b : Bool) (p : Progress A) → flush_word columns width (if b then break_word columns width p else p) ≡ flush_word columns width p
 if_break columns width true p = flush_after_break columns width p
@@ -140,14 +140,14 @@ module _ {A : Type 0} (columns : ℕ → Option ℕ) (width : ℕ) (R : Bool →
       all = parted_front R (run_of so_far) (run_of es) ended_line.laid.done (finished columns width (fold (step columns width) (restart ended_line) es)).done
           (one p so_far is_fresh modes plain).0 (rest (restart ended_line) [] (newline_fresh columns width q) tt tt)
 
-      at_line : enter columns width q e ≡ behind ended_line.laid.done (restart ended_line)
-      at_line = enter_newline columns width q e (preserves e m) k ∙ sym (restart_behind ended_line)
+      at_line : enter columns width q e ≡ after ended_line.laid.done (restart ended_line)
+      at_line = enter_newline columns width q e (preserves e m) k ∙ sym (restart_after ended_line)
 
       lines : (finished columns width (fold (step columns width) (enter columns width q e) es)).done ≡ ended_line.laid.done ++ (finished columns width (fold (step columns width) (restart ended_line) es)).done
       lines =
           ap (λ r. (finished columns width (fold (step columns width) r es)).done) at_line
-          ∙ ap (λ r. (finished columns width r).done) (fold_behind columns width ended_line.laid.done (restart ended_line) es)
-          ∙ ap (λ l. l.done) (finished_behind columns width ended_line.laid.done (fold (step columns width) (restart ended_line) es))
+          ∙ ap (λ r. (finished columns width r).done) (fold_after columns width ended_line.laid.done (restart ended_line) es)
+          ∙ ap (λ l. l.done) (finished_after columns width ended_line.laid.done (fold (step columns width) (restart ended_line) es))
 
   go_on_entry : (e : Entry A) (es : List (Event A)) → M e → is_newline e ≡ false → GoOn es → GoOn (entry e ∷ es)
   go_on_entry e es m k rest p so_far is_fresh modes plain =

@@ -44,8 +44,8 @@ without_events-append {A} n (entry (marker_entry name) ∷ es) fs h = go (nat_lt
         rw (test, e) (ap (λ (gs : List (Event A)). entry (marker_entry name) ∷ gs) rest)
 
 -- one more event that is no marker, and one more marker that goes
-without_behind : {A : Type 0} (n : ℕ) (es : List (Event A)) (c : ℕ) (a b : A) (mode : WhiteSpace) → without_markers n (es ++ entry (character c a b mode) ∷ []) ≡ without_markers n es ++ entry (character c a b mode) ∷ []
-without_behind {A} n es c a b mode =
+without_after : {A : Type 0} (n : ℕ) (es : List (Event A)) (c : ℕ) (a b : A) (mode : WhiteSpace) → without_markers n (es ++ entry (character c a b mode) ∷ []) ≡ without_markers n es ++ entry (character c a b mode) ∷ []
+without_after {A} n es c a b mode =
     without_events-append n es (entry (character c a b mode) ∷ []) (omega arith)
     ∙ ap (λ k. without_markers k es ++ entry (character c a b mode) ∷ []) (let e : n - 0 ≡ n = omega arith in e)
 
@@ -268,9 +268,9 @@ module _ {A : Type 0} (columns : ℕ → Option ℕ) (width : ℕ) where
   progress-push es x = fold-append (step columns width) at_start es (x ∷ [])
 
   -- an event that is no marker
-  out_behind : (es : List (Event A)) (x : Event A) → CanTakeOut es → Leaves (λ q. step columns width q x) (progress columns width es) →
+  out_after : (es : List (Event A)) (x : Event A) → CanTakeOut es → Leaves (λ q. step columns width q x) (progress columns width es) →
       ((n : ℕ) → without_markers n (es ++ x ∷ []) ≡ without_markers n es ++ x ∷ []) → CanTakeOut (es ++ x ∷ [])
-  out_behind es x can leaves stays front ms e h =
+  out_after es x can leaves stays front ms e h =
       let now : (step columns width (progress columns width es) x).word ≡ front ++ ms = ap (λ (p : Progress A). p.word) (sym (progress-push es x)) ∙ e in
       elim (leaves front ms h now) [
         | inl none ↦ nothing_out (es ++ x ∷ []) front ms e none
@@ -293,10 +293,10 @@ module _ {A : Type 0} (columns : ℕ → Option ℕ) (width : ℕ) where
       ]
 
   out_event : (es : List (Event A)) (x : Event A) → CanTakeOut es → CanTakeOut (es ++ x ∷ [])
-  out_event es call can = out_behind es call can (λ front ms h e. inr (front, e, refl)) (λ n. without_call n es)
+  out_event es call can = out_after es call can (λ front ms h e. inr (front, e, refl)) (λ n. without_call n es)
   out_event es (entry (marker_entry name)) can = out_marker es name can
   out_event es (entry (character c a b mode)) can =
-      out_behind es (entry (character c a b mode)) can (enter_leaves c a b mode (progress columns width es)) (λ n. without_behind n es c a b mode)
+      out_after es (entry (character c a b mode)) can (enter_leaves c a b mode (progress columns width es)) (λ n. without_after n es c a b mode)
 
   -- Without the markers that end the word under way, a run is at the same place but for them.
   pub taken_events : (es : List (Event A)) (front ms : List (Item A)) → (progress columns width es).word ≡ front ++ ms → has_character ms ≡ false →

@@ -5,7 +5,7 @@ use Rattle.std.proofs.lemmas.List.Concat.{flat_map-append}
 use Rattle.std.proofs.lemmas.List.Sums.{fold-append}
 use Rattle.std.proofs.lemmas.Bool.{and_from, and_parts, false_from_ne_true}
 use Rattle.tbr_model.specs.Run.{Entry, character, marker_entry, Item, glyph, items_width, items_of, kept_items, is_kept, is_break, is_break_entry, blank_of, first_of, has_character, Word, word_of, Reading, works, read, words_of, trailing}
-use Rattle.tbr_model.specs.Regions.{takes_columns, HasColumns, NoBreakWorks, Region, region_entries, EndsAtWorkingBreak, IsParted, first_blank, word_behind, words_behind, words_between, markers_left}
+use Rattle.tbr_model.specs.Regions.{takes_columns, HasColumns, NoBreakWorks, Region, region_entries, EndsAtWorkingBreak, IsParted, first_blank, word_after, words_after, words_between, markers_left}
 use Rattle.tbr_model.proofs.words.Items.{items_width-append}
 use Rattle.tbr_model.proofs.lists.Joined.{cut_twice}
 use Rattle.tbr_model.proofs.lists.Each.{each_append}
@@ -80,15 +80,15 @@ still {A} columns words before since (e ∷ es) h =
 -- ---- reading over the regions
 
 stops : {A : Type 0} (columns : ℕ → Option ℕ) (words : List (Word A)) (before : List (Entry A)) (r : Region A) → EndsAtWorkingBreak columns r →
-    read columns (read_since columns words before r.content) r.break ≡ read_since columns (words ++ word_behind columns before r.content ∷ []) (r.break ∷ []) []
+    read columns (read_since columns words before r.content) r.break ≡ read_since columns (words ++ word_after columns before r.content ∷ []) (r.break ∷ []) []
 stops {A} columns words before r h =
-    rw ends (ap (λ (gap : Option A). let q : Reading A = record { words = words ++ word_behind columns before r.content ∷ []; gap = gap; items = [] } in q) (sym (first_of_none (blank_of r.break))))
+    rw ends (ap (λ (gap : Option A). let q : Reading A = record { words = words ++ word_after columns before r.content ∷ []; gap = gap; items = [] } in q) (sym (first_of_none (blank_of r.break))))
   where
     ends : works columns (read_since columns words before r.content) r.break ≡ true
     ends = and_from _ _ h.is_break (sym (has_columns_width columns r.content) ∙ h.works)
 
 pub over_region : {A : Type 0} (columns : ℕ → Option ℕ) (words : List (Word A)) (before : List (Entry A)) (r : Region A) (es : List (Entry A)) → EndsAtWorkingBreak columns r →
-    fold (read columns) (read_since columns words before []) (region_entries r ++ es) ≡ fold (read columns) (read_since columns (words ++ word_behind columns before r.content ∷ []) (r.break ∷ []) []) es
+    fold (read columns) (read_since columns words before []) (region_entries r ++ es) ≡ fold (read columns) (read_since columns (words ++ word_after columns before r.content ∷ []) (r.break ∷ []) []) es
 over_region {A} columns words before r es h =
     fold-append (read columns) (read_since columns words before []) (r.content ++ r.break ∷ []) es
     ∙ ap (λ (q : Reading A). fold (read columns) q es) (
@@ -104,25 +104,25 @@ left : {A : Type 0} → Reading A → List (Item A)
 left r = if has_character r.items then [] else r.items
 
 over_rest : {A : Type 0} (columns : ℕ → Option ℕ) (words : List (Word A)) (before rest : List (Entry A)) →
-    (finished (read_since columns words before rest) ≡ words ++ words_behind columns before [] rest) × (left (read_since columns words before rest) ≡ markers_left columns rest)
+    (finished (read_since columns words before rest) ≡ words ++ words_after columns before [] rest) × (left (read_since columns words before rest) ≡ markers_left columns rest)
 unfolding finished left
 over_rest {A} columns words before rest = (go (has_character (kept_items columns rest)), refl)
   where
-    go : (b : Bool) → (if b then words ++ word_behind columns before rest ∷ [] else words) ≡ words ++ (if b then word_behind columns before rest ∷ [] else [])
+    go : (b : Bool) → (if b then words ++ word_after columns before rest ∷ [] else words) ≡ words ++ (if b then word_after columns before rest ∷ [] else [])
     go true = refl
     go false = sym (append-nil words)
 
 over_parts : {A : Type 0} (columns : ℕ → Option ℕ) (words : List (Word A)) (before : List (Entry A)) (regions : List (Region A)) (rest : List (Entry A)) →
     Each (EndsAtWorkingBreak columns) regions → NoBreakWorks columns rest →
     let r = fold (read columns) (read_since columns words before []) (flat_map region_entries regions ++ rest) in
-    (finished r ≡ words ++ words_behind columns before regions rest) × (left r ≡ markers_left columns rest)
+    (finished r ≡ words ++ words_after columns before regions rest) × (left r ≡ markers_left columns rest)
 over_parts {A} columns words before [] rest each last =
     rw (still columns words before [] rest last) (over_rest columns words before rest)
 over_parts {A} columns words before (r ∷ rs) rest each last =
     let whole : (region_entries r ++ flat_map region_entries rs) ++ rest ≡ region_entries r ++ (flat_map region_entries rs ++ rest) = append_assoc (region_entries r) (flat_map region_entries rs) rest in
     let read_all = ap (fold (read columns) (read_since columns words before [])) whole ∙ over_region columns words before r (flat_map region_entries rs ++ rest) each.0 in
-    let later = over_parts columns (words ++ word_behind columns before r.content ∷ []) (r.break ∷ []) rs rest each.1 last in
-    (ap finished read_all ∙ later.0 ∙ append_assoc words (word_behind columns before r.content ∷ []) (words_behind columns (r.break ∷ []) rs rest), ap left read_all ∙ later.1)
+    let later = over_parts columns (words ++ word_after columns before r.content ∷ []) (r.break ∷ []) rs rest each.1 last in
+    (ap finished read_all ∙ later.0 ∙ append_assoc words (word_after columns before r.content ∷ []) (words_after columns (r.break ∷ []) rs rest), ap left read_all ∙ later.1)
 
 pub words_parted : {A : Type 0} (columns : ℕ → Option ℕ) (run : List (Entry A)) (regions : List (Region A)) (rest : List (Entry A)) → IsParted columns run regions rest →
     (words_of columns run ≡ words_between columns regions rest) × (trailing columns run ≡ markers_left columns rest)

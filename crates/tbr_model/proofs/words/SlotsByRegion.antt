@@ -4,7 +4,7 @@ use Rattle.std.proofs.Math.Seq.{take-add}
 use Rattle.std.proofs.lemmas.List.Concat.{flat_map-append}
 use Rattle.tbr_model.specs.Run.{Entry, Item, items_of, kept_items, has_character, Word, word_of, Reading, read, reading}
 use Rattle.tbr_model.specs.Layout.{Slot, word_slots, slots_of}
-use Rattle.tbr_model.specs.Regions.{NoBreakWorks, EndsAtWorkingBreak, IsFirstWorkingBreak, first_blank, word_behind}
+use Rattle.tbr_model.specs.Regions.{NoBreakWorks, EndsAtWorkingBreak, IsFirstWorkingBreak, first_blank, word_after}
 use Rattle.tbr_model.proofs.words.KeptItems.{break_left}
 use Rattle.tbr_model.proofs.layouts.Cuts.{line_and_rest, slice_get-drop}
 use Rattle.tbr_model.proofs.words.Regions.{read_since, still, over_region}
@@ -18,7 +18,7 @@ pub record HasRead {A : Type 0} (columns : ℕ → Option ℕ) (width : ℕ) (ru
   pub unkept : kept_items columns before ≡ []
 
 -- a word may be read with what is before it
-same_word : {A : Type 0} (columns : ℕ → Option ℕ) (before content : List (Entry A)) → kept_items columns before ≡ [] → word_behind columns [] (before ++ content) ≡ word_behind columns before content
+same_word : {A : Type 0} (columns : ℕ → Option ℕ) (before content : List (Entry A)) → kept_items columns before ≡ [] → word_after columns [] (before ++ content) ≡ word_after columns before content
 same_word {A} columns before content h =
     let items : kept_items columns (before ++ content) ≡ kept_items columns content = flat_map-append (items_of columns) before content ∙ ap (λ (is : List (Item A)). is ++ kept_items columns content) h in
     ap (λ (is : List (Item A)). let w : Word A = record { gap = first_blank (before ++ content); items = is } in w) items
@@ -29,12 +29,12 @@ slots_more columns width words w = simp (flat_map-append, append-nil)
 
 pub after_word : {A : Type 0} (columns : ℕ → Option ℕ) (width : ℕ) (run : List (Entry A)) (slots : List (Slot A)) (before content left : List (Entry A)) (break : Entry A) →
     HasRead columns width run slots before (content ++ break ∷ left) → EndsAtWorkingBreak columns (record { content = content; break = break }) →
-    HasRead columns width run (slots ++ word_slots columns width (word_behind columns [] (before ++ content))) (break ∷ []) left
+    HasRead columns width run (slots ++ word_slots columns width (word_after columns [] (before ++ content))) (break ∷ []) left
 after_word {A} columns width run slots before content left break h ends = record {
-  words = h.words ++ word_behind columns before content ∷ [];
+  words = h.words ++ word_after columns before content ∷ [];
   placed = ap (λ (w : Word A). slots ++ word_slots columns width w) (same_word columns before content h.unkept)
-      ∙ ap (λ (s : List (Slot A)). s ++ word_slots columns width (word_behind columns before content)) h.placed
-      ∙ sym (slots_more columns width h.words (word_behind columns before content));
+      ∙ ap (λ (s : List (Slot A)). s ++ word_slots columns width (word_after columns before content)) h.placed
+      ∙ sym (slots_more columns width h.words (word_after columns before content));
   reads = h.reads ∙ ap (fold (read columns) (read_since columns h.words before [])) (sym (append_assoc content (break ∷ []) left))
       ∙ over_region columns h.words before (record { content = content; break = break }) left ends;
   unkept = append-nil (items_of columns break) ∙ break_left columns break ends.is_break;
@@ -42,16 +42,16 @@ after_word {A} columns width run slots before content left break h ends = record
 
 pub at_end : {A : Type 0} (columns : ℕ → Option ℕ) (width : ℕ) (run : List (Entry A)) (slots : List (Slot A)) (before left : List (Entry A)) →
     HasRead columns width run slots before left → NoBreakWorks columns left →
-    slots_of columns width run ≡ (if has_character (kept_items columns left) then slots ++ word_slots columns width (word_behind columns [] (before ++ left)) else slots)
+    slots_of columns width run ≡ (if has_character (kept_items columns left) then slots ++ word_slots columns width (word_after columns [] (before ++ left)) else slots)
 at_end {A} columns width run slots before left h last =
     ap (λ (r : Reading A). flat_map (word_slots columns width) (if has_character r.items then r.words ++ word_of r ∷ [] else r.words))
     (h.reads ∙ still columns h.words before [] left last)
     ∙ go (has_character (kept_items columns left))
   where
     w : Word A
-    w = word_behind columns before left
+    w = word_after columns before left
 
-    go : (b : Bool) → flat_map (word_slots columns width) (if b then h.words ++ w ∷ [] else h.words) ≡ (if b then slots ++ word_slots columns width (word_behind columns [] (before ++ left)) else slots)
+    go : (b : Bool) → flat_map (word_slots columns width) (if b then h.words ++ w ∷ [] else h.words) ≡ (if b then slots ++ word_slots columns width (word_after columns [] (before ++ left)) else slots)
     go true = slots_more columns width h.words w ∙ ap (λ (s : List (Slot A)). s ++ word_slots columns width w) (sym h.placed) ∙ ap (λ (v : Word A). slots ++ word_slots columns width v) (sym (same_word columns before left h.unkept))
     go false = sym h.placed
 
@@ -70,7 +70,7 @@ split_at (y ∷ xs) (suc i) x h = split_at xs i x h
 
 pub next_region : {A : Type 0} (columns : ℕ → Option ℕ) (width : ℕ) (run : List (Entry A)) (slots : List (Slot A)) (opening from place : ℕ) → opening ≤ from →
     HasRead columns width run slots (slice_range run opening from) (drop from run) → IsFirstWorkingBreak columns (drop from run) place →
-    HasRead columns width run (slots ++ word_slots columns width (word_behind columns [] (slice_range run opening (from + place)))) (slice_range run (from + place) (from + place + 1)) (drop (from + place + 1) run)
+    HasRead columns width run (slots ++ word_slots columns width (word_after columns [] (slice_range run opening (from + place)))) (slice_range run (from + place) (from + place + 1)) (drop (from + place + 1) run)
 next_region {A} columns width run slots opening from place le h (break, at, ends) =
     let content = take place (drop from run) in
     let back : drop place (drop from run) ≡ drop (from + place) run = drop-drop place from run in
@@ -83,8 +83,8 @@ next_region {A} columns width run slots opening from place le h (break, at, ends
 pub all_read : {A : Type 0} (columns : ℕ → Option ℕ) (width : ℕ) (run : List (Entry A)) (slots : List (Slot A)) (opening from : ℕ) → opening ≤ from →
     HasRead columns width run slots (slice_range run opening from) (drop from run) → NoBreakWorks columns (drop from run) →
     (b : Bool) → has_character (kept_items columns (drop from run)) ≡ b →
-    slots_of columns width run ≡ (if b then slots ++ word_slots columns width (word_behind columns [] (drop opening run)) else slots)
+    slots_of columns width run ≡ (if b then slots ++ word_slots columns width (word_after columns [] (drop opening run)) else slots)
 all_read {A} columns width run slots opening from le h last b e =
     at_end columns width run slots (slice_range run opening from) (drop from run) h last
-    ∙ ap (λ (l : List (Entry A)). if has_character (kept_items columns (drop from run)) then slots ++ word_slots columns width (word_behind columns [] l) else slots) (line_and_rest run opening from le)
-    ∙ ap (λ c. if c then slots ++ word_slots columns width (word_behind columns [] (drop opening run)) else slots) e
+    ∙ ap (λ (l : List (Entry A)). if has_character (kept_items columns (drop from run)) then slots ++ word_slots columns width (word_after columns [] l) else slots) (line_and_rest run opening from le)
+    ∙ ap (λ c. if c then slots ++ word_slots columns width (word_after columns [] (drop opening run)) else slots) e

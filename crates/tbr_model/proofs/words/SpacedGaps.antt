@@ -20,12 +20,12 @@ module _ {A : Type 0} where
   within_text columns wider gap (i ∷ is) some =
       append_assoc (gap_text gap) (i ∷ []) (rest_text (map (slot_of columns wider None false) is)) ∙ ap (λ js. gap_text gap ++ i ∷ js) (inner_text columns wider is)
 
-  words_behind_text : (columns : ℕ → Option ℕ) (width : ℕ) (ws : List (Word A)) → Each (λ v. 0 < length v.items) ws →
+  words_after_text : (columns : ℕ → Option ℕ) (width : ℕ) (ws : List (Word A)) → Each (λ v. 0 < length v.items) ws →
       rest_text (flat_map (word_slots columns width) ws) ≡ flat_map (λ v. gap_text v.gap ++ v.items) ws
-  words_behind_text columns width [] some = refl
-  words_behind_text columns width (w ∷ ws) some =
+  words_after_text columns width [] some = refl
+  words_after_text columns width (w ∷ ws) some =
       rest_text-append (word_slots columns width w) (flat_map (word_slots columns width) ws)
-      ∙ (λ i. within_text columns (nat_lt width (items_width columns w.items)) w.gap w.items some.0 i ++ words_behind_text columns width ws some.1 i)
+      ∙ (λ i. within_text columns (nat_lt width (items_width columns w.items)) w.gap w.items some.0 i ++ words_after_text columns width ws some.1 i)
 
   first_text : (columns : ℕ → Option ℕ) (wider : Bool) (gap : Option A) (is : List (Item A)) (ss : List (Slot A)) → 0 < length is → line_text (slots_within columns wider gap is ++ ss) ≡ is ++ rest_text ss
   first_text columns wider gap [] ss some = absurd (let none : ⊥ = omega (arith, some) in none)
@@ -36,7 +36,7 @@ module _ {A : Type 0} where
       line_text (flat_map (word_slots columns width) (w ∷ ws)) ≡ w.items ++ flat_map (λ v. gap_text v.gap ++ v.items) ws
   words_text columns width w ws some =
       first_text columns (nat_lt width (items_width columns w.items)) w.gap w.items (flat_map (word_slots columns width) ws) some.0
-      ∙ ap (λ is. w.items ++ is) (words_behind_text columns width ws some.1)
+      ∙ ap (λ is. w.items ++ is) (words_after_text columns width ws some.1)
 
   -- ---- blanks
 

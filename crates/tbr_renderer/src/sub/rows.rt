@@ -181,7 +181,7 @@ impl<D: TextDecorator, W: CharWidth> SubRenderer<D, W> {
         requires unfailed { self.old.failure ≡ None }
         requires merged { Each (IsMerged (equal_lists D.Annotation.eq)) row.lines.items }
         ensures row { OnOk result (meant D.meaning self.new
-            ≡ model.with_row_behind W.columns (meant D.meaning self.old) (row_meant (tag_meant D.meaning) row)) }
+            ≡ model.with_row_after W.columns (meant D.meaning self.old) (row_meant (tag_meant D.meaning) row)) }
         ensures settings { KeepsSettings (meant D.meaning self.old) (meant D.meaning self.new) }
     {
         self.put_back(row.above)?;

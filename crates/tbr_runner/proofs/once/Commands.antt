@@ -52,18 +52,18 @@ module _ {D M : Type 0} (columns : ℕ → Option ℕ) (decoration : Decoration 
   -- ---- lines of a level
 
   module _ (p x : Progress D M (List M)) (first other : List ℕ) (a : AppendDoes columns decoration p first other x) where
-    abbrev behind : List (Line (List M)) → Call (List M)
-    behind lines = append_subrender (prefixes first other (length lines)) lines
+    abbrev append_lines : List (Line (List M)) → Call (List M)
+    append_lines lines = append_subrender (prefixes first other (length lines)) lines
 
     append_once : (y : Progress D M (List M)) → AppendDoes columns decoration p first other y → x ≡ y
     append_once y b =
         let same = closes_once p Sub Sub a.inside b.inside a.closed b.closed a.closes b.closes in
         let hands = ap (handed_out columns) same.1 ∙ b.hands_out in
         let lines = once (handed_out columns a.inside) b.lines a.lines hands a.hands_out in
-        let there = ap (λ (q : Progress D M (List M)). calls (behind b.lines) q.stack) same.2 ∙ b.does in
-        let does = ap (λ (ls : List (Line (List M))). calls (behind ls) a.closed.stack) lines ∙ there in
+        let there = ap (λ (q : Progress D M (List M)). calls (append_lines b.lines) q.stack) same.2 ∙ b.does in
+        let does = ap (λ (ls : List (Line (List M))). calls (append_lines ls) a.closed.stack) lines ∙ there in
         one_progress x y
-        (once (calls (behind a.lines) a.closed.stack) y.stack x.stack does a.does)
+        (once (calls (append_lines a.lines) a.closed.stack) y.stack x.stack does a.does)
         (a.pending ∙ ap (λ (q : Progress D M (List M)). q.pending) same.2 ∙ sym b.pending)
         (a.opened ∙ ap (λ (q : Progress D M (List M)). q.opened) same.2 ∙ sym b.opened)
 
@@ -79,8 +79,8 @@ module _ {D M : Type 0} (columns : ℕ → Option ℕ) (decoration : Decoration 
         go k =
             let there = subst (λ (q : Progress D M (List M)). OfTop (TakesNone columns decoration (handed_out columns b.0)) q.stack) (sym same.2) k in
             let here = subst (λ (r : Renderer D M (List M)). OfTop (TakesNone columns decoration (handed_out columns r)) a.closed.stack) (sym same.1) there in
-            takes_or_not columns decoration (λ r. Does columns decoration (behind a.lines) r) (handed_out columns a.inside) a.lines a.closed.stack x.stack a.hands_out (λ r s h. flush_done columns decoration _ r s h)
-            (top_changed (after columns decoration (behind a.lines)) a.closed.stack x.stack a.does) here
+            takes_or_not columns decoration (λ r. Does columns decoration (append_lines a.lines) r) (handed_out columns a.inside) a.lines a.closed.stack x.stack a.hands_out (λ r s h. flush_done columns decoration _ r s h)
+            (top_changed (after columns decoration (append_lines a.lines)) a.closed.stack x.stack a.does) here
 
   -- ---- rows
 

@@ -22,15 +22,15 @@ module _ {X : Type 0} where
       let both : take n is ∷ cut ns (drop n is) ≡ l ∷ rest = ap (λ ms. cut ms is) (sym h) ∙ e ∙ d in
       (cc, cc)
 
-  cut_joined : (ls : List (List X)) (behind : List X) → cut (map length ls) (joined ls ++ behind) ≡ ls
-  cut_joined [] behind = refl
-  cut_joined (l ∷ ls) behind =
-      ap (cut (map length (l ∷ ls))) (append_assoc l (joined ls) behind) ∙ ap (λ (is : List X). is ∷ cut (map length ls) (drop (length l) (l ++ (joined ls ++ behind)))) (take_at l (joined ls ++ behind) (length l) refl)
-      ∙ ap (λ (is : List X). l ∷ cut (map length ls) is) (drop_at l (joined ls ++ behind) (length l) refl) ∙ ap (λ ks. l ∷ ks) (cut_joined ls behind)
+  cut_joined : (ls : List (List X)) (after : List X) → cut (map length ls) (joined ls ++ after) ≡ ls
+  cut_joined [] after = refl
+  cut_joined (l ∷ ls) after =
+      ap (cut (map length (l ∷ ls))) (append_assoc l (joined ls) after) ∙ ap (λ (is : List X). is ∷ cut (map length ls) (drop (length l) (l ++ (joined ls ++ after)))) (take_at l (joined ls ++ after) (length l) refl)
+      ∙ ap (λ (is : List X). l ∷ cut (map length ls) is) (drop_at l (joined ls ++ after) (length l) refl) ∙ ap (λ ks. l ∷ ks) (cut_joined ls after)
 
 module _ {A : Type 0} where
   pub cut_lines : (lens : List ℕ) (placed : List (Item A)) (lines : List (List (Item A))) → AreLines lens placed lines → cut lens placed ≡ lines
-  cut_lines lens placed lines h = ap (λ ns. cut ns placed) h.lens_is ∙ ap (cut (map length lines)) h.placed_is ∙ cut_joined lines h.behind
+  cut_lines lens placed lines h = ap (λ ns. cut ns placed) h.lens_is ∙ ap (cut (map length lines)) h.placed_is ∙ cut_joined lines h.after
 
   pub are_cut : (lens : List ℕ) (placed : List (Item A)) (lines : List (List (Item A))) → AreLines lens placed lines → AreLines lens placed (cut lens placed)
   are_cut lens placed lines h = subst (AreLines lens placed) (sym (cut_lines lens placed lines h)) h
@@ -42,4 +42,4 @@ module _ {A : Type 0} where
 
   pub lines_any : (lens : List ℕ) (placed : List (Item A)) (lines : List (List (Item A))) → AreLines lens placed lines → has_character placed ≡ list_any has_character lines
   lines_any lens placed lines h =
-      ap has_character h.placed_is ∙ has_character-append (joined lines) h.behind ∙ ap (λ b. has_character (joined lines) || b) h.blank ∙ or-false (has_character (joined lines)) ∙ joined_any lines
+      ap has_character h.placed_is ∙ has_character-append (joined lines) h.after ∙ ap (λ b. has_character (joined lines) || b) h.blank ∙ or-false (has_character (joined lines)) ∙ joined_any lines

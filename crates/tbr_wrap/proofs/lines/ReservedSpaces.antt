@@ -20,24 +20,24 @@ spaces_more (suc m) n a = ap (λ k. spaces k a) (let e : suc m + n ≡ suc (m + 
 
 module _ {A : Type 0} (columns : ℕ → Option ℕ) (eq : A → A → Bool) (laws : IsEquivalence eq) (b c : LaidLines A) (limits : KeepsLimits b c) (before given : List (List (Item A))) (r : Laid A) where
   -- where items are placed after what is laid
-  pub reserved : (behind : List (Item A)) → HoldsRule columns eq b before given r → c.flat.placed ≡ b.flat.placed ++ behind → c.ended ≡ b.ended → c.line_len ≡ b.line_len → c.line_markers ≡ b.line_markers → c.line_width ≡ b.line_width → HoldsRuleBefore columns eq c before given r behind
-  reserved behind h placed lines len markers width = record {
+  pub reserved : (after : List (Item A)) → HoldsRule columns eq b before given r → c.flat.placed ≡ b.flat.placed ++ after → c.ended ≡ b.ended → c.line_len ≡ b.line_len → c.line_markers ≡ b.line_markers → c.line_width ≡ b.line_width → HoldsRuleBefore columns eq c before given r after
+  reserved after h placed lines len markers width = record {
     laid = h.laid;
-    holds = record { placed = placed ∙ ap (λ is. is ++ behind) h.holds.placed; lens = ap (λ q. q.items) lines ∙ h.holds.lens; len = len ∙ h.holds.len; markers = markers ∙ h.holds.markers; width = width ∙ h.holds.width };
+    holds = record { placed = placed ∙ ap (λ is. is ++ after) h.holds.placed; lens = ap (λ q. q.items) lines ∙ h.holds.lens; len = len ∙ h.holds.len; markers = markers ∙ h.holds.markers; width = width ∙ h.holds.width };
     shows = h.shows;
     measured = rw limits.width (rw limits.may_overflow h.measured);
   }
 
-  module _ (n : ℕ) (x a : A) (behind : List (Item A)) (one : columns 32 ≡ Some 1) (same : eq x a ≡ true) (h : HoldsRuleBefore columns eq b before given r (spaces n x ++ behind)) (room : b.line_width + n ≤ b.width) where
+  module _ (n : ℕ) (x a : A) (after : List (Item A)) (one : columns 32 ≡ Some 1) (same : eq x a ≡ true) (h : HoldsRuleBefore columns eq b before given r (spaces n x ++ after)) (room : b.line_width + n ≤ b.width) where
     small : r.width + n ≤ b.width
     small = omega (arith, room, h.holds.width, h.shows.width)
 
     -- they are taken onto the open line
-    pub taken_here : c.flat ≡ b.flat → c.ended ≡ b.ended → c.line_len ≡ b.line_len + n → c.line_markers ≡ b.line_markers → c.line_width ≡ b.line_width + n → HoldsRuleBefore columns eq c before given (extended r (spaces n a) n) behind
+    pub taken_here : c.flat ≡ b.flat → c.ended ≡ b.ended → c.line_len ≡ b.line_len + n → c.line_markers ≡ b.line_markers → c.line_width ≡ b.line_width + n → HoldsRuleBefore columns eq c before given (extended r (spaces n a) n) after
     taken_here flat lines len markers width = record {
       laid = extended h.laid (spaces n x) n;
       holds = record {
-        placed = ap (λ f. f.placed) flat ∙ h.holds.placed ∙ sym (append_assoc (joined (before ++ h.laid.done) ++ h.laid.line) (spaces n x) behind) ∙ ap (λ is. is ++ behind) (append_assoc (joined (before ++ h.laid.done)) h.laid.line (spaces n x));
+        placed = ap (λ f. f.placed) flat ∙ h.holds.placed ∙ sym (append_assoc (joined (before ++ h.laid.done) ++ h.laid.line) (spaces n x) after) ∙ ap (λ is. is ++ after) (append_assoc (joined (before ++ h.laid.done)) h.laid.line (spaces n x));
         lens = ap (λ q. q.items) lines ∙ h.holds.lens;
         len = omega (arith, len, h.holds.len, length-append h.laid.line (spaces n x), spaces_length n x);
         markers = omega (arith, markers, h.holds.markers, markers-append h.laid.line (spaces n x), spaces_markers n x);
@@ -48,15 +48,15 @@ module _ {A : Type 0} (columns : ℕ → Option ℕ) (eq : A → A → Bool) (la
     }
 
     -- they fill the open line, which is ended
-    pub taken_full : c.flat ≡ b.flat → c.ended.items ≡ b.ended.items ++ (b.line_len + n) ∷ [] → c.line_len ≡ 0 → c.line_markers ≡ 0 → c.line_width ≡ 0 → HoldsRuleBefore columns eq c before given (end_line (extended r (spaces n a) n)) behind
+    pub taken_full : c.flat ≡ b.flat → c.ended.items ≡ b.ended.items ++ (b.line_len + n) ∷ [] → c.line_len ≡ 0 → c.line_markers ≡ 0 → c.line_width ≡ 0 → HoldsRuleBefore columns eq c before given (end_line (extended r (spaces n a) n)) after
     taken_full flat lines len markers width =
         let line = h.laid.line ++ spaces n x in
         let many : b.line_len + n ≡ length line = omega (arith, h.holds.len, length-append h.laid.line (spaces n x), spaces_length n x) in
         record {
           laid = end_line (extended h.laid (spaces n x) n);
           holds = record {
-            placed = ap (λ f. f.placed) flat ∙ h.holds.placed ∙ sym (append_assoc (joined (before ++ h.laid.done) ++ h.laid.line) (spaces n x) behind)
-                ∙ ap (λ is. is ++ behind) (append_assoc (joined (before ++ h.laid.done)) h.laid.line (spaces n x)
+            placed = ap (λ f. f.placed) flat ∙ h.holds.placed ∙ sym (append_assoc (joined (before ++ h.laid.done) ++ h.laid.line) (spaces n x) after)
+                ∙ ap (λ is. is ++ after) (append_assoc (joined (before ++ h.laid.done)) h.laid.line (spaces n x)
                 ∙ sym (append-nil (joined (before ++ (h.laid.done ++ line ∷ []))) ∙ ap joined (sym (append_assoc before h.laid.done (line ∷ []))) ∙ joined-append (before ++ h.laid.done) (line ∷ []) ∙ ap (λ is. joined (before ++ h.laid.done) ++ is) (append-nil line)));
             lens = lines ∙ ap (λ ns. ns ++ (b.line_len + n) ∷ []) h.holds.lens ∙ ap (λ m. map length (before ++ h.laid.done) ++ m ∷ []) many
                 ∙ sym (ap (map length) (sym (append_assoc before h.laid.done (line ∷ []))) ∙ map-append length (before ++ h.laid.done) (line ∷ []));

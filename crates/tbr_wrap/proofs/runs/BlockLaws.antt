@@ -6,7 +6,7 @@ use Rattle.std.proofs.lemmas.Bool.{and_parts, and_left, and_right, or_right, cas
 use Rattle.std.specs.List.{AllByRecursion as Each}
 use Rattle.tbr_model.specs.declared.white_space.WhiteSpace.{WhiteSpace}
 use Rattle.tbr_model.specs.Run.{Item, glyph, marker, Entry, marker_entry, items_width, has_character, reading, trailing}
-use Rattle.tbr_model.specs.Markers.{names_in_items, names_in_run, marker_run, marker_items, names_behind, last}
+use Rattle.tbr_model.specs.Markers.{names_in_items, names_in_run, marker_run, marker_items, names_after, last}
 use Rattle.tbr_model.specs.Hard.{is_visible}
 use Rattle.tbr_model.specs.Laid.{Laid, end_if_character}
 use Rattle.tbr_model.specs.Layout.{joined, slots_of, HasLegalLines}
@@ -26,7 +26,7 @@ use Rattle.tbr_model.proofs.lines.NormalItems.{normal_keeps}
 use Rattle.tbr_model.proofs.lines.NothingInvented.{nothing_invented}
 use Rattle.tbr_model.proofs.lines.OwnAnnotations.{own_shown}
 use Rattle.tbr_model.proofs.lines.RunCharacters.{come_with_run}
-use Rattle.tbr_model.proofs.lines.WaitingMarkers.{waits_behind_visible, waits_behind_kept}
+use Rattle.tbr_model.proofs.lines.WaitingMarkers.{waits_after_visible, waits_after_kept}
 use Rattle.tbr_tagged.specs.Elements.{Element}
 use Rattle.tbr_tagged.specs.declared.error.Error.TheVariants as E
 use Rattle.tbr_tagged.specs.Outcome.{done, refused}
@@ -236,8 +236,8 @@ module _ {A : Type 0} (columns : ℕ → Option ℕ) where
       fitting = λ pre. fitting_lines columns Same (λ a. refl) s.width s.events pre;
       kept = λ normal. ap (λ is. without_spaces (joined (all_lines columns s)) ++ is) (sym left_is) ∙ normal_keeps columns s.width s.events normal;
       markers = markers_at_end columns s.width s.events;
-      behind = waits_behind_visible columns s.width s.events;
-      behind_kept = λ normal. waits_behind_kept columns s.width s.events normal;
+      after = waits_after_visible columns s.width s.events;
+      after_kept = λ normal. waits_after_kept columns s.width s.events normal;
       waits = λ never normal. sym left_is ∙ waits_normal columns s.width s.events (subst (λ o. Each (FitsBlock columns s.width o) (all_lines columns s)) never fits) normal;
       alone = λ none. no_line_ends columns s.width s.events none;
     }
@@ -443,14 +443,14 @@ module _ {A : Type 0} (columns : ℕ → Option ℕ) where
             sym (ap (last (length (loose columns s))) parts ∙ last_of_two front (loose columns s))
 
     -- they come after the last visible character
-    pub loose_behind : AreLastOf (loose columns s) (names_behind (is_visible columns) (run_of s.events))
-    loose_behind = both (has_character (p s).word) refl
+    pub loose_after : AreLastOf (loose columns s) (names_after (is_visible columns) (run_of s.events))
+    loose_after = both (has_character (p s).word) refl
       where
         all : List (List ℕ)
-        all = names_behind (is_visible columns) (run_of s.events)
+        all = names_after (is_visible columns) (run_of s.events)
 
         waits : AreLastOf (waiting_names columns s) all
-        waits = waits_behind_visible columns s.width s.events
+        waits = waits_after_visible columns s.width s.events
 
         both : (t : Bool) → has_character (p s).word ≡ t → AreLastOf (loose columns s) all
         both true some = (all, (let none : loose columns s ≡ [] = rw some refl in ap (λ ns. all ++ ns) none ∙ append-nil all))

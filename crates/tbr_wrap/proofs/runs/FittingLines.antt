@@ -17,11 +17,11 @@ use Rattle.tbr_model.proofs.rule.BlankLines.{mode_preserves}
 use Rattle.tbr_model.proofs.rule.HardLineStart.{BeginsHardLine}
 use Rattle.tbr_model.proofs.rule.HardLines.{NoNewline, hard_lines_parted}
 use Rattle.tbr_model.proofs.rule.VisibleCharacters.{visible_from, visible_ended}
-use Rattle.tbr_wrap.specs.Runs.{column_behind, LineFits, HasOwnAnnotation, IsUnderOwn, ShowsFitting}
+use Rattle.tbr_wrap.specs.Runs.{column_after, LineFits, HasOwnAnnotation, IsUnderOwn, ShowsFitting}
 
 -- ---- columns
 
-grows : {A : Type 0} (columns : ℕ → Option ℕ) (n : ℕ) (e : Entry A) → n ≤ column_behind columns n e
+grows : {A : Type 0} (columns : ℕ → Option ℕ) (n : ℕ) (e : Entry A) → n ≤ column_after columns n e
 grows columns n (marker_entry name) = omega arith
 grows columns n (character c a b m) = go (c == 8203) (c == 9)
   where
@@ -30,9 +30,9 @@ grows columns n (character c a b m) = go (c == 8203) (c == 9)
     go false true = omega arith
     go false false = omega arith
 
-all_grow : {A : Type 0} (columns : ℕ → Option ℕ) (es : List (Entry A)) (n : ℕ) → n ≤ fold (column_behind columns) n es
+all_grow : {A : Type 0} (columns : ℕ → Option ℕ) (es : List (Entry A)) (n : ℕ) → n ≤ fold (column_after columns) n es
 all_grow columns [] n = omega arith
-all_grow columns (e ∷ es) n = omega (arith, grows columns n e, all_grow columns es (column_behind columns n e))
+all_grow columns (e ∷ es) n = omega (arith, grows columns n e, all_grow columns es (column_after columns n e))
 
 -- ---- entries with their own annotation alone
 
@@ -121,9 +121,9 @@ module _ {A : Type 0} (columns : ℕ → Option ℕ) (width : ℕ) where
 
   -- it goes on to fit, and its continuation annotation makes no difference
   abbrev GoesOn : ℕ → Progress A → Entry A → Type 0
-  GoesOn n p e = FitsSoFar (column_behind columns n e) (enter columns width p e) × (enter columns width p e ≡ enter columns width p (own e))
+  GoesOn n p e = FitsSoFar (column_after columns n e) (enter columns width p e) × (enter columns width p e ≡ enter columns width p (own e))
 
-  preserve_fits : (c : ℕ) (a b : A) (n : ℕ) (p : Progress A) → (c == 10) ≡ false → column_behind columns n (character c a b Pre) ≤ width → FitsSoFar n p → GoesOn n p (character c a b Pre)
+  preserve_fits : (c : ℕ) (a b : A) (n : ℕ) (p : Progress A) → (c == 10) ≡ false → column_after columns n (character c a b Pre) ≤ width → FitsSoFar n p → GoesOn n p (character c a b Pre)
   preserve_fits c a b n p other fits k = go (c == 8203) refl (c == 9) refl
     where
       go : (u : Bool) → (c == 8203) ≡ u → (t : Bool) → (c == 9) ≡ t → GoesOn n p (character c a b Pre)
@@ -141,21 +141,21 @@ module _ {A : Type 0} (columns : ℕ → Option ℕ) (width : ℕ) where
           either true x y = x
           either false x y = y
 
-  enter_fits : (n : ℕ) (p : Progress A) (e : Entry A) → HasMode Pre e → is_newline e ≡ false → column_behind columns n e ≤ width → FitsSoFar n p → GoesOn n p e
+  enter_fits : (n : ℕ) (p : Progress A) (e : Entry A) → HasMode Pre e → is_newline e ≡ false → column_after columns n e ≤ width → FitsSoFar n p → GoesOn n p e
   enter_fits n p (character c a b m) mode other fits k = rw mode (preserve_fits c a b n p other fits k)
   enter_fits n p (marker_entry name) mode other fits k =
       (record { done = k.done; reaches = omega (arith, k.reaches, items_width-append columns p.word (marker name ∷ [])); flag = k.flag; in_continuation = k.in_continuation }, refl)
 
   -- ---- a hard line
 
-  line_fits : (es : List (Event A)) (n : ℕ) (p : Progress A) → Each (HasMode Pre) (run_of es) → NoNewline (run_of es) → fold (column_behind columns) n (run_of es) ≤ width → FitsSoFar n p →
-      FitsSoFar (fold (column_behind columns) n (run_of es)) (fold (step columns width) p es) × (fold (step columns width) p es ≡ fold (step columns width) p (map own_event es))
+  line_fits : (es : List (Event A)) (n : ℕ) (p : Progress A) → Each (HasMode Pre) (run_of es) → NoNewline (run_of es) → fold (column_after columns) n (run_of es) ≤ width → FitsSoFar n p →
+      FitsSoFar (fold (column_after columns) n (run_of es)) (fold (step columns width) p es) × (fold (step columns width) p es ≡ fold (step columns width) p (map own_event es))
   line_fits [] n p pre plain fits k = (k, refl)
   line_fits (call ∷ es) n p pre plain fits k =
       line_fits es n (record p { in_continuation = p.continuation_flag }) pre plain fits (record { done = k.done; reaches = k.reaches; flag = k.flag; in_continuation = k.flag })
   line_fits (entry e ∷ es) n p pre plain fits k =
-      let one = enter_fits n p e pre.0 plain.0 (omega (arith, fits, all_grow columns (run_of es) (column_behind columns n e))) k in
-      let rest = line_fits es (column_behind columns n e) (enter columns width p e) pre.1 plain.1 fits one.0 in
+      let one = enter_fits n p e pre.0 plain.0 (omega (arith, fits, all_grow columns (run_of es) (column_after columns n e))) k in
+      let rest = line_fits es (column_after columns n e) (enter columns width p e) pre.1 plain.1 fits one.0 in
       (rest.0, rest.1 ∙ ap (λ (q : Progress A). fold (step columns width) q (map own_event es)) one.1)
 
   start_fits : (p : Progress A) → BeginsHardLine p → FitsSoFar 0 p
@@ -183,12 +183,12 @@ module _ {A : Type 0} (columns : ℕ → Option ℕ) (Same : A → A → Type 0)
     abbrev q : Progress A
     q = fold (step columns width) p es
 
-    stands : LineFits columns width (run_of es) → FitsSoFar columns width (fold (column_behind columns) 0 (run_of es)) q × (q ≡ fold (step columns width) p (map own_event es))
+    stands : LineFits columns width (run_of es) → FitsSoFar columns width (fold (column_after columns) 0 (run_of es)) q × (q ≡ fold (step columns width) p (map own_event es))
     stands fits = line_fits columns width es 0 p pre plain fits (start_fits columns width p f)
 
     short : LineFits columns width (run_of es) → (length (newline (flush_word columns width q)).laid.done ≤ 1) × (length (finished columns width q).done ≤ 1)
     short fits =
-        let n = fold (column_behind columns) 0 (run_of es) in
+        let n = fold (column_after columns) 0 (run_of es) in
         uncut columns width n (flush_word columns width q) (flush_fits columns width n q fits (stands fits).0).0
 
     shows_own : (ls : List (List (Item A))) → ShowsVisible columns Same (run_of (map own_event es)) ls → ShowsOwn columns Same (run_of es) ls

@@ -251,7 +251,7 @@ module _ {A : Type 0} (columns : ℕ → Option ℕ) (eq : A → A → Bool) whe
     -- where nothing open has a character the fields hold ended lines
     pub ended_held : has_no_character columns s ≡ true → AreLines b.lines.ended.items b.lines.flat.placed (h.before ++ laid.done)
     ended_held none = record {
-      behind = laid.line;
+      after = laid.line;
       placed_is = h.stands.lays.holds.placed;
       lens_is = h.stands.lays.holds.lens;
       blank = line_held ∙ not-true _ (and_parts _ _ none).0;

@@ -111,8 +111,8 @@ stays_first width columns mode m n p less h =
       | goes_on e f ↦ goes_on e f
     ]
 
-stays_behind : {A : Type 0} (width : ℕ) (columns : ℕ → Option ℕ) (mode : WhiteSpace) (c n : ℕ) (a : A) (p : Progress A) → StaysUnder width columns mode (unwrap_or (columns c) 0 + n) p → StaysUnder width columns mode n (join c a mode p)
-stays_behind width columns mode c n a p h =
+stays_after : {A : Type 0} (width : ℕ) (columns : ℕ → Option ℕ) (mode : WhiteSpace) (c n : ℕ) (a : A) (p : Progress A) → StaysUnder width columns mode (unwrap_or (columns c) 0 + n) p → StaysUnder width columns mode n (join c a mode p)
+stays_after width columns mode c n a p h =
     elim h [
       | elsewhere e ↦ elsewhere e
       | fits e ↦ fits (omega (arith, e, items_width-append columns p.word (glyph c a ∷ [])))
@@ -169,7 +169,7 @@ module _ {A : Type 0} (columns : ℕ → Option ℕ) (width : ℕ) (a b : A) whe
         let t = tag_of p a b in let q : Progress A = join c t mode p in
         let some : has_character q.word ≡ true = has_character-append p.word (glyph c t ∷ []) ∙ or-true (has_character p.word) in
         ap (λ r. fold (enter columns width) r (text_entries cs a b mode)) (joins_entered c p h.0 spaces (stays_first width columns mode _ _ p (omega arith) stays))
-        ∙ all_join cs q h.1 (λ e. ((spaces e).0, some)) (stays_behind width columns mode c (width_of_text columns cs) t p stays)
+        ∙ all_join cs q h.1 (λ e. ((spaces e).0, some)) (stays_after width columns mode c (width_of_text columns cs) t p stays)
 
 -- all of them at once
 joined_all : {A : Type 0} (c : ℕ) (cs : List ℕ) (a : A) (mode : WhiteSpace) (p : Progress A) →

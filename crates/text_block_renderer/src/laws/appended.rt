@@ -14,7 +14,7 @@ ghost use Rattle.tbr_renderer.specs.Appended.{as_text, prefixed, handed_out};
 ghost use Rattle.tbr_renderer.specs.Calls.{append_subrender, append_vert_row, Does, text_of_lines, Shows};
 ghost use Rattle.text_block_renderer.specs.Drawn.{AreDrawnAmong, WithoutDrawnBorders};
 ghost use Rattle.text_block_renderer.specs.Stretches.{lines_laid};
-ghost use Rattle.text_block_renderer.specs.Nested.{Level, nested, IsFront, shortest, visible_behind, HandOn};
+ghost use Rattle.text_block_renderer.specs.Nested.{Level, nested, IsFront, shortest, visible_after, HandOn};
 ghost use Rattle.text_block_renderer.specs.VerticalRows.{row_lines};
 ghost use Rattle.text_block_renderer.specs.Taken.{StandWithin, written, AreTakenIn};
 
@@ -35,7 +35,7 @@ pub fn nested_blocks_are_their_prefixes_and_lines<T, D, A>()
 
 /// Lines that are appended come after those that there are and after the open run: the first after the markers that
 /// wait, and each padded.
-pub fn appended_lines_come_behind_the_others<D, A>()
+pub fn appended_lines_come_after_the_others<D, A>()
     ensures { (columns : ℕ → Option ℕ) (decoration : Decoration D A) (prefixes : List (List ℕ))
         (lines : List (Line (List A))) (r s : Renderer D A (List A)) →
         Does columns decoration (append_subrender prefixes lines) r s → (m : Renderer D A (List A))
@@ -51,7 +51,7 @@ pub fn appended_characters_stand<D, A>()
         Does columns decoration (append_subrender prefixes lines) r s →
         (m : Renderer D A (List A)) × (after_flush columns r ≡ done m)
         × (visible_glyphs columns (text_of_lines s.lines) ≡ visible_glyphs columns (text_of_lines m.lines)
-        ++ flat_map (visible_behind columns r.annotations) (zip prefixes lines)) }
+        ++ flat_map (visible_after columns r.annotations) (zip prefixes lines)) }
     ensures indented { (columns : ℕ → Option ℕ) (decoration : Decoration D A) (prefixes : List (List ℕ))
         (lines : List (Line (List A))) (r s : Renderer D A (List A)) →
         Does columns decoration (append_subrender prefixes lines) r s →

@@ -5,7 +5,7 @@ use Rattle.tbr_tagged.specs.Elements.{characters}
 use Rattle.tbr_tagged.specs.View.{element_of, elements_of}
 use Rattle.tbr_tagged.specs.Walks.{elements_to_come}
 use Rattle.tbr_c_lines.specs.Line.{piece_at, pieces_at}
-use Rattle.tbr_c_lines.proofs.Places.{one_behind, end_at, bytes_of, bytes_one_more}
+use Rattle.tbr_c_lines.proofs.Places.{one_after, end_at, bytes_of, bytes_one_more}
 use Rattle.tbr_c_lines.proofs.line.placed.Goals as goal
 
 pub loop-element-preserved : goal.loop-element-preserved
@@ -19,7 +19,7 @@ loop-element-preserved g c =
     let here : piece ≡ piece_at shown (bytes_of (characters es)) e = c.in_ok-piece.ensures ∙ ap (λ n. piece_at shown n e) inv.begin in
     let more = sym (map_push element_of yielded c.in-Some.element) in
     record {
-      pieces = c.in_ok-push.ensures.items ∙ ap (λ ps. ps ++ piece ∷ []) inv.pieces ∙ ap (λ p. pieces_at shown 0 es ++ p ∷ []) here ∙ sym (one_behind shown es e) ∙ ap (pieces_at shown 0) more;
+      pieces = c.in_ok-push.ensures.items ∙ ap (λ ps. ps ++ piece ∷ []) inv.pieces ∙ ap (λ p. pieces_at shown 0 es ++ p ∷ []) here ∙ sym (one_after shown es e) ∙ ap (pieces_at shown 0) more;
       begin = ap (λ p. p.end) c.piece.view_is ∙ ap (λ p. p.end) here ∙ end_at shown (bytes_of (characters es)) e ∙ sym (bytes_one_more es e) ∙ ap (λ fs. bytes_of (characters fs)) more;
     }
 

@@ -15,7 +15,7 @@ returns-in_err-parse-clause-none c =
 pub loop-word-preserved : goal.loop-word-preserved
 loop-word-preserved c =
     let setting = c.in_ok-parse.field-0 in
-    let behind = c.next.new.self in
+    let after = c.next.new.self in
     let all = c.args.words in
     record {
       so_far = λ settings told.
@@ -24,7 +24,7 @@ loop-word-preserved c =
           subst (λ (o : RenderOptions). AreOptions all (fold with_setting o settings)) (sym c.set.ensures) (c.loop-word.invariant.so_far (setting ∷ settings) here);
       whole = λ options told.
           let left = c.loop-word.invariant.whole options told in
-          (first_setting c.loop-word.words behind c.in-Some.word.now left.0 c.in-Some.ensures left.1).1;
+          (first_setting c.loop-word.words after c.in-Some.word.now left.0 c.in-Some.ensures left.1).1;
       wrap_width = subst (λ (o : RenderOptions). o.wrap_width ≢ Some 0) (sym c.set.ensures) (wrap_width_kept c.in-Some.word.now setting c.loop-word.options c.in_ok-parse.ensures.found c.loop-word.invariant.wrap_width);
     }
 

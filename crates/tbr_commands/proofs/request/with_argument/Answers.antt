@@ -1,7 +1,7 @@
 use Rattle.std.proofs.Common.{◌++◌, ◌∷◌, ap, sym, subst, ◌∙◌}
 use Rattle.tbr_commands.specs.Request.{request_of}
 use Rattle.tbr_commands.specs.Syntax.{HasArgument}
-use Rattle.tbr_commands.proofs.Commands.{no_argument, behind_it, text_word, marker_word, image_word, colour_word, ground_word, border_word}
+use Rattle.tbr_commands.proofs.Commands.{no_argument, after_it, text_word, marker_word, image_word, colour_word, ground_word, border_word}
 use Rattle.std.proofs.lemmas.Option.{IfSome_then}
 use Rattle.tbr_script.proofs.Optional.{if_none_weaker, if_none_mapped, if_some_mapped}
 use Rattle.tbr_commands.proofs.request.with_argument.Goals as goal
@@ -38,7 +38,7 @@ returns-in-bg-clause-none c =
 
 pub returns-in_ok-parse-in-image-clause-found : goal.returns-in_ok-parse-in-image-clause-found
 returns-in_ok-parse-in-image-clause-found c =
-    let line = behind_it c.args.line.now c.in-Some.word c.in-Some.argument c.in-Some.ensures.cases ∙ ap (λ w. w ++ 32 ∷ c.in-Some.argument.now) c.in-image.is in
+    let line = after_it c.args.line.now c.in-Some.word c.in-Some.argument c.in-Some.ensures.cases ∙ ap (λ w. w ++ 32 ∷ c.in-Some.argument.now) c.in-image.is in
     if_some_mapped _ _ (λ request. HasArgument c.args.line.now (request_of request)) c.in_ok-parse-in-image.field-0 c.map-in-image.result c.map-in-image.ensures.cases
     (λ image request is texts. subst (λ found. HasArgument c.args.line.now (request_of found)) (sym is)
     (c.in-Some.argument.now, line, texts))
@@ -46,14 +46,14 @@ returns-in_ok-parse-in-image-clause-found c =
 
 pub returns-in-colour-clause-found : goal.returns-in-colour-clause-found
 returns-in-colour-clause-found c =
-    let line = behind_it c.args.line.now c.in-Some.word c.in-Some.argument c.in-Some.ensures.cases ∙ ap (λ w. w ++ 32 ∷ c.in-Some.argument.now) c.in-colour.is in
+    let line = after_it c.args.line.now c.in-Some.word c.in-Some.argument c.in-Some.ensures.cases ∙ ap (λ w. w ++ 32 ∷ c.in-Some.argument.now) c.in-colour.is in
     if_some_mapped _ _ (λ request. HasArgument c.args.line.now (request_of request)) c.colour.result c.map-in-colour.result c.map-in-colour.ensures.cases
     (λ colour request is parts. subst (λ found. HasArgument c.args.line.now (request_of found)) (sym is) (c.in-Some.argument.now, line, parts))
     c.colour.ensures.found
 
 pub returns-in-bg-clause-found : goal.returns-in-bg-clause-found
 returns-in-bg-clause-found c =
-    let line = behind_it c.args.line.now c.in-Some.word c.in-Some.argument c.in-Some.ensures.cases ∙ ap (λ w. w ++ 32 ∷ c.in-Some.argument.now) c.in-bg.is in
+    let line = after_it c.args.line.now c.in-Some.word c.in-Some.argument c.in-Some.ensures.cases ∙ ap (λ w. w ++ 32 ∷ c.in-Some.argument.now) c.in-bg.is in
     if_some_mapped _ _ (λ request. HasArgument c.args.line.now (request_of request)) c.colour-in-bg.result c.map-in-bg.result c.map-in-bg.ensures.cases
     (λ colour request is parts. subst (λ found. HasArgument c.args.line.now (request_of found)) (sym is) (c.in-Some.argument.now, line, parts))
     c.colour-in-bg.ensures.found
@@ -66,6 +66,6 @@ returns-in-border-clause-none c =
 
 pub returns-in-border-clause-found : goal.returns-in-border-clause-found
 returns-in-border-clause-found c =
-    let line = behind_it c.args.line.now c.in-Some.word c.in-Some.argument c.in-Some.ensures.cases ∙ ap (λ w. w ++ 32 ∷ c.in-Some.argument.now) c.in-border.is in
+    let line = after_it c.args.line.now c.in-Some.word c.in-Some.argument c.in-Some.ensures.cases ∙ ap (λ w. w ++ 32 ∷ c.in-Some.argument.now) c.in-border.is in
     IfSome_then c.border.result c.border.ensures.found
     (λ request is. subst (λ asked. HasArgument c.args.line.now asked) (sym is.1) (c.in-Some.argument.now, line, is.2))

@@ -3,7 +3,7 @@ use Rattle.std.proofs.lemmas.List.{length-map}
 use Rattle.tbr_model.specs.Slot.{slot_value, slot_values}
 use Rattle.tbr_model.specs.Layout.{IsLegalLine}
 use Rattle.tbr_model.specs.Cuts.{IsLegalLayout}
-use Rattle.tbr_model.proofs.layouts.Cuts.{LegalBehind, legal_from_first, legal_on, rises_below}
+use Rattle.tbr_model.proofs.layouts.Cuts.{LegalAfter, legal_from_first, legal_on, rises_below}
 use Rattle.tbr_model.proofs.layouts.StoredSlots.{slot_values_part}
 use Rattle.tbr_model.proofs.layout.is_legal.Goals as goal
 use Rattle.tbr_model.proofs.layout.is_legal.Goals.{then-to-from-via-then-to-from, then-to-from-via-else-to-from+then-slots-to, then-to-from-via-else-to-from+else-slots-to+then-not-is_legal_line}
@@ -22,7 +22,7 @@ returns-then-to-from g c =
     let later = c.in-Some.later.now in
     let to = get_or later c.loop-to.to-index 0 in
     let e : drop c.loop-to.to-index later ≡ to ∷ drop (suc c.loop-to.to-index) later = drop-cons later c.loop-to.to-index 0 c.loop-to-test.true in
-    let left = λ (h : IsLegalLayout c.args.width slots c.args.cuts.now). subst (LegalBehind c.args.width slots c.loop-to.from) e (c.loop-to.invariant.0 h) in
+    let left = λ (h : IsLegalLayout c.args.width slots c.args.cuts.now). subst (LegalAfter c.args.width slots c.loop-to.from) e (c.loop-to.invariant.0 h) in
     elim c.then-to-from.branch [
       | then-to-from-via-then-to-from w ↦ (λ t. cc, λ h. absurd (omega (arith, w.if-to-from.true, (left h).0.0)))
       | then-to-from-via-else-to-from+then-slots-to w ↦
@@ -42,6 +42,6 @@ loop-to-preserved g c =
     let legal : IsLegalLine c.args.width (slice_range slots from to) = rw slot_values_part at (c.is_legal_line.ensures.0 c.if-not-is_legal_line.false) in
     let on = legal_on c.args.width slots from to ds c.if-to-from.false legal in
     rw add-one (
-      (λ h. on.0 (subst (LegalBehind c.args.width slots from) e (c.loop-to.invariant.0 h))),
-      (λ k. c.loop-to.invariant.1 (subst (LegalBehind c.args.width slots from) (sym e) (on.1 k))),
+      (λ h. on.0 (subst (LegalAfter c.args.width slots from) e (c.loop-to.invariant.0 h))),
+      (λ k. c.loop-to.invariant.1 (subst (LegalAfter c.args.width slots from) (sym e) (on.1 k))),
     )

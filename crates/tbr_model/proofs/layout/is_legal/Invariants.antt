@@ -1,9 +1,9 @@
 use Rattle.std.proofs.Common.{◌↔◌, drop}
 use Rattle.tbr_model.specs.Slot.{slot_values}
 use Rattle.tbr_model.specs.Cuts.{IsLegalLayout}
-use Rattle.tbr_model.proofs.layouts.Cuts.{LegalBehind}
+use Rattle.tbr_model.proofs.layouts.Cuts.{LegalAfter}
 use Rattle.tbr_model.proofs.layout.is_legal.Given as goal
 
 -- the cuts are legal exactly where those that are left are
 abbrev pub invariant-loop-to : goal.invariant-loop-to
-invariant-loop-to g l = IsLegalLayout l.width (slot_values l.slots) l.cuts ↔ LegalBehind l.width (slot_values l.slots) l.from (drop l.to-index l.later)
+invariant-loop-to g l = IsLegalLayout l.width (slot_values l.slots) l.cuts ↔ LegalAfter l.width (slot_values l.slots) l.from (drop l.to-index l.later)

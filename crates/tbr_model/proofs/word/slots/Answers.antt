@@ -3,7 +3,7 @@ use Rattle.std.proofs.lemmas.List.{length-map}
 use Rattle.std.proofs.lemmas.Option.{slice_get_within}
 use Rattle.tbr_model.specs.Run.{Entry, kept_items, has_character}
 use Rattle.tbr_model.specs.Layout.{Slot, word_slots}
-use Rattle.tbr_model.specs.Regions.{NoBreakWorks, IsFirstWorkingBreak, word_behind}
+use Rattle.tbr_model.specs.Regions.{NoBreakWorks, IsFirstWorkingBreak, word_after}
 use Rattle.tbr_model.specs.Entry.{entry_value, entry_values}
 use Rattle.tbr_model.specs.Slot.{slot_values}
 use Rattle.tbr_model.proofs.words.StoredEntries.{values_rest, values_part}
@@ -20,7 +20,7 @@ loop-place-preserved g c =
     let to = from + c.in-Some.place in
     let kept = c.loop-place.invariant in
     let first : IsFirstWorkingBreak columns (drop from run) c.in-Some.place = subst (λ (l : List (Entry _)). IsFirstWorkingBreak columns l c.in-Some.place) (values_rest es from) c.in-Some.ensures in
-    let pushed = c.in_ok-push_word.ensures ∙ ap (λ (l : List (Entry _)). slot_values c.loop-place.slots.items ++ word_slots columns c.args.width (word_behind columns [] l)) (values_part es c.loop-place.opening to) in
+    let pushed = c.in_ok-push_word.ensures ∙ ap (λ (l : List (Entry _)). slot_values c.loop-place.slots.items ++ word_slots columns c.args.width (word_after columns [] l)) (values_part es c.loop-place.opening to) in
     let next = next_region columns c.args.width run (slot_values c.loop-place.slots.items) c.loop-place.opening from c.in-Some.place kept.1 kept.0 first in (
       subst (λ (s : List (Slot _)). HasRead columns c.args.width run s (slice_range run to (to + 1)) (drop (to + 1) run)) (sym pushed) next,
       omega arith,
@@ -43,8 +43,8 @@ returns g c =
     elim c.if-has_character.branch [
       | then-has_character+in_ok-push_word-2 w ↦
           let yes : has_character (kept_items columns (drop from run)) ≡ true = sym test ∙ w.if-has_character.true in
-          let pushed : slot_values c.if-has_character.slots.items ≡ done ++ word_slots columns width (word_behind columns [] (entry_values (slice_range es opening (length es)))) = rw (w.slots-is) w.in_ok-push_word-2.ensures in
-          pushed ∙ ap (λ (l : List (Entry _)). done ++ word_slots columns width (word_behind columns [] l)) (values_rest es opening)
+          let pushed : slot_values c.if-has_character.slots.items ≡ done ++ word_slots columns width (word_after columns [] (entry_values (slice_range es opening (length es)))) = rw (w.slots-is) w.in_ok-push_word-2.ensures in
+          pushed ∙ ap (λ (l : List (Entry _)). done ++ word_slots columns width (word_after columns [] l)) (values_rest es opening)
           ∙ sym (all_read columns width run done opening from kept.1 kept.0 last true yes)
       | else-has_character w ↦
           let no : has_character (kept_items columns (drop from run)) ≡ false = sym test ∙ w.if-has_character.false in

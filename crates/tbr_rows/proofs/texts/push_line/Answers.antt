@@ -3,11 +3,11 @@ use Rattle.tbr_tagged.specs.View.{element_of}
 use Rattle.tbr_tagged.specs.Walks.{elements_to_come}
 use Rattle.std.proofs.lemmas.Iterator.Consumers.{YieldsList-from_first, YieldsList-end}
 use Rattle.tbr_tagged.specs.Elements.{items_of, SameItems}
-use Rattle.tbr_rows.proofs.RowTexts.{behind_nothing, one_more}
+use Rattle.tbr_rows.proofs.RowTexts.{after_nothing, one_more}
 use Rattle.tbr_rows.proofs.texts.push_line.Goals as goal
 
 pub loop-element-init : goal.loop-element-init
-loop-element-init g c = record { items = behind_nothing g.T.PartialEq.eq g.met.T.Eq.laws c.args.line.now; merged = λ h. h }
+loop-element-init g c = record { items = after_nothing g.T.PartialEq.eq g.met.T.Eq.laws c.args.line.now; merged = λ h. h }
 
 pub loop-element-preserved : goal.loop-element-preserved
 loop-element-preserved g c = record {

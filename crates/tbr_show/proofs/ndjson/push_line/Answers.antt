@@ -6,7 +6,7 @@ use Rattle.json.specs.Token.{Token}
 use Rattle.tbr_model.specs.Codes.{newline_character}
 use Rattle.tbr_tagged.specs.View.{chars_of}
 use Rattle.tbr_show.specs.Ndjson.{escaped, line_tokens}
-use Rattle.tbr_show.proofs.Appended.{one_behind, on_ok_then}
+use Rattle.tbr_show.proofs.Appended.{one_after, on_ok_then}
 use Rattle.tbr_show.proofs.ndjson.push_line.Goals as goal
 
 is_ok_where : {X E U : Type 0} (P : X → Type 0) (Q : E → Type 0) (r : Result X E) → U → MatchResult r P (λ e. ¬ U × Q e) → IsOk r
@@ -32,6 +32,6 @@ returns g c =
     let bytes = found.0 ∙ c.as_slice.ensures.value ∙ c.into_inner-bytes.ensures.items
     ∙ ap (λ (bs : List ℕ). bs ++ print c.write_line.new.writer.tokens) (c.in_ok-write_line.ensures.before ∙ c.new-writer.ensures.before ∙ c.new.ensures.items) ∙ ap print written in
     on_ok_then c.push_ascii.result
-    (λ h. one_behind start (flat_map escaped (chars c.unwrap.result.now)) (newline_character ∷ []) (chars_of c.push_escaped.new.text) (chars_of c.push_ascii.new.text) c.in_ok-push_escaped.ensures h
+    (λ h. one_after start (flat_map escaped (chars c.unwrap.result.now)) (newline_character ∷ []) (chars_of c.push_escaped.new.text) (chars_of c.push_ascii.new.text) c.in_ok-push_escaped.ensures h
     ∙ ap (λ bs. start ++ (flat_map escaped (chars bs) ++ newline_character ∷ [])) bytes)
     c.push_ascii.ensures

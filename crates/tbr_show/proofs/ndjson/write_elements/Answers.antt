@@ -3,12 +3,12 @@ use Rattle.std.specs.Prelude.{flat_map}
 use Rattle.tbr_tagged.specs.View.{element_of}
 use Rattle.tbr_tagged.specs.Walks.{elements_left}
 use Rattle.tbr_show.specs.Ndjson.{element_tokens}
-use Rattle.tbr_show.proofs.Appended.{one_behind, flat_map-map_push, walked}
+use Rattle.tbr_show.proofs.Appended.{one_after, flat_map-map_push, walked}
 use Rattle.tbr_show.proofs.ndjson.write_elements.Goals as goal
 
 pub loop-element-preserved : goal.loop-element-preserved
 loop-element-preserved g c = record {
-  tokens = one_behind _ _ _ _ _ c.loop-element.invariant.tokens c.in_ok-write_element.ensures.tokens
+  tokens = one_after _ _ _ _ _ c.loop-element.invariant.tokens c.in_ok-write_element.ensures.tokens
       ∙ ap (λ ts. c.args.writer.now.tokens ++ ts) (sym (flat_map-map_push (element_tokens g.W.CharWidth.columns) (λ e. element_of e.now) c.loop-element.yielded c.in-Some.element));
   before = c.in_ok-write_element.ensures.before ∙ c.loop-element.invariant.before;
 }

@@ -1,6 +1,6 @@
 use Rattle.std.proofs.Common.{chars, ap, ◌∙◌, string_bytes}
 use Rattle.std.proofs.lemmas.Str.{IsUtf8-string_bytes}
-use Rattle.tbr_tagged.proofs.TextBehind.{chars_push}
+use Rattle.tbr_tagged.proofs.TextAfter.{chars_push}
 use Rattle.tbr_show.proofs.text.push_char.Goals as goal
 
 pub returns : goal.returns

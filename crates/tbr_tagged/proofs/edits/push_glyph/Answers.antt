@@ -5,7 +5,7 @@ use Rattle.std.proofs.lemmas.Result.{on_ok_weaker}
 use Rattle.tbr_tagged.specs.Elements.{SameElement, piece}
 use Rattle.tbr_tagged.specs.Stored.{stored}
 use Rattle.tbr_tagged.specs.View.{element_of}
-use Rattle.tbr_tagged.proofs.TextBehind.{push_extends, push_behind, same_elements}
+use Rattle.tbr_tagged.proofs.TextAfter.{push_extends, push_after, same_elements}
 use Rattle.tbr_tagged.proofs.edits.push_glyph.Goals as goal
 
 pub returns-then-ends_under-clause-ok : goal.returns-then-ends_under-clause-ok
@@ -20,5 +20,5 @@ returns-clause-ok g c =
     let eq = g.T.PartialEq.eq in
     let es = map element_of (stored c.args.elements.now) in
     on_ok_weaker c.push.result (λ h.
-    rw (push_behind eq es (c.args.c ∷ []) c.args.tag.now (omega arith) (sym c.if-ends_under.ensures), h, map_push)
+    rw (push_after eq es (c.args.c ∷ []) c.args.tag.now (omega arith) (sym c.if-ends_under.ensures), h, map_push)
     (AllZip-push (SameElement eq) es es (element_of c.in_ok-piece.piece) (piece (c.args.c ∷ []) c.args.tag.now) (same_elements eq g.met.T.Eq.laws es) c.in_ok-piece.ensures)) c.push.ensures.ok

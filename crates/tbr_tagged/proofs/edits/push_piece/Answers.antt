@@ -7,7 +7,7 @@ use Rattle.tbr_tagged.specs.declared.element.TaggedLineElement.TheVariants.{Str}
 use Rattle.tbr_tagged.specs.Elements.{extend_last}
 use Rattle.tbr_tagged.specs.Stored.{stored}
 use Rattle.tbr_tagged.specs.View.{element_of}
-use Rattle.tbr_tagged.proofs.TextBehind.{push_extends, push_behind, chars_some}
+use Rattle.tbr_tagged.proofs.TextAfter.{push_extends, push_after, chars_some}
 use Rattle.tbr_tagged.proofs.edits.push_piece.Goals as goal
 
 pub returns-then-ends_under-clause-ok : goal.returns-then-ends_under-clause-ok
@@ -22,4 +22,4 @@ returns-clause-ok g c =
     let es = map element_of (stored c.args.elements.now) in
     let some : 0 < length (chars (string_bytes c.args.ts.s)) = chars_some (string_bytes c.args.ts.s) (IsUtf8-string_bytes c.args.ts.s) (omega (arith, c.requires)) in
     on_ok_weaker c.push.result (λ h. ap (map element_of) h ∙ map_push element_of (stored c.args.elements.now) (Str c.args.ts)
-    ∙ sym (push_behind g.T.PartialEq.eq es (chars (string_bytes c.args.ts.s)) c.args.ts.tag some (sym c.if-ends_under.ensures))) c.push.ensures.ok
+    ∙ sym (push_after g.T.PartialEq.eq es (chars (string_bytes c.args.ts.s)) c.args.ts.tag some (sym c.if-ends_under.ensures))) c.push.ensures.ok

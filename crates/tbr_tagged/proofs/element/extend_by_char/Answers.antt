@@ -3,7 +3,7 @@ use Rattle.std.specs.Str.{chars}
 use Rattle.std.specs.String.{string_bytes}
 use Rattle.std.proofs.lemmas.Str.{IsUtf8-string_bytes}
 use Rattle.tbr_tagged.specs.Elements.{piece}
-use Rattle.tbr_tagged.proofs.TextBehind.{chars_push}
+use Rattle.tbr_tagged.proofs.TextAfter.{chars_push}
 use Rattle.tbr_tagged.proofs.element.extend_by_char.Goals as goal
 
 pub returns-in_ok-push-clause-ok : goal.returns-in_ok-push-clause-ok

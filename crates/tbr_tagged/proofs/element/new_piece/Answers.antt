@@ -1,7 +1,7 @@
 use Rattle.std.proofs.Common.{ap, ◌∙◌, ◌++◌}
 use Rattle.std.specs.Str.{chars}
 use Rattle.std.specs.Char.{encode_utf8}
-use Rattle.tbr_tagged.proofs.TextBehind.{chars_one}
+use Rattle.tbr_tagged.proofs.TextAfter.{chars_one}
 use Rattle.tbr_tagged.proofs.element.new_piece.Goals as goal
 
 pub returns : goal.returns

@@ -4,7 +4,7 @@ use Rattle.std.proofs.lemmas.Bool.Decides.{nat_tests}
 use Rattle.std.proofs.lemmas.Result.{on_ok_weaker, on_err_weaker}
 use Rattle.tbr_tagged.specs.Elements.{with_text}
 use Rattle.tbr_tagged.specs.View.{element_of}
-use Rattle.tbr_tagged.proofs.TextBehind.{extended_at}
+use Rattle.tbr_tagged.proofs.TextAfter.{extended_at}
 use Rattle.tbr_tagged.proofs.elements.extend_last.Goals as goal
 
 pub returns-clause-ok : goal.returns-clause-ok

@@ -16,7 +16,7 @@ returns-clause-ok g c =
     rw inserted (same_insert eq g.met.T.Eq.laws es (spaces c.args.front) c.in_ok-piece.piece.tag c.args.tag.now c.in_ok-piece.ensures.tag) in
     rw (spaces_before_some eq es c.args.front c.args.tag.now some)
     (same_elements_trans eq g.met.T.Eq.laws (map element_of (stored c.push_spaces-2.new.elements))
-    (push_text eq (map element_of (stored c.put_in_front.new.elements)) (spaces c.args.behind) c.args.tag.now)
-    (push_text eq (insert_text eq es (spaces c.args.front) c.args.tag.now) (spaces c.args.behind) c.args.tag.now)
+    (push_text eq (map element_of (stored c.put_in_front.new.elements)) (spaces c.args.after) c.args.tag.now)
+    (push_text eq (insert_text eq es (spaces c.args.front) c.args.tag.now) (spaces c.args.after) c.args.tag.now)
     c.in_default.ensures.ok
-    (same_push eq g.met.T.Eq.laws (map element_of (stored c.put_in_front.new.elements)) (insert_text eq es (spaces c.args.front) c.args.tag.now) (spaces c.args.behind) c.args.tag.now same))
+    (same_push eq g.met.T.Eq.laws (map element_of (stored c.put_in_front.new.elements)) (insert_text eq es (spaces c.args.front) c.args.tag.now) (spaces c.args.after) c.args.tag.now same))

@@ -7,7 +7,7 @@ use Rattle.tbr_tagged.specs.Elements.{SameElement, SameElements, piece, push_tex
 use Rattle.tbr_tagged.specs.Padding.{spaces}
 use Rattle.tbr_tagged.specs.Stored.{stored}
 use Rattle.tbr_tagged.specs.View.{element_of}
-use Rattle.tbr_tagged.proofs.TextBehind.{push_extends, push_behind, same_elements, same_from_equal}
+use Rattle.tbr_tagged.proofs.TextAfter.{push_extends, push_after, same_elements, same_from_equal}
 use Rattle.tbr_tagged.proofs.padding.push_spaces.Goals as goal
 
 pub returns-then-count-eq0-clause-ok : goal.returns-then-count-eq0-clause-ok
@@ -27,9 +27,9 @@ returns-clause-ok g c =
     let eq = g.T.PartialEq.eq in
     let es = map element_of (stored c.args.elements.now) in
     let some : 0 < length (spaces c.args.count) = rw length-replicate (omega arith) in
-    let pushed = push_behind eq es (spaces c.args.count) c.args.tag.now some (sym c.if-ends_under.ensures) in
+    let pushed = push_after eq es (spaces c.args.count) c.args.tag.now some (sym c.if-ends_under.ensures) in
     let ts = c.in_ok-piece.piece in
-    let behind : SameElements eq (es ++ element_of (Str ts) ∷ []) (push_text eq es (spaces c.args.count) c.args.tag.now) =
+    let after : SameElements eq (es ++ element_of (Str ts) ∷ []) (push_text eq es (spaces c.args.count) c.args.tag.now) =
     rw pushed (AllZip-push (SameElement eq) es es (element_of (Str ts)) (piece (spaces c.args.count) c.args.tag.now) (same_elements eq g.met.T.Eq.laws es) (c.in_ok-piece.ensures.text, c.in_ok-piece.ensures.tag)) in
     on_ok_weaker c.push.result (λ h.
-    subst (λ fs. SameElements eq fs (push_text eq es (spaces c.args.count) c.args.tag.now)) (sym (ap (map element_of) h ∙ map_push element_of (stored c.args.elements.now) (Str ts))) behind) c.push.ensures.ok
+    subst (λ fs. SameElements eq fs (push_text eq es (spaces c.args.count) c.args.tag.now)) (sym (ap (map element_of) h ∙ map_push element_of (stored c.args.elements.now) (Str ts))) after) c.push.ensures.ok

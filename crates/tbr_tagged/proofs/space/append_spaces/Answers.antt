@@ -3,7 +3,7 @@ use Rattle.std.specs.Char.{IsScalar}
 use Rattle.std.specs.String.{string_bytes}
 use Rattle.std.proofs.lemmas.Str.{IsUtf8-string_bytes}
 use Rattle.std.proofs.lemmas.List.{replicate_more}
-use Rattle.tbr_tagged.proofs.TextBehind.{chars_push}
+use Rattle.tbr_tagged.proofs.TextAfter.{chars_push}
 use Rattle.tbr_tagged.proofs.space.append_spaces.Goals as goal
 
 space_is_scalar : IsScalar 32

@@ -5,7 +5,7 @@ use Rattle.std.proofs.lemmas.Str.{chars-nil, IsUtf8-string_bytes}
 use Rattle.std.proofs.lemmas.List.{map_push}
 use Rattle.tbr_border.specs.declared.border.cell.BorderSegHoriz.TheVariants.{Horiz}
 use Rattle.tbr_border.specs.Cell.{cell_of, line_above}
-use Rattle.tbr_tagged.proofs.TextBehind.{chars_push}
+use Rattle.tbr_tagged.proofs.TextAfter.{chars_push}
 use Rattle.tbr_tagged.proofs.ElementLoops.{one_more_at}
 use Rattle.tbr_border.proofs.BorderText.{line_above_scalar}
 use Rattle.tbr_border.proofs.border.BorderHoriz.to_vertical_lines_above.Goals as goal

@@ -2,7 +2,7 @@ use Rattle.std.proofs.Common.{◌++◌, ◌∷◌, ap, sym, subst, ◌∙◌}
 use Rattle.tbr_script.proofs.Optional.{if_none_mapped, if_some_mapped}
 use Rattle.tbr_commands.specs.Command.{command_of}
 use Rattle.tbr_commands.specs.Syntax.{IsOfLevels}
-use Rattle.tbr_commands.proofs.Commands.{no_level_argument, behind_it, link_word, append_word, cell_word}
+use Rattle.tbr_commands.proofs.Commands.{no_level_argument, after_it, link_word, append_word, cell_word}
 use Rattle.tbr_commands.proofs.command.Command.of_levels.Goals as goal
 
 pub returns-in_ok-unescape-in-link-clause-none : goal.returns-in_ok-unescape-in-link-clause-none
@@ -25,14 +25,14 @@ returns-in-cell-clause-none c =
 
 pub returns-in_ok-parse-in-append-clause-found : goal.returns-in_ok-parse-in-append-clause-found
 returns-in_ok-parse-in-append-clause-found c =
-    let line = behind_it c.args.line.now c.in-Some-split_once.word c.in-Some-split_once.argument c.in-Some-split_once.ensures.cases ∙ ap (λ w. w ++ 32 ∷ c.in-Some-split_once.argument.now) c.in-append.is in
+    let line = after_it c.args.line.now c.in-Some-split_once.word c.in-Some-split_once.argument c.in-Some-split_once.ensures.cases ∙ ap (λ w. w ++ 32 ∷ c.in-Some-split_once.argument.now) c.in-append.is in
     if_some_mapped _ _ (λ command. IsOfLevels c.args.line.now (command_of command)) c.in_ok-parse-in-append.field-0 c.map-in-append.result c.map-in-append.ensures.cases
     (λ prefixes command is texts. subst (λ found. IsOfLevels c.args.line.now (command_of found)) (sym is) (c.in-Some-split_once.argument.now, line, texts))
     c.in_ok-parse-in-append.ensures.found
 
 pub returns-in-cell-clause-found : goal.returns-in-cell-clause-found
 returns-in-cell-clause-found c =
-    let line = behind_it c.args.line.now c.in-Some-split_once.word c.in-Some-split_once.argument c.in-Some-split_once.ensures.cases ∙ ap (λ w. w ++ 32 ∷ c.in-Some-split_once.argument.now) c.in-cell.is in
+    let line = after_it c.args.line.now c.in-Some-split_once.word c.in-Some-split_once.argument c.in-Some-split_once.ensures.cases ∙ ap (λ w. w ++ 32 ∷ c.in-Some-split_once.argument.now) c.in-cell.is in
     if_some_mapped _ _ (λ command. IsOfLevels c.args.line.now (command_of command)) c.parse-in-cell.result c.map-in-cell.result c.map-in-cell.ensures.cases
     (λ cell command is size. subst (λ found. IsOfLevels c.args.line.now (command_of found)) (sym is) (c.in-Some-split_once.argument.now, line, size))
     c.parse-in-cell.ensures.found

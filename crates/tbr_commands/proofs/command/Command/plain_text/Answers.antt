@@ -9,7 +9,7 @@ use Rattle.tbr_commands.proofs.command.Command.plain_text.Goals as goal
 
 pub returns-in-None : goal.returns-in-None
 returns-in-None c =
-    let behind = strip_prefix_is Decides-eqb c.args.line.now (codes "text ") (Some c.in_ok-writing.writing) c.in_ok-writing.ensures.cases in
+    let after = strip_prefix_is Decides-eqb c.args.line.now (codes "text ") (Some c.in_ok-writing.writing) c.in_ok-writing.ensures.cases in
     subst (λ o. IfSome o (λ s. IsCommand c.args.line.now (ask (text s.now)))) (sym c.ok.ensures.value)
-    (plain_text _ c.args.line.now c.in_ok-writing.writing.now c.from_utf8.result behind
+    (plain_text _ c.args.line.now c.in_ok-writing.writing.now c.from_utf8.result after
     (λ k lt is. c.in-None.ensures k (omega arith) lt (search (rules, tests, is))) c.from_utf8.ensures.cases)

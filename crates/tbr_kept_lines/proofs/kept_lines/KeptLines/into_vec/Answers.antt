@@ -4,7 +4,7 @@ use Rattle.std.proofs.lemmas.Bool.{eqb-true}
 use Rattle.std.proofs.lemmas.List.{nil_from_length}
 use Rattle.tbr_kept_lines.specs.KeptLines.{parts_seen}
 use Rattle.tbr_kept_lines.specs.Line.{line_seen, SameSeen}
-use Rattle.tbr_kept_lines.proofs.KeptParts.{same_lines, lines_behind}
+use Rattle.tbr_kept_lines.proofs.KeptParts.{same_lines, lines_after}
 use Rattle.tbr_kept_lines.proofs.kept_lines.KeptLines.into_vec.Goals as goal
 
 pub returns-then-is_empty-clause-lines : goal.returns-then-is_empty-clause-lines
@@ -21,4 +21,4 @@ returns-clause-lines g c =
     let k = c.self.inside in
     subst (λ ls. AllZip (SameSeen eq) (map line_seen c.append.new.self.items) ls) c.self.view_is
     (subst (λ ls. AllZip (SameSeen eq) (map line_seen ls) (parts_seen k.above.items ++ map line_seen k.last.items)) (sym c.in_ok-append.ensures.items)
-    (lines_behind eq g.met.T.Eq.laws c.in_ok-lines.lines.items k.last.items (parts_seen k.above.items) c.in_ok-lines.ensures.lines))
+    (lines_after eq g.met.T.Eq.laws c.in_ok-lines.lines.items k.last.items (parts_seen k.above.items) c.in_ok-lines.ensures.lines))

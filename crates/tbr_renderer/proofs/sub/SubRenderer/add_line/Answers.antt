@@ -12,7 +12,7 @@ use Rattle.tbr_renderer.specs.Renderer.{Renderer}
 use Rattle.tbr_renderer.specs.View.{names_of}
 use Rattle.tbr_tagged.proofs.MappedTags.{means_same_items}
 use Rattle.tbr_footnotes.proofs.Tags.{tags_mean}
-use Rattle.tbr_renderer.proofs.MeantLines.{line_alone, line_behind}
+use Rattle.tbr_renderer.proofs.MeantLines.{line_alone, line_after}
 use Rattle.tbr_renderer.proofs.sub.SubRenderer.add_line.Goals as goal
 
 pub returns-then-is_empty-clause-line : goal.returns-then-is_empty-clause-line
@@ -32,6 +32,6 @@ returns-clause-line g c =
     let taken = c.take_waiting-waiting.ensures in
     let whole = items_of c.in_ok-whole.whole in
     on_ok_weaker c.add_filled-2.result
-    (line_behind f g.W.CharWidth.columns c.args.self.now c.take_waiting-waiting.new.self c.add_filled-2.new.self es whole (items_of c.args.line) taken.markers taken.names taken.rest
+    (line_after f g.W.CharWidth.columns c.args.self.now c.take_waiting-waiting.new.self c.add_filled-2.new.self es whole (items_of c.args.line) taken.markers taken.names taken.rest
     (means_same_items (tag_meant f) (equal_lists g.D.Annotation.PartialEq.eq) agree whole (items_of es ++ items_of c.args.line) c.in_ok-whole.ensures.items))
     c.add_filled-2.ensures.line

@@ -3,7 +3,7 @@ use Rattle.std.specs.List.{AllZip, AllByRecursion as Each}
 use Rattle.std.specs.Vec.Iter.{into_iter_items}
 use Rattle.tbr_tagged.proofs.Copies.{list_copies_equal}
 use Rattle.tbr_tagged.specs.declared.Error.TheVariants.{TooNarrow}
-use Rattle.tbr_rows.specs.Filled.{cell_behind}
+use Rattle.tbr_rows.specs.Filled.{cell_after}
 use Rattle.tbr_tagged.specs.declared.CellAlign.TheVariants.{Left}
 use Rattle.tbr_rows.specs.Cells.{AreSideBySide}
 use Rattle.tbr_rows.specs.Meant.{map_line as map_row_line}
@@ -70,7 +70,7 @@ loop-col-preserved g c =
           next.0 next.1
           (subst (λ tag. AllZip (FillsCell columns c.unwrap_or-align.result col.width tag) seen (map (map_row_line (tag_meant f)) filled)) c.in_ok-tag.ensures
           (subst (λ (n : ℕ). AllZip (FillsCell columns c.unwrap_or-align.result n (tag_meant f c.in_ok-tag.tag)) seen (map (map_row_line (tag_meant f)) filled)) c.width-width.ensures fills))
-          (c.in_ok-push.ensures.ok.2 ∙ ap (λ n. own ++ cell_behind own n c.in-Some.span filled ∷ []) c.width-width.ensures),
+          (c.in_ok-push.ensures.ok.2 ∙ ap (λ n. own ++ cell_after own n c.in-Some.span filled ∷ []) c.width-width.ensures),
       c.in_ok-push.ensures.side_by_side,
     )
 

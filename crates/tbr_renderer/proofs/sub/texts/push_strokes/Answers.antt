@@ -2,7 +2,7 @@ use Rattle.std.proofs.Common.{rules, chars, ap, sym, ◌∙◌, [], ◌∷◌, �
 use Rattle.std.specs.String.{string_bytes}
 use Rattle.std.proofs.lemmas.Str.{IsUtf8-string_bytes}
 use Rattle.std.proofs.lemmas.List.{replicate_more}
-use Rattle.tbr_tagged.proofs.TextBehind.{chars_push}
+use Rattle.tbr_tagged.proofs.TextAfter.{chars_push}
 use Rattle.tbr_tagged.specs.View.{chars_of}
 use Rattle.tbr_renderer.specs.Renderer.{stroke}
 use Rattle.tbr_renderer.proofs.sub.texts.push_strokes.Goals as goal

@@ -3,7 +3,7 @@ use Rattle.std.proofs.lemmas.Result.{on_ok_weaker}
 use Rattle.std.proofs.lemmas.Str.{IsUtf8-string_bytes}
 use Rattle.std.specs.Prelude.{unwrap_or}
 use Rattle.std.specs.String.{string_bytes}
-use Rattle.tbr_tagged.proofs.TextBehind.{chars_push}
+use Rattle.tbr_tagged.proofs.TextAfter.{chars_push}
 use Rattle.tbr_tagged.specs.View.{chars_of}
 use Rattle.tbr_renderer.proofs.StruckTexts.{unstruck, struck_through}
 use Rattle.tbr_renderer.proofs.sub.texts.push_struck.Goals as goal

@@ -6,7 +6,7 @@ use Rattle.tbr_rows.specs.declared.line_set.LineSet.{LineSet as Cell}
 use Rattle.tbr_rows.specs.declared.fitting.Fitting.TheInside.{Inside}
 use Rattle.tbr_rows.specs.Cells.{AreApart, row_fits, spots_from, stands_first}
 use Rattle.tbr_rows.specs.Fitting.{Fitting, fits_with, waiting_cells}
-use Rattle.tbr_rows.proofs.Fitted.{IsAsked, taken, untaken, next_behind, next_lost}
+use Rattle.tbr_rows.proofs.Fitted.{IsAsked, taken, untaken, next_after, next_lost}
 use Rattle.tbr_rows.proofs.fitting.Fitting.add.Goals as goal
 use Rattle.tbr_rows.proofs.fitting.Fitting.add.Goals.{then-first-self, else-first-self, then-self, else-self, then-first-width, else-first-width}
 
@@ -50,11 +50,11 @@ module _ {A : Type 0} (width : ℕ) (blank : Bool) (i j : Inside A) (f : Fitting
   ends_none : j.first ≡ None → (more : List (ℕ × Bool)) → fits_with (seen j) more ≡ fits_with f ((width, blank) ∷ more)
   ends_none none more = ap (λ o. j.fits && row_fits (waiting_cells o j.rest) (spots_from j.at more)) none ∙ (with_first None none).same more
 
-  ends_behind : (next : Bor (Cell A)) → j.first ≡ Some next → width < next.now.place - j.at →
+  ends_after : (next : Bor (Cell A)) → j.first ≡ Some next → width < next.now.place - j.at →
       (more : List (ℕ × Bool)) → fits_with (seen (record j { at = j.at + (width + 1) })) more ≡ fits_with f ((width, blank) ∷ more)
-  ends_behind next some short more =
+  ends_after next some short more =
       ap (λ o. j.fits && row_fits (waiting_cells o j.rest) (spots_from (j.at + (width + 1)) more)) some
-      ∙ next_behind width blank f next.now j.rest j.at (j.at + (width + 1)) j.fits (with_first (Some next) some) short (omega arith) more
+      ∙ next_after width blank f next.now j.rest j.at (j.at + (width + 1)) j.fits (with_first (Some next) some) short (omega arith) more
 
   ends_lost : (next : Bor (Cell A)) → j.first ≡ Some next → next.now.place - j.at ≤ width → (more : List (ℕ × Bool)) → false ≡ fits_with f ((width, blank) ∷ more)
   ends_lost next some long more = next_lost width blank f next.now j.rest j.at j.fits (with_first (Some next) some) long more
@@ -74,7 +74,7 @@ returns-then-next-self g c =
           w.next-self-inside.ensures.steps w.self-inside-is
       | else-first-self w ↦ after_other c.args.width c.args.is_blank i c.self.invariant j first c.in-Some.is w.if-first-self.false w.self-inside-is
     ] in
-    ends_behind c.args.width c.args.is_blank i j c.args.self.now asked c.self.view_is c.in-Some-first.next c.in-Some-first.is c.if-next-self.true
+    ends_after c.args.width c.args.is_blank i j c.args.self.now asked c.self.view_is c.in-Some-first.next c.in-Some-first.is c.if-next-self.true
 
 pub returns-else-next-self : goal.returns-else-next-self
 returns-else-next-self g c =

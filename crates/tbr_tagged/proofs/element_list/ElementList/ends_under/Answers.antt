@@ -1,6 +1,6 @@
 use Rattle.std.proofs.Common.{refl}
 use Rattle.tbr_tagged.specs.View.{element_of}
-use Rattle.tbr_tagged.proofs.TextBehind.{last_of-map}
+use Rattle.tbr_tagged.proofs.TextAfter.{last_of-map}
 use Rattle.tbr_tagged.proofs.element_list.ElementList.ends_under.Goals as goal
 
 pub returns-in-Listed : goal.returns-in-Listed

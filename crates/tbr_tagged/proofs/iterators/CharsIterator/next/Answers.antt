@@ -4,7 +4,7 @@ use Rattle.std.specs.Char.{IsScalar}
 use Rattle.tbr_tagged.specs.Elements.{characters}
 use Rattle.tbr_tagged.specs.View.{element_of}
 use Rattle.tbr_tagged.specs.Walks.{characters_left, elements_left}
-use Rattle.tbr_tagged.proofs.TextBehind.{chars_none}
+use Rattle.tbr_tagged.proofs.TextAfter.{chars_none}
 use Rattle.tbr_tagged.proofs.LineWalks.{chars_first}
 use Rattle.tbr_tagged.proofs.iterators.CharsIterator.next.Goals as goal
 

@@ -3,7 +3,7 @@ use Rattle.std.specs.String.{string_bytes}
 use Rattle.std.proofs.lemmas.Str.{IsUtf8-string_bytes}
 use Rattle.tbr_tagged.specs.Stored.{stored}
 use Rattle.tbr_tagged.specs.View.{element_of}
-use Rattle.tbr_tagged.proofs.TextBehind.{chars_some}
+use Rattle.tbr_tagged.proofs.TextAfter.{chars_some}
 use Rattle.tbr_tagged.proofs.TextInFront.{items_inserted, merged_inserted}
 use Rattle.tbr_tagged.proofs.tagged_line.TaggedLine.insert_front.Goals as goal
 

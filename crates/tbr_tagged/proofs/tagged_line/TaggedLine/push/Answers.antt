@@ -6,7 +6,7 @@ use Rattle.tbr_tagged.specs.declared.element.TaggedLineElement.TheVariants.{Frag
 use Rattle.tbr_tagged.specs.Elements.{marker_element, element_items, items_of, SameItems, IsMerged}
 use Rattle.tbr_tagged.specs.Stored.{stored}
 use Rattle.tbr_tagged.specs.View.{element_of}
-use Rattle.tbr_tagged.proofs.TextBehind.{merged_element}
+use Rattle.tbr_tagged.proofs.TextAfter.{merged_element}
 use Rattle.tbr_tagged.proofs.SameItems.{element_pushed}
 use Rattle.tbr_tagged.proofs.tagged_line.TaggedLine.push.Goals as goal
 

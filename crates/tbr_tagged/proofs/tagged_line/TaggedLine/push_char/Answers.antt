@@ -4,7 +4,7 @@ use Rattle.tbr_tagged.specs.Elements.{push_text}
 use Rattle.tbr_tagged.specs.Stored.{stored}
 use Rattle.tbr_tagged.specs.View.{element_of}
 use Rattle.tbr_tagged.proofs.SameItems.{push_items}
-use Rattle.tbr_tagged.proofs.TextBehind.{merged_push, same_merged}
+use Rattle.tbr_tagged.proofs.TextAfter.{merged_push, same_merged}
 use Rattle.tbr_tagged.proofs.tagged_line.TaggedLine.push_char.Goals as goal
 
 pub returns-clause-items : goal.returns-clause-items

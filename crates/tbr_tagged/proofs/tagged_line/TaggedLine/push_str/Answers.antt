@@ -5,7 +5,7 @@ use Rattle.std.proofs.lemmas.Result.{on_ok_weaker}
 use Rattle.tbr_tagged.specs.Elements.{push_text, text_items, items_of, IsMerged}
 use Rattle.tbr_tagged.specs.Stored.{stored}
 use Rattle.tbr_tagged.specs.View.{element_of}
-use Rattle.tbr_tagged.proofs.TextBehind.{chars_none, merged_push}
+use Rattle.tbr_tagged.proofs.TextAfter.{chars_none, merged_push}
 use Rattle.tbr_tagged.proofs.SameItems.{items_push, same_from_path}
 use Rattle.tbr_tagged.proofs.tagged_line.TaggedLine.push_str.Goals as goal
 

@@ -16,10 +16,10 @@ invariant_of-self-2 g c = λ live.
     let done = c.in_ok-keep_want.ensures.ok in
     let was = sym done.1 ∙ live in
     let k = c.self.invariant was in
-    let behind = given _ _ _ _ _ k in
+    let after = given _ _ _ _ _ k in
     let limits = c.add_marker-added.ensures.limits in
-    let named = subst (λ n. IsAtProgress columns eq t.wrapper k.before behind (enter columns r.wrapper.lines.width (progress_of columns (block_of columns r)) (marker_entry n))) (ap string_bytes c.with_marker-changes.ensures.name)
-    (rw done.0 at (c.add_marker-added.ensures.added columns k.before behind _ k.stands)) in
+    let named = subst (λ n. IsAtProgress columns eq t.wrapper k.before after (enter columns r.wrapper.lines.width (progress_of columns (block_of columns r)) (marker_entry n))) (ap string_bytes c.with_marker-changes.ensures.name)
+    (rw done.0 at (c.add_marker-added.ensures.added columns k.before after _ k.stands)) in
     subst (HoldsRun columns eq t.wrapper r.begun)
     (sym (led_on columns r t _ limits refl c.with_marker-changes.ensures.changes was live))
     (holds_grown _ _ _ _ _ k t.wrapper (entry (marker_entry name) ∷ []) named)

@@ -4,7 +4,7 @@ use Rattle.std.specs.String.{string_bytes}
 use Rattle.std.proofs.lemmas.Str.{IsUtf8-string_bytes}
 use Rattle.tbr_tagged.specs.View.{chars_of}
 use Rattle.tbr_tagged.specs.Walks.{item_characters}
-use Rattle.tbr_tagged.proofs.TextBehind.{chars_push}
+use Rattle.tbr_tagged.proofs.TextAfter.{chars_push}
 use Rattle.tbr_wrap.specs.EndedLines.{cut}
 use Rattle.tbr_wrap.proofs.lines.CutLines.{none_cut, first_cut}
 use Rattle.tbr_wrap.proofs.ended_lines.EndedLines.append_line.Goals as goal

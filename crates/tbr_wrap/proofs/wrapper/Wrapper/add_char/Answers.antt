@@ -6,7 +6,7 @@ use Rattle.tbr_tagged.specs.declared.error.Error.TheVariants as E
 use Rattle.tbr_model.specs.Run.{is_break}
 use Rattle.tbr_model.specs.Fits.{lines_fit}
 use Rattle.tbr_model.proofs.rule.WiderLines.{unfit_by}
-use Rattle.tbr_model.proofs.rule.DoneLines.{preserve_behind}
+use Rattle.tbr_model.proofs.rule.DoneLines.{preserve_after}
 use Rattle.tbr_wrap.proofs.wrapper.Wrapper.add_char.Goals as goal
 
 pub returns-in-Normal-clause-entered : goal.returns-in-Normal-clause-entered
@@ -34,7 +34,7 @@ returns-in_err-break_word-in-PreWrap-clause-wider g c = λ e before given p s.
     let is : c.break_word.result ≡ Err E.TooNarrow = cc (q.1, q.2, e, c.in_err-break_word-in-PreWrap.was) in
     let k = c.break_word.ensures.wider is before given p s in
     let breaks : is_break c.args.c ≡ true = sym c.is_wordbreak_point.ensures ∙ c.if-is_wordbreak_point.true in
-    (k.0, rw (c.in-PreWrap.is, breaks) (unfit_by columns width (preserve columns width c.args.c c.args.main_tag.now c.args.wrap_tag.now PreWrap) (preserve_behind columns width c.args.c c.args.main_tag.now c.args.wrap_tag.now PreWrap) (break_word columns width p) k.1))
+    (k.0, rw (c.in-PreWrap.is, breaks) (unfit_by columns width (preserve columns width c.args.c c.args.main_tag.now c.args.wrap_tag.now PreWrap) (preserve_after columns width c.args.c c.args.main_tag.now c.args.wrap_tag.now PreWrap) (break_word columns width p) k.1))
 
 pub returns-then-is_wordbreak_point-clause-wider : goal.returns-then-is_wordbreak_point-clause-wider
 returns-then-is_wordbreak_point-clause-wider g c = λ e before given p s.

@@ -4,7 +4,7 @@ use Rattle.tbr_model.specs.Rule.{break_word, collapse}
 use Rattle.tbr_tagged.specs.declared.error.Error.TheVariants as E
 use Rattle.tbr_wrap.proofs.words.ModeCases.{normal_break, normal_kept}
 use Rattle.tbr_model.proofs.rule.WiderLines.{unfit_by}
-use Rattle.tbr_model.proofs.rule.DoneLines.{collapse_behind}
+use Rattle.tbr_model.proofs.rule.DoneLines.{collapse_after}
 use Rattle.tbr_wrap.proofs.wrapper.Wrapper.enter_normal.Goals as goal
 
 pub returns-then-is_wordbreak_point-clause-entered : goal.returns-then-is_wordbreak_point-clause-entered
@@ -26,4 +26,4 @@ returns-in_err-break_word-clause-wider g c = λ a e before given p s.
     let q = err_from_is_err_and c.from_residual.result c.from_residual.ensures.1 in
     let is : c.break_word.result ≡ Err E.TooNarrow = cc (q.1, q.2, e, c.in_err-break_word.was) in
     let k = c.break_word.ensures.wider is before given p s in
-    (k.0, rw (normal_break columns width c.args.c a p (sym c.is_wordbreak_point.ensures ∙ c.if-is_wordbreak_point.true)) (unfit_by columns width (collapse c.args.c a) (collapse_behind c.args.c a) (break_word columns width p) k.1))
+    (k.0, rw (normal_break columns width c.args.c a p (sym c.is_wordbreak_point.ensures ∙ c.if-is_wordbreak_point.true)) (unfit_by columns width (collapse c.args.c a) (collapse_after c.args.c a) (break_word columns width p) k.1))

@@ -19,8 +19,8 @@ returns-then-pending-self-clause-put g c = λ columns a one h before given p s.
     let word = on_ok_weaker c.put_tab.result (λ w. same_items_trans eq laws c.put_tab.new.self.flat.word b.lines.flat.word p.word w s.word) k.word in
     rw test (stands_put columns eq b c.put_tab.new.self before given p (put_tab b.lines.width (p.laid.width + pending_width p.space) a p.laid) c.put_tab.result s put word)
 
-pub put_tab-requires-2-clause-behind : goal.put_tab-requires-2-clause-behind
-put_tab-requires-2-clause-behind g c =
+pub put_tab-requires-2-clause-after : goal.put_tab-requires-2-clause-after
+put_tab-requires-2-clause-after g c =
     let w = c.requires.stands in
     omega (arith, (c.in_ok-end_if_character.ensures.ended w.0 w.1.0 w.1.1 w.1.2.laid w.1.3.lays).1)
 

@@ -4,7 +4,7 @@ use Rattle.tbr_tagged.specs.Elements.{items_of, SameItems}
 use Rattle.tbr_tagged.specs.View.{element_of}
 use Rattle.tbr_tagged.specs.Walks.{elements_to_come}
 use Rattle.tbr_renderer.proofs.Lines.{one_more}
-use Rattle.tbr_renderer.proofs.sub.behind_markers.Goals as goal
+use Rattle.tbr_renderer.proofs.sub.after_markers.Goals as goal
 
 pub loop-marker-preserved : goal.loop-marker-preserved
 loop-marker-preserved g c =

@@ -1,7 +1,7 @@
 use Rattle.std.proofs.Common.{◌++◌, map}
 use Rattle.tbr_tagged.specs.Elements.{items_of, SameItems, IsMerged}
 use Rattle.tbr_tagged.specs.View.{element_of}
-use Rattle.tbr_renderer.proofs.sub.behind_markers.Given as goal
+use Rattle.tbr_renderer.proofs.sub.after_markers.Given as goal
 
 abbrev pub invariant-loop-marker : goal.invariant-loop-marker
 invariant-loop-marker g l = SameItems g.T.PartialEq.eq (items_of l.whole) (items_of (map element_of l.yielded)) × IsMerged g.T.PartialEq.eq l.whole

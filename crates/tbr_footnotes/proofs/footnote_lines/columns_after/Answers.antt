@@ -5,7 +5,7 @@ use Rattle.tbr_model.specs.Width.{width_of_text}
 use Rattle.tbr_tagged.proofs.TextColumns.{width_of_text-append}
 use Rattle.tbr_footnotes.proofs.CutLines.{unbroken_more}
 use Rattle.tbr_footnotes.specs.Footnote.{unbroken}
-use Rattle.tbr_footnotes.proofs.footnote_lines.columns_behind.Goals as goal
+use Rattle.tbr_footnotes.proofs.footnote_lines.columns_after.Goals as goal
 
 pub loop-c-preserved : goal.loop-c-preserved
 loop-c-preserved g c =

@@ -69,9 +69,9 @@ push_extends eq es [] a text under = absurd (omega arith)
 push_extends eq es (c ∷ cs) a text under = rw under refl
 
 -- and where it doesn't
-pub push_behind : {A : Type 0} (eq : A → A → Bool) (es : List (Element A)) (cs : List ℕ) (a : A) → 0 < length cs → is_piece_under eq (last_of es) a ≡ false → push_text eq es cs a ≡ es ++ piece cs a ∷ []
-push_behind eq es [] a text under = absurd (omega arith)
-push_behind eq es (c ∷ cs) a text under = rw under refl
+pub push_after : {A : Type 0} (eq : A → A → Bool) (es : List (Element A)) (cs : List ℕ) (a : A) → 0 < length cs → is_piece_under eq (last_of es) a ≡ false → push_text eq es cs a ≡ es ++ piece cs a ∷ []
+push_after eq es [] a text under = absurd (omega arith)
+push_after eq es (c ∷ cs) a text under = rw under refl
 
 -- ---- pushing keeps pieces the longest stretches
 

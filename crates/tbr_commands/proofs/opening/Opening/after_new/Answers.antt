@@ -1,5 +1,5 @@
 use Rattle.tbr_commands.proofs.OpeningWords.{options_asked}
-use Rattle.tbr_commands.proofs.opening.Opening.behind_new.Goals as goal
+use Rattle.tbr_commands.proofs.opening.Opening.after_new.Goals as goal
 
 pub returns-in_err-options-clause-none : goal.returns-in_err-options-clause-none
 returns-in_err-options-clause-none c =

@@ -1,5 +1,0 @@
-use Rattle.text_block_renderer.proofs.LaidTexts.{appended_behind}
-use Rattle.text_block_renderer.proofs.laws.appended.appended_lines_come_behind_the_others.Goals as goal
-
-pub returns : goal.returns
-returns g c = appended_behind
