@@ -10,3 +10,4 @@ pub mod Tabs
 pub mod Markers
 pub mod WaitingMarkers
 pub mod TerminalColumns
+pub mod Tables

@@ -1,5 +1,6 @@
 -- Rows of cells side by side: what comes into them, and what they add to a renderer.
-use Rattle.std.specs.Prelude.{◌≡◌, ℕ, ◌-◌, Bool, true, not, ◌&&◌, is_none, Option, None, Some, List, [], ◌∷◌, ◌++◌, map, fold}
+use Rattle.std.specs.Prelude.{◌≡◌, ℕ, ◌+◌, ◌-◌, Bool, true, not, ◌&&◌, is_none, Option, None, Some, List, [], ◌∷◌, ◌++◌, map, fold}
+use Rattle.std.specs.Option.{option_map}
 use Rattle.std.specs.List.{AllZip}
 use Rattle.tbr_model.specs.Run.{items_width}
 use Rattle.tbr_wrap.specs.Block.{any_line, has_no_character}
@@ -13,13 +14,16 @@ use Rattle.tbr_border.specs.declared.RenderLine.{RenderLine}
 use Rattle.tbr_border.specs.declared.RenderLine.TheVariants.{Text, Line as Rule}
 use Rattle.tbr_rows.specs.Cells.{AreSideBySide, Spot, spots_from}
 use Rattle.tbr_rows.specs.Meant.{AreLongest, SeenRow, MeansRow}
+use Rattle.tbr_rows.specs.Computed.{longest, row_of}
 use Rattle.tbr_rows.specs.declared.LineSet.{LineSet as Cell}
 use Rattle.tbr_rows.specs.declared.RowStyle.{RowStyle}
 use Rattle.tbr_kept_lines.specs.LastBorder.{last_border, before_border}
 use Rattle.tbr_kept_lines.specs.Line.{Line, text, border}
 use Rattle.tbr_renderer.specs.Renderer.{Open, Renderer, with_line}
 use Rattle.tbr_renderer.specs.Flush.{block_in, after_flush}
-use Rattle.tbr_tagged.specs.Outcome.{done, if_live}
+use Rattle.tbr_tagged.specs.Outcome.{Outcome, done, refused, if_live}
+use Rattle.tbr_tagged.specs.declared.Error.TheVariants as E
+use Rattle.tbr_renderer.specs.Outcomes.{and_then}
 use Rattle.tbr_renderer.specs.Appended.{with_border}
 
 -- ---- renderers with nothing in them
@@ -135,3 +139,41 @@ abbrev pub AppendsRow : {D A : Type 0} → (ℕ → Option ℕ) → Bool → Lis
 AppendsRow {D} {A} columns collapses cells r s =
     (m : Renderer D A (List A)) × (if_live r.failure (after_flush columns r) ≡ done m)
     × PutsRow columns collapses cells m s
+
+-- ---- the same, computed where annotations can be told apart
+
+module _ {A : Type 0} (same : A → A → Bool) (columns : ℕ → Option ℕ) where
+  -- a line of a cell, filled up to its width
+  abbrev pub filled : CellAlign → ℕ → A → Line A → RenderLine A
+  filled align width a (text is) = Text (longest same (aligned_items align is (width - items_width columns is) a))
+  filled align width a (border b) = Rule (with_cells (stretched width b.cells) b)
+
+  -- the cells of a row that come, side by side from a column on
+  abbrev pub cells_from : A → ℕ → List (GivenCell A) → List (Cell A)
+  cells_from a at [] = []
+  cells_from a at (given ∷ more) =
+      let cell : Cell A = record {
+        place = at;
+        width = given.width;
+        span = given.span;
+        lines = map (filled given.align given.width a) given.lines;
+      } in
+      cell ∷ cells_from a (at + given.width + 1) more
+
+-- what a row left, if it had a place
+abbrev pub placed : {S : Type 0} → Option S → Outcome S
+placed None = refused E.TooNarrow
+placed (Some s) = done s
+
+module _ {D A : Type 0} (same : List A → List A → Bool) (columns : ℕ → Option ℕ) (collapses : Bool)
+    (cells : List (GivenCell (List A))) where
+  -- what a row of these cells leaves, and nothing where a cell that overhangs has no place
+  abbrev pub row_put : Renderer D A (List A) → Option (Renderer D A (List A))
+  row_put r =
+      let own = cells_from same columns r.annotations 0 cells in
+      option_map (with_row columns r)
+      (row_of same columns (style_in r collapses) r.annotations r.hanging own (last_border r.lines))
+
+  -- and so after a flush of a renderer that hasn't failed
+  abbrev pub after_row : Renderer D A (List A) → Outcome (Renderer D A (List A))
+  after_row r = and_then (if_live r.failure (after_flush columns r)) (λ m. placed (row_put m))

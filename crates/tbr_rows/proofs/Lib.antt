@@ -14,6 +14,7 @@ pub mod MeantCells
 pub mod MeantTexts
 pub mod MeantRows
 pub mod OneRow
+pub mod ComputedRow
 pub mod Among
 pub mod LinesOfRows
 pub mod ColumnsOfRows

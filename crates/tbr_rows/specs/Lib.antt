@@ -8,3 +8,4 @@ pub mod Fitting
 pub mod Shown
 pub mod Meant
 pub mod CellsShown
+pub mod Computed

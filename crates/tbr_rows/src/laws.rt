@@ -1,5 +1,5 @@
 //! Laws of rows, each as the contract of a function that does nothing.
-ghost use Rattle.std.specs.Prelude.{◌≡◌, ◌≢◌, ℕ, List, [], length, map, is_some, Some, Bool, true, ◌≤◌, ◌++◌, ◌∷◌, Option, flat_map};
+ghost use Rattle.std.specs.Prelude.{◌≡◌, ◌↔◌, ◌≢◌, ℕ, List, [], length, map, is_some, Some, Bool, true, ◌≤◌, ◌++◌, ◌∷◌, Option, flat_map};
 ghost use Rattle.tbr_rows.specs.declared.line_set.LineSet.{LineSet as Cell};
 ghost use Rattle.std.specs.List.{AllZip, AllByRecursion as Each};
 ghost use Rattle.tbr_rows.specs.Shown.{part_of, later_of, Meeting, meeting, met, merged_first, merged_last, parts_of, parts_and_merged, AreItsRows, texts_in, goes_on, TakesCellColumns, LinesFillCell, DrawsInOne, LineFits, TakesColumns};
@@ -9,6 +9,7 @@ ghost use Rattle.tbr_tagged.specs.Mapped.{MeansEqual};
 ghost use Rattle.tbr_rows.specs.declared.row.Row.{Row};
 ghost use Rattle.tbr_rows.specs.declared.row.RowStyle.{RowStyle};
 ghost use Rattle.tbr_rows.specs.Meant.{map_cell, map_border, map_line, row_meant, EqualIfMeant, MeansRow, MeansFilled, SeenRow};
+ghost use Rattle.tbr_rows.specs.Computed.{TellsApart, row_of};
 ghost use Rattle.tbr_rows.specs.Gaps.{cell_in, overhang};
 ghost use Rattle.tbr_rows.specs.Filled.{FillsLine};
 ghost use Rattle.tbr_rows.specs.CellsShown.{MadeRow, StandsAmong, FollowOneAnother, HasFilledCells, IsOfFirst, ShowsTexts};
@@ -147,6 +148,14 @@ pub fn there_is_one_row_by_meaning<T>()
     ensures { (columns : ℕ → Option ℕ) (style : RowStyle) (tag : T) (hanging cells : List (Cell T))
         (top : Option (Border T)) (row other : SeenRow T) → MeansRow columns style tag hanging cells top row →
         MeansRow columns style tag hanging cells top other → row ≡ other }
+{}
+
+/// Where tags can be told apart, the row by what they mean is computed.
+pub fn a_row_is_computed<T>()
+    ensures { (same : T → T → Bool) → TellsApart same → (columns : ℕ → Option ℕ) (style : RowStyle) (tag : T)
+        (hanging cells : List (Cell T)) (top : Option (Border T)) (row : SeenRow T) →
+        MeansRow columns style tag hanging cells top row
+        ↔ (row_of same columns style tag hanging cells top ≡ Some row) }
 {}
 
 /// Over the rows of its span each cell shows its texts once, in order, in its own columns, also in the borders between

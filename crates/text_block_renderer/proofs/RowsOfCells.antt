@@ -174,7 +174,7 @@ module _ {A : Type 0} (columns : ℕ → Option ℕ) (a : A) where
       let lines : c.lines ≡ d.lines = one_each (FillsCell columns given.align given.width a) (one_line columns given.align given.width a) given.lines c.lines d.lines h.2 k.2 in
       λ i. record { place = place i; width = wide i; span = span i; lines = lines i }
 
-  one_own : (at : ℕ) (given : List (GivenCell A)) (cs ds : List (Cell A)) → AllZip (ComesAs columns a) given cs → AllZip (ComesAs columns a) given ds → AreSideBySide at cs → AreSideBySide at ds → cs ≡ ds
+  pub one_own : (at : ℕ) (given : List (GivenCell A)) (cs ds : List (Cell A)) → AllZip (ComesAs columns a) given cs → AllZip (ComesAs columns a) given ds → AreSideBySide at cs → AreSideBySide at ds → cs ≡ ds
   one_own at [] [] [] h k p q = refl
   one_own at [] (c ∷ cs) ds h k p q = absurd h
   one_own at [] [] (d ∷ ds) h k p q = absurd k

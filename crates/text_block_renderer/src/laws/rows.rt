@@ -1,10 +1,12 @@
 //! What follows for rows of cells side by side.
-ghost use Rattle.std.specs.Prelude.{◌≡◌, ℕ, Bool, false, Option, List, ◌++◌};
+ghost use Rattle.std.specs.Prelude.{◌≡◌, ◌↔◌, ℕ, Bool, false, Option, List, ◌++◌};
 ghost use Rattle.tbr_model.specs.Run.{Entry, Item};
 ghost use Rattle.tbr_decor.specs.Decoration.{Decoration};
 ghost use Rattle.tbr_renderer.specs.Renderer.{Renderer, settings_of, IsSound};
 ghost use Rattle.tbr_renderer.specs.Calls.{text_of_lines, Shows};
-ghost use Rattle.tbr_renderer.specs.Rows.{GivenCell, AppendsRow};
+ghost use Rattle.tbr_tagged.specs.Outcome.{done};
+ghost use Rattle.tbr_rows.specs.Computed.{TellsApart};
+ghost use Rattle.tbr_renderer.specs.Rows.{GivenCell, AppendsRow, after_row};
 ghost use Rattle.text_block_renderer.specs.Acts.{Act, ActsBring};
 ghost use Rattle.text_block_renderer.specs.MarkersStand.{Stands, WaitForTextUnderRows};
 
@@ -20,6 +22,13 @@ pub fn a_row_leaves_one_state<D, A>()
     ensures { (columns : ℕ → Option ℕ) (collapses : Bool) (cells : List (GivenCell (List A)))
         (r s t : Renderer D A (List A)) →
         AppendsRow columns collapses cells r s → AppendsRow columns collapses cells r t → t ≡ s }
+{}
+
+/// Where annotations can be told apart, what a row leaves is computed.
+pub fn a_row_is_computed<D, A>()
+    ensures { (same : List A → List A → Bool) → TellsApart same → (columns : ℕ → Option ℕ) (collapses : Bool)
+        (cells : List (GivenCell (List A))) (r s : Renderer D A (List A)) →
+        AppendsRow columns collapses cells r s ↔ (after_row same columns collapses cells r ≡ done s) }
 {}
 
 /// A row changes no settings.

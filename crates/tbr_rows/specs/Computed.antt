@@ -1,0 +1,81 @@
+-- A row by what its tags mean, computed where tags can be told apart.
+use Rattle.std.specs.Prelude.{◌≡◌, ◌↔◌, IsTrue, ℕ, Bool, if◌then◌else◌, Option, None, Some, List, [], ◌∷◌, fold, replicate}
+use Rattle.std.specs.Option.{option_map}
+use Rattle.tbr_model.specs.Run.{Item, glyph, marker}
+use Rattle.tbr_border.specs.declared.render_line.RenderLine.{RenderLine}
+use Rattle.tbr_border.specs.declared.render_line.RenderLine.TheVariants.{Text, Line}
+use Rattle.tbr_border.specs.Cell.{horizontal}
+use Rattle.tbr_border.specs.Border.{Border, without_holes, shown}
+use Rattle.tbr_tagged.specs.Elements.{Element, piece, marker_element}
+use Rattle.tbr_tagged.specs.Padding.{spaces}
+use Rattle.tbr_rows.specs.declared.line_set.LineSet.{LineSet as Cell}
+use Rattle.tbr_rows.specs.declared.column.Column.{Column}
+use Rattle.tbr_rows.specs.declared.row.RowStyle.{RowStyle}
+use Rattle.tbr_rows.specs.Cells.{first_line, row_width, with_hanging}
+use Rattle.tbr_rows.specs.Texts.{row_height, line_texts}
+use Rattle.tbr_rows.specs.Gaps.{has_gap, with_elements, overhang}
+use Rattle.tbr_rows.specs.Rows.{border_above, cells_under, next_under, next_merged, columns_shown, cells_left, separator_in, drawn_in}
+use Rattle.tbr_rows.specs.Meant.{SeenRow}
+
+-- It tells whether two tags are the same.
+abbrev pub TellsApart : {A : Type 0} → (A → A → Bool) → Type 0
+TellsApart {A} same = (a b : A) → IsTrue (same a b) ↔ (a ≡ b)
+
+-- ---- pieces
+
+-- a character before these elements, in the first one if that is a piece under the same tag
+abbrev pub character_before : {A : Type 0} → (A → A → Bool) → ℕ → A → List (Element A) → List (Element A)
+character_before same c a [] = piece (c ∷ []) a ∷ []
+character_before same c a (marker_element name ∷ es) = piece (c ∷ []) a ∷ marker_element name ∷ es
+character_before same c a (piece cs b ∷ es) =
+    if same a b then piece (c ∷ cs) b ∷ es else piece (c ∷ []) a ∷ piece cs b ∷ es
+
+-- items as elements, whose pieces are the longest stretches of characters under one tag
+abbrev pub longest : {A : Type 0} → (A → A → Bool) → List (Item A) → List (Element A)
+longest same [] = []
+longest same (glyph c a ∷ is) = character_before same c a (longest same is)
+longest same (marker name ∷ is) = marker_element name ∷ longest same is
+
+-- ---- the border below
+
+-- the elements of a cell's first line: spaces where there is none
+abbrev pub gap_of : {A : Type 0} → (A → A → Bool) → A → ℕ → Option (RenderLine A) → List (Element A)
+gap_of same a width None = piece (spaces width) a ∷ []
+gap_of same a width (Some (Text es)) = es
+gap_of same a width (Some (Line b)) = longest same (shown b.tag b)
+
+module _ {A : Type 0} (same : A → A → Bool) (columns : ℕ → Option ℕ) (style : RowStyle) (a : A) where
+  -- the border with the first line of a cell, if that spans more rows and borders are drawn
+  abbrev pub with_gap : Border A → Cell A → Border A
+  with_gap b c =
+      if has_gap style.draws_borders c then with_elements columns c.place b (gap_of same a c.width (first_line c.lines))
+      else b
+
+  -- what a row of these cells under a border shows of them, and what they have left then
+  abbrev pub shown_of : Option (Border A) → List (Cell A) → List (Column A)
+  shown_of top cells = columns_shown style.collapses (cells_under style.collapses top cells)
+
+  abbrev pub left_of : Option (Border A) → List (Cell A) → List (Cell A)
+  left_of top cells = cells_left (row_height (shown_of top cells)) (shown_of top cells)
+
+  -- the border below the row
+  abbrev pub border_below : Option (Border A) → List (Cell A) → Border A
+  border_below top cells =
+      let plain : Border A = without_holes (replicate (row_width cells) horizontal) a in
+      let merged = next_merged style.collapses (cells_under style.collapses top cells) (next_under top cells plain) in
+      fold with_gap merged (left_of top cells)
+
+  -- ---- the row
+
+  -- the row of cells that have their places, under a border, if there is one
+  abbrev pub row_under : Option (Border A) → List (Cell A) → SeenRow A
+  row_under top cells = record {
+    above = border_above style.collapses cells top;
+    lines = line_texts (glyph (separator_in style) a) a (shown_of top cells) (row_height (shown_of top cells));
+    next = drawn_in style (border_below top cells);
+    overhang = overhang style.draws_borders (left_of top cells);
+  }
+
+  -- The row of these cells and of those that overhang, and none where one of those has no place.
+  abbrev pub row_of : List (Cell A) → List (Cell A) → Option (Border A) → Option (SeenRow A)
+  row_of hanging own top = option_map (row_under top) (with_hanging 0 hanging own)

@@ -1,0 +1,85 @@
+-- What a row leaves is what is computed, where annotations can be told apart.
+use Rattle.std.proofs.Common.{◌≡◌, ◌↔◌, ℕ, ◌+◌, ◌-◌, Bool, Option, None, Some, List, [], ◌∷◌, map, ap, sym, ◌∙◌, subst, refl}
+use Rattle.std.specs.Option.{option_map}
+use Rattle.std.specs.List.{AllZip}
+use Rattle.std.proofs.lemmas.Option.{same_Some}
+use Rattle.tbr_tagged.specs.declared.CellAlign.{CellAlign}
+use Rattle.tbr_tagged.specs.Padding.{aligned_items}
+use Rattle.tbr_tagged.specs.Outcome.{Outcome, done, if_live}
+use Rattle.tbr_model.specs.Run.{items_width}
+use Rattle.tbr_rows.specs.Cells.{AreSideBySide}
+use Rattle.tbr_rows.specs.Meant.{SeenRow, MeansRow}
+use Rattle.tbr_rows.specs.Computed.{TellsApart, row_of}
+use Rattle.tbr_rows.specs.declared.LineSet.{LineSet as Cell}
+use Rattle.tbr_rows.proofs.ComputedRow.{longest_items, longest_are, computed}
+use Rattle.tbr_kept_lines.specs.Line.{Line, text, border}
+use Rattle.tbr_kept_lines.specs.LastBorder.{last_border}
+use Rattle.tbr_renderer.specs.Renderer.{Renderer}
+use Rattle.tbr_renderer.specs.Flush.{after_flush}
+use Rattle.tbr_renderer.specs.Outcomes.{and_then}
+use Rattle.tbr_renderer.specs.Rows.{GivenCell, FillsCell, ComesAs, style_in, with_row, PutsRow, AppendsRow, filled, cells_from, row_put, placed, after_row}
+use Rattle.tbr_renderer.proofs.OutcomeParts.{one_done, done_first}
+use Rattle.text_block_renderer.proofs.RowsOfCells.{one_own}
+
+-- ---- the cells
+
+module _ {A : Type 0} (same : A → A → Bool) (tells : TellsApart same) (columns : ℕ → Option ℕ) (a : A) where
+  fills : (align : CellAlign) (width : ℕ) (l : Line A) → FillsCell columns align width a l (filled same columns align width a l)
+  fills align width (text is) =
+      let whole = aligned_items align is (width - items_width columns is) a in
+      (longest_items same tells whole, longest_are same tells whole)
+  fills align width (border b) = refl
+
+  all_fill : (align : CellAlign) (width : ℕ) (ls : List (Line A)) → AllZip (FillsCell columns align width a) ls (map (filled same columns align width a) ls)
+  all_fill align width [] = tt
+  all_fill align width (l ∷ ls) = (fills align width l, all_fill align width ls)
+
+  pub cells_come : (at : ℕ) (cells : List (GivenCell A)) → AllZip (ComesAs columns a) cells (cells_from same columns a at cells)
+  cells_come at [] = tt
+  cells_come at (given ∷ more) = ((refl, refl, all_fill given.align given.width given.lines), cells_come (at + given.width + 1) more)
+
+  pub cells_side_by_side : (at : ℕ) (cells : List (GivenCell A)) → AreSideBySide at (cells_from same columns a at cells)
+  cells_side_by_side at [] = tt
+  cells_side_by_side at (given ∷ more) = (refl, cells_side_by_side (at + given.width + 1) more)
+
+-- ---- the row
+
+module _ {D A : Type 0} (same : List A → List A → Bool) (tells : TellsApart same) (columns : ℕ → Option ℕ) (collapses : Bool) (cells : List (GivenCell (List A))) where
+  abbrev own : Renderer D A (List A) → List (Cell (List A))
+  own m = cells_from same columns m.annotations 0 cells
+
+  abbrev Means : Renderer D A (List A) → List (Cell (List A)) → SeenRow (List A) → Type 0
+  Means m cs row = MeansRow columns (style_in m collapses) m.annotations m.hanging cs (last_border m.lines) row
+
+  row_is_put : (m s : Renderer D A (List A)) → PutsRow columns collapses cells m s → row_put same columns collapses cells m ≡ Some s
+  row_is_put m s puts =
+      let come = cells_come same tells columns m.annotations 0 cells in
+      let there : puts.own ≡ own m = one_own columns m.annotations 0 cells puts.own (own m) puts.come come puts.side_by_side (cells_side_by_side same tells columns m.annotations 0 cells) in
+      let means = subst (λ (cs : List (Cell (List A))). Means m cs puts.row) there puts.means in
+      ap (option_map (with_row columns m)) ((computed same tells columns (style_in m collapses) m.annotations m.hanging (own m) (last_border m.lines) puts.row).0 means)
+      ∙ ap (λ (q : Renderer D A (List A)). Some q) (sym puts.is)
+
+  what_is_put : (m s : Renderer D A (List A)) → row_put same columns collapses cells m ≡ Some s → PutsRow columns collapses cells m s
+  what_is_put m s put = go (row_of same columns (style_in m collapses) m.annotations m.hanging (own m) (last_border m.lines)) refl put
+    where
+      go : (o : Option (SeenRow (List A))) → row_of same columns (style_in m collapses) m.annotations m.hanging (own m) (last_border m.lines) ≡ o → option_map (with_row columns m) o ≡ Some s → PutsRow columns collapses cells m s
+      go None is same_state = absurd (let no : ⊥ = cc in no)
+      go (Some row) is same_state = record {
+        own = own m;
+        come = cells_come same tells columns m.annotations 0 cells;
+        side_by_side = cells_side_by_side same tells columns m.annotations 0 cells;
+        row = row;
+        means = (computed same tells columns (style_in m collapses) m.annotations m.hanging (own m) (last_border m.lines) row).1 is;
+        is = sym (same_Some (with_row columns m row) s same_state);
+      }
+
+  if_put : (o : Option (Renderer D A (List A))) (s : Renderer D A (List A)) → placed o ≡ done s → o ≡ Some s
+  if_put None s is = absurd (let no : ⊥ = cc in no)
+  if_put (Some q) s is = ap (λ (x : Renderer D A (List A)). Some x) (sym (one_done q s is))
+
+  pub row_computed : (r s : Renderer D A (List A)) → AppendsRow columns collapses cells r s ↔ (after_row same columns collapses cells r ≡ done s)
+  row_computed r s = (
+    λ h. ap (λ (o : Outcome (Renderer D A (List A))). and_then o (λ m. placed (row_put same columns collapses cells m))) h.1 ∙ ap placed (row_is_put h.0 s h.2),
+    λ is. let (m, flushed, put) = done_first (if_live r.failure (after_flush columns r)) (λ m. placed (row_put same columns collapses cells m)) s is in
+        (m, flushed, what_is_put m s (if_put (row_put same columns collapses cells m) s put)),
+  )
