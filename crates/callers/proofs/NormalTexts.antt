@@ -1,10 +1,8 @@
 -- Runs of texts in `Normal`, for callers.
-use Rattle.std.proofs.Common.{◌≡◌, ℕ, ◌<◌, Bool, false, Option, Some, List, [], ◌∷◌, ◌++◌, refl, ap, sym, ◌∙◌, subst}
+use Rattle.std.proofs.Common.{◌≡◌, ℕ, ◌<◌, Bool, false, Option, Some, List, [], ◌∷◌, refl, sym, subst}
 use Rattle.std.specs.List.{AllZip}
 use Rattle.tbr_model.specs.Run.{Entry, Item}
 use Rattle.tbr_model.specs.declared.white_space.WhiteSpace.TheVariants.{Normal}
-use Rattle.tbr_model.specs.Hard.{HasMode}
-use Rattle.tbr_model.proofs.lists.Each.{each_append}
 use Rattle.tbr_tagged.specs.Elements.{Element}
 use Rattle.tbr_tagged.specs.Outcome.{done}
 use Rattle.tbr_wrap.specs.Wrapped.{HasBestLines, ShowsText}

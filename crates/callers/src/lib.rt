@@ -2,6 +2,7 @@
 #![tactic(auto)]
 
 pub mod best_lines;
+pub mod counter;
 pub mod counting;
 pub mod emphasised;
 pub mod handed_on;
