@@ -8,6 +8,8 @@ import sys
 
 TOP = os.path.dirname(os.path.dirname(os.path.realpath(__file__)))
 RT = shutil.which("rt") or "/opt/rattle/bin/rt"
+# What a check takes of memory, in bytes.
+CHECK_MEMORY = 4_000_000_000
 
 
 @functools.cache

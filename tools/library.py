@@ -7,6 +7,7 @@ import os
 import re
 import shutil
 import subprocess
+from concurrent.futures import ThreadPoolExecutor
 from pathlib import Path
 
 import kit
@@ -47,7 +48,8 @@ def lay_out(prefix, as_built):
     shutil.copy(HEADER, prefix / "include")
     written = PKG_CONFIG.replace("@VERSION@", version())
     (prefix / "lib" / "pkgconfig" / f"{NAME}.pc").write_text(written, encoding="utf-8")
-    proved = [compiled_by_ci(name) if as_built else archive_of(name) for name in CRATES]
+    with ThreadPoolExecutor() as pool:
+        proved = list(pool.map(compiled_by_ci if as_built else archive_of, CRATES))
     archive(proved, prefix / "lib")
     share(proved, prefix / "lib")
 
@@ -61,7 +63,8 @@ def compiled_by_ci(name):
     """The archive of a crate, whose libraries `rt ci` has just proved and built here, but no archive."""
     rtlib, crate, made = kit.library(), kit.crates()[name], archive_of(name)
     made.parent.mkdir(exist_ok=True)
-    words = [*crate.words(["--jobs", "1"], keeps=False), "--toolchain", f"{rtlib.KIT}/toolchain", "-o", str(made)]
+    jobs = max(kit.side_by_side(kit.CHECK_MEMORY) // len(CRATES), 1)
+    words = [*crate.words(["--jobs", str(jobs)], keeps=False), "--toolchain", f"{rtlib.KIT}/toolchain", "-o", str(made)]
     run([rtlib.RATTLE, "build", *words], cwd=crate.folder)
     return made
 
