@@ -1,34 +1,34 @@
 -- What a counter has counted of several others, and of lines.
-use Rattle.std.proofs.Common.{◌≡◌, inl, inr, ℕ, ◌+◌, Bool, true, false, if◌then◌else◌, Option, None, Some, Result, Ok, Err, List, [], ◌∷◌, ◌++◌, map, length, replicate, refl, ap, sym, ◌∙◌, arith}
+use Rattle.std.proofs.Common.{◌≡◌, inl, inr, ℕ, ◌+◌, Bool, true, false, if◌then◌else◌, Option, None, Some, Ok, Err, List, [], ◌∷◌, ◌++◌, map, length, take, replicate, is_some, refl, ap, sym, ◌∙◌, arith}
 use Rattle.std.specs.List.{AllZip, AllByRecursion as Each}
-use Rattle.std.specs.Result.{OnOk, IfErr}
 use Rattle.std.proofs.lemmas.List.{length-replicate, length-map}
 use Rattle.tbr_tagged.specs.Outcome.{done}
 use Rattle.tbr_tagged.specs.declared.CellAlign.{CellAlign}
 use Rattle.tbr_tagged.specs.declared.CellAlign.TheVariants.{Left}
 use Rattle.tbr_tagged.specs.declared.Error.{Error}
-use Rattle.tbr_tagged.specs.declared.Error.TheVariants.{OutOfMemory, TooNarrow}
+use Rattle.tbr_tagged.specs.declared.Error.TheVariants.{OutOfMemory}
 use Rattle.tbr_model.specs.Run.{glyph}
 use Rattle.tbr_model.specs.Codes.{space_character}
-use Rattle.text_block_renderer.specs.Appended.{GivesFirst}
+use Rattle.text_block_renderer.specs.Appended.{GivesFirst, texts_of}
 use Rattle.text_block_renderer.specs.Outcomes.{gathered}
 use Rattle.text_block_renderer.specs.Rows.{GivenCell, GivesCell, align_in}
-use Rattle.text_block_renderer.specs.Calls.{Call, Fails, Answers}
-use Rattle.callers.specs.Counted.{Counted, with_more, sum_of, in_lines, in_row, one_line, failure, handed_out, kept_of, after, calls}
+use Rattle.text_block_renderer.specs.Calls.{Fails}
+use Rattle.callers.specs.Counted.{Counted, with_more, sum_of, in_lines, in_row, one_line, handed_out, kept_of, calls}
 
 -- it hasn't failed
 pub goes_on : (b : Bool) (u : Unit {0}) → Ok u ≡ (if b then Err OutOfMemory else Ok tt) → b ≡ false
 goes_on true u is = absurd (let no : ⊥ = cc in no)
 goes_on false u is = refl
 
--- what one prefix takes of an iterator
-pub one_taken : {S X : Type 0} (gives : S → Option X → S → Type 0) (it next : S) (o : Option X) → gives it o next → (given : List X) × GivesFirst gives 1 it given
-one_taken gives it next None h = ([], (it, refl, inr (omega arith, (next, h))))
-one_taken gives it next (Some x) h = (x ∷ [], (next, (next, h, refl), inl refl))
-
 -- a counter's one line
 pub line_of_all : (c : Counted) → in_lines (one_line c) ≡ c.characters
 line_of_all c = omega (arith, length-replicate {A = _} c.characters (glyph space_character (tt {0})))
+
+-- that line after a prefix of an iterator, which drops it where it has none
+pub one_prefixed : {S X : Type 0} (gives : S → Option X → S → Type 0) (it next : S) (o : Option X) (read : X → List ℕ) (c : Counted) → gives it o next →
+    (given : List X) × (GivesFirst gives 1 it given × (in_lines (take (length (texts_of read given)) (one_line c)) ≡ (if is_some o then c.characters else 0)))
+one_prefixed gives it next None read c h = ([], ((it, refl, inr (omega arith, (next, h))), refl))
+one_prefixed gives it next (Some x) read c h = (x ∷ [], ((next, (next, h, refl), inl refl), line_of_all c))
 
 pub handed : (c : Counted) → c.failed ≡ false → handed_out c ≡ done (one_line c)
 handed c live = rw live refl
@@ -43,40 +43,10 @@ none_failed : (b : Bool) (e : Error) → b ≡ false → (if b then Some OutOfMe
 none_failed true e is was = let no : ⊥ = cc in no
 none_failed false e is was = let no : ⊥ = cc in no
 
--- one that had failed isn't changed by failing
-stays_failed : (c : Counted) (e : Error) → failure c ≡ Some e → (e ≡ OutOfMemory) × (record c { failed = true } ≡ c)
-stays_failed c e was = go c.failed refl was
-  where
-    go : (b : Bool) → c.failed ≡ b → (if b then Some OutOfMemory else None) ≡ Some e → (e ≡ OutOfMemory) × (record c { failed = true } ≡ c)
-    go true is h = ((let same : e ≡ OutOfMemory = cc in same), ap (λ b. record c { failed = b }) (sym is))
-    go false is h = absurd (let no : ⊥ = cc in no)
-
 pub refused_so : {R : Type 0} (e : Error) (first now : Counted) → e ≡ OutOfMemory → first.failed ≡ false → now.failed ≡ true → kept_of now ≡ kept_of first → Fails {R = R} calls first (Err e) now
 refused_so e first now is live failed kept = record {
   refusal = (if_failed now.failed failed ∙ ap (λ (x : Error). Some x) (sym is), λ d was. absurd (none_failed first.failed d live was));
   kept = kept;
-}
-
--- a call that counts so many characters
-pub counted_so : {R : Type 0} (call : Call (Unit {0})) (n : ℕ) (old now : Counted) (result : Result R Error) → after call old ≡ done (with_more n old) →
-    OnOk result ((old.failed ≡ false) × (now ≡ with_more n old)) → IfErr result (λ e. (e ≡ OutOfMemory) × (now ≡ record old { failed = true })) → Answers calls call old result now
-counted_so call n old now (Ok x) makes h k = record {
-  ok = makes ∙ ap (λ (c : Counted). done c) (sym h.1);
-  too_narrow = λ is. absurd (let no : ⊥ = cc in no);
-  two_columns = λ wide is. let no : ⊥ = cc in no;
-  fails = record { refusal = (tt, λ e was. absurd (none_failed old.failed e h.0 was)); kept = tt };
-}
-counted_so call n old now (Err e) makes h k = record {
-  ok = tt;
-  too_narrow = λ is. absurd (let other : e ≡ TooNarrow = cc in let no : OutOfMemory ≡ TooNarrow = sym k.0 ∙ other in let none : ⊥ = cc in none);
-  two_columns = λ wide is. let other : e ≡ TooNarrow = cc in let no : OutOfMemory ≡ TooNarrow = sym k.0 ∙ other in let none : ⊥ = cc in none;
-  fails = record {
-    refusal = (
-      if_failed now.failed (ap (λ (c : Counted). c.failed) k.1) ∙ ap (λ (x : Error). Some x) (sym k.0),
-      λ d was. let (same, stays) = stays_failed old d was in (ap (λ (x : Error). Err x) (k.0 ∙ sym same), k.1 ∙ stays),
-    );
-    kept = ap kept_of k.1;
-  };
 }
 
 -- ---- several counters

@@ -1,5 +1,5 @@
 -- A renderer that counts characters, and shows none.
-use Rattle.std.specs.Prelude.{ℕ, suc, ◌+◌, ◌-◌, Bool, false, if◌then◌else◌, Option, None, Some, List, [], ◌∷◌, length, replicate}
+use Rattle.std.specs.Prelude.{ℕ, suc, ◌+◌, ◌-◌, Bool, false, if◌then◌else◌, Option, None, Some, List, [], ◌∷◌, length, take, replicate}
 use Rattle.tbr_model.specs.Run.{glyph}
 use Rattle.tbr_model.specs.Codes.{space_character}
 use Rattle.tbr_tagged.specs.Outcome.{Outcome, done, if_live}
@@ -66,13 +66,13 @@ kept_of c = record {
   preformatted = c.preformatted;
 }
 
--- Texts, titles of images and the lines of others are counted.
+-- Texts, titles of images and the lines of others are counted, of prefixed ones as many as there are prefixes.
 abbrev pub after : Call (Unit {0}) → Counted → Outcome Counted
 after (add_inline_text cs) c = done (with_more (length cs) c)
 after (add_image source title) c = done (with_more (length title) c)
 after push_preformat c = done (record c { preformatted = suc c.preformatted })
 after pop_preformat c = done (record c { preformatted = c.preformatted - 1 })
-after (append_subrender prefixes lines) c = done (with_more (in_lines lines) c)
+after (append_subrender prefixes lines) c = done (with_more (in_lines (take (length prefixes) lines)) c)
 after (append_vert_row cells) c = done (with_more (sum_of in_lines cells) c)
 after other c = done c
 

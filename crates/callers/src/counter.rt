@@ -98,6 +98,15 @@ impl Counter {
         Ok(())
     }
 
+    /// Counts the characters of a text.
+    fn count_text(&mut self, text: &str) -> Result<(), Error>
+        ensures ok { OnOk result
+            ((self.old.failed ≡ false) × (self.new ≡ with_more (length (chars text.now)) self.old)) }
+        ensures err { IfErr result (λ e. (e ≡ OutOfMemory) × (self.new ≡ record self.old { failed = true })) }
+    {
+        self.count(text.chars().count())
+    }
+
     /// Counts what another one has counted, whose refusal is passed on.
     fn take(&mut self, other: Counter) -> Result<(), Error>
         ensures ok { OnOk result ((self.old.failed ≡ false) × (other.failed ≡ false)
@@ -171,7 +180,7 @@ impl Renderer for Counter {
     fn end_block(&mut self) {}
 
     fn add_inline_text(&mut self, text: &str) -> Result<(), Error> {
-        self.count(text.chars().count())
+        self.count_text(text)
     }
 
     fn push_ws(&mut self, _ws: WhiteSpace) -> Result<(), Error> {
@@ -248,7 +257,7 @@ impl Renderer for Counter {
     }
 
     fn add_image(&mut self, _src: &str, title: &str) -> Result<(), Error> {
-        self.count(title.chars().count())
+        self.count_text(title)
     }
 
     fn add_horizontal_border(&mut self) -> Result<(), Error> {
@@ -261,11 +270,13 @@ impl Renderer for Counter {
 
     fn append_subrender<P: AsStr + Drop, I: Iterator<Item = P>>(
         &mut self,
-        other: Counter,
+        mut other: Counter,
         mut prefixes: I,
     ) -> Result<(), Error> {
-        // Its one line takes one prefix.
-        prefixes.next();
+        // Its one line takes one prefix, and is dropped where there is none.
+        if prefixes.next().is_none() {
+            other.characters = 0;
+        }
         self.take(other)
     }
 
