@@ -1,18 +1,19 @@
 -- What a counter has counted of several others, and of lines.
-use Rattle.std.proofs.Common.{◌≡◌, inl, inr, ℕ, ◌+◌, Bool, true, false, if◌then◌else◌, Option, None, Some, Ok, Err, List, [], ◌∷◌, ◌++◌, map, length, take, replicate, is_some, refl, ap, sym, ◌∙◌, arith}
-use Rattle.std.specs.List.{AllZip, AllByRecursion as Each}
-use Rattle.std.proofs.lemmas.List.{length-replicate, length-map}
-use Rattle.tbr_tagged.specs.Outcome.{done}
+use Rattle.std.proofs.Common.{◌≡◌, inl, inr, ℕ, ◌+◌, Bool, true, false, if◌then◌else◌, Option, None, Some, Result, Ok, Err, List, [], ◌∷◌, ◌++◌, map, length, take, drop, is_some, refl, ap, sym, ◌∙◌, arith}
+use Rattle.std.specs.Prelude.{OnOk, IfErr}
+use Rattle.std.specs.List.{AllByRecursion as Each}
+use Rattle.std.proofs.lemmas.List.{length-replicate}
+use Rattle.tbr_tagged.specs.Outcome.{Outcome, done}
 use Rattle.tbr_tagged.specs.declared.CellAlign.{CellAlign}
-use Rattle.tbr_tagged.specs.declared.CellAlign.TheVariants.{Left}
 use Rattle.tbr_tagged.specs.declared.Error.{Error}
-use Rattle.tbr_tagged.specs.declared.Error.TheVariants.{OutOfMemory}
+use Rattle.tbr_tagged.specs.declared.Error.TheVariants.{OutOfMemory, TooNarrow}
 use Rattle.tbr_model.specs.Run.{glyph}
 use Rattle.tbr_model.specs.Codes.{space_character}
 use Rattle.text_block_renderer.specs.Appended.{GivesFirst, texts_of}
-use Rattle.text_block_renderer.specs.Outcomes.{gathered}
-use Rattle.text_block_renderer.specs.Rows.{GivenCell, GivesCell, align_in}
-use Rattle.text_block_renderer.specs.Calls.{Fails}
+use Rattle.text_block_renderer.specs.Outcomes.{and_then, changed, taking, gathered}
+use Rattle.text_block_renderer.specs.Rows.{GivenCell, next_align, cells_given}
+use Rattle.text_block_renderer.specs.Line.{Line}
+use Rattle.text_block_renderer.specs.Calls.{new_line, Takes}
 use Rattle.callers.specs.Counted.{Counted, with_more, sum_of, in_lines, in_row, one_line, handed_out, kept_of, calls}
 
 -- it hasn't failed
@@ -42,12 +43,6 @@ if_failed false is = absurd (let no : ⊥ = cc in no)
 none_failed : (b : Bool) (e : Error) → b ≡ false → (if b then Some OutOfMemory else None) ≡ Some e → ⊥
 none_failed true e is was = let no : ⊥ = cc in no
 none_failed false e is was = let no : ⊥ = cc in no
-
-pub refused_so : {R : Type 0} (e : Error) (first now : Counted) → e ≡ OutOfMemory → first.failed ≡ false → now.failed ≡ true → kept_of now ≡ kept_of first → Fails {R = R} calls first (Err e) now
-refused_so e first now is live failed kept = record {
-  refusal = (if_failed now.failed failed ∙ ap (λ (x : Error). Some x) (sym is), λ d was. absurd (none_failed first.failed d live was));
-  kept = kept;
-}
 
 -- ---- several counters
 
@@ -93,27 +88,54 @@ module _ {X : Type 0} (of : X → Counted) where
 -- ---- cells of a row
 
 -- a counter with the rows that it spans, as a cell
-cell_of : CellAlign → Counted × ℕ → GivenCell (Unit {0})
-cell_of align x = record { width = x.0.width; span = x.1; align = align; lines = one_line x.0 }
+abbrev cell_of : Counted × ℕ → CellAlign → List (Line (Unit {0})) → GivenCell (Unit {0})
+cell_of x align lines = record { width = x.0.width; span = x.1; align = align; lines = lines }
 
--- such cells, with these alignments, have what the counters have
-abbrev Comes : List (Counted × ℕ) → List CellAlign → List (GivenCell (Unit {0})) → Type 0
-Comes xs aligns cells =
-    AllZip (GivesCell (λ c. c.width) (λ c lines. handed_out c ≡ done lines)) xs cells × (map align_in cells ≡ aligns) × (in_row cells ≡ total (λ (x : Counted × ℕ). x.0) xs)
-
-pub cells_come : (aligns : List CellAlign) (xs : List (Counted × ℕ)) → length aligns ≡ length xs → Each (λ (x : Counted × ℕ). x.0.failed ≡ false) xs → (cells : List (GivenCell (Unit {0}))) × Comes xs aligns cells
-unfolding cell_of
-cells_come [] [] same live = ([], (tt, refl, refl))
-cells_come [] (x ∷ xs) same live = absurd (let no : ⊥ = omega (arith, same) in no)
-cells_come (align ∷ aligns) [] same live = absurd (let no : ⊥ = omega (arith, same) in no)
-cells_come (align ∷ aligns) (x ∷ xs) same live =
-    let (cells, (come, aligned, sum)) = cells_come aligns xs (omega (arith, same)) live.1 in (
-      cell_of align x ∷ cells,
-      (((refl, refl, handed x.0 live.0), come), ap (λ others. align ∷ others) aligned, omega (arith, line_of_all x.0, sum)),
+-- their cells have what the counters have
+pub cells_come : (xs : List (Counted × ℕ)) (aligns : List CellAlign) → Each (λ (x : Counted × ℕ). x.0.failed ≡ false) xs →
+    (cells : List (GivenCell (Unit {0}))) × (cells_given (λ (c : Counted). c.width) handed_out xs aligns ≡ done cells) × (in_row cells ≡ total (λ (x : Counted × ℕ). x.0) xs)
+cells_come [] aligns live = ([], refl, refl)
+cells_come (x ∷ xs) aligns live =
+    let (cells, gives, sum) = cells_come xs (drop 1 aligns) live.1 in
+    let cell = cell_of x (next_align aligns) (one_line x.0) in (
+      cell ∷ cells,
+      ap (λ o. and_then (changed (cell_of x (next_align aligns)) o) (λ y. changed (λ ys. y ∷ ys) (cells_given (λ (c : Counted). c.width) handed_out xs (drop 1 aligns)))) (handed x.0 live.0)
+          ∙ ap (changed (λ ys. cell ∷ ys)) gives,
+      omega (arith, line_of_all x.0, sum),
     )
 
-pub left_cells_come : (xs : List (Counted × ℕ)) → Each (λ (x : Counted × ℕ). x.0.failed ≡ false) xs → (cells : List (GivenCell (Unit {0}))) × Comes xs (replicate (length cells) Left) cells
-left_cells_come xs live =
-    let (cells, (come, aligned, sum)) = cells_come (replicate (length xs) Left) xs (length-replicate (length xs) Left) live in
-    let many : length xs ≡ length cells = sym (length-replicate (length xs) Left) ∙ sym (ap length aligned) ∙ length-map cells align_in in
-    (cells, (come, aligned ∙ ap (λ n. replicate n Left) many, sum))
+-- ---- what takes what others give
+
+was_failed : (b : Bool) (e : Error) → (if b then Some OutOfMemory else None) ≡ Some e → (b ≡ true) × (OutOfMemory ≡ e)
+was_failed true e was = (refl, let same : OutOfMemory ≡ e = cc in same)
+was_failed false e was = absurd (let no : ⊥ = cc in no)
+
+not_narrow : {R : Type 0} (e : Error) → e ≡ OutOfMemory → (let told : Result R Error = Err e in told ≡ Err TooNarrow) → ⊥
+not_narrow e memory is = let no : OutOfMemory ≡ TooNarrow = sym memory ∙ (let same : e ≡ TooNarrow = cc in same) in let none : ⊥ = cc in none
+
+module _ {X : Type 0} (given : Outcome X) where
+  pub takes_given : (count : X → Counted → Outcome Counted) (old new : Counted) (x : X) → given ≡ done x → count x old ≡ done new → taking (calls.after new_line) given count old ≡ done new
+  takes_given count old new x gives is = ap (λ o. and_then o (λ y. count y old)) gives ∙ is
+
+  -- a counter refuses with `OutOfMemory` alone
+  pub takes_so : {R : Type 0} (wide : Type 0) (count : X → Counted → Outcome Counted) (old new : Counted) (result : Result R Error) →
+      OnOk result ((old.failed ≡ false) × (taking (calls.after new_line) given count old ≡ done new)) →
+      IfErr result (λ e. (e ≡ OutOfMemory) × (kept_of new ≡ kept_of old) × (new.failed ≡ true) × (old.failed ≡ true → new ≡ old)) → Takes calls given wide count old result new
+  takes_so wide count old new (Ok r) ok err = record {
+    ok = ok.1;
+    too_narrow = λ is. absurd (let no : ⊥ = cc in no);
+    two_columns = λ broad others is. (let no : ⊥ = cc in no);
+    fails = record { refusal = (tt, λ e was. absurd (none_failed old.failed e ok.0 was)); kept = tt };
+  }
+  takes_so wide count old new (Err e) ok err = record {
+    ok = tt;
+    too_narrow = λ is. absurd (not_narrow e err.0 is);
+    two_columns = λ broad others is. not_narrow e err.0 is;
+    fails = record {
+      refusal = (
+        if_failed new.failed err.2 ∙ ap (λ (x : Error). Some x) (sym err.0),
+        λ d was. let (failed, memory) = was_failed old.failed d was in (ap (λ (x : Error). Err x) (err.0 ∙ memory), err.3 failed),
+      );
+      kept = err.1;
+    };
+  }

@@ -76,5 +76,9 @@ after (append_subrender prefixes lines) c = done (with_more (in_lines (take (len
 after (append_vert_row cells) c = done (with_more (sum_of in_lines cells) c)
 after other c = done c
 
+-- and of rows those of all cells
+abbrev pub after_row : Bool → List (GivenCell (Unit {0})) → Counted → Outcome Counted
+after_row collapses cells c = done (with_more (in_row cells) c)
+
 abbrev pub calls : CallsOf (Unit {0}) Counted Counted
-calls = record { state = λ c. c; after = after; failure = failure; kept_of = kept_of }
+calls = record { state = λ c. c; after = after; after_row = after_row; failure = failure; kept_of = kept_of }

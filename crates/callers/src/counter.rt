@@ -1,14 +1,11 @@
 //! A renderer of one's own, which counts characters and shows none.
-ghost use Rattle.std.specs.Prelude.{◌≡◌, ◌≢◌, ◌<◌, true, false, List, length, map, replicate, Ok, Err, OnOk, IfOk, IfErr, if◌then◌else◌, chars};
-ghost use Rattle.std.specs.List.{AllZip, AllByRecursion as Each};
-ghost use Rattle.tbr_tagged.specs.Outcome.{done};
-ghost use Rattle.tbr_tagged.specs.declared.CellAlign.TheVariants.{Left};
-ghost use Rattle.tbr_tagged.specs.declared.Error.TheVariants.{OutOfMemory, TooNarrow};
-ghost use Rattle.text_block_renderer.specs.Line.{Line};
+ghost use Rattle.std.specs.Prelude.{◌≡◌, ◌<◌, true, false, [], length, Ok, Err, OnOk, IfOk, IfErr, if◌then◌else◌, chars};
+ghost use Rattle.std.specs.List.{AllByRecursion as Each};
+ghost use Rattle.tbr_tagged.specs.declared.Error.TheVariants.{OutOfMemory};
 ghost use Rattle.text_block_renderer.specs.Outcomes.{gathered};
-ghost use Rattle.text_block_renderer.specs.Rows.{GivenCell, GivesCell, align_in};
+ghost use Rattle.text_block_renderer.specs.Rows.{cells_given};
 ghost use Rattle.text_block_renderer.specs.Calls as call;
-ghost use Rattle.text_block_renderer.specs.Calls.{IsWide, TakesNone, Fails};
+ghost use Rattle.text_block_renderer.specs.Calls.{IsWide, Takes};
 ghost use Rattle.callers.specs.Counted as counted;
 ghost use Rattle.callers.specs.Counted.{with_more, nothing_counted};
 
@@ -120,15 +117,29 @@ impl Counter {
     }
 
     /// Counts what these have counted, one after another, up to the first refusal.
-    fn take_all(&mut self, others: Vec<(Counter, usize)>) -> Result<(), Error>
-        ensures ok { OnOk result ((self.old.failed ≡ false) × Each (λ other. other.0.failed ≡ false) others.items
-            × (self.new ≡ with_more (counted.sum_of (λ other. other.0.characters) others.items) self.old)) }
+    fn take_all(&mut self, others: Vec<Counter>) -> Result<(), Error>
+        ensures ok { OnOk result ((self.old.failed ≡ false) × Each (λ other. other.failed ≡ false) others.items
+            × (self.new ≡ with_more (counted.sum_of (λ other. other.characters) others.items) self.old)) }
         ensures err { IfErr result (λ e. (e ≡ OutOfMemory) × (counted.kept_of self.new ≡ counted.kept_of self.old)
             × (self.new.failed ≡ true) × (self.old.failed ≡ true → self.new ≡ self.old)) }
     {
         self.refusal()?;
-        for (other, _) in others {
+        for other in others {
             self.take(other)?;
+        }
+        Ok(())
+    }
+
+    /// Counts what the cells of a row have counted, as `take_all` does.
+    fn take_cells(&mut self, cells: Vec<(Counter, usize)>) -> Result<(), Error>
+        ensures ok { OnOk result ((self.old.failed ≡ false) × Each (λ cell. cell.0.failed ≡ false) cells.items
+            × (self.new ≡ with_more (counted.sum_of (λ cell. cell.0.characters) cells.items) self.old)) }
+        ensures err { IfErr result (λ e. (e ≡ OutOfMemory) × (counted.kept_of self.new ≡ counted.kept_of self.old)
+            × (self.new.failed ≡ true) × (self.old.failed ≡ true → self.new ≡ self.old)) }
+    {
+        self.refusal()?;
+        for (cell, _) in cells {
+            self.take(cell)?;
         }
         Ok(())
     }
@@ -148,8 +159,6 @@ impl Renderer for Counter {
     ghost handed_out = { counted.handed_out };
 
     ghost has_places_for = { λ _ _. Unit {0} };
-
-    ghost appends_row = { λ _ cells c d. d ≡ with_more (counted.in_row cells) c };
 
     ghost prefix_text = { λ _ _. [] };
 
@@ -281,60 +290,39 @@ impl Renderer for Counter {
     }
 
     fn append_vert_row(&mut self, cols: Vec<Counter>) -> Result<(), Error>
-        ensures ok { OnOk result ((cells : List (List (Line (Unit {0}))))
-            × (gathered counted.handed_out cols.items ≡ done cells)
-            × (counted.after (call.append_vert_row cells) self.old ≡ done self.new)) }
-        ensures too_narrow { result ≡ Err TooNarrow →
-            TakesNone counted.calls (gathered counted.handed_out cols.items) self.old }
-        ensures two_columns { IsWide counted.calls self.old → Each (IsWide counted.calls) cols.items →
-            result ≢ Err TooNarrow }
-        ensures fails { Fails counted.calls self.old result self.new }
+        ensures takes { Takes counted.calls (gathered counted.handed_out cols.items)
+            (Each (IsWide counted.calls) cols.items) (λ cells. counted.after (call.append_vert_row cells))
+            self.old result self.new }
     {
-        self.refusal()?;
-        for col in cols {
-            self.take(col)?;
-        }
-        Ok(())
+        self.take_all(cols)
     }
 
     fn append_columns_aligned(
         &mut self,
         cols: Vec<(Counter, usize)>,
         aligns: &[CellAlign],
-        _collapse: bool,
+        collapse: bool,
     ) -> Result<(), Error>
         requires spans { Each (λ col. 0 < col.1) cols.items }
         requires aligns { length aligns.now ≡ length cols.items }
-        ensures ok { OnOk result ((cells : List (GivenCell (Unit {0})))
-            × AllZip (GivesCell (λ c. c.width) (λ c lines. counted.handed_out c ≡ done lines)) cols.items cells
-            × (map align_in cells ≡ aligns.now)
-            × (self.new ≡ with_more (counted.in_row cells) self.old)) }
-        ensures too_narrow { result ≡ Err TooNarrow →
-            TakesNone counted.calls (gathered (λ col. counted.handed_out col.0) cols.items) self.old }
-        ensures two_columns { IsWide counted.calls self.old → Each (λ col. IsWide counted.calls col.0) cols.items →
-            result ≢ Err TooNarrow }
-        ensures fails { Fails counted.calls self.old result self.new }
+        ensures takes { Takes counted.calls (cells_given (λ c. c.width) counted.handed_out cols.items aligns.now)
+            (Each (λ col. IsWide counted.calls col.0) cols.items) (counted.after_row collapse)
+            self.old result self.new }
     {
-        self.take_all(cols)
+        self.take_cells(cols)
     }
 
     fn append_columns_with_borders(
         &mut self,
         cols: Vec<(Counter, usize)>,
-        _collapse: bool,
+        collapse: bool,
     ) -> Result<(), Error>
         requires spans { Each (λ col. 0 < col.1) cols.items }
-        ensures ok { OnOk result ((cells : List (GivenCell (Unit {0})))
-            × AllZip (GivesCell (λ c. c.width) (λ c lines. counted.handed_out c ≡ done lines)) cols.items cells
-            × (map align_in cells ≡ replicate (length cells) Left)
-            × (self.new ≡ with_more (counted.in_row cells) self.old)) }
-        ensures too_narrow { result ≡ Err TooNarrow →
-            TakesNone counted.calls (gathered (λ col. counted.handed_out col.0) cols.items) self.old }
-        ensures two_columns { IsWide counted.calls self.old → Each (λ col. IsWide counted.calls col.0) cols.items →
-            result ≢ Err TooNarrow }
-        ensures fails { Fails counted.calls self.old result self.new }
+        ensures takes { Takes counted.calls (cells_given (λ c. c.width) counted.handed_out cols.items [])
+            (Each (λ col. IsWide counted.calls col.0) cols.items) (counted.after_row collapse)
+            self.old result self.new }
     {
-        self.take_all(cols)
+        self.take_cells(cols)
     }
 
     fn push_colour(&mut self, _colour: Colour) -> Result<(), Error> {

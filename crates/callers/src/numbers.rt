@@ -1,5 +1,5 @@
 //! The number of each link as its annotation.
-ghost use Rattle.std.specs.Prelude.{◌+◌, None, false, []};
+ghost use Rattle.std.specs.Prelude.{◌+◌, ◌==◌, None, false, []};
 ghost use Rattle.std.proofs.Common.{rules};
 ghost use Rattle.std.proofs.lemmas.Bool.{eqb-true, eq-eqb};
 ghost use Rattle.tbr_decor.specs.Start as start;
@@ -26,6 +26,10 @@ impl TextDecorator for NumberDecorator {
     ghost Meaning = { ℕ };
 
     ghost meaning = { λ number. number };
+
+    ghost same = { λ m n. m == n };
+
+    ghost tells = { λ m n. (eqb-true m n, eq-eqb m n) };
 
     ghost start_text = { λ _. trivial.start_text };
 

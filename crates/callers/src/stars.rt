@@ -1,5 +1,5 @@
 //! Stars round emphasised text, and nothing else of its own.
-ghost use Rattle.std.specs.Prelude.{None, false, [], codes, refl};
+ghost use Rattle.std.specs.Prelude.{None, true, false, [], codes, refl};
 ghost use Rattle.std.proofs.Common.{rules};
 ghost use Rattle.tbr_decor.specs.Start as start;
 ghost use Rattle.tbr_decor.specs.End as end;
@@ -19,6 +19,10 @@ impl TextDecorator for StarDecorator {
     ghost Meaning = { Unit {0} };
 
     ghost meaning = { λ a. a };
+
+    ghost same = { λ _ _. true };
+
+    ghost tells = { usual.all_same };
 
     ghost start_text = { λ _. elim [
       | start.emphasis ↦ codes "*"

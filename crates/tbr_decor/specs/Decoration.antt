@@ -1,5 +1,5 @@
 -- A decorator by what its calls give: texts and annotations by its state, and the state that a call leaves.
-use Rattle.std.specs.Prelude.{ℕ, Bool, List, Option}
+use Rattle.std.specs.Prelude.{◌≡◌, ◌↔◌, IsTrue, ℕ, Bool, List, Option}
 use Rattle.tbr_tagged.specs.Elements.{Element}
 use Rattle.tbr_decor.specs.declared.colour.Colour.{Colour}
 use Rattle.tbr_decor.specs.Start.{Start}
@@ -9,8 +9,10 @@ use Rattle.tbr_decor.specs.Ground.{Ground}
 use Rattle.tbr_decor.specs.Change.{Change}
 use Rattle.tbr_decor.specs.declared.decorator.TextDecorator.{Ghosts}
 
--- `D` is the state, and an annotation means an `M`.
+-- `D` is the state, an annotation means an `M`, and `same` tells whether two are one.
 pub record Decoration (D M : Type 0) : Type 0 where
+  pub same : M → M → Bool
+  pub tells : (a b : M) → IsTrue (same a b) ↔ (a ≡ b)
   pub start_text : D → Start → List ℕ
   pub annotation : D → Start → M
   pub end_text : D → End → List ℕ
@@ -25,6 +27,8 @@ pub record Decoration (D M : Type 0) : Type 0 where
 -- what a decorator says of its own calls
 abbrev pub decoration_of : {D A : Type 0} → (decorator : Ghosts D A) → Decoration D decorator.Meaning
 decoration_of decorator = record {
+  same = decorator.same;
+  tells = decorator.tells;
   start_text = decorator.start_text;
   annotation = decorator.annotation;
   end_text = decorator.end_text;

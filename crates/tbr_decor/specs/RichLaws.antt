@@ -1,8 +1,9 @@
 -- Rich annotations are equal exactly where they mean the same, and copies are equal.
-use Rattle.std.specs.Prelude.{◌≡◌, ℕ, Bool, true, false, ◌&&◌, ◌==◌, nat_eq, List, String, chars, string_bytes, IsTrue, ◌↔◌, refl}
+use Rattle.std.specs.Prelude.{◌≡◌, ℕ, Bool, true, false, ◌&&◌, ◌==◌, nat_eq, List, [], String, chars, string_bytes, IsTrue, ◌↔◌, refl}
 use Rattle.std.proofs.Common.{sym, ap, ◌∙◌, subst}
 use Rattle.std.proofs.lemmas.Bool.{eqb-true, eq-eqb, false≢true}
 use Rattle.std.specs.Cmp.Lexicographic.{pointwise, same_text}
+use Rattle.std.proofs.lemmas.Cmp.{nat_list_eq_equiv}
 use Rattle.std.proofs.Math.Bool.{beq}
 use Rattle.std.specs.String.{string_eq, string_eq_equiv}
 use Rattle.std.proofs.lemmas.Str.{encodes-chars, IsUtf8-string_bytes}
@@ -14,7 +15,7 @@ use Rattle.tbr_decor.specs.declared.annotation.RichAnnotation.TheVariants as ric
 use Rattle.tbr_decor.specs.contracts.colour.ColourPartialEq.TheImpl as colour
 use Rattle.tbr_decor.specs.declared.colour.Colour.{Colour}
 use Rattle.tbr_decor.specs.Style as style
-use Rattle.tbr_decor.specs.Style.{Style, style_of}
+use Rattle.tbr_decor.specs.Style.{Style, style_of, one_colour, same_style}
 
 same_characters : {Z : Type 0} (s t : String Z) → IsTrue (string_eq s t) → chars (string_bytes s) ≡ chars (string_bytes t)
 same_characters s t h = ap chars (same_text (string_bytes s) (string_bytes t) (sym h))
@@ -94,6 +95,51 @@ equal_by_style (rich.BgColour x) (rich.BgColour y) = (
   λ h. let e : x ≡ y = cc in subst (λ (c : Colour). IsTrue (colour.ghosts.eq x c)) e (equal_colour x),
 )
 equal_by_style a b = (λ h. absurd (false≢true h), λ e. absurd (of_one_kind (style_of a) (style_of b) refl e))
+
+texts_apart : (s t : List ℕ) → IsTrue (pointwise nat_eq s t) ↔ (s ≡ t)
+texts_apart s t = (λ h. same_text s t (sym h), λ e. subst (λ (u : List ℕ). pointwise nat_eq s u ≡ true) e (nat_list_eq_equiv.refl s))
+
+-- where what a style is made of is told apart, styles of one kind are
+parts_apart : {X : Type 0} (make : X → Style) (part : Style → X) → ((x : X) → part (make x) ≡ x) → (same : X → X → Bool) → ((x y : X) → IsTrue (same x y) ↔ (x ≡ y)) → (x y : X) → IsTrue (same x y) ↔ (make x ≡ make y)
+parts_apart make part is same apart x y = (
+  λ h. ap make ((apart x y).0 h),
+  λ e. (apart x y).1 (sym (is x) ∙ ap part e ∙ is y),
+)
+
+flags_apart : (x y : Bool) → IsTrue (beq x y) ↔ (x ≡ y)
+flags_apart x y = (same_flag x y, λ e. subst (λ (b : Bool). IsTrue (beq x b)) e (equal_flag x))
+
+colours_apart : (x y : Colour) → IsTrue (one_colour x y) ↔ (x ≡ y)
+colours_apart x y = (same_colour x y, λ e. subst (λ (c : Colour). IsTrue (one_colour x c)) e (equal_colour x))
+
+-- what these are made of, and anything for other styles
+text_in : Style → List ℕ
+text_in (style.link target) = target
+text_in (style.image source) = source
+text_in s = []
+
+flag_in : Style → Bool
+flag_in (style.preformatted continued) = continued
+flag_in s = false
+
+colour_in : Style → Colour
+colour_in (style.colour c) = c
+colour_in (style.background c) = c
+colour_in s = record { r = 0; g = 0; b = 0 }
+
+pub styles_apart : (s t : Style) → IsTrue (same_style s t) ↔ (s ≡ t)
+unfolding kind text_in flag_in colour_in
+styles_apart style.plain style.plain = (λ _. refl, λ _. refl)
+styles_apart (style.link s) (style.link t) = parts_apart style.link text_in (λ _. refl) (pointwise nat_eq) texts_apart s t
+styles_apart (style.image s) (style.image t) = parts_apart style.image text_in (λ _. refl) (pointwise nat_eq) texts_apart s t
+styles_apart style.emphasis style.emphasis = (λ _. refl, λ _. refl)
+styles_apart style.strong style.strong = (λ _. refl, λ _. refl)
+styles_apart style.strikeout style.strikeout = (λ _. refl, λ _. refl)
+styles_apart style.code style.code = (λ _. refl, λ _. refl)
+styles_apart (style.preformatted x) (style.preformatted y) = parts_apart style.preformatted flag_in (λ _. refl) beq flags_apart x y
+styles_apart (style.colour x) (style.colour y) = parts_apart style.colour colour_in (λ _. refl) one_colour colours_apart x y
+styles_apart (style.background x) (style.background y) = parts_apart style.background colour_in (λ _. refl) one_colour colours_apart x y
+styles_apart s t = (λ h. absurd (false≢true h), λ e. absurd (of_one_kind s t refl e))
 
 pub copies_equal : (a b : RichAnnotation) → copy.ghosts.is_clone a b → annotation.ghosts.eq a b ≡ true
 copies_equal rich.Default rich.Default h = refl

@@ -1,5 +1,5 @@
 -- What a decorator answers that has no answer of its own.
-use Rattle.std.specs.Prelude.{◌≡◌, ℕ, ◌+◌, List, [], ◌∷◌, ◌++◌, codes}
+use Rattle.std.specs.Prelude.{◌≡◌, ◌↔◌, IsTrue, true, refl, ℕ, ◌+◌, List, [], ◌∷◌, ◌++◌, codes}
 use Rattle.std.specs.Fmt.{decimal}
 use Rattle.tbr_tagged.specs.Elements.{Element, piece}
 
@@ -41,3 +41,7 @@ AreFootnotesFrom IsKind k (target ∷ targets) [] = ⊥
 -- a line for each target, the numbers counting from 1
 abbrev pub AreFootnotes : {A : Type 0} → (A → Type 0) → List (List ℕ) → List (List (Element A)) → Type 0
 AreFootnotes IsKind targets lines = AreFootnotesFrom IsKind 1 targets lines
+
+-- where nothing is annotated all mean the same
+pub all_same : (a b : Unit {0}) → IsTrue true ↔ (a ≡ b)
+all_same a b = (λ _. refl, λ _. refl)

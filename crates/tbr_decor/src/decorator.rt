@@ -24,8 +24,8 @@ use tbr_tagged::{OutOfMemory, TaggedLine};
 /// as it was.
 ///
 /// Ghost members say what a decorator means: its texts as characters, its annotations by what they mean. Code over any
-/// decorator is proved from these alone. Two annotations are equal exactly where they mean the same, and a copy of an
-/// annotation equals it. A call that may change the decorator leaves what `after` says. A decorator that holds a
+/// decorator is proved from these alone. Two annotations are equal exactly where they mean the same, `same` tells
+/// whether they do, and a copy of an annotation equals it. A call that may change the decorator leaves what `after` says. A decorator that holds a
 /// collection has an `impl Model`, so that this is a value.
 ///
 /// No call has a body of its own here, since a body in a trait is proved for every decorator, whatever its members say.
@@ -35,10 +35,14 @@ pub trait TextDecorator: Drop {
     /// What a stretch of text can be annotated with.
     type Annotation: Eq + Debug + Clone + Default + Drop;
 
-    // What an annotation means.
+    // What an annotation means, and whether two mean the same.
     ghost Meaning: { Type 0 };
 
     ghost meaning: { Self.Annotation → Self.Meaning };
+
+    ghost same: { Self.Meaning → Self.Meaning → Bool };
+
+    ghost tells: { (a b : Self.Meaning) → IsTrue (same a b) ↔ (a ≡ b) };
 
     // The text and the annotation of what is opened, and the text of what is closed.
     ghost start_text: { Self → start.Start → List ℕ };

@@ -1,5 +1,5 @@
 //! Plain text.
-ghost use Rattle.std.specs.Prelude.{None, false, refl};
+ghost use Rattle.std.specs.Prelude.{None, true, false, refl};
 ghost use Rattle.std.proofs.Common.{rules};
 ghost use Rattle.tbr_decor.specs.Plain as plain;
 ghost use Rattle.tbr_decor.specs.Usual as usual;
@@ -27,6 +27,10 @@ impl TextDecorator for PlainDecorator {
     ghost Meaning = { Unit {0} };
 
     ghost meaning = { λ a. a };
+
+    ghost same = { λ _ _. true };
+
+    ghost tells = { usual.all_same };
 
     ghost start_text = { λ _. plain.start_text };
 

@@ -4,8 +4,8 @@ ghost use Rattle.tbr_decor.specs.Plain as plain;
 ghost use Rattle.tbr_decor.specs.Trivial as trivial;
 ghost use Rattle.tbr_decor.specs.Rich as rich;
 ghost use Rattle.tbr_decor.specs.Style as style;
-ghost use Rattle.tbr_decor.specs.Style.{Style, style_of};
-ghost use Rattle.tbr_decor.specs.RichLaws.{equal_by_style, copies_equal};
+ghost use Rattle.tbr_decor.specs.Style.{Style, style_of, same_style};
+ghost use Rattle.tbr_decor.specs.RichLaws.{equal_by_style, styles_apart, copies_equal};
 ghost use Rattle.tbr_decor.specs.Usual as usual;
 
 use crate::annotation::RichAnnotation;
@@ -33,6 +33,10 @@ impl TextDecorator for RichDecorator {
     ghost Meaning = { Style };
 
     ghost meaning = { style_of };
+
+    ghost same = { same_style };
+
+    ghost tells = { styles_apart };
 
     ghost start_text = { λ _. trivial.start_text };
 

@@ -1,5 +1,5 @@
 //! Text alone.
-ghost use Rattle.std.specs.Prelude.{None, false, [], refl};
+ghost use Rattle.std.specs.Prelude.{None, true, false, [], refl};
 ghost use Rattle.std.proofs.Common.{rules};
 ghost use Rattle.tbr_decor.specs.Trivial as trivial;
 ghost use Rattle.tbr_decor.specs.Usual as usual;
@@ -28,6 +28,10 @@ impl TextDecorator for TrivialDecorator {
     ghost Meaning = { Unit {0} };
 
     ghost meaning = { λ a. a };
+
+    ghost same = { λ _ _. true };
+
+    ghost tells = { usual.all_same };
 
     ghost start_text = { λ _. trivial.start_text };
 

@@ -2,6 +2,10 @@
 use Rattle.std.proofs.Common.{◌≡◌, ◌<◌, ℕ, zero, suc, ◌-◌, ◌==◌, Bool, true, false, Option, None, Some, List, refl, ap, sym, ◌∙◌, subst, arith, chars}
 use Rattle.std.proofs.lemmas.Bool.{false≢true}
 use Rattle.std.specs.Global.{Vec}
+use Rattle.std.specs.Cmp.Lexicographic.{pointwise}
+use Rattle.tbr_tagged.specs.Outcome.{Outcome, done}
+use Rattle.tbr_renderer.specs.Outcomes.{taking}
+use Rattle.tbr_renderer.proofs.OutcomeParts.{taken}
 use Rattle.tbr_decor.specs.Ground as ground
 use Rattle.tbr_decor.specs.Ground.{Ground}
 use Rattle.tbr_decor.specs.declared.colour.Colour.{Colour}
@@ -12,17 +16,17 @@ use Rattle.text_block_renderer.specs.Image.{shown_title}
 use Rattle.text_block_renderer.specs.Decorated.{coloured, uncoloured}
 use Rattle.text_block_renderer.specs.Settings.{settled, settled_by_image}
 use Rattle.text_block_renderer.specs.Meant.{meant}
-use Rattle.text_block_renderer.specs.Calls.{Call, start_strikeout, end_strikeout, add_image, push_colour, pop_colour, Does}
+use Rattle.text_block_renderer.specs.Calls.{Call, new_line, start_strikeout, end_strikeout, add_image, push_colour, pop_colour, after, Does}
 use Rattle.text_block_renderer.proofs.Settings.{preformats_after, call_beside, call_changes}
-use Rattle.text_block_renderer.proofs.RowsOfCells.{settings_stay, failure_stays}
-use Rattle.text_block_renderer.specs.Rows.{GivenCell, AppendsRow}
+use Rattle.text_block_renderer.proofs.RowsOfCells.{row_laid, settings_stay, failure_stays}
+use Rattle.text_block_renderer.specs.Rows.{GivenCell, after_row}
 use Rattle.tbr_commands.specs.declared.begun.Begun.{Begun}
-use Rattle.tbr_commands.specs.declared.request.layout.Layout.TheVariants.{StartBlock, EndBlock, StartTable, NewLine, HardNewLine, EmptyLine}
+use Rattle.tbr_commands.specs.declared.request.layout.Layout.TheVariants.{StartBlock}
 use Rattle.tbr_commands.specs.declared.request.beginning.Beginning.{Beginning}
 use Rattle.tbr_commands.specs.declared.request.beginning.Beginning.TheVariants as beginning
 use Rattle.tbr_commands.specs.declared.request.kind.Kind.{Kind}
 use Rattle.tbr_commands.specs.declared.request.kind.Kind.TheVariants as kind
-use Rattle.tbr_commands.specs.Request.{Request, layout, begin, end, text, fragment, image, colour, border, call_of}
+use Rattle.tbr_commands.specs.Request.{Request, layout, begin, end, text, image, colour, border, call_of}
 use Rattle.tbr_commands.specs.Begun.{ends_nothing, counted}
 use Rattle.tbr_program.specs.Progress.{IsLive}
 
@@ -160,11 +164,14 @@ steady_live columns decoration meaning call r s begun strikes counts live does =
     uncounted_live columns decoration call (meant meaning r) (meant meaning s) begun strikes counts live does
 
 -- a row of cells side by side
-pub row_live : {D A M : Type 0} (columns : ℕ → Option ℕ) (meaning : A → M) (collapse : Bool) (cells : List (GivenCell (List M))) (r s : Renderer D A (Vec A)) (begun : Begun) →
-    IsLive r begun → AppendsRow columns collapse cells (meant meaning r) (meant meaning s) → IsLive s begun
-row_live {D} {A} {M} columns meaning collapse cells r s begun live appends =
-    let same : settings_of (meant meaning s) ≡ settings_of (meant meaning r) = settings_stay columns collapse cells (meant meaning r) (meant meaning s) appends in (
-      failure_stays columns collapse cells (meant meaning r) (meant meaning s) appends ∙ live.0,
+pub row_live : {D A M : Type 0} (columns : ℕ → Option ℕ) (decoration : Decoration D M) (meaning : A → M) (collapse : Bool) (given : Outcome (List (GivenCell (List M)))) (r s : Renderer D A (Vec A)) (begun : Begun) →
+    IsLive r begun → taking (after columns decoration new_line) given (after_row (pointwise decoration.same) columns collapse) (meant meaning r) ≡ done (meant meaning s) → IsLive s begun
+row_live {D} {A} {M} columns decoration meaning collapse given r s begun live takes =
+    let row = after_row (pointwise decoration.same) columns collapse in
+    let (m, cells, flushed, gives, does) = taken (after columns decoration new_line) given row (meant meaning r) (meant meaning s) takes in
+    let lays = row_laid (pointwise decoration.same) columns collapse cells (meant meaning r) (meant meaning s) does in
+    let same : settings_of (meant meaning s) ≡ settings_of (meant meaning r) = settings_stay columns (meant meaning r) (meant meaning s) lays in (
+      failure_stays columns (meant meaning r) (meant meaning s) lays ∙ live.0,
       ap (λ (x : Settings D M). x.kept.preformatted) same ∙ live.1,
       λ on. ap (λ (x : Settings D M). x.kept.strikeouts) same ∙ live.2 (sym (ap (λ (x : Settings D M). x.kept.options.use_unicode_strikeout) same) ∙ on),
     )

@@ -1,7 +1,7 @@
 -- Rows of the cells that wait, by what annotations mean.
-use Rattle.std.proofs.Common.{◌≡◌, ℕ, Bool, true, false, Option, Some, List, [], ◌∷◌, map, refl, ap, sym, ◌∙◌, subst, inl, inr}
+use Rattle.std.proofs.Common.{◌≡◌, ℕ, Bool, true, false, Option, Some, List, [], ◌∷◌, map, drop, refl, ap, sym, ◌∙◌, subst, inl, inr}
 use Rattle.std.specs.Global.{Vec}
-use Rattle.std.specs.List.{AllZip}
+use Rattle.std.specs.Cmp.Lexicographic.{pointwise}
 use Rattle.tbr_tagged.specs.declared.CellAlign.{CellAlign}
 use Rattle.tbr_rows.specs.Cells.{row_fits, spots_from}
 use Rattle.tbr_rows.specs.Meant.{map_cell}
@@ -12,17 +12,17 @@ use Rattle.text_block_renderer.specs.Renderer.{Renderer}
 use Rattle.text_block_renderer.specs.Tags.{tag_meant}
 use Rattle.text_block_renderer.specs.Meant.{meant}
 use Rattle.tbr_tagged.specs.Outcome.{Outcome, done}
-use Rattle.tbr_renderer.specs.Outcomes.{and_then, changed, gathered}
-use Rattle.text_block_renderer.specs.Line.{Line}
+use Rattle.tbr_renderer.specs.Outcomes.{and_then, changed, taking}
+use Rattle.text_block_renderer.specs.Calls.{new_line, after}
 use Rattle.text_block_renderer.specs.Appended.{handed_out}
-use Rattle.text_block_renderer.specs.Rows.{looks, spots_of, GivenCell, align_in, GivesCell, AppendsRow}
+use Rattle.text_block_renderer.specs.Rows.{looks, spots_of, GivenCell, next_align, cell_given, cells_given, cells_meant, after_row}
 use Rattle.tbr_script.specs.declared.error.RunError.TheVariants.{TooNarrow, RowDoesNotFit}
 use Rattle.tbr_stack.specs.Stack.{top_of, with_top}
 use Rattle.tbr_stack.specs.Top.{OfTop, stack_meant}
 use Rattle.tbr_program.specs.Progress.{Pending, Progress, cell_meant, pending_meant, progress_meant}
-use Rattle.tbr_program.specs.Meaning.{renderers_of, without_cells, CellsFit, TakesNone, CellsAreTooNarrow, RowDoes, RowRefuses}
+use Rattle.tbr_program.specs.Meaning.{without_cells, CellsFit, TakesNone, cells_waiting, row_made, RowDoes, RowRefuses}
 use Rattle.tbr_program.proofs.MeantCommands.{top_is_meant}
-use Rattle.tbr_stack.proofs.Tops.{changes}
+use Rattle.tbr_stack.proofs.Tops.{done_in}
 
 pub same_some : {X : Type 0} {x y : X} → Some x ≡ Some y → x ≡ y
 same_some e = cc e
@@ -46,18 +46,10 @@ module _ {D A M : Type 0} (meaning : A → M) (columns : ℕ → Option ℕ) whe
 
   -- ---- what comes into the row
 
-  abbrev Comes : Renderer D A (Vec A) × ℕ → GivenCell (List M) → Type 0
-  Comes = GivesCell (λ r. r.width) (λ r lines. handed_out columns (meant meaning r) ≡ done lines)
-
-  come_meant : (cols : List (Renderer D A (Vec A) × ℕ)) (cells : List (GivenCell (List M))) → AllZip Comes cols cells → AllZip (GivesCell (λ r. r.width) (λ r lines. handed_out columns r ≡ done lines)) (map (cell_meant meaning) cols) cells
-  come_meant [] [] h = tt
-  come_meant [] (c ∷ cells) h = absurd h
-  come_meant (col ∷ cols) [] h = absurd h
-  come_meant (col ∷ cols) (c ∷ cells) h = (h.0, come_meant cols cells h.1)
-
-  given_meant : (cols : List (Renderer D A (Vec A) × ℕ)) → gathered (λ col. handed_out columns (meant meaning col.0)) cols ≡ gathered (handed_out columns) (renderers_of (map (cell_meant meaning) cols))
-  given_meant [] = refl
-  given_meant (col ∷ cols) = ap (λ o. and_then (handed_out columns (meant meaning col.0)) (λ z. changed (λ zs. z ∷ zs) o)) (given_meant cols)
+  waiting_meant : (cols : List (Renderer D A (Vec A) × ℕ)) (aligns : List CellAlign) → cells_meant columns meaning cols aligns ≡ cells_given (λ r. r.width) (handed_out columns) (map (cell_meant meaning) cols) aligns
+  waiting_meant [] aligns = refl
+  waiting_meant (col ∷ cols) aligns =
+      ap (λ o. and_then (cell_given (λ r. r.width) (handed_out columns) (cell_meant meaning col) (next_align aligns)) (λ x. changed (λ xs. x ∷ xs) o)) (waiting_meant cols (drop 1 aligns))
 
   -- ---- the row
 
@@ -72,25 +64,30 @@ module _ {D A M : Type 0} (meaning : A → M) (columns : ℕ → Option ℕ) whe
     row_unfit decoration number is =
         subst (λ (q : Progress D A (Vec A)). RowRefuses columns decoration (progress_meant meaning q) number (RowDoesNotFit number)) same (inl (fit false is, refl))
 
-    pub row_refused : (decoration : Decoration D M) (number : ℕ) → row_fits top.hanging (spots_of columns cols) ≡ true →
-        TakesNone columns decoration (gathered (λ col. handed_out columns (meant meaning col.0)) cols) (meant meaning top) → RowRefuses columns decoration (progress_meant meaning p) number TooNarrow
-    row_refused decoration number is h =
-        let given = given_meant cols ∙ ap (λ (cs : List (Renderer D A (Vec A) × ℕ)). gathered (handed_out columns) (renderers_of (map (cell_meant meaning) cs))) are in
-        let here = top_is_meant meaning (TakesNone columns decoration (gathered (λ col. handed_out columns (meant meaning col.0)) cols)) i.stack top is_top h in
-        let narrow : CellsAreTooNarrow columns decoration (progress_meant meaning i) = subst (λ (o : Outcome (List (List (Line (List M))))). OfTop (TakesNone columns decoration o) (stack_meant meaning i.stack)) given here in
-        subst (λ (q : Progress D A (Vec A)). RowRefuses columns decoration (progress_meant meaning q) number TooNarrow) same (inr (fit true is, narrow, refl))
+    -- the cells that wait
+    module _ (decoration : Decoration D M) (aligns : List CellAlign) (these : aligns ≡ i.pending.aligns) (fits : row_fits top.hanging (spots_of columns cols) ≡ true) where
+      abbrev waiting : Outcome (List (GivenCell (List M)))
+      waiting = cells_waiting columns decoration (pending_meant meaning i.pending)
 
-    pub row_done : (decoration : Decoration D M) (collapse : Bool) (aligns : List CellAlign) (s : Renderer D A (Vec A)) (pending : Pending D A (Vec A)) →
-        row_fits top.hanging (spots_of columns cols) ≡ true → aligns ≡ i.pending.aligns → pending ≡ without_cells i.pending →
-        ((cells : List (GivenCell (List M))) × AllZip Comes cols cells × (map align_in cells ≡ aligns) × AppendsRow columns collapse cells (meant meaning top) (meant meaning s)) →
-        RowDoes columns decoration (progress_meant meaning p) collapse (progress_meant meaning (record { stack = with_top i.stack s; pending = pending; opened = i.opened }))
-    row_done decoration collapse aligns s pending is these taken h =
-        subst (λ (q : Progress D A (Vec A)). RowDoes columns decoration (progress_meant meaning q) collapse (progress_meant meaning (record { stack = with_top i.stack s; pending = pending; opened = i.opened }))) same (record {
-          fits = fit true is;
-          cells = h.0;
-          come = subst (λ (cs : List (Renderer D A (Vec A) × ℕ)). AllZip (GivesCell (λ r. r.width) (λ r lines. handed_out columns r ≡ done lines)) (map (cell_meant meaning) cs) h.0) are (come_meant cols h.0 h.1);
-          aligned = h.2 ∙ these;
-          does = changes meaning (AppendsRow columns collapse h.0) i.stack top s is_top h.3;
-          pending = ap (pending_meant meaning) taken;
-          opened = refl;
-        })
+      waiting_is : cells_meant columns meaning cols aligns ≡ waiting
+      waiting_is = waiting_meant cols aligns ∙ (λ j. cells_given (λ r. r.width) (handed_out columns) (map (cell_meant meaning) (are j)) (these j))
+
+      pub row_refused : (number : ℕ) → TakesNone columns decoration (cells_meant columns meaning cols aligns) (meant meaning top) → RowRefuses columns decoration (progress_meant meaning p) number TooNarrow
+      row_refused number h =
+          let here : TakesNone columns decoration waiting (meant meaning top) = subst (λ (o : Outcome (List (GivenCell (List M)))). TakesNone columns decoration o (meant meaning top)) waiting_is h in
+          let narrow = top_is_meant meaning (TakesNone columns decoration waiting) i.stack top is_top here in
+          subst (λ (q : Progress D A (Vec A)). RowRefuses columns decoration (progress_meant meaning q) number TooNarrow) same (inr (fit true fits, narrow, refl))
+
+      pub row_done : (collapse : Bool) (s : Renderer D A (Vec A)) (pending : Pending D A (Vec A)) → pending ≡ without_cells i.pending →
+          taking (after columns decoration new_line) (cells_meant columns meaning cols aligns) (after_row (pointwise decoration.same) columns collapse) (meant meaning top) ≡ done (meant meaning s) →
+          RowDoes columns decoration (progress_meant meaning p) collapse (progress_meant meaning (record { stack = with_top i.stack s; pending = pending; opened = i.opened }))
+      row_done collapse s pending taken h =
+          let made = row_made columns decoration (pending_meant meaning i.pending) collapse in
+          let here : made (meant meaning top) ≡ done (meant meaning s) =
+          ap (λ (o : Outcome (List (GivenCell (List M)))). taking (after columns decoration new_line) o (after_row (pointwise decoration.same) columns collapse) (meant meaning top)) (sym waiting_is) ∙ h in
+          subst (λ (q : Progress D A (Vec A)). RowDoes columns decoration (progress_meant meaning q) collapse (progress_meant meaning (record { stack = with_top i.stack s; pending = pending; opened = i.opened }))) same (record {
+            fits = fit true fits;
+            does = done_in meaning made i.stack top s is_top here;
+            pending = ap (pending_meant meaning) taken;
+            opened = refl;
+          })

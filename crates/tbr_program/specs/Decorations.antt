@@ -6,7 +6,8 @@ use Rattle.tbr_decor.specs.Trivial as trivial
 use Rattle.tbr_decor.specs.Rich as rich
 use Rattle.tbr_decor.specs.Style as style
 use Rattle.tbr_decor.specs.Usual as usual
-use Rattle.tbr_decor.specs.Style.{Style}
+use Rattle.tbr_decor.specs.Style.{Style, same_style}
+use Rattle.tbr_decor.specs.RichLaws.{styles_apart}
 use Rattle.tbr_decor.specs.declared.PlainDecorator.{PlainDecorator}
 use Rattle.tbr_decor.specs.declared.TrivialDecorator.{TrivialDecorator}
 use Rattle.tbr_decor.specs.declared.RichDecorator.{RichDecorator}
@@ -14,6 +15,8 @@ use Rattle.tbr_decor.specs.declared.RichDecorator.{RichDecorator}
 -- texts by characters, and no annotations
 abbrev pub plain_decoration : Decoration PlainDecorator (Unit {0})
 plain_decoration = record {
+  same = λ _ _. true;
+  tells = usual.all_same;
   start_text = λ _. plain.start_text;
   annotation = λ _ _. tt;
   end_text = λ _. plain.end_text;
@@ -29,6 +32,8 @@ plain_decoration = record {
 -- no texts but those of superscripts and images, and no annotations
 abbrev pub trivial_decoration : Decoration TrivialDecorator (Unit {0})
 trivial_decoration = record {
+  same = λ _ _. true;
+  tells = usual.all_same;
   start_text = λ _. trivial.start_text;
   annotation = λ _ _. tt;
   end_text = λ _. trivial.end_text;
@@ -44,6 +49,8 @@ trivial_decoration = record {
 -- the same texts, and annotations
 abbrev pub rich_decoration : Decoration RichDecorator Style
 rich_decoration = record {
+  same = same_style;
+  tells = styles_apart;
   start_text = λ _. trivial.start_text;
   annotation = λ _. rich.annotation;
   end_text = λ _. trivial.end_text;

@@ -1,6 +1,6 @@
 -- The meaning of a script's commands, one by one: where each leads, and with what it is refused.
 use Rattle.std.specs.Prelude.{◌≡◌, ◌≢◌, ℕ, ◌⊎◌, Bool, true, false, Option, None, Some, Result, MatchResult, List, [], ◌∷◌, ◌++◌, map, length, chars}
-use Rattle.std.specs.List.{AllZip}
+use Rattle.std.specs.Cmp.Lexicographic.{pointwise}
 use Rattle.tbr_tagged.specs.declared.CellAlign.{CellAlign}
 use Rattle.tbr_rows.specs.Cells.{row_fits}
 use Rattle.tbr_decor.specs.Decoration.{Decoration}
@@ -9,14 +9,14 @@ use Rattle.text_block_renderer.specs.Line.{Line}
 use Rattle.text_block_renderer.specs.Decorated.{sub_renderer}
 use Rattle.tbr_tagged.specs.Outcome.{Outcome, done, refused}
 use Rattle.tbr_tagged.specs.declared.Error.TheVariants as E
-use Rattle.tbr_renderer.specs.Outcomes.{and_then, gathered}
+use Rattle.tbr_renderer.specs.Outcomes.{and_then, taking, gathered}
 use Rattle.text_block_renderer.specs.Appended.{handed_out}
 use Rattle.text_block_renderer.specs.Calls.{new_line, append_subrender, append_vert_row, after}
-use Rattle.text_block_renderer.specs.Rows.{spots_of, GivenCell, align_in, GivesCell, AppendsRow}
+use Rattle.text_block_renderer.specs.Rows.{spots_of, GivenCell, cells_given, after_row}
 use Rattle.tbr_script.specs.declared.error.RunError.{RunError}
 use Rattle.tbr_script.specs.declared.error.RunError.TheVariants.{TooNarrow, NotACommand, NothingToEnd, RowDoesNotFit}
 use Rattle.tbr_stack.specs.Stack.{new_stack, top_of, pushed, below}
-use Rattle.tbr_stack.specs.Top.{in_top, ChangesTop, OfTop}
+use Rattle.tbr_stack.specs.Top.{in_top, OfTop}
 use Rattle.tbr_stack.specs.Links.{open_links, after_link_start, after_link_end}
 use Rattle.tbr_commands.specs.declared.opening.Opening.{Opening}
 use Rattle.tbr_commands.specs.Request.{Request, call_of}
@@ -137,13 +137,20 @@ module _ {D M : Type 0} (columns : ℕ → Option ℕ) (decoration : Decoration 
     pub pending : next.pending ≡ without_cells p.pending
     pub opened : next.opened ≡ p.opened
 
+  -- the waiting cells as they come into a row
+  abbrev pub cells_waiting : Pending D M (List M) → Outcome (List (GivenCell (List M)))
+  cells_waiting pending = cells_given (λ r. r.width) (handed_out columns) pending.cells pending.aligns
+
+  -- what a row of the waiting cells makes of a renderer
+  abbrev pub row_made : Pending D M (List M) → Bool → Renderer D M (List M) → Outcome (Renderer D M (List M))
+  row_made pending collapse =
+      let row = after_row (pointwise decoration.same) columns collapse in
+      taking (after columns decoration new_line) (cells_waiting pending) row
+
   -- The waiting cells fit as a row and are added side by side, and none waits any more.
   pub record RowDoes (p : Progress D M (List M)) (collapse : Bool) (next : Progress D M (List M)) : Type 0 where
     pub fits : OfTop (CellsFit columns p.pending.cells true) p.stack
-    pub cells : List (GivenCell (List M))
-    pub come : AllZip (GivesCell (λ r. r.width) (λ r lines. handed_out columns r ≡ done lines)) p.pending.cells cells
-    pub aligned : map align_in cells ≡ p.pending.aligns
-    pub does : ChangesTop (AppendsRow columns collapse cells) p.stack next.stack
+    pub does : in_top (row_made p.pending collapse) p.stack ≡ done next.stack
     pub pending : next.pending ≡ without_cells p.pending
     pub opened : next.opened ≡ p.opened
 
@@ -185,18 +192,16 @@ module _ {D M : Type 0} (columns : ℕ → Option ℕ) (decoration : Decoration 
       × OfTop (TakesNone (handed_out columns inside)) closed.stack × (e ≡ TooNarrow))
 
   -- The renderer on top is too narrow, or one of the cells.
-  abbrev pub CellsAreTooNarrow : Progress D M (List M) → Type 0
-  CellsAreTooNarrow p = OfTop (TakesNone (gathered (handed_out columns) (renderers_of p.pending.cells))) p.stack
-
-  -- Something is too narrow where the waiting cells are taken.
   abbrev pub VerticalRowRefuses : Progress D M (List M) → RunError → Type 0
-  VerticalRowRefuses p e = CellsAreTooNarrow p × (e ≡ TooNarrow)
+  VerticalRowRefuses p e =
+      OfTop (TakesNone (gathered (handed_out columns) (renderers_of p.pending.cells))) p.stack × (e ≡ TooNarrow)
 
-  -- The waiting cells don't fit as a row, or they do and something is too narrow.
+  -- The waiting cells don't fit as a row, or they do and the renderer on top is too narrow, or one of the cells.
   abbrev pub RowRefuses : Progress D M (List M) → ℕ → RunError → Type 0
   RowRefuses p number e =
       (OfTop (CellsFit columns p.pending.cells false) p.stack × (e ≡ RowDoesNotFit number))
-      ⊎ (OfTop (CellsFit columns p.pending.cells true) p.stack × CellsAreTooNarrow p × (e ≡ TooNarrow))
+      ⊎ (OfTop (CellsFit columns p.pending.cells true) p.stack
+      × OfTop (TakesNone (cells_waiting columns decoration p.pending)) p.stack × (e ≡ TooNarrow))
 
   -- It ends nothing, or the renderer on top is too narrow.
   abbrev pub RequestRefuses : Progress D M (List M) → ℕ → Request → RunError → Type 0

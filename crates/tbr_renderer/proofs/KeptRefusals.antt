@@ -10,8 +10,8 @@ use Rattle.tbr_tagged.proofs.Outcomes.{live_goes}
 use Rattle.tbr_decor.specs.Decoration.{Decoration}
 use Rattle.tbr_renderer.specs.Meant.{meant}
 use Rattle.tbr_renderer.specs.Renderer.{Renderer, kept_of, block_columns, block_width}
-use Rattle.tbr_renderer.specs.Outcomes.{Tries}
-use Rattle.tbr_renderer.specs.Calls.{Call, made, CallsOf, calls_by, failure_in, kept_in, Answers, Fails}
+use Rattle.tbr_renderer.specs.Outcomes.{and_then, taking, Tries}
+use Rattle.tbr_renderer.specs.Calls.{Call, new_line, made, CallsOf, calls_by, failure_in, kept_in, Takes, Answers, Fails}
 
 pub on_err : {X E P : Type 0} (r : Result X E) → P → OnErr r P
 on_err (Ok x) p = tt
@@ -52,6 +52,33 @@ module _ {T S V R : Type 0} (calls : CallsOf T S V) where
       made_ok : (t : Result R Error) → OnOk t (outcome ≡ done (calls.state mid)) → OnOk t (calls.after call (calls.state old) ≡ done (calls.state mid))
       made_ok (Ok x) e = makes ∙ e
       made_ok (Err x) e = tt
+
+  -- and that takes what others give
+  module _ {X : Type 0} (given : Outcome X) (wide : Type 0) (take : X → V → Outcome V) where
+    pub takes_of : (flushed outcome : Outcome V) (old mid new : S) (result tried : Result R Error) →
+        calls.after new_line (calls.state old) ≡ flushed → and_then flushed (λ _. and_then given (λ x. take x (calls.state old))) ≡ outcome →
+        failure_in calls old ≡ None → result ≡ tried → OnOk result (new ≡ mid) → IfErr result (λ e. (failure_in calls new ≡ Some e) × (kept_in calls new ≡ kept_in calls mid)) →
+        OnOk tried (outcome ≡ done (calls.state mid)) → (tried ≡ Err E.TooNarrow → and_then flushed (λ _. given) ≡ refused E.TooNarrow) → (2 ≤ block_columns (kept_in calls old) → wide → tried ≢ Err E.TooNarrow) → OnErr tried (kept_in calls mid ≡ kept_in calls old) →
+        Takes calls given wide take old result new
+    takes_of flushed outcome old mid new result tried flush makes live same is failed ok narrow two stay = record {
+      ok = kept_ok (λ s. taking (calls.after new_line) given take (calls.state old) ≡ done (calls.state s)) result tried mid new same is (made_ok tried ok);
+      too_narrow = λ e. ap (λ o. and_then o (λ _. given)) flush ∙ narrow (sym same ∙ e);
+      two_columns = λ broad others e. two broad.1 others (sym same ∙ e);
+      fails = kept_fails old mid new result live failed (subst (λ r. OnErr r (kept_in calls mid ≡ kept_in calls old)) (sym same) stay);
+    }
+      where
+        made_ok : (t : Result R Error) → OnOk t (outcome ≡ done (calls.state mid)) → OnOk t (taking (calls.after new_line) given take (calls.state old) ≡ done (calls.state mid))
+        made_ok (Ok x) e = ap (λ o. and_then o (λ _. and_then given (λ x. take x (calls.state old)))) flush ∙ makes ∙ e
+        made_ok (Err x) e = tt
+
+    pub refused_takes : (old : S) (e : Error) (result : Result R Error) → calls.after new_line (calls.state old) ≡ refused e → failure_in calls old ≡ Some e → IsErrAnd result (λ x. x ≡ e) → Takes calls given wide take old result old
+    refused_takes old e (Ok x) flush was same = absurd same
+    refused_takes old e (Err x) flush was same = record {
+      ok = tt;
+      too_narrow = λ is. ap (λ o. and_then o (λ _. given)) flush ∙ ap (λ d. refused d) (sym same ∙ (let told : x ≡ E.TooNarrow = cc is in told));
+      two_columns = λ broad others is. (let no : Some e ≡ None = sym was ∙ broad.0 in cc);
+      fails = refused_fails old e (Err x) was same;
+    }
 
 module _ {D A M : Type 0} (f : A → M) (columns : ℕ → Option ℕ) (decoration : Decoration D M) where
   pub kept_answers : {R : Type 0} (call : Call (List M)) (old mid new : Renderer D A (Vec A)) (result tried : Result R Error) →

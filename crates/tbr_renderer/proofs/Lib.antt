@@ -20,3 +20,5 @@ pub mod MeantRows
 pub mod StruckTexts
 pub mod JoinedTexts
 pub mod SettingsStay
+pub mod GivenCells
+pub mod ComputedRows

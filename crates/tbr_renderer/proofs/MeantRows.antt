@@ -1,7 +1,6 @@
 -- Rows under what their annotations mean.
 use Rattle.std.proofs.Common.{◌≡◌, ℕ, ◌+◌, zero, suc, ◌-◌, ◌<◌, ◌↔◌, IsTrue, Bool, true, if◌then◌else◌, is_some, is_none, Option, None, Some, unwrap_or, List, [], ◌∷◌, ◌++◌, map, fold, take, drop, length, get_or, refl, ap, sym, ◌∙◌, subst, arith}
 use Rattle.std.specs.Borrow.{Bor}
-use Rattle.std.specs.Prelude.{replicate}
 use Rattle.std.specs.Option.{MatchOption, option_copied, option_map}
 use Rattle.std.specs.Global.{Vec}
 use Rattle.std.specs.Vec.{vec_items}
@@ -39,7 +38,8 @@ use Rattle.tbr_tagged.specs.Outcome.{done}
 use Rattle.tbr_renderer.specs.Flush.{after_flush}
 use Rattle.tbr_renderer.specs.Appended.{handed_out}
 use Rattle.tbr_renderer.proofs.FlushedBlocks.{flush_keeps}
-use Rattle.tbr_renderer.specs.Rows.{is_blank, looks, spots_of, LeavesFree, GivenCell, align_in, GivesCell, FillsCell, ComesAs, aligned_as, border_lines, style_in, with_next, with_row_after, with_row}
+use Rattle.tbr_renderer.specs.Rows.{is_blank, looks, spots_of, LeavesFree, GivenCell, FillsCell, ComesAs, next_align, cells_meant, border_lines, style_in, with_next, with_row_after, with_row}
+use Rattle.tbr_renderer.proofs.GivenCells.{given_last}
 use Rattle.tbr_renderer.proofs.BlankRenderers.{blank_hands_none, blank_meant}
 
 -- ---- lists of annotations that mean the same are equal
@@ -216,36 +216,17 @@ zip_after R [] (z ∷ ys) x y h r = absurd h
 zip_after R (z ∷ xs) [] x y h r = absurd h
 zip_after R (z ∷ xs) (w ∷ ys) x y h r = (h.0, zip_after R xs ys x y h.1 r)
 
--- the next alignment, or the left
-abbrev pub next_align : List CellAlign → CellAlign
-next_align [] = Left
-next_align (align ∷ aligns) = align
-
-aligned_more : {X : Type 0} (aligns : List CellAlign) (xs : List X) (x : X) → aligned_as aligns (xs ++ x ∷ []) ≡ aligned_as aligns xs ++ next_align (drop (length xs) aligns) ∷ []
-aligned_more [] [] x = refl
-aligned_more (a ∷ more) [] x = refl
-aligned_more [] (y ∷ xs) x = ap (λ bs. Left ∷ bs) (aligned_more [] xs x ∙ ap (λ bs. aligned_as [] xs ++ next_align bs ∷ []) (none_dropped (length xs)))
-  where
-    none_dropped : (n : ℕ) → drop {A = CellAlign} n [] ≡ []
-    none_dropped zero = refl
-    none_dropped (suc n) = refl
-aligned_more (a ∷ more) (y ∷ xs) x = ap (λ bs. a ∷ bs) (aligned_more more xs x)
-
-abbrev pub Gives : {D A M : Type 0} → (A → M) → (ℕ → Option ℕ) → Renderer D A (Vec A) × ℕ → GivenCell (List M) → Type 0
-Gives {D} {A} {M} f columns col cell = GivesCell (λ (r : Renderer D A (Vec A)). r.width) (λ (r : Renderer D A (Vec A)) lines. handed_out columns (meant f r) ≡ done lines) col cell
-
 module _ {D A M : Type 0} (f : A → M) (columns : ℕ → Option ℕ) (aligns : List CellAlign) (tag : List M) where
   -- the cells of some renderers, and the alignments that are left
   pub record HasColumns (cols : List (Renderer D A (Vec A) × ℕ)) (own : List (Cell (Vec A))) (left : List CellAlign) : Type 0 where
     pub cells : List (GivenCell (List M))
-    pub give : AllZip (Gives f columns) cols cells
-    pub aligned : map align_in cells ≡ aligned_as aligns cols
+    pub given : cells_meant columns f cols aligns ≡ done cells
     pub left_is : left ≡ drop (length cols) aligns
     pub come : AllZip (ComesAs columns tag) cells (map (map_cell (tag_meant f)) own)
     pub free : AllZip (LeavesFree columns) cols own
 
   pub no_columns : HasColumns [] [] aligns
-  no_columns = record { cells = []; give = tt; aligned = refl; left_is = refl; come = tt; free = tt }
+  no_columns = record { cells = []; given = refl; left_is = refl; come = tt; free = tt }
 
   pub columns_go_on : (cols : List (Renderer D A (Vec A) × ℕ)) (own next : List (Cell (Vec A))) (left rest : List CellAlign) (col : Renderer D A (Vec A)) (span : ℕ) (align : CellAlign) (seen : List (Line (List M))) (filled : List (RenderLine (Vec A))) → (h : HasColumns cols own left) →
       handed_out columns (meant f col) ≡ done seen → align ≡ next_align left → rest ≡ drop 1 left →
@@ -258,8 +239,9 @@ module _ {D A M : Type 0} (f : A → M) (columns : ℕ → Option ℕ) (aligns :
       let more : map g next ≡ map g own ++ g placed ∷ [] = ap (map g) is ∙ map-append g own (placed ∷ []) in
       record {
         cells = h.cells ++ cell ∷ [];
-        give = zip_after (Gives f columns) cols h.cells (col, span) cell h.give (refl, refl, hands);
-        aligned = map-append align_in h.cells (cell ∷ []) ∙ ap (λ bs. bs ++ align ∷ []) h.aligned ∙ ap (λ a. aligned_as aligns cols ++ a ∷ []) (aligned_by ∙ ap next_align h.left_is) ∙ sym (aligned_more aligns cols (col, span));
+        given =
+            given_last (λ r. r.width) (λ r. handed_out columns (meant f r)) cols aligns h.cells (col, span) seen h.given hands
+            ∙ ap (λ (a : CellAlign). done (h.cells ++ record { width = col.width; span = span; align = a; lines = seen } ∷ [])) (sym (aligned_by ∙ ap next_align h.left_is));
         left_is = rest_is ∙ ap (drop 1) h.left_is ∙ dropped (length cols) aligns ∙ ap (λ n. drop n aligns) (let one : suc (length cols) ≡ length (cols ++ (col, span) ∷ []) = omega (arith, length-append cols ((col, span) ∷ [])) in one);
         come = subst (AllZip (ComesAs columns tag) (h.cells ++ cell ∷ [])) (sym more) (zip_after (ComesAs columns tag) h.cells (map g own) cell (g placed) h.come (refl, refl, fills));
         free = subst (AllZip (LeavesFree columns) (cols ++ (col, span) ∷ [])) (sym is) (zip_after (LeavesFree columns) cols own (col, span) placed h.free (refl, λ blank. none_mapped (map_row_line (tag_meant f)) filled (none_filled _ seen _ fills (blank_hands_none columns (meant f col) seen (blank_meant f columns col ∙ blank) hands))));
@@ -270,14 +252,6 @@ module _ {D A M : Type 0} (f : A → M) (columns : ℕ → Option ℕ) (aligns :
       dropped (suc n) [] = refl
       dropped (suc n) (a ∷ bs) = dropped n bs
 
--- the lines that renderers hand out
-pub lines_given : {D A M : Type 0} (f : A → M) (columns : ℕ → Option ℕ) (cols : List (Renderer D A (Vec A) × ℕ)) (cells : List (GivenCell (List M))) → AllZip (Gives f columns) cols cells →
-    AllZip (λ col lines. handed_out columns (meant f col.0) ≡ done lines) cols (map (λ (cell : GivenCell (List M)). cell.lines) cells)
-lines_given f columns [] [] h = tt
-lines_given f columns [] (c ∷ cs) h = absurd h
-lines_given f columns (d ∷ ds) [] h = absurd h
-lines_given f columns (d ∷ ds) (c ∷ cs) h = (h.0.2, lines_given f columns ds cs h.1)
-
 -- the alignment that comes next
 pub next_taken : {I : Type 0} (get : I → List CellAlign) (it next : I) (o : Option (Bor CellAlign)) (align : CellAlign) → MatchOption o ((length (get it) ≡ 0) × (next ≡ it)) (λ x. get it ≡ x.now ∷ get next) → align ≡ unwrap_or (option_copied o) Left →
     (align ≡ next_align (get it)) × (get next ≡ drop 1 (get it))
@@ -285,24 +259,3 @@ next_taken get it next None align none is =
     let empty : get it ≡ [] = nil_from_length (get it) none.0 in
     (is ∙ ap next_align (sym empty), ap get none.1 ∙ empty ∙ ap (drop 1) (sym empty))
 next_taken get it next (Some x) align some is = (is ∙ ap next_align (sym some), ap (drop 1) (sym some))
-
--- none at all
-all_left : {X : Type 0} (xs : List X) → aligned_as [] xs ≡ replicate (length xs) Left
-all_left [] = refl
-all_left (x ∷ xs) = ap (λ bs. Left ∷ bs) (all_left xs)
-
-length_left : {X : Type 0} (xs : List X) → length (aligned_as [] xs) ≡ length xs
-length_left [] = refl
-length_left (x ∷ xs) = ap suc (length_left xs)
-
-pub none_aligned : {X Y : Type 0} (align : Y → CellAlign) (xs : List X) (ys : List Y) → map align ys ≡ aligned_as [] xs → map align ys ≡ replicate (length ys) Left
-none_aligned align xs ys same =
-    let many : length xs ≡ length ys = sym (length_left xs) ∙ ap length (sym same) ∙ length-map ys align in
-    same ∙ all_left xs ∙ ap (λ n. replicate n Left) many
-
--- as many alignments as columns
-pub all_aligned : {X : Type 0} (aligns : List CellAlign) (xs : List X) → length aligns ≡ length xs → aligned_as aligns xs ≡ aligns
-all_aligned [] [] same = refl
-all_aligned [] (x ∷ xs) same = absurd (let no : ⊥ = omega (arith, same) in no)
-all_aligned (a ∷ more) [] same = absurd (let no : ⊥ = omega (arith, same) in no)
-all_aligned (a ∷ more) (x ∷ xs) same = ap (λ bs. a ∷ bs) (all_aligned more xs (let shorter : length more ≡ length xs = omega (arith, same) in shorter))

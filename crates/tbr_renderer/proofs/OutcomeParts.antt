@@ -6,7 +6,7 @@ use Rattle.std.proofs.lemmas.Result.{on_ok_weaker}
 use Rattle.tbr_tagged.specs.Outcome.{Outcome, done, refused}
 use Rattle.tbr_tagged.specs.declared.Error.{Error}
 use Rattle.tbr_tagged.specs.declared.Error.TheVariants as E
-use Rattle.tbr_renderer.specs.Outcomes.{and_then, changed, run, gathered, Tries}
+use Rattle.tbr_renderer.specs.Outcomes.{and_then, changed, run, taking, gathered, Tries}
 
 pub one_done : {S : Type 0} (s t : S) → done s ≡ done t → t ≡ s
 one_done s t e = cc
@@ -101,3 +101,24 @@ module _ {X Y : Type 0} (give : X → Outcome Y) where
   all_give [] (y ∷ ys) h = absurd h
   all_give (x ∷ xs) [] h = absurd h
   all_give (x ∷ xs) (y ∷ ys) h = ap (λ o. and_then o (λ w. changed (λ ws. w ∷ ws) (gathered give xs))) h.0 ∙ ap (changed (λ ws. y ∷ ws)) (all_give xs ys h.1)
+
+-- ---- what takes what others give
+
+module _ {V X : Type 0} (flush : V → Outcome V) (given : Outcome X) (take : X → V → Outcome V) (v : V) where
+  pub taking_refused : (e : Error) → flush v ≡ refused e → taking flush given take v ≡ refused e
+  taking_refused e h = ap (λ o. and_then o (λ _. and_then given (λ x. take x v))) h
+
+  pub taking_on : (m : V) → flush v ≡ done m → taking flush given take v ≡ and_then given (λ x. take x v)
+  taking_on m h = ap (λ o. and_then o (λ _. and_then given (λ x. take x v))) h
+
+  pub taking_done : (m : V) (x : X) → flush v ≡ done m → given ≡ done x → taking flush given take v ≡ take x v
+  taking_done m x h k = taking_on m h ∙ ap (λ o. and_then o (λ y. take y v)) k
+
+  pub taking_stops : (m : V) (e : Error) → flush v ≡ done m → given ≡ refused e → taking flush given take v ≡ refused e
+  taking_stops m e h k = taking_on m h ∙ ap (λ o. and_then o (λ y. take y v)) k
+
+  pub taken : (s : V) → taking flush given take v ≡ done s → (m : V) × (x : X) × (flush v ≡ done m) × (given ≡ done x) × (take x v ≡ done s)
+  taken s h =
+      let (m, flushed, rest) = done_first (flush v) (λ _. and_then given (λ x. take x v)) s h in
+      let (x, gives, takes) = done_first given (λ y. take y v) s rest in
+      (m, x, flushed, gives, takes)

@@ -1,5 +1,5 @@
 -- The calls that change a renderer.
-use Rattle.std.specs.Prelude.{◌≡◌, ◌≢◌, ◌≤◌, ℕ, suc, ◌-◌, true, if◌then◌else◌, Option, None, Some, Result, Err, OnOk, OnErr, IfErr, List, [], ◌∷◌, ◌++◌, map, flat_map}
+use Rattle.std.specs.Prelude.{◌≡◌, ◌≢◌, ◌≤◌, ℕ, suc, ◌-◌, Bool, true, if◌then◌else◌, Option, None, Some, Result, Err, OnOk, OnErr, IfErr, List, [], ◌∷◌, ◌++◌, map, flat_map}
 use Rattle.std.specs.List.{AllZip}
 use Rattle.tbr_model.specs.Hard.{IsShown, visible_glyphs, visible_entries}
 use Rattle.tbr_model.specs.declared.white_space.WhiteSpace.{WhiteSpace}
@@ -19,11 +19,13 @@ use Rattle.tbr_renderer.specs.Renderer.{Renderer, Kept, kept_of, block_columns, 
 use Rattle.tbr_kept_lines.specs.LastBorder.{without_last}
 use Rattle.tbr_tagged.specs.Outcome.{Outcome, done, refused, if_live}
 use Rattle.std.specs.Global.{Vec}
+use Rattle.std.specs.Cmp.Lexicographic.{pointwise}
 use Rattle.tbr_renderer.specs.Meant.{meant}
-use Rattle.tbr_renderer.specs.Outcomes.{and_then, run, told}
+use Rattle.tbr_renderer.specs.Outcomes.{and_then, run, taking, told}
 use Rattle.tbr_renderer.specs.Flush.{after_flush}
 use Rattle.tbr_renderer.specs.Steps.{after_empty_line, after_block_start, after_break, after_text}
 use Rattle.tbr_renderer.specs.Appended.{as_text, prefixed, after_border, after_lines, after_cells}
+use Rattle.tbr_renderer.specs.Rows.{GivenCell, after_row}
 use Rattle.tbr_renderer.specs.Image.{shown_title}
 use Rattle.tbr_renderer.specs.Decorated.{struck_until, asked_to_close, annotated, coloured, uncoloured, after_start, after_end, after_strikeout_start, after_strikeout_end, after_image}
 
@@ -159,11 +161,12 @@ pub record Shows {D A : Type 0} (columns : ℕ → Option ℕ) (r : Renderer D A
 
 -- ---- what a call answers
 
--- What a contract sees of a renderer, what calls make of that, and what of it stays: the kept refusal, and what is kept
--- where a call refuses.
+-- What a contract sees of a renderer, what calls and rows of cells make of that, and what of it stays: the kept refusal,
+-- and what is kept where a call refuses.
 pub record CallsOf (T S V : Type 0) : Type 0 where
   pub state : S → V
   pub after : Call T → V → Outcome V
+  pub after_row : Bool → List (GivenCell T) → V → Outcome V
   pub failure : V → Option Error
   pub kept_of : V → Kept
 
@@ -197,6 +200,7 @@ abbrev pub calls_by : {D A M : Type 0} → (ℕ → Option ℕ) → Decoration D
 calls_by columns decoration meaning = record {
   state = meant meaning;
   after = after columns decoration;
+  after_row = after_row (pointwise decoration.same) columns;
   failure = λ r. r.failure;
   kept_of = λ r. kept_of r;
 }
@@ -220,6 +224,15 @@ pub record Answers {T S V R : Type 0} (calls : CallsOf T S V) (call : Call T) (o
   pub ok : OnOk result (Leads calls call old new)
   pub too_narrow : result ≡ Err E.TooNarrow → calls.after call (calls.state old) ≡ refused E.TooNarrow
   pub two_columns : IsWide calls old → result ≢ Err E.TooNarrow
+  pub fails : Fails calls old result new
+
+-- What a call answers and leaves that takes what others give. It is `TooNarrow` only where it is too narrow for its own
+-- open line, or one of the others is for its own.
+pub record Takes {T S V X R : Type 0} (calls : CallsOf T S V) (given : Outcome X) (others_are_wide : Type 0)
+    (take : X → V → Outcome V) (old : S) (result : Result R Error) (new : S) : Type 0 where
+  pub ok : OnOk result (taking (calls.after new_line) given take (calls.state old) ≡ done (calls.state new))
+  pub too_narrow : result ≡ Err E.TooNarrow → TakesNone calls given old
+  pub two_columns : IsWide calls old → others_are_wide → result ≢ Err E.TooNarrow
   pub fails : Fails calls old result new
 
 -- What a call leaves that can't refuse: of one that had failed nothing is changed.

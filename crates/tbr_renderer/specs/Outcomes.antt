@@ -29,6 +29,11 @@ abbrev pub told : {C S X : Type 0} → (C → S → List X) → (C → S → Out
 told tell after [] s = []
 told tell after (call ∷ calls) s = tell call s ++ told_by (told tell after calls) (after call s)
 
+-- What is made of a state that first ends its open line, then asks others for what they give, and then takes that. The
+-- first refusal is that of all.
+abbrev pub taking : {V X : Type 0} → (V → Outcome V) → Outcome X → (X → V → Outcome V) → V → Outcome V
+taking flush given take v = and_then (flush v) (λ _. and_then given (λ x. take x v))
+
 -- what all give, in order, or the first refusal
 abbrev pub gathered : {X Y : Type 0} → (X → Outcome Y) → List X → Outcome (List Y)
 gathered give [] = done []

@@ -1,5 +1,5 @@
 -- Rows of cells side by side: what comes into them, and what they add to a renderer.
-use Rattle.std.specs.Prelude.{◌≡◌, ℕ, ◌+◌, ◌-◌, Bool, true, not, ◌&&◌, is_none, Option, None, Some, List, [], ◌∷◌, ◌++◌, map, fold}
+use Rattle.std.specs.Prelude.{◌≡◌, ℕ, ◌+◌, ◌-◌, Bool, true, not, ◌&&◌, is_none, Option, None, Some, List, [], ◌∷◌, ◌++◌, map, fold, drop}
 use Rattle.std.specs.Option.{option_map}
 use Rattle.std.specs.List.{AllZip}
 use Rattle.tbr_model.specs.Run.{items_width}
@@ -20,11 +20,13 @@ use Rattle.tbr_rows.specs.declared.RowStyle.{RowStyle}
 use Rattle.tbr_kept_lines.specs.LastBorder.{last_border, before_border}
 use Rattle.tbr_kept_lines.specs.Line.{Line, text, border}
 use Rattle.tbr_renderer.specs.Renderer.{Open, Renderer, with_line}
+use Rattle.std.specs.Global.{Vec}
+use Rattle.tbr_renderer.specs.Meant.{meant}
 use Rattle.tbr_renderer.specs.Flush.{block_in, after_flush}
 use Rattle.tbr_tagged.specs.Outcome.{Outcome, done, refused, if_live}
 use Rattle.tbr_tagged.specs.declared.Error.TheVariants as E
-use Rattle.tbr_renderer.specs.Outcomes.{and_then}
-use Rattle.tbr_renderer.specs.Appended.{with_border}
+use Rattle.tbr_renderer.specs.Outcomes.{and_then, changed}
+use Rattle.tbr_renderer.specs.Appended.{with_border, handed_out}
 
 -- ---- renderers with nothing in them
 
@@ -59,16 +61,6 @@ pub record GivenCell (T : Type 0) : Type 0 where
   pub align : CellAlign
   pub lines : List (Line T)
 
--- how the texts of a cell are aligned
-abbrev pub align_in : {T : Type 0} → GivenCell T → CellAlign
-align_in cell = cell.align
-
--- A renderer that comes with a span gives this cell.
-abbrev pub GivesCell : {S T : Type 0} →
-    (S → ℕ) → (S → List (Line T) → Type 0) → S × ℕ → GivenCell T → Type 0
-GivesCell columns_of hands_out col cell =
-    (cell.width ≡ columns_of col.0) × (cell.span ≡ col.1) × hands_out col.0 cell.lines
-
 -- A line of a cell is filled up to its width. A text is filled with spaces as the alignment says, in pieces that are
 -- the longest stretches under one annotation, and a border with `─`.
 abbrev pub FillsCell : {A : Type 0} → (ℕ → Option ℕ) → CellAlign → ℕ → A → Line A → RenderLine A → Type 0
@@ -78,17 +70,34 @@ FillsCell columns align width a (border b) (Rule filled) = filled ≡ with_cells
 FillsCell columns align width a (text is) (Rule filled) = ⊥
 FillsCell columns align width a (border b) (Text es) = ⊥
 
+-- the alignment that is next: at the left where none is given
+abbrev pub next_align : List CellAlign → CellAlign
+next_align [] = Left
+next_align (align ∷ aligns) = align
+
+-- the cell that a renderer with a span gives, by its columns and the lines that it hands out
+module _ {S T : Type 0} (columns_of : S → ℕ) (hand_out : S → Outcome (List (Line T))) where
+  abbrev pub cell_given : S × ℕ → CellAlign → Outcome (GivenCell T)
+  cell_given col align =
+      changed (λ lines. record { width = columns_of col.0; span = col.1; align = align; lines = lines }) (hand_out col.0)
+
+  -- the cells of all, or the first refusal
+  abbrev pub cells_given : List (S × ℕ) → List CellAlign → Outcome (List (GivenCell T))
+  cells_given [] aligns = done []
+  cells_given (col ∷ cols) aligns =
+      let others = cells_given cols (drop 1 aligns) in
+      and_then (cell_given col (next_align aligns)) (λ cell. changed (λ cells. cell ∷ cells) others)
+
+-- those that renderers give as what their annotations mean
+abbrev pub cells_meant : {D A M : Type 0} → (ℕ → Option ℕ) → (A → M) → List (Renderer D A (Vec A) × ℕ) → List CellAlign →
+    Outcome (List (GivenCell (List M)))
+cells_meant columns meaning cols aligns = cells_given (λ r. r.width) (λ r. handed_out columns (meant meaning r)) cols aligns
+
 -- the cell in the row
 abbrev pub ComesAs : {A : Type 0} → (ℕ → Option ℕ) → A → GivenCell A → Cell A → Type 0
 ComesAs columns a given cell =
     (cell.width ≡ given.width) × (cell.span ≡ given.span)
     × AllZip (FillsCell columns given.align given.width a) given.lines cell.lines
-
--- an alignment for each of these: at the left where none is given
-abbrev pub aligned_as : {X : Type 0} → List CellAlign → List X → List CellAlign
-aligned_as aligns [] = []
-aligned_as [] (x ∷ xs) = Left ∷ aligned_as [] xs
-aligned_as (align ∷ aligns) (x ∷ xs) = align ∷ aligned_as aligns xs
 
 -- ---- the border above
 

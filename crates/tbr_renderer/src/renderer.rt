@@ -1,14 +1,13 @@
 //! The calls of a renderer.
-ghost use Rattle.std.specs.Prelude.{◌≡◌, ◌≢◌, ◌≤◌, ◌<◌, ℕ, suc, ◌^◌, Bool, true, List, length, Option, None, Err, OnOk, OnErr, IfOk, IfErr, chars, map, replicate};
-ghost use Rattle.std.specs.List.{AllZip, AllByRecursion as Each};
+ghost use Rattle.std.specs.Prelude.{◌≡◌, ◌≢◌, ◌≤◌, ◌<◌, ℕ, suc, ◌^◌, Bool, true, List, length, Err, OnOk, OnErr, IfOk, IfErr, chars, []};
+ghost use Rattle.std.specs.List.{AllByRecursion as Each};
 ghost use Rattle.tbr_kept_lines.specs.Line.{Line};
 ghost use Rattle.tbr_tagged.specs.Outcome.{Outcome, done};
 ghost use Rattle.tbr_renderer.specs.Outcomes.{gathered};
 ghost use Rattle.tbr_renderer.specs.Appended.{GivesFirst, texts_of};
-ghost use Rattle.tbr_renderer.specs.Rows.{GivenCell, GivesCell, align_in};
+ghost use Rattle.tbr_renderer.specs.Rows.{cells_given};
 ghost use Rattle.tbr_renderer.specs.Calls as call;
-ghost use Rattle.tbr_renderer.specs.Calls.{CallsOf, IsLive, kept_in, IsWide, Leads, TakesNone, Answers, Fails, Leaves};
-ghost use Rattle.tbr_tagged.specs.declared.CellAlign.TheVariants as A;
+ghost use Rattle.tbr_renderer.specs.Calls.{CallsOf, IsLive, kept_in, IsWide, Leads, TakesNone, Takes, Answers, Fails, Leaves};
 ghost use Rattle.tbr_tagged.specs.View.{chars_of};
 ghost use Rattle.tbr_decor.specs.Start as start;
 ghost use Rattle.tbr_decor.specs.End as end;
@@ -40,11 +39,8 @@ pub trait Renderer {
     // The lines that it hands out where its open line is ended.
     ghost handed_out: { Self → Outcome (List (Line Self.Tag)) };
 
-    // Whether a row of such renderers, each with a span, has a place for each cell that overhangs, and what a row of
-    // these cells leaves.
+    // Whether a row of such renderers, each with a span, has a place for each cell that overhangs.
     ghost has_places_for: { Self → List (Self × ℕ) → Type 0 };
-
-    ghost appends_row: { Bool → List (GivenCell Self.Tag) → Self.State → Self.State → Type 0 };
 
     // The text of a prefix, a renderer for a block inside, and whether there is neither a line nor text.
     ghost prefix_text: { Self → prefix.Prefix → List ℕ };
@@ -192,12 +188,8 @@ pub trait Renderer {
     /// prefixes. Where borders are drawn, a border of slashes is between each two renderers. A plain one is after all
     /// of them, even where there are none. A refusal of one of them is passed on, the first in order.
     fn append_vert_row(&mut self, cols: Vec<Self>) -> Result<(), Error>
-        ensures ok { OnOk result ((cells : List (List (Line Tag)))
-            × (gathered handed_out cols.items ≡ done cells)
-            × Leads calls (call.append_vert_row cells) self.old self.new) }
-        ensures too_narrow { result ≡ Err E.TooNarrow → TakesNone calls (gathered handed_out cols.items) self.old }
-        ensures two_columns { IsWide calls self.old → Each (IsWide calls) cols.items → result ≢ Err E.TooNarrow }
-        ensures fails { Fails calls self.old result self.new };
+        ensures takes { Takes calls (gathered handed_out cols.items) (Each (IsWide calls) cols.items)
+            (λ cells. calls.after (call.append_vert_row cells)) self.old result self.new };
 
     /// Ends the open line, and then those of other renderers, in order. It adds a row of their lines, side by side and
     /// parted by `│`, or by spaces where borders aren't drawn. Each comes with the rows that it spans, at least one.
@@ -217,16 +209,9 @@ pub trait Renderer {
         requires spans { Each (λ col. 0 < col.1) cols.items }
         requires aligns { length aligns.now ≡ length cols.items }
         requires fits { has_places_for self.old cols.items }
-        ensures ok { OnOk result ((cells : List (GivenCell Tag))
-            × AllZip (GivesCell (λ r. (kept_in calls r).width) (λ r lines. handed_out r ≡ done lines))
-            cols.items cells
-            × (map align_in cells ≡ aligns.now)
-            × appends_row collapse cells (calls.state self.old) (calls.state self.new)) }
-        ensures too_narrow { result ≡ Err E.TooNarrow →
-            TakesNone calls (gathered (λ col. handed_out col.0) cols.items) self.old }
-        ensures two_columns { IsWide calls self.old → Each (λ col. IsWide calls col.0) cols.items →
-            result ≢ Err E.TooNarrow }
-        ensures fails { Fails calls self.old result self.new };
+        ensures takes { let given = cells_given (λ r. (kept_in calls r).width) handed_out cols.items aligns.now in
+            let wide = Each (λ col. IsWide calls col.0) cols.items in
+            Takes calls given wide (calls.after_row collapse) self.old result self.new };
 
     /// Adds a row, as `append_columns_aligned` does, with all texts at the left.
     fn append_columns_with_borders(
@@ -236,16 +221,9 @@ pub trait Renderer {
     ) -> Result<(), Error>
         requires spans { Each (λ col. 0 < col.1) cols.items }
         requires fits { has_places_for self.old cols.items }
-        ensures ok { OnOk result ((cells : List (GivenCell Tag))
-            × AllZip (GivesCell (λ r. (kept_in calls r).width) (λ r lines. handed_out r ≡ done lines))
-            cols.items cells
-            × (map align_in cells ≡ replicate (length cells) A.Left)
-            × appends_row collapse cells (calls.state self.old) (calls.state self.new)) }
-        ensures too_narrow { result ≡ Err E.TooNarrow →
-            TakesNone calls (gathered (λ col. handed_out col.0) cols.items) self.old }
-        ensures two_columns { IsWide calls self.old → Each (λ col. IsWide calls col.0) cols.items →
-            result ≢ Err E.TooNarrow }
-        ensures fails { Fails calls self.old result self.new };
+        ensures takes { let given = cells_given (λ r. (kept_in calls r).width) handed_out cols.items [] in
+            let wide = Each (λ col. IsWide calls col.0) cols.items in
+            Takes calls given wide (calls.after_row collapse) self.old result self.new };
 
     /// Begins text in a colour, whose annotation joins the others, if the decorator has one. The only refusal of its
     /// own is `OutOfMemory`.

@@ -1,6 +1,7 @@
 -- Each renderer of a script is led to by calls and rows.
 use Rattle.std.proofs.Common.{◌≡◌, ◌≢◌, ◌<◌, ◌+◌, inl, inr, Ok, ℕ, Bool, true, false, if◌then◌else◌, Option, Some, None, List, [], ◌∷◌, ◌++◌, drop, flat_map, fold, chars, length, refl, ap, sym, ◌∙◌, subst, arith, append_assoc, append-nil}
 use Rattle.std.specs.List.{AllByRecursion as Each}
+use Rattle.std.specs.Cmp.Lexicographic.{pointwise}
 use Rattle.tbr_model.specs.Run.{Entry, Item}
 use Rattle.tbr_model.specs.Layout.{joined}
 use Rattle.tbr_model.proofs.lists.Each.{each_append}
@@ -9,13 +10,15 @@ use Rattle.tbr_decor.specs.Decoration.{Decoration}
 use Rattle.tbr_decor.specs.Start as start
 use Rattle.tbr_decor.specs.End as end
 use Rattle.tbr_renderer.specs.Outcomes.{changed}
-use Rattle.tbr_renderer.proofs.OutcomeParts.{done_first, done_before}
+use Rattle.tbr_renderer.proofs.OutcomeParts.{done_first, done_before, taken}
+use Rattle.tbr_renderer.proofs.ComputedRows.{lists_apart, row_computed}
 use Rattle.tbr_commands.specs.declared.opening.Opening.{Opening}
 use Rattle.tbr_commands.specs.Request.{Request, call_of}
 use Rattle.tbr_commands.specs.Command.{Command, ask, link, end_link, sub, append, cell, end_cell, row, vertical_row}
 use Rattle.tbr_commands.specs.Syntax.{IsCommand}
 use Rattle.tbr_stack.specs.Stack.{Level, Stack, first_renderer, top_of, in_first, with_top}
 use Rattle.tbr_stack.specs.Top.{in_top_of, in_top}
+use Rattle.tbr_stack.proofs.Tops.{top_changed}
 use Rattle.tbr_stack.specs.Links.{closed, link_number, shown_number, open_links, with_link, after_end_with}
 use Rattle.tbr_program.specs.declared.opened.Opener.{Opener}
 use Rattle.tbr_program.specs.declared.opened.Opener.TheVariants.{Sub, Cell}
@@ -45,8 +48,9 @@ use Rattle.text_block_renderer.specs.Text.{lines_text}
 use Rattle.text_block_renderer.proofs.Settings.{call_beside}
 use Rattle.text_block_renderer.proofs.RowsOfCells.{failure_stays}
 use Rattle.tbr_runner.specs.Scripts.{LinesGive, OpensUnder, Begins, Gives}
-use Rattle.tbr_program.specs.Meaning.{Closes, RequestDoes, LinkDoes, EndLinkDoes, LevelOpens, AppendDoes, CellDoes, RowDoes, VerticalRowDoes, CommandDoes, LineDoes, started}
+use Rattle.tbr_program.specs.Meaning.{Closes, RequestDoes, LinkDoes, EndLinkDoes, LevelOpens, AppendDoes, CellDoes, cells_waiting, row_made, RowDoes, VerticalRowDoes, CommandDoes, LineDoes, started}
 use Rattle.text_block_renderer.specs.Renderer.{Open, Renderer, IsSound, new_renderer, with_line, has_content}
+use Rattle.text_block_renderer.specs.Rows.{after_row}
 use Rattle.text_block_renderer.specs.Calls.{Call, new_line, begin, finish, add_inline_text, append_subrender, append_vert_row, after, entries_brought, laid_entries}
 use Rattle.text_block_renderer.specs.Decorated.{sub_renderer}
 use Rattle.text_block_renderer.specs.Acts.{Act, call, row as row_of_cells, ActBrings, ActsBring}
@@ -78,7 +82,7 @@ module _ {D M : Type 0} (columns : ℕ → Option ℕ) (decoration : Decoration 
 
   act_live : (act : Act (List M)) (r s : Top) (es : List (Entry (List M))) → ActBrings columns decoration act r es s → s.failure ≡ r.failure
   act_live (call c) r s es h = (call_beside columns decoration c r s h.0).0
-  act_live (row_of_cells collapses cells) r s es h = failure_stays columns collapses cells r s (h.0, h.1, h.2)
+  act_live (row_of_cells collapses cells) r s es h = let puts = h.2 in failure_stays columns r s (h.0, h.1, puts.row, puts.is)
 
   pub led_on : (act : Act (List M)) (r s : Top) (fs : List (Entry (List M))) → ActBrings columns decoration act r fs s → Led r → Led s
   led_on act r s fs h k = record { first = k.first; fresh = k.fresh; sound = k.sound; acts = k.acts ++ act ∷ []; es = k.es ++ fs; bring = act_after k.acts act k.first r s k.es fs k.bring h; live = act_live act r s fs h ∙ k.live }
@@ -216,8 +220,11 @@ module _ {D M : Type 0} (columns : ℕ → Option ℕ) (decoration : Decoration 
 
       row_led : (collapse : Bool) (next : Progress D M (List M)) → RowDoes columns decoration p collapse next → AllAre Is next
       row_led collapse next d =
-          let (before, later, top, (m, flushed, puts), is) = d.does in
-          let led = on (row_of_cells collapse d.cells) before later (laid_entries (joined puts.row.lines)) (m, flushed, puts, refl) (first_led p.stack.levels before top h.on_stack) in
+          let row = after_row (pointwise decoration.same) columns collapse in
+          let (before, later, top, made, is) = top_changed (row_made columns decoration p.pending collapse) p.stack next.stack d.does in
+          let (_, cells, _, _, does) = taken (after columns decoration new_line) (cells_waiting columns decoration p.pending) row before later made in
+          let (m, flushed, puts) = (row_computed (pointwise decoration.same) (lists_apart decoration.same decoration.tells) columns collapse cells before later).1 does in
+          let led = on (row_of_cells collapse cells) before later (laid_entries (joined puts.row.lines)) (m, flushed, puts, refl) (first_led p.stack.levels before top h.on_stack) in
           record {
             on_stack = subst (λ (s : Stack Top). AllOf s.levels) (sym is) (top_led later p.stack.levels led h.on_stack);
             waiting = subst Waits (sym d.pending) tt;

@@ -16,7 +16,7 @@ use Rattle.tbr_commands.specs.Command.{Command, ask, link, end_link, sub, append
 use Rattle.tbr_commands.proofs.OneCommand.{command_once}
 use Rattle.tbr_program.specs.Prefixes.{prefixes}
 use Rattle.tbr_program.specs.Progress.{Progress}
-use Rattle.tbr_program.specs.Meaning.{Ends, LinkDoes, CommandDoes}
+use Rattle.tbr_program.specs.Meaning.{Ends, LinkDoes, row_made, CommandDoes}
 use Rattle.tbr_runner.specs.Scripts.{LinesGive}
 use Rattle.tbr_runner.specs.StackCalls.{calls_of, stack_calls, AskFor, LinesDo}
 
@@ -45,7 +45,7 @@ module _ {D M : Type 0} (columns : ℕ → Option ℕ) (decoration : Decoration 
         (d.closed.stack, d.closes.stack, (next.stack, top_is_other (after columns decoration taken) d.closed.stack next.stack d.does, refl))
     command_steps (cell width span align) d = let (r, top, is) = d.stack in (next.stack, (sub_renderer decoration width r, is), refl)
     command_steps end_cell (span, align, inside, closed, closes, is) = (next.stack, ap (λ (q : Progress D M (List M)). q.stack) is ∙ closes.stack, refl)
-    command_steps (row collapse) d = (next.stack, (d.does.1, d.does.4), refl)
+    command_steps (row collapse) d = (next.stack, top_is_other (row_made columns decoration p.pending collapse) p.stack next.stack d.does, refl)
     command_steps vertical_row d = (next.stack, top_is_other (after columns decoration (append_vert_row d.cells)) p.stack next.stack d.does, refl)
 
   pub lines_step : (lines : List (List ℕ)) (commands : List Command) (p q : Progress D M (List M)) → AskFor lines commands → LinesDo columns decoration p lines q → Steps (stack_calls commands) p.stack q.stack

@@ -1,5 +1,5 @@
 -- A script whose blocks and cells have two columns or more isn't too narrow.
-use Rattle.std.proofs.Common.{◌≡◌, ◌≤◌, ◌+◌, inl, inr, ℕ, Bool, true, false, if◌then◌else◌, Option, Some, None, Err, List, [], ◌∷◌, chars, refl, ap, sym, ◌∙◌, subst, arith}
+use Rattle.std.proofs.Common.{◌≡◌, ◌≤◌, ◌+◌, inl, inr, ℕ, Bool, true, false, if◌then◌else◌, Option, Some, None, Err, List, [], ◌∷◌, drop, chars, refl, ap, sym, ◌∙◌, subst, arith}
 use Rattle.std.specs.Prelude.{nat_le, encode_utf8_all}
 use Rattle.std.specs.List.{AllByRecursion as Each}
 use Rattle.std.proofs.lemmas.Bool.{leb-true}
@@ -20,18 +20,21 @@ use Rattle.tbr_commands.specs.declared.opening.Opening.{Opening}
 use Rattle.tbr_commands.specs.Request.{call_of}
 use Rattle.tbr_commands.specs.Command.{Command, ask, link, end_link, sub, append, cell, end_cell, row, vertical_row}
 use Rattle.tbr_stack.specs.Stack.{Level, Stack, top_of}
-use Rattle.tbr_stack.specs.Top.{in_top_of, in_top}
+use Rattle.tbr_stack.specs.Top.{in_top_of, in_top, OfTop}
 use Rattle.tbr_stack.proofs.Tops.{top_linked}
 use Rattle.tbr_stack.specs.Links.{link_number, shown_number, open_links, with_link, without_open_link, after_end_with}
 use Rattle.tbr_script.specs.declared.error.RunError.TheVariants.{TooNarrow}
 use Rattle.tbr_program.specs.declared.opened.Opener.TheVariants.{Sub}
 use Rattle.tbr_program.specs.Progress.{Progress}
 use Rattle.tbr_program.specs.Closing.{with_notes, footnotes_of, closed as lines_closed, closed_text}
-use Rattle.tbr_program.specs.Meaning.{renderers_of, Closes, TakesNone, CellsAreTooNarrow, CommandRefuses, LineRefuses, started}
+use Rattle.tbr_program.specs.Meaning.{renderers_of, Closes, TakesNone, cells_waiting, CommandRefuses, LineRefuses, started}
 use Rattle.text_block_renderer.specs.Renderer.{new_renderer, least, block_width}
 use Rattle.text_block_renderer.specs.Line.{Line}
 use Rattle.text_block_renderer.specs.Text.{lines_text}
 use Rattle.text_block_renderer.specs.Appended.{handed_out}
+use Rattle.tbr_tagged.specs.declared.CellAlign.{CellAlign}
+use Rattle.text_block_renderer.specs.Rows.{GivenCell, next_align, cell_given, cells_given}
+use Rattle.tbr_renderer.proofs.GivenCells.{cell_of}
 use Rattle.text_block_renderer.specs.Calls.{Call, new_line, begin, finish, add_inline_text, made, after, entries_brought}
 use Rattle.text_block_renderer.specs.Decorated.{sub_renderer}
 use Rattle.text_block_renderer.specs.Acts.{Act, call, ActBrings}
@@ -87,6 +90,15 @@ module _ {D M : Type 0} (columns : ℕ → Option ℕ) (decoration : Decoration 
         | inr later ↦ all_hand_out cells k.1 (refused_before (λ lss. later.0 ∷ lss) (gathered (handed_out columns) (renderers_of cells)) E.TooNarrow later.2)
       ]
 
+  all_come : (cells : List (Top columns decoration × ℕ)) (aligns : List CellAlign) → Each (λ (c : Top columns decoration × ℕ). Two c.0) cells → cells_given (λ r. r.width) (handed_out columns) cells aligns ≡ refused E.TooNarrow → ⊥
+  all_come [] aligns k h = cc
+  all_come (c ∷ cells) aligns k h =
+      let others = cells_given (λ r. r.width) (handed_out columns) cells (drop 1 aligns) in
+      elim (refused_first (cell_given (λ r. r.width) (handed_out columns) c (next_align aligns)) (λ (x : GivenCell (List M)). changed (λ xs. x ∷ xs) others) E.TooNarrow h) [
+        | inl first ↦ hands_out c.0 k.0 (refused_before (cell_of (λ r. r.width) (handed_out columns) c (next_align aligns)) (handed_out columns c.0) E.TooNarrow first)
+        | inr later ↦ all_come cells (drop 1 aligns) k.1 (refused_before (λ xs. later.0 ∷ xs) others E.TooNarrow later.2)
+      ]
+
   takes_all : {X : Type 0} (given : Outcome X) (r : Top columns decoration) → Two r → (given ≡ refused E.TooNarrow → ⊥) → TakesNone columns decoration given r → ⊥
   takes_all given r k none h = elim (refused_first (after columns decoration new_line r) (λ s. given) E.TooNarrow h) [ inl first ↦ no_call new_line r k first | inr later ↦ none later.2 ]
 
@@ -116,7 +128,10 @@ module _ {D M : Type 0} (columns : ℕ → Option ℕ) (decoration : Decoration 
   -- ---- commands and lines
 
   module _ (p : Progress D M (List M)) (h : AllAre Two p) where
-    no_cells : CellsAreTooNarrow columns decoration p → ⊥
+    no_row : OfTop (TakesNone columns decoration (cells_waiting columns decoration p.pending)) p.stack → ⊥
+    no_row (r, top, none) = takes_all (cells_waiting columns decoration p.pending) r (top_two p.stack r top h.on_stack) (all_come p.pending.cells p.pending.aligns h.waiting) none
+
+    no_cells : OfTop (TakesNone columns decoration (gathered (handed_out columns) (renderers_of p.pending.cells))) p.stack → ⊥
     no_cells (r, top, none) = takes_all (gathered (handed_out columns) (renderers_of p.pending.cells)) r (top_two p.stack r top h.on_stack) (all_hand_out p.pending.cells h.waiting) none
 
     no_append : (inside : Top columns decoration) (left : Progress D M (List M)) (r : Top columns decoration) → Closes p Sub inside left → top_of left.stack ≡ Some r → TakesNone columns decoration (handed_out columns inside) r → ⊥
@@ -144,7 +159,7 @@ module _ {D M : Type 0} (columns : ℕ → Option ℕ) (decoration : Decoration 
     no_command number end_cell (inl (none, is)) = cc
     no_command number end_cell (inr (span, align, by, (some, is))) = cc
     no_command number (row collapse) (inl (fits, is)) = cc
-    no_command number (row collapse) (inr (fits, none, same)) = no_cells none
+    no_command number (row collapse) (inr (fits, none, same)) = no_row none
     no_command number vertical_row (none, same) = no_cells none
 
     no_line : (number : ℕ) (line : List ℕ) → LineRefuses columns decoration p number line TooNarrow → ⊥

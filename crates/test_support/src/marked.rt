@@ -1,5 +1,5 @@
 //! A decorator that marks what it is asked to, and has the usual answers for the rest.
-ghost use Rattle.std.specs.Prelude.{None, false, []};
+ghost use Rattle.std.specs.Prelude.{None, true, false, []};
 ghost use Rattle.std.proofs.Common.{rules};
 ghost use Rattle.test_support.specs.declared.marked.Mark.{Mark};
 ghost use Rattle.test_support.specs.declared.marked.Mark.TheVariants.{Nothing, Marked};
@@ -36,6 +36,10 @@ impl TextDecorator for MarkedDecorator {
     ghost Meaning = { Mark };
 
     ghost meaning = { λ m. m };
+
+    ghost same = { elim [ Nothing ↦ elim [ Nothing ↦ true | Marked ↦ false ] | Marked ↦ elim [ Nothing ↦ false | Marked ↦ true ] ] };
+
+    ghost tells = { Prim.search rules };
 
     ghost start_text = { λ _. trivial.start_text };
 

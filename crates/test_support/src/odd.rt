@@ -4,8 +4,8 @@ ghost use Rattle.tbr_decor.specs.Start as start;
 ghost use Rattle.tbr_decor.specs.End as end;
 ghost use Rattle.tbr_decor.specs.Rich as rich;
 ghost use Rattle.tbr_decor.specs.Style as style;
-ghost use Rattle.tbr_decor.specs.Style.{Style, style_of};
-ghost use Rattle.tbr_decor.specs.RichLaws.{equal_by_style, copies_equal};
+ghost use Rattle.tbr_decor.specs.Style.{Style, style_of, same_style};
+ghost use Rattle.tbr_decor.specs.RichLaws.{equal_by_style, styles_apart, copies_equal};
 ghost use Rattle.tbr_decor.specs.Usual as usual;
 
 use std::alloc::Global;
@@ -29,6 +29,10 @@ impl TextDecorator for OddDecorator {
     ghost Meaning = { Style };
 
     ghost meaning = { style_of };
+
+    ghost same = { same_style };
+
+    ghost tells = { styles_apart };
 
     // U+000A and U+200B.
     ghost start_text = { λ _. elim [ start.link _ ↦ 10 ∷ [] | _ ↦ [] ] };

@@ -208,7 +208,7 @@ module _ {D A : Type 0} (columns : ℕ → Option ℕ) where
     act_along (row collapses cells) r s es sound h =
         let (m, flushed, puts, is) = h in
         let first = call_along new_line r m [] sound (alone new_line r m [] flushed refl) in
-        let closed = row_closed columns collapses cells r s (m, flushed, puts) in
+        let closed = row_closed columns r s (m, flushed, puts.row, puts.is) in
         let second = row_along collapses cells m s (flushed_none columns r m (row_flushes columns r m flushed)) closed puts in
         subst (λ (ss : List (EndedRun D A)). Along (cells ∷ []) ss r es s) (append-nil (flush_ends r))
         (subst (λ fs. Along (cells ∷ []) (flush_ends r ++ []) r fs s) (sym is) (along_on [] (cells ∷ []) (flush_ends r) [] r m s [] (laid_entries (joined puts.row.lines)) first second))

@@ -15,7 +15,6 @@ pub mod LaidTexts
 pub mod NestedLines
 pub mod VerticalRows
 pub mod RowsOfCells
-pub mod ComputedRows
 pub mod Within
 pub mod Written
 pub mod CellsInRows

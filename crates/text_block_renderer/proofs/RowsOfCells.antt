@@ -1,30 +1,39 @@
 -- Rows of cells side by side.
-use Rattle.std.proofs.Common.{◌≡◌, ℕ, ◌+◌, ◌-◌, suc, Bool, if◌then◌else◌, is_some, Option, Some, None, List, [], ◌∷◌, ◌++◌, fold, take, length, refl, ap, sym, ◌∙◌, subst, append_assoc, append-nil, arith}
-use Rattle.std.specs.List.{AllZip}
+use Rattle.std.proofs.Common.{◌≡◌, ℕ, ◌+◌, ◌-◌, suc, Bool, if◌then◌else◌, is_some, Option, Some, None, List, [], ◌∷◌, ◌++◌, fold, take, length, refl, ap, sym, ◌∙◌, append_assoc, append-nil, arith}
+use Rattle.std.specs.Option.{option_map}
 use Rattle.tbr_model.specs.Run.{Item}
 use Rattle.tbr_border.specs.Border.{Border}
-use Rattle.tbr_tagged.specs.declared.CellAlign.{CellAlign}
-use Rattle.tbr_border.specs.declared.RenderLine.{RenderLine}
-use Rattle.tbr_border.specs.declared.RenderLine.TheVariants.{Text, Line as Rule}
-use Rattle.tbr_rows.specs.Cells.{AreSideBySide}
-use Rattle.tbr_rows.specs.Meant.{SeenRow, MeansRow}
-use Rattle.tbr_rows.specs.declared.LineSet.{LineSet as Cell}
-use Rattle.tbr_rows.proofs.OneRow.{longest_same, one_row}
+use Rattle.tbr_rows.specs.Meant.{SeenRow}
+use Rattle.tbr_rows.specs.Computed.{row_of}
 use Rattle.tbr_kept_lines.specs.Line.{Line, text, border}
 use Rattle.tbr_renderer.specs.Renderer.{Renderer, settings_of, with_line}
 use Rattle.tbr_kept_lines.specs.LastBorder.{without_last, last_border, before_border}
 use Rattle.tbr_renderer.specs.Calls.{text_of_lines}
-use Rattle.tbr_renderer.specs.Rows.{GivenCell, FillsCell, ComesAs, border_lines, style_in, with_next, with_row, PutsRow, AppendsRow}
+use Rattle.tbr_renderer.specs.Rows.{GivenCell, border_lines, style_in, with_next, with_row, cells_from, row_put, placed, after_row}
 use Rattle.text_block_renderer.proofs.AddedLines.{Grows, lines_grow, moves_grow}
 use Rattle.text_block_renderer.proofs.Moves.{flush, no_block, flushed_none}
 use Rattle.tbr_tagged.specs.Outcome.{done, if_live}
 use Rattle.tbr_tagged.proofs.Outcomes.{live_done}
 use Rattle.tbr_renderer.specs.Flush.{after_flush}
-use Rattle.tbr_renderer.proofs.OutcomeParts.{once}
+use Rattle.tbr_renderer.proofs.OutcomeParts.{one_done, done_first}
 use Rattle.tbr_renderer.proofs.FlushedBlocks.{Flushes, flushes}
 use Rattle.tbr_renderer.proofs.SettingsStay.{Steady, flushed_alike}
 
 -- ---- the flush before a row
+
+-- a row of some kind comes after a flush
+abbrev pub LaysRow : {D A : Type 0} → (ℕ → Option ℕ) → Renderer D A (List A) → Renderer D A (List A) → Type 0
+LaysRow {D} {A} columns r s = (m : Renderer D A (List A)) × (if_live r.failure (after_flush columns r) ≡ done m) × (row : SeenRow (List A)) × (s ≡ with_row columns m row)
+
+pub row_laid : {D A : Type 0} (same : List A → List A → Bool) (columns : ℕ → Option ℕ) (collapses : Bool) (cells : List (GivenCell (List A))) (r s : Renderer D A (List A)) → after_row same columns collapses cells r ≡ done s → LaysRow columns r s
+row_laid {D} {A} same columns collapses cells r s is =
+    let (m, flushed, put) = done_first (if_live r.failure (after_flush columns r)) (λ q. placed (row_put same columns collapses cells q)) s is in
+    let (row, put_is) = go m (row_of same columns (style_in m collapses) m.annotations m.hanging (cells_from same columns m.annotations 0 cells) (last_border m.lines)) put in
+    (m, flushed, row, put_is)
+  where
+    go : (m : Renderer D A (List A)) (o : Option (SeenRow (List A))) → placed (option_map (with_row columns m) o) ≡ done s → (row : SeenRow (List A)) × (s ≡ with_row columns m row)
+    go m None put = absurd (let no : ⊥ = cc in no)
+    go m (Some row) put = (row, one_done (with_row columns m row) s put)
 
 pub row_flushes : {D A : Type 0} (columns : ℕ → Option ℕ) (r m : Renderer D A (List A)) → if_live r.failure (after_flush columns r) ≡ done m → Flushes columns r m
 row_flushes columns r m h = flushes columns r m (live_done r.failure (after_flush columns r) m h).1
@@ -90,13 +99,13 @@ module _ {D A : Type 0} (columns : ℕ → Option ℕ) where
         ap text_of_lines grows.1 ∙ text_append (under_row r row).lines grows.0 ∙ ap (λ is. is ++ text_of_lines grows.0) (same_texts r row),
       )
 
-  pub texts_only_come : (collapses : Bool) (cells : List (GivenCell (List A))) (r s : Renderer D A (List A)) → AppendsRow columns collapses cells r s → (more : List (Item (List A))) × (text_of_lines s.lines ≡ text_of_lines r.lines ++ more)
-  texts_only_come collapses cells r s h =
-      let (m, flushed, puts) = h in
+  pub texts_only_come : (r s : Renderer D A (List A)) → LaysRow columns r s → (more : List (Item (List A))) × (text_of_lines s.lines ≡ text_of_lines r.lines ++ more)
+  texts_only_come r s h =
+      let (m, flushed, row, is) = h in
       let first = moves_grow columns (flush r ∷ []) r m (m, (refl, row_flushes columns r m flushed), refl) in
-      let after = row_texts m puts.row in (
+      let after = row_texts m row in (
         text_of_lines first.0 ++ after.0,
-        ap (λ (q : Renderer D A (List A)). text_of_lines q.lines) puts.is ∙ after.1 ∙ ap (λ is. is ++ after.0) (ap text_of_lines first.1 ∙ text_append r.lines first.0) ∙ append_assoc (text_of_lines r.lines) (text_of_lines first.0) after.0,
+        ap (λ (q : Renderer D A (List A)). text_of_lines q.lines) is ∙ after.1 ∙ ap (λ is. is ++ after.0) (ap text_of_lines first.1 ∙ text_append r.lines first.0) ∙ append_assoc (text_of_lines r.lines) (text_of_lines first.0) after.0,
       )
 
   -- ---- settings
@@ -109,12 +118,11 @@ module _ {D A : Type 0} (columns : ℕ → Option ℕ) where
   next_settles r None = refl
   next_settles r (Some b) = refl
 
-  pub settings_stay : (collapses : Bool) (cells : List (GivenCell (List A))) (r s : Renderer D A (List A)) → AppendsRow columns collapses cells r s → settings_of s ≡ settings_of r
-  settings_stay collapses cells r s h =
-      let (m, flushed, puts) = h in
-      let row = puts.row in
+  pub settings_stay : (r s : Renderer D A (List A)) → LaysRow columns r s → settings_of s ≡ settings_of r
+  settings_stay r s h =
+      let (m, flushed, row, is) = h in
       let top : Renderer D A (List A) = record m { lines = before_border m.lines ++ border_lines row.above; hanging = row.overhang } in
-      ap (λ (q : Renderer D A (List A)). settings_of q) puts.is ∙ next_settles (fold (with_line columns) top row.lines) row.next ∙ lines_settle row.lines top
+      ap (λ (q : Renderer D A (List A)). settings_of q) is ∙ next_settles (fold (with_line columns) top row.lines) row.next ∙ lines_settle row.lines top
       ∙ ap (λ (q : Steady D A). q.settings) (flushed_alike columns r m (live_done r.failure (after_flush columns r) m flushed).1)
 
   -- ---- the kept refusal
@@ -127,12 +135,11 @@ module _ {D A : Type 0} (columns : ℕ → Option ℕ) where
   next_unfailed r None = refl
   next_unfailed r (Some b) = refl
 
-  pub failure_stays : (collapses : Bool) (cells : List (GivenCell (List A))) (r s : Renderer D A (List A)) → AppendsRow columns collapses cells r s → s.failure ≡ r.failure
-  failure_stays collapses cells r s h =
-      let (m, flushed, puts) = h in
-      let row = puts.row in
+  pub failure_stays : (r s : Renderer D A (List A)) → LaysRow columns r s → s.failure ≡ r.failure
+  failure_stays r s h =
+      let (m, flushed, row, is) = h in
       let top : Renderer D A (List A) = record m { lines = before_border m.lines ++ border_lines row.above; hanging = row.overhang } in
-      ap (λ (q : Renderer D A (List A)). q.failure) puts.is ∙ next_unfailed (fold (with_line columns) top row.lines) row.next ∙ lines_unfailed row.lines top
+      ap (λ (q : Renderer D A (List A)). q.failure) is ∙ next_unfailed (fold (with_line columns) top row.lines) row.next ∙ lines_unfailed row.lines top
       ∙ ap (λ (q : Steady D A). q.failure) (flushed_alike columns r m (live_done r.failure (after_flush columns r) m flushed).1)
 
   -- ---- `Normal` text
@@ -141,59 +148,8 @@ module _ {D A : Type 0} (columns : ℕ → Option ℕ) where
   next_closed r None h = h
   next_closed r (Some b) h = h
 
-  pub row_closed : (collapses : Bool) (cells : List (GivenCell (List A))) (r s : Renderer D A (List A)) → AppendsRow columns collapses cells r s → s.block ≡ None
-  row_closed collapses cells r s h =
-      let (m, flushed, puts) = h in
-      let row = puts.row in
+  pub row_closed : (r s : Renderer D A (List A)) → LaysRow columns r s → s.block ≡ None
+  row_closed r s h =
+      let (m, flushed, row, is) = h in
       let top : Renderer D A (List A) = record m { lines = before_border m.lines ++ border_lines row.above; hanging = row.overhang } in
-      ap (λ (q : Renderer D A (List A)). q.block) puts.is ∙ next_closed (fold (with_line columns) top row.lines) row.next (no_block columns row.lines top (flushed_none columns r m (row_flushes columns r m flushed)))
-
--- ---- one state
-
-one_line : {A : Type 0} (columns : ℕ → Option ℕ) (align : CellAlign) (width : ℕ) (a : A) (l : Line A) (x y : RenderLine A) → FillsCell columns align width a l x → FillsCell columns align width a l y → x ≡ y
-one_line columns align width a (text is) (Text es) (Text fs) h k = ap (λ ds. Text ds) (longest_same es fs h.1 k.1 (h.0 ∙ sym k.0))
-one_line columns align width a (border b) (Rule c) (Rule d) h k = ap (λ e. Rule e) (h ∙ sym k)
-one_line columns align width a (text is) (Rule c) y h k = absurd h
-one_line columns align width a (text is) (Text es) (Rule d) h k = absurd k
-one_line columns align width a (border b) (Text es) y h k = absurd h
-one_line columns align width a (border b) (Rule c) (Text fs) h k = absurd k
-
-one_each : {X Y : Type 0} (R : X → Y → Type 0) → ((x : X) (y z : Y) → R x y → R x z → y ≡ z) → (xs : List X) (ys zs : List Y) → AllZip R xs ys → AllZip R xs zs → ys ≡ zs
-one_each R one [] [] [] h k = refl
-one_each R one [] (y ∷ ys) zs h k = absurd h
-one_each R one [] [] (z ∷ zs) h k = absurd k
-one_each R one (x ∷ xs) [] zs h k = absurd h
-one_each R one (x ∷ xs) (y ∷ ys) [] h k = absurd k
-one_each R one (x ∷ xs) (y ∷ ys) (z ∷ zs) h k = ap (λ v. v ∷ ys) (one x y z h.0 k.0) ∙ ap (λ vs. z ∷ vs) (one_each R one xs ys zs h.1 k.1)
-
-module _ {A : Type 0} (columns : ℕ → Option ℕ) (a : A) where
-  one_cell : (given : GivenCell A) (c d : Cell A) → c.place ≡ d.place → ComesAs columns a given c → ComesAs columns a given d → c ≡ d
-  one_cell given c d place h k =
-      let wide : c.width ≡ d.width = h.0 ∙ sym k.0 in
-      let span : c.span ≡ d.span = h.1 ∙ sym k.1 in
-      let lines : c.lines ≡ d.lines = one_each (FillsCell columns given.align given.width a) (one_line columns given.align given.width a) given.lines c.lines d.lines h.2 k.2 in
-      λ i. record { place = place i; width = wide i; span = span i; lines = lines i }
-
-  pub one_own : (at : ℕ) (given : List (GivenCell A)) (cs ds : List (Cell A)) → AllZip (ComesAs columns a) given cs → AllZip (ComesAs columns a) given ds → AreSideBySide at cs → AreSideBySide at ds → cs ≡ ds
-  one_own at [] [] [] h k p q = refl
-  one_own at [] (c ∷ cs) ds h k p q = absurd h
-  one_own at [] [] (d ∷ ds) h k p q = absurd k
-  one_own at (g ∷ gs) [] ds h k p q = absurd h
-  one_own at (g ∷ gs) (c ∷ cs) [] h k p q = absurd k
-  one_own at (g ∷ gs) (c ∷ cs) (d ∷ ds) h k p q =
-      let first : c ≡ d = one_cell g c d (p.0 ∙ sym q.0) h.0 k.0 in
-      let after : AreSideBySide (d.place + d.width + 1) cs = subst (λ (e : Cell A). AreSideBySide (e.place + e.width + 1) cs) first p.1 in
-      ap (λ (e : Cell A). e ∷ cs) first ∙ ap (λ (es : List (Cell A)). d ∷ es) (one_own (d.place + d.width + 1) gs cs ds h.1 k.1 after q.1)
-
-module _ {D A : Type 0} (columns : ℕ → Option ℕ) (collapses : Bool) (cells : List (GivenCell (List A))) where
-  puts_once : (r s t : Renderer D A (List A)) → PutsRow columns collapses cells r s → PutsRow columns collapses cells r t → t ≡ s
-  puts_once r s t h k =
-      let own : k.own ≡ h.own = one_own columns r.annotations 0 cells k.own h.own k.come h.come k.side_by_side h.side_by_side in
-      let means = subst (λ (cs : List (Cell (List A))). MeansRow columns (style_in r collapses) r.annotations r.hanging cs (last_border r.lines) k.row) own k.means in
-      let row : k.row ≡ h.row = one_row columns (style_in r collapses) r.annotations r.hanging h.own (last_border r.lines) k.row h.row means h.means in
-      k.is ∙ ap (with_row columns r) row ∙ sym h.is
-
-  pub rows_once : (r s t : Renderer D A (List A)) → AppendsRow columns collapses cells r s → AppendsRow columns collapses cells r t → t ≡ s
-  rows_once r s t h k =
-      let same : k.0 ≡ h.0 = once (if_live r.failure (after_flush columns r)) h.0 k.0 h.1 k.1 in
-      puts_once h.0 s t h.2 (subst (λ (q : Renderer D A (List A)). PutsRow columns collapses cells q t) same k.2)
+      ap (λ (q : Renderer D A (List A)). q.block) is ∙ next_closed (fold (with_line columns) top row.lines) row.next (no_block columns row.lines top (flushed_none columns r m (row_flushes columns r m flushed)))

@@ -4,8 +4,9 @@ pub mod headline;
 pub mod links;
 pub mod rows;
 
-ghost use Rattle.std.specs.Prelude.{◌≡◌, ◌≢◌, ◌<◌, ℕ, Bool, false, ◌⊎◌, Option, Some, List, [], ◌++◌, flat_map};
+ghost use Rattle.std.specs.Prelude.{◌≡◌, ◌≢◌, ◌<◌, ℕ, Bool, ◌⊎◌, Option, Some, List, [], ◌++◌, flat_map};
 ghost use Rattle.std.specs.List.{AllByRecursion as Each};
+ghost use Rattle.std.specs.Cmp.Lexicographic.{pointwise};
 ghost use Rattle.tbr_border.specs.Cell.{Cell};
 ghost use Rattle.tbr_kept_lines.specs.Line.{Line};
 ghost use Rattle.tbr_renderer.specs.Renderer.{Open, Renderer, new_renderer, settings_of, open_run, IsSound};
@@ -13,7 +14,7 @@ ghost use Rattle.tbr_renderer.specs.declared.options.RenderOptions.{RenderOption
 ghost use Rattle.tbr_tagged.specs.Outcome.{done};
 ghost use Rattle.tbr_renderer.specs.Flush.{after_flush};
 ghost use Rattle.tbr_renderer.specs.Decorated.{sub_renderer};
-ghost use Rattle.tbr_renderer.specs.Rows.{GivenCell, AppendsRow};
+ghost use Rattle.tbr_renderer.specs.Rows.{GivenCell, after_row};
 ghost use Rattle.tbr_renderer.specs.Calls.{Call, Does, Steps, Brings, Shows};
 ghost use Rattle.text_block_renderer.specs.Settings.{settled};
 ghost use Rattle.text_block_renderer.specs.Drawn.{WithoutDrawnBorders, CameWithoutDrawnBorders, borders_added, borders_drawn, DrawNone};
@@ -48,9 +49,9 @@ pub fn renderers_stay_sound<D, A>()
     ensures calls { (columns : ℕ → Option ℕ) (decoration : Decoration D A) (calls : List (Call (List A)))
         (r s : Renderer D A (List A)) →
         IsSound columns r → Steps columns decoration calls r s → IsSound columns s }
-    ensures row { (columns : ℕ → Option ℕ) (collapses : Bool) (cells : List (GivenCell (List A)))
-        (r s : Renderer D A (List A)) →
-        IsSound columns r → AppendsRow columns collapses cells r s → IsSound columns s }
+    ensures row { (columns : ℕ → Option ℕ) (decoration : Decoration D A) (collapses : Bool)
+        (cells : List (GivenCell (List A))) (r s : Renderer D A (List A)) → IsSound columns r →
+        after_row (pointwise decoration.same) columns collapses cells r ≡ done s → IsSound columns s }
 {}
 
 /// After any calls the visible characters of what they brought are in the lines of text, but for those of the open run.

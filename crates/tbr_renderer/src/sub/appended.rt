@@ -11,7 +11,7 @@ ghost use Rattle.tbr_renderer.specs.Renderer.{KeepsSettings, with_line, block_wi
 ghost use Rattle.tbr_footnotes.specs.Tags.{tag_meant, items_meant};
 ghost use Rattle.tbr_renderer.specs.Meant.{map_line, meant};
 ghost use Rattle.tbr_tagged.specs.Outcome.{done, refused};
-ghost use Rattle.tbr_renderer.specs.Outcomes.{and_then, gathered};
+ghost use Rattle.tbr_renderer.specs.Outcomes.{and_then, gathered, taking};
 ghost use Rattle.tbr_renderer.specs.Flush.{after_flush};
 ghost use Rattle.tbr_renderer.specs.Appended.{GivesFirst, texts_of, as_text, prefixed, with_cell, with_cell_below, with_cells, after_lines, after_cells, handed_out};
 
@@ -133,9 +133,9 @@ impl<D: TextDecorator, W: CharWidth> SubRenderer<D, W> {
     /// them.
     pub(crate) fn try_append_vert_row(&mut self, cols: Vec<SubRenderer<D, W>>) -> Result<(), Error>
         requires { self.old.failure ≡ None }
-        ensures ok { OnOk result ((cells : List (List (Line (List D.Meaning))))
-            × (gathered (λ col. handed_out W.columns (meant D.meaning col)) cols.items ≡ done cells)
-            × (after_cells W.columns cells (meant D.meaning self.old) ≡ done (meant D.meaning self.new))) }
+        ensures ok { let given = gathered (λ col. handed_out W.columns (meant D.meaning col)) cols.items in
+            let made = taking (after_flush W.columns) given (after_cells W.columns) in
+            OnOk result (made (meant D.meaning self.old) ≡ done (meant D.meaning self.new)) }
         ensures too_narrow { result ≡ Err E.TooNarrow → and_then (after_flush W.columns (meant D.meaning self.old))
             (λ _. gathered (λ col. handed_out W.columns (meant D.meaning col)) cols.items) ≡ refused E.TooNarrow }
         ensures two_columns { 2 ≤ block_width self.old →

@@ -1,22 +1,20 @@
 //! The calls of a renderer.
-ghost use Rattle.std.specs.Prelude.{◌≡◌, ◌≢◌, ◌<◌, ◌++◌, ◌∷◌, [], suc, ◌^◌, not, true, None, Some, Err, OnOk, OnErr, IfErr, List, map, length, replicate, ◌≤◌};
+ghost use Rattle.std.specs.Prelude.{◌≡◌, ◌<◌, ◌++◌, ◌∷◌, [], suc, ◌^◌, not, true, None, Some, Err, OnOk, OnErr, IfErr, List, length, ◌≤◌};
 ghost use Rattle.tbr_tagged.specs.declared.Error.TheVariants as E;
-ghost use Rattle.tbr_kept_lines.specs.Line.{Line};
-ghost use Rattle.tbr_renderer.specs.Renderer.{kept_of, block_width};
+ghost use Rattle.tbr_renderer.specs.Renderer.{kept_of};
 ghost use Rattle.tbr_kept_lines.specs.LastBorder.{without_last};
 ghost use Rattle.tbr_renderer.specs.Meant.{meant};
 ghost use Rattle.tbr_footnotes.specs.Tags.{tag_meant};
 ghost use Rattle.tbr_renderer.specs.Steps.{block_is_empty, is_empty};
-ghost use Rattle.tbr_renderer.specs.Calls.{after, calls_by, IsWide, Fails};
+ghost use Rattle.tbr_renderer.specs.Calls.{after, calls_by, IsWide, Takes};
 ghost use Rattle.tbr_renderer.specs.Calls as call;
-ghost use Rattle.tbr_tagged.specs.Outcome.{done, refused};
-ghost use Rattle.tbr_renderer.specs.Outcomes.{and_then, gathered};
+ghost use Rattle.tbr_tagged.specs.Outcome.{done};
+ghost use Rattle.tbr_renderer.specs.Outcomes.{gathered};
 ghost use Rattle.tbr_renderer.specs.Appended.{handed_out};
 ghost use Rattle.tbr_rows.specs.Cells.{row_fits};
-ghost use Rattle.tbr_renderer.specs.Rows.{GivenCell, GivesCell, align_in, spots_of, AppendsRow};
-ghost use Rattle.tbr_tagged.specs.declared.CellAlign.TheVariants as A;
+ghost use Rattle.tbr_renderer.specs.Rows.{cells_meant, spots_of};
 ghost use Rattle.tbr_decor.specs.Decoration.{decoration_of};
-ghost use Rattle.std.specs.List.{AllZip, AllByRecursion as Each};
+ghost use Rattle.std.specs.List.{AllByRecursion as Each};
 ghost use Rattle.tbr_wrap.specs.Runs.{is_some_list};
 
 use crate::renderer::Renderer;
@@ -94,7 +92,7 @@ impl<D: TextDecorator, W: CharWidth> Renderer for SubRenderer<D, W> {
     ghost use Rattle.tbr_decor.specs.Decoration.{decoration_of};
     ghost use Rattle.std.specs.Prelude.{◌≡◌, List, true};
     ghost use Rattle.tbr_rows.specs.Cells.{row_fits};
-    ghost use Rattle.tbr_renderer.specs.Rows.{spots_of, AppendsRow};
+    ghost use Rattle.tbr_renderer.specs.Rows.{spots_of};
     ghost use Rattle.tbr_renderer.specs.Decorated.{sub_renderer};
     ghost use Rattle.tbr_renderer.specs.Calls.{calls_by};
 
@@ -107,8 +105,6 @@ impl<D: TextDecorator, W: CharWidth> Renderer for SubRenderer<D, W> {
     ghost handed_out = { λ r. handed_out W.columns (meant D.meaning r) };
 
     ghost has_places_for = { λ r cols. row_fits r.hanging (spots_of W.columns cols) ≡ true };
-
-    ghost appends_row = { λ collapse cells r s. AppendsRow W.columns collapse cells r s };
 
     ghost prefix_text = { λ r prefix. D.prefix_text r.decorator prefix };
 
@@ -265,16 +261,10 @@ impl<D: TextDecorator, W: CharWidth> Renderer for SubRenderer<D, W> {
     }
 
     fn append_vert_row(&mut self, cols: Vec<SubRenderer<D, W>>) -> Result<(), Error>
-        ensures ok { OnOk result ((cells : List (List (Line (List D.Meaning))))
-            × (gathered (λ col. handed_out W.columns (meant D.meaning col)) cols.items ≡ done cells)
-            × (after W.columns (decoration_of D.TextDecorator) (call.append_vert_row cells)
-            (meant D.meaning self.old) ≡ done (meant D.meaning self.new))) }
-        ensures too_narrow { result ≡ Err E.TooNarrow →
-            and_then (after W.columns (decoration_of D.TextDecorator) call.new_line (meant D.meaning self.old))
-            (λ _. gathered (λ col. handed_out W.columns (meant D.meaning col)) cols.items) ≡ refused E.TooNarrow }
-        ensures two_columns { let calls = calls_by W.columns (decoration_of D.TextDecorator) D.meaning in
-            IsWide calls self.old → Each (IsWide calls) cols.items → result ≢ Err E.TooNarrow }
-        ensures fails { Fails (calls_by W.columns (decoration_of D.TextDecorator) D.meaning) self.old result self.new }
+        ensures takes { let calls = calls_by W.columns (decoration_of D.TextDecorator) D.meaning in
+            let given = gathered (λ col. handed_out W.columns (meant D.meaning col)) cols.items in
+            Takes calls given (Each (IsWide calls) cols.items) (λ cells. calls.after (call.append_vert_row cells))
+            self.old result self.new }
     {
         self.refusal()?;
         let done = self.try_append_vert_row(cols);
@@ -290,17 +280,10 @@ impl<D: TextDecorator, W: CharWidth> Renderer for SubRenderer<D, W> {
         requires spans { Each (λ col. 0 < col.1) cols.items }
         requires aligns { length aligns.now ≡ length cols.items }
         requires fits { row_fits self.old.hanging (spots_of W.columns cols.items) ≡ true }
-        ensures ok { OnOk result ((cells : List (GivenCell (List D.Meaning)))
-            × AllZip (GivesCell (λ col. col.width)
-            (λ col lines. handed_out W.columns (meant D.meaning col) ≡ done lines)) cols.items cells
-            × (map align_in cells ≡ aligns.now)
-            × AppendsRow W.columns collapse cells (meant D.meaning self.old) (meant D.meaning self.new)) }
-        ensures too_narrow { result ≡ Err E.TooNarrow →
-            and_then (after W.columns (decoration_of D.TextDecorator) call.new_line (meant D.meaning self.old))
-            (λ _. gathered (λ col. handed_out W.columns (meant D.meaning col.0)) cols.items) ≡ refused E.TooNarrow }
-        ensures two_columns { let calls = calls_by W.columns (decoration_of D.TextDecorator) D.meaning in
-            IsWide calls self.old → Each (λ col. IsWide calls col.0) cols.items → result ≢ Err E.TooNarrow }
-        ensures fails { Fails (calls_by W.columns (decoration_of D.TextDecorator) D.meaning) self.old result self.new }
+        ensures takes { let calls = calls_by W.columns (decoration_of D.TextDecorator) D.meaning in
+            let given = cells_meant W.columns D.meaning cols.items aligns.now in
+            Takes calls given (Each (λ col. IsWide calls col.0) cols.items) (calls.after_row collapse)
+            self.old result self.new }
     {
         self.refusal()?;
         let done = self.try_append_columns(cols, aligns, collapse);
@@ -314,17 +297,10 @@ impl<D: TextDecorator, W: CharWidth> Renderer for SubRenderer<D, W> {
     ) -> Result<(), Error>
         requires spans { Each (λ col. 0 < col.1) cols.items }
         requires fits { row_fits self.old.hanging (spots_of W.columns cols.items) ≡ true }
-        ensures ok { OnOk result ((cells : List (GivenCell (List D.Meaning)))
-            × AllZip (GivesCell (λ col. col.width)
-            (λ col lines. handed_out W.columns (meant D.meaning col) ≡ done lines)) cols.items cells
-            × (map align_in cells ≡ replicate (length cells) A.Left)
-            × AppendsRow W.columns collapse cells (meant D.meaning self.old) (meant D.meaning self.new)) }
-        ensures too_narrow { result ≡ Err E.TooNarrow →
-            and_then (after W.columns (decoration_of D.TextDecorator) call.new_line (meant D.meaning self.old))
-            (λ _. gathered (λ col. handed_out W.columns (meant D.meaning col.0)) cols.items) ≡ refused E.TooNarrow }
-        ensures two_columns { let calls = calls_by W.columns (decoration_of D.TextDecorator) D.meaning in
-            IsWide calls self.old → Each (λ col. IsWide calls col.0) cols.items → result ≢ Err E.TooNarrow }
-        ensures fails { Fails (calls_by W.columns (decoration_of D.TextDecorator) D.meaning) self.old result self.new }
+        ensures takes { let calls = calls_by W.columns (decoration_of D.TextDecorator) D.meaning in
+            let given = cells_meant W.columns D.meaning cols.items [] in
+            Takes calls given (Each (λ col. IsWide calls col.0) cols.items) (calls.after_row collapse)
+            self.old result self.new }
     {
         self.refusal()?;
         let done = self.try_append_columns(cols, &[], collapse);

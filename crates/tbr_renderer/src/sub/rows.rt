@@ -1,24 +1,22 @@
 //! Rows of cells side by side.
-ghost use Rattle.std.specs.Prelude.{◌≡◌, ◌≢◌, ◌≤◌, ◌==◌, ◌++◌, ◌∷◌, [], None, Some, Err, true, not, List, length, map, fold, OnOk, IfOk, IfSome};
+ghost use Rattle.std.specs.Prelude.{◌≡◌, ◌≢◌, ◌≤◌, ◌==◌, ◌++◌, [], None, Some, Err, true, not, List, length, map, fold, OnOk, IfOk};
 ghost use Rattle.std.specs.Option.{option_map};
+ghost use Rattle.std.specs.Cmp.Lexicographic.{pointwise};
 ghost use Rattle.std.specs.List.{AllZip, AllByRecursion as Each, list_any};
 ghost use Rattle.tbr_tagged.specs.Copies.{equal_lists};
 ghost use Rattle.tbr_tagged.specs.Elements.{items_of, IsMerged};
 ghost use Rattle.tbr_tagged.specs.declared.Error.TheVariants as E;
-ghost use Rattle.tbr_border.specs.declared.RenderLine.TheVariants.{Line as Rule};
 ghost use Rattle.tbr_rows.specs.Cells.{AreSideBySide, has_lines, row_fits, spot_of};
 ghost use Rattle.tbr_rows.specs.Meant.{map_border, map_cell, row_meant, MeansRow, SeenRow};
 ghost use Rattle.tbr_renderer.specs.Renderer.{KeepsSettings, with_line, block_width};
 ghost use Rattle.tbr_footnotes.specs.Tags.{tag_meant, items_meant};
 ghost use Rattle.tbr_renderer.specs.Meant.{meant};
-ghost use Rattle.tbr_kept_lines.specs.Line.{line_seen};
 ghost use Rattle.tbr_tagged.specs.Outcome.{done, refused};
-ghost use Rattle.tbr_renderer.specs.Outcomes.{and_then, gathered};
+ghost use Rattle.tbr_renderer.specs.Outcomes.{and_then, taking};
 ghost use Rattle.tbr_renderer.specs.Flush.{after_flush};
-ghost use Rattle.tbr_renderer.specs.Appended.{handed_out};
 ghost use Rattle.tbr_kept_lines.specs.LastBorder.{last_border, before_border};
 ghost use Rattle.tbr_renderer.specs.Rows as model;
-ghost use Rattle.tbr_renderer.specs.Rows.{GivenCell, GivesCell, ComesAs, AppendsRow};
+ghost use Rattle.tbr_renderer.specs.Rows.{GivenCell, ComesAs, cells_meant, after_row};
 
 use crate::renderer::Renderer;
 use crate::sub::SubRenderer;
@@ -85,13 +83,11 @@ impl<D: TextDecorator, W: CharWidth> SubRenderer<D, W> {
     ) -> Result<(), Error>
         requires unfailed { self.old.failure ≡ None }
         requires fits { row_fits self.old.hanging (model.spots_of W.columns cols.items) ≡ true }
-        ensures ok { OnOk result ((cells : List (GivenCell (List D.Meaning)))
-            × AllZip (GivesCell (λ col. col.width)
-            (λ col lines. handed_out W.columns (meant D.meaning col) ≡ done lines)) cols.items cells
-            × (map model.align_in cells ≡ model.aligned_as aligns.now cols.items)
-            × AppendsRow W.columns collapses cells (meant D.meaning self.old) (meant D.meaning self.new)) }
+        ensures ok { let given = cells_meant W.columns D.meaning cols.items aligns.now in
+            let made = taking (after_flush W.columns) given (after_row (pointwise D.same) W.columns collapses) in
+            OnOk result (made (meant D.meaning self.old) ≡ done (meant D.meaning self.new)) }
         ensures too_narrow { result ≡ Err E.TooNarrow → and_then (after_flush W.columns (meant D.meaning self.old))
-            (λ _. gathered (λ col. handed_out W.columns (meant D.meaning col.0)) cols.items) ≡ refused E.TooNarrow }
+            (λ _. cells_meant W.columns D.meaning cols.items aligns.now) ≡ refused E.TooNarrow }
         ensures two_columns { 2 ≤ block_width self.old →
             Each (λ col. (col.0.failure ≡ None) × (2 ≤ block_width col.0)) cols.items → result ≢ Err E.TooNarrow }
         ensures settings { KeepsSettings (meant D.meaning self.old) (meant D.meaning self.new) }
@@ -109,15 +105,13 @@ impl<D: TextDecorator, W: CharWidth> SubRenderer<D, W> {
         aligns: &[CellAlign],
     ) -> Result<Columns<Vec<D::Annotation>>, Error>
         ensures cells { IfOk result (λ columns. (cells : List (GivenCell (List D.Meaning)))
-            × AllZip (GivesCell (λ col. col.width)
-            (λ col lines. handed_out W.columns (meant D.meaning col) ≡ done lines)) cols.items cells
-            × (map model.align_in cells ≡ model.aligned_as aligns.now cols.items)
+            × (cells_meant W.columns D.meaning cols.items aligns.now ≡ done cells)
             × AllZip (ComesAs W.columns (map D.meaning self.now.annotations)) cells
             (map (map_cell (tag_meant D.meaning)) columns)) }
         ensures free { IfOk result (λ columns. AllZip (model.LeavesFree W.columns) cols.items columns) }
         ensures side_by_side { IfOk result (λ columns. AreSideBySide 0 columns) }
         ensures too_narrow { result ≡ Err E.TooNarrow →
-            gathered (λ col. handed_out W.columns (meant D.meaning col.0)) cols.items ≡ refused E.TooNarrow }
+            cells_meant W.columns D.meaning cols.items aligns.now ≡ refused E.TooNarrow }
         ensures two_columns { Each (λ col. (col.0.failure ≡ None) × (2 ≤ block_width col.0)) cols.items →
             result ≢ Err E.TooNarrow }
     {

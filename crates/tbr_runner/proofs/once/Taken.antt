@@ -22,7 +22,7 @@ module _ {D M : Type 0} (columns : ℕ → Option ℕ) (decoration : Decoration 
       let (m, flush, is) = done_before change (after_flush columns r) s makes in
       (m, live_goes r.failure (after_flush columns r) live ∙ flush)
 
-  takes_one : {X : Type 0} (given : Outcome X) (x : X) (r m : Renderer D M (List M)) → given ≡ done x → after columns decoration new_line r ≡ done m → TakesNone columns decoration given r → ⊥
+  pub takes_one : {X : Type 0} (given : Outcome X) (x : X) (r m : Renderer D M (List M)) → given ≡ done x → after columns decoration new_line r ≡ done m → TakesNone columns decoration given r → ⊥
   takes_one given x r m gives flush none = elim (refused_first (after columns decoration new_line r) (λ _. given) E.TooNarrow none) [
     | inl narrow ↦ done_or_refused (after columns decoration new_line r) m E.TooNarrow flush narrow
     | inr held ↦ done_or_refused given x E.TooNarrow gives held.2

@@ -1,16 +1,11 @@
 -- The renderer on top of a stack is one.
-use Rattle.std.proofs.Common.{◌≡◌, Some, sym, ap, ◌∙◌, subst}
-use Rattle.tbr_stack.specs.Stack.{Stack, top_of, with_top}
+use Rattle.std.proofs.Common.{◌≡◌, Some, subst}
+use Rattle.tbr_stack.specs.Stack.{Stack, top_of}
 use Rattle.tbr_stack.specs.Top.{ChangesTop, OfTop}
 
 module _ {R : Type 0} where
   pub top_once : (stack : Stack R) (r s : R) → top_of stack ≡ Some r → top_of stack ≡ Some s → r ≡ s
   top_once stack r s a b = cc (a, b)
-
-  pub on_top_once : (Leads : R → R → Type 0) (stack x y : Stack R) → ((r s t : R) → Leads r s → Leads r t → t ≡ s) → ChangesTop Leads stack x → ChangesTop Leads stack y → x ≡ y
-  on_top_once Leads stack x y once a b =
-      let there = subst (λ r. Leads r b.1) (top_once stack b.0 a.0 b.2 a.2) b.3 in
-      a.4 ∙ ap (with_top stack) (sym (once a.0 a.1 b.1 a.3 there)) ∙ sym b.4
 
   pub top_is_both : (Is Has : R → Type 0) (stack : Stack R) → OfTop Is stack → OfTop Has stack → OfTop (λ r. Is r × Has r) stack
   top_is_both Is Has stack a b = (a.0, a.1, (a.2, subst Has (top_once stack b.0 a.0 b.1 a.1) b.2))

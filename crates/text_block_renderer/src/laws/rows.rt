@@ -1,6 +1,7 @@
 //! What follows for rows of cells side by side.
 ghost use Rattle.std.specs.Prelude.{◌≡◌, ◌↔◌, ℕ, Bool, false, Option, List, ◌++◌};
 ghost use Rattle.tbr_model.specs.Run.{Entry, Item};
+ghost use Rattle.std.specs.Cmp.Lexicographic.{pointwise};
 ghost use Rattle.tbr_decor.specs.Decoration.{Decoration};
 ghost use Rattle.tbr_renderer.specs.Renderer.{Renderer, settings_of, IsSound};
 ghost use Rattle.tbr_renderer.specs.Calls.{text_of_lines, Shows};
@@ -10,31 +11,27 @@ ghost use Rattle.tbr_renderer.specs.Rows.{GivenCell, AppendsRow, after_row};
 ghost use Rattle.text_block_renderer.specs.Acts.{Act, ActsBring};
 ghost use Rattle.text_block_renderer.specs.MarkersStand.{Stands, WaitForTextUnderRows};
 
-/// A row takes no line of text back: its texts come after those that there are.
-pub fn a_row_takes_no_text_back<D, A>()
-    ensures { (columns : ℕ → Option ℕ) (collapses : Bool) (cells : List (GivenCell (List A)))
-        (r s : Renderer D A (List A)) → AppendsRow columns collapses cells r s →
-        (more : List (Item (List A))) × (text_of_lines s.lines ≡ text_of_lines r.lines ++ more) }
-{}
-
-/// A row of the same cells leaves one state only, in every mode.
-pub fn a_row_leaves_one_state<D, A>()
-    ensures { (columns : ℕ → Option ℕ) (collapses : Bool) (cells : List (GivenCell (List A)))
-        (r s t : Renderer D A (List A)) →
-        AppendsRow columns collapses cells r s → AppendsRow columns collapses cells r t → t ≡ s }
-{}
-
-/// Where annotations can be told apart, what a row leaves is computed.
+/// A row is what it means: what is computed of it is the one state that it may leave, where annotations can be told
+/// apart.
 pub fn a_row_is_computed<D, A>()
     ensures { (same : List A → List A → Bool) → TellsApart same → (columns : ℕ → Option ℕ) (collapses : Bool)
         (cells : List (GivenCell (List A))) (r s : Renderer D A (List A)) →
         AppendsRow columns collapses cells r s ↔ (after_row same columns collapses cells r ≡ done s) }
 {}
 
+/// A row takes no line of text back: its texts come after those that there are.
+pub fn a_row_takes_no_text_back<D, A>()
+    ensures { (columns : ℕ → Option ℕ) (decoration : Decoration D A) (collapses : Bool)
+        (cells : List (GivenCell (List A))) (r s : Renderer D A (List A)) →
+        after_row (pointwise decoration.same) columns collapses cells r ≡ done s →
+        (more : List (Item (List A))) × (text_of_lines s.lines ≡ text_of_lines r.lines ++ more) }
+{}
+
 /// A row changes no settings.
 pub fn a_row_changes_no_settings<D, A>()
-    ensures { (columns : ℕ → Option ℕ) (collapses : Bool) (cells : List (GivenCell (List A)))
-        (r s : Renderer D A (List A)) → AppendsRow columns collapses cells r s → settings_of s ≡ settings_of r }
+    ensures { (columns : ℕ → Option ℕ) (decoration : Decoration D A) (collapses : Bool)
+        (cells : List (GivenCell (List A))) (r s : Renderer D A (List A)) →
+        after_row (pointwise decoration.same) columns collapses cells r ≡ done s → settings_of s ≡ settings_of r }
 {}
 
 /// After any calls and rows the visible characters of what they brought are in the lines of text, but for those of the

@@ -1,7 +1,6 @@
-use Rattle.std.proofs.Common.{ℕ}
 use Rattle.callers.specs.Counted.{Counted}
 use Rattle.callers.proofs.Counts.{HasTaken}
 use Rattle.callers.proofs.counter.Counter.take_all.Given as goal
 
 abbrev pub invariant-loop-other : goal.invariant-loop-other
-invariant-loop-other l = HasTaken (λ (x : Counted × ℕ). x.0) l.initial.self l.yielded l.self
+invariant-loop-other l = HasTaken (λ (x : Counted). x) l.initial.self l.yielded l.self

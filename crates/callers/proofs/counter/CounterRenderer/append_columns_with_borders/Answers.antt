@@ -1,11 +1,22 @@
-use Rattle.std.proofs.Common.{ap, sym, ◌∙◌}
+use Rattle.std.proofs.Common.{[], ◌∙◌, ap, sym}
+use Rattle.std.specs.List.{AllByRecursion as Each}
 use Rattle.std.proofs.lemmas.Result.{on_ok_weaker}
-use Rattle.callers.specs.Counted.{with_more}
-use Rattle.callers.proofs.Counts.{left_cells_come}
+use Rattle.tbr_tagged.specs.Outcome.{done}
+use Rattle.text_block_renderer.specs.Rows.{cells_given}
+use Rattle.text_block_renderer.specs.Calls.{IsWide}
+use Rattle.callers.specs.Counted.{Counted, with_more, handed_out, after_row, calls}
+use Rattle.callers.proofs.Counts.{takes_so, takes_given, cells_come}
 use Rattle.callers.proofs.counter.CounterRenderer.append_columns_with_borders.Goals as goal
 
-pub returns-clause-ok : goal.returns-clause-ok
-returns-clause-ok c =
-    on_ok_weaker c.take_all.result (λ h.
-    let (cells, (come, aligned, sum)) = left_cells_come c.args.cols.items h.1 in
-    (cells, come, aligned, h.2 ∙ ap (λ n. with_more n c.args.self.now) (sym sum))) c.take_all.ensures.ok
+pub returns : goal.returns
+returns c =
+    let cols = c.args.cols.items in
+    let old = c.args.self.now in
+    let given = cells_given (λ x. x.width) handed_out cols [] in
+    record {
+      takes = takes_so given (Each (λ col. IsWide calls col.0) cols) (after_row c.args.collapse) old c.take_cells.new.self c.take_cells.result
+          (on_ok_weaker c.take_cells.result (λ h.
+          let (cells, gives, sum) = cells_come cols [] h.1 in
+          (h.0, takes_given given (after_row c.args.collapse) old c.take_cells.new.self cells gives (ap (λ n. done (with_more n old)) sum ∙ ap (λ (d : Counted). done d) (sym h.2)))) c.take_cells.ensures.ok)
+          c.take_cells.ensures.err;
+    }

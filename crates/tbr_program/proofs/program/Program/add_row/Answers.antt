@@ -1,5 +1,6 @@
 use Rattle.std.proofs.Common.{◌≡◌, true, false, Err, refl, sym, ap, ◌∙◌, subst}
 use Rattle.tbr_decor.specs.Decoration.{decoration_of}
+use Rattle.text_block_renderer.specs.Rows.{cells_meant}
 use Rattle.tbr_program.specs.Progress.{progress_meant, IsLive, GoesOn}
 use Rattle.tbr_program.specs.Meaning.{RowRefuses}
 use Rattle.tbr_program.proofs.Levels.{with_top_live, top_live}
@@ -22,17 +23,20 @@ returns-in_err-append_columns_aligned-clause-refused g c =
     let top = same_some (sym c.top.ensures ∙ c.top_mut-top.ensures.top) in
     let fits = fits_there columns top cells (sym c.row_fits.ensures ∙ fit) in
     refused_by (RowRefuses columns (decoration_of g.D.TextDecorator) (progress_meant meaning c.args.self.now) c.args.number) c.from_residual.result c.in_err-append_columns_aligned.field-0.0 c.from_residual.ensures.1 (λ e.
-    row_refused meaning columns _ c.args.self.now c.self.view_is c.top_mut-top.result.now c.top_mut-top.ensures.top c.take_cells-cells.result.0.items c.take_cells-cells.ensures.cells (decoration_of g.D.TextDecorator) c.args.number fits
-    (c.append_columns_aligned.ensures.too_narrow (c.in_err-append_columns_aligned.was ∙ ap Err e)))
+    row_refused meaning columns _ c.args.self.now c.self.view_is c.top_mut-top.result.now c.top_mut-top.ensures.top c.take_cells-cells.result.0.items c.take_cells-cells.ensures.cells
+    (decoration_of g.D.TextDecorator) c.deref.result.now (c.deref.ensures.value ∙ c.take_cells-cells.ensures.aligns) fits c.args.number
+    (c.append_columns_aligned.ensures.takes.too_narrow (c.in_err-append_columns_aligned.was ∙ ap Err e)))
 
 pub returns-clause-live : goal.returns-clause-live
 returns-clause-live g c =
     let i = c.self.inside in
+    let columns = g.W.CharWidth.columns in
+    let meaning = g.D.TextDecorator.meaning in
     let live = top_live i.renderers i.pending i.opened (subst GoesOn (sym c.self.view_is) c.requires) c.top_mut-top.result.now c.top_mut-top.ensures.top in
-    let h = c.in_ok-append_columns_aligned.ensures.ok in
     with_top_live i.renderers i.pending i.opened (subst GoesOn (sym c.self.view_is) c.requires) _ c.append_columns_aligned.new.self c.take_cells-cells.new.self refl
     (subst (IsLive c.append_columns_aligned.new.self) (sym (ap (λ p. p.begun) c.take_cells-cells.ensures.rest))
-    (row_live g.W.CharWidth.columns g.D.TextDecorator.meaning c.args.collapse h.0 c.top_mut-top.result.now c.append_columns_aligned.new.self i.pending.begun live h.3))
+    (row_live columns (decoration_of g.D.TextDecorator) meaning c.args.collapse (cells_meant columns meaning c.take_cells-cells.result.0.items c.deref.result.now) c.top_mut-top.result.now c.append_columns_aligned.new.self i.pending.begun live
+    c.in_ok-append_columns_aligned.ensures.takes.ok))
 
 pub returns-clause-done : goal.returns-clause-done
 returns-clause-done g c =
@@ -40,4 +44,5 @@ returns-clause-done g c =
     let cells = c.cells.ensures ∙ sym c.take_cells-cells.ensures.cells in
     let top = same_some (sym c.top.ensures ∙ c.top_mut-top.ensures.top) in
     row_done g.D.TextDecorator.meaning g.W.CharWidth.columns _ c.args.self.now c.self.view_is c.top_mut-top.result.now c.top_mut-top.ensures.top c.take_cells-cells.result.0.items c.take_cells-cells.ensures.cells
-    (decoration_of g.D.TextDecorator) c.args.collapse c.deref.result.now c.append_columns_aligned.new.self c.take_cells-cells.new.self (fits_there g.W.CharWidth.columns top cells (sym c.row_fits.ensures ∙ fit)) (c.deref.ensures.value ∙ c.take_cells-cells.ensures.aligns) c.take_cells-cells.ensures.rest c.in_ok-append_columns_aligned.ensures.ok
+    (decoration_of g.D.TextDecorator) c.deref.result.now (c.deref.ensures.value ∙ c.take_cells-cells.ensures.aligns) (fits_there g.W.CharWidth.columns top cells (sym c.row_fits.ensures ∙ fit))
+    c.args.collapse c.append_columns_aligned.new.self c.take_cells-cells.new.self c.take_cells-cells.ensures.rest c.in_ok-append_columns_aligned.ensures.takes.ok

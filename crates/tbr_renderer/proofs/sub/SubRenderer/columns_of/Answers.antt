@@ -9,15 +9,14 @@ use Rattle.tbr_rows.specs.Cells.{AreSideBySide}
 use Rattle.tbr_rows.specs.Meant.{map_line as map_row_line}
 use Rattle.tbr_footnotes.specs.Tags.{tag_meant}
 use Rattle.tbr_renderer.specs.Meant.{map_line, meant}
-use Rattle.tbr_renderer.specs.Rows.{LeavesFree, FillsCell, aligned_as}
+use Rattle.tbr_renderer.specs.Rows.{LeavesFree, FillsCell, cells_meant}
 use Rattle.tbr_kept_lines.specs.Line.{line_seen}
-use Rattle.tbr_renderer.specs.Outcomes.{gathered}
 use Rattle.tbr_renderer.specs.Appended.{handed_out}
-use Rattle.tbr_renderer.proofs.OutcomeParts.{gathered_stops, all_give}
+use Rattle.tbr_renderer.proofs.GivenCells.{given_stops}
 use Rattle.tbr_footnotes.proofs.Tags.{tags_mean}
 use Rattle.tbr_kept_lines.proofs.ItemsLeft.{items_left, items_taken}
 use Rattle.tbr_renderer.proofs.AppendedLines.{each_at, passed_on}
-use Rattle.tbr_renderer.proofs.MeantRows.{Gives, HasColumns, tags_told, no_columns, columns_go_on, next_taken, lines_fill, lines_given}
+use Rattle.tbr_renderer.proofs.MeantRows.{HasColumns, tags_told, no_columns, columns_go_on, next_taken, lines_fill}
 use Rattle.tbr_renderer.proofs.sub.SubRenderer.columns_of.Goals as goal
 
 pub loop-col-init : goal.loop-col-init
@@ -37,9 +36,8 @@ returns-in_err-lines-clause-too_narrow g c = λ is.
     let all = c.into_iter-col-iterator.result in
     let whole = sym c.into_iter-col-iterator.ensures.into_iter_gives.0 ∙ items_left all all c.loop-col.col-iterator c.next.new.self c.loop-col.yielded (c.in-Some.col, c.in-Some.span) refl c.loop-col.yielded_by c.in-Some.ensures.steps.0 in
     let inv = c.loop-col.invariant.0 in
-    ap (gathered (λ col. handed_out columns (meant f col.0))) whole
-    ∙ gathered_stops (λ col. handed_out columns (meant f col.0)) c.loop-col.yielded _ (c.in-Some.col, c.in-Some.span) (into_iter_items c.next.new.self) TooNarrow
-    (all_give (λ col. handed_out columns (meant f col.0)) c.loop-col.yielded _ (lines_given f columns c.loop-col.yielded inv.cells inv.give)) (c.into_vec.ensures.too_narrow e)
+    ap (λ cols. cells_meant columns f cols c.args.aligns.now) whole
+    ∙ given_stops (λ r. r.width) (λ r. handed_out columns (meant f r)) c.loop-col.yielded c.args.aligns.now inv.cells (c.in-Some.col, c.in-Some.span) (into_iter_items c.next.new.self) TooNarrow inv.given (c.into_vec.ensures.too_narrow e)
 
 pub returns-in_err-lines-clause-two_columns : goal.returns-in_err-lines-clause-two_columns
 returns-in_err-lines-clause-two_columns g c = λ wide is.
@@ -80,7 +78,7 @@ returns-clause-cells g c =
     let all = c.into_iter-col-iterator.result in
     let whole = sym c.into_iter-col-iterator.ensures.into_iter_gives.0 ∙ items_taken all all c.loop-col.col-iterator c.next.new.self c.loop-col.yielded refl c.loop-col.yielded_by c.in-None.ensures.steps in
     let h = c.loop-col.invariant.0 in
-    (h.cells, subst (λ cols. AllZip (Gives f g.W.CharWidth.columns) cols h.cells) (sym whole) h.give, h.aligned ∙ ap (aligned_as c.args.aligns.now) (sym whole), h.come)
+    (h.cells, ap (λ cols. cells_meant g.W.CharWidth.columns f cols c.args.aligns.now) whole ∙ h.given, h.come)
 
 pub returns-clause-free : goal.returns-clause-free
 returns-clause-free g c =

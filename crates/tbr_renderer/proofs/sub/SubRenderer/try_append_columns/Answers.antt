@@ -1,9 +1,14 @@
 use Rattle.std.proofs.Common.{map, ◌∙◌}
+use Rattle.std.specs.Cmp.Lexicographic.{pointwise}
 use Rattle.tbr_tagged.proofs.Outcomes.{live_goes}
 use Rattle.tbr_rows.specs.Meant.{map_cell}
 use Rattle.tbr_footnotes.specs.Tags.{tag_meant}
 use Rattle.tbr_renderer.specs.Meant.{meant}
+use Rattle.tbr_renderer.specs.Flush.{after_flush}
+use Rattle.tbr_renderer.specs.Rows.{cells_meant, after_row, AppendsRow}
+use Rattle.tbr_renderer.proofs.ComputedRows.{lists_apart, row_computed}
 use Rattle.tbr_renderer.proofs.MeantRows.{still_fits, stand_meant}
+use Rattle.tbr_renderer.proofs.OutcomeParts.{taking_done}
 use Rattle.tbr_renderer.proofs.sub.SubRenderer.try_append_columns.Goals as goal
 
 pub add_row-requires-clause-fits : goal.add_row-requires-clause-fits
@@ -13,11 +18,14 @@ add_row-requires-clause-fits g c =
 pub returns-clause-ok : goal.returns-clause-ok
 returns-clause-ok g c =
     let f = g.D.TextDecorator.meaning in
+    let columns = g.W.CharWidth.columns in
+    let same = pointwise g.D.TextDecorator.same in
+    let old = meant f c.args.self.now in
     let own = c.in_ok-columns.columns in
-    let (cells, give, aligned, come) = c.in_ok-columns.ensures.cells in
-    let (row, means, is) = c.in_ok-add_row.ensures.row in (
-      cells,
-      give,
-      aligned,
-      (meant f c.try_flush.new.self, live_goes c.args.self.now.failure _ c.requires.unfailed ∙ c.in_ok-try_flush.ensures.tries.ok, record { own = map (map_cell (tag_meant f)) own; come = come; side_by_side = stand_meant f own c.in_ok-columns.ensures.side_by_side; row = row; means = means; is = is }),
-    )
+    let flushed = c.in_ok-try_flush.ensures.tries.ok in
+    let (cells, given, come) = c.in_ok-columns.ensures.cells in
+    let (row, means, is) = c.in_ok-add_row.ensures.row in
+    let appends : AppendsRow columns c.args.collapses cells old (meant f c.add_row.new.self) =
+    (meant f c.try_flush.new.self, live_goes c.args.self.now.failure _ c.requires.unfailed ∙ flushed, record { own = map (map_cell (tag_meant f)) own; come = come; side_by_side = stand_meant f own c.in_ok-columns.ensures.side_by_side; row = row; means = means; is = is }) in
+    taking_done (after_flush columns) (cells_meant columns f c.args.cols.items c.args.aligns.now) (after_row same columns c.args.collapses) old (meant f c.try_flush.new.self) cells flushed given
+    ∙ (row_computed same (lists_apart g.D.TextDecorator.same g.D.TextDecorator.tells) columns c.args.collapses cells old (meant f c.add_row.new.self)).0 appends

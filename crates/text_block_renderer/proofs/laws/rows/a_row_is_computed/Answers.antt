@@ -1,4 +1,4 @@
-use Rattle.text_block_renderer.proofs.ComputedRows.{row_computed}
+use Rattle.tbr_renderer.proofs.ComputedRows.{row_computed}
 use Rattle.text_block_renderer.proofs.laws.rows.a_row_is_computed.Goals as goal
 
 pub returns : goal.returns

@@ -1,9 +1,13 @@
 -- What a row leaves is what is computed, where annotations can be told apart.
-use Rattle.std.proofs.Common.{◌≡◌, ◌↔◌, ℕ, ◌+◌, ◌-◌, Bool, Option, None, Some, List, [], ◌∷◌, map, ap, sym, ◌∙◌, subst, refl}
+use Rattle.std.proofs.Common.{◌≡◌, ◌↔◌, ℕ, ◌+◌, ◌-◌, Bool, true, false, ◌&&◌, Option, None, Some, List, [], ◌∷◌, map, ap, sym, ◌∙◌, subst, refl}
 use Rattle.std.specs.Option.{option_map}
 use Rattle.std.specs.List.{AllZip}
 use Rattle.std.proofs.lemmas.Option.{same_Some}
+use Rattle.std.proofs.lemmas.Bool.{false≢true}
+use Rattle.std.specs.Cmp.Lexicographic.{pointwise}
 use Rattle.tbr_tagged.specs.declared.CellAlign.{CellAlign}
+use Rattle.tbr_border.specs.declared.RenderLine.{RenderLine}
+use Rattle.tbr_border.specs.declared.RenderLine.TheVariants.{Text, Line as Rule}
 use Rattle.tbr_tagged.specs.Padding.{aligned_items}
 use Rattle.tbr_tagged.specs.Outcome.{Outcome, done, if_live}
 use Rattle.tbr_model.specs.Run.{items_width}
@@ -11,6 +15,7 @@ use Rattle.tbr_rows.specs.Cells.{AreSideBySide}
 use Rattle.tbr_rows.specs.Meant.{SeenRow, MeansRow}
 use Rattle.tbr_rows.specs.Computed.{TellsApart, row_of}
 use Rattle.tbr_rows.specs.declared.LineSet.{LineSet as Cell}
+use Rattle.tbr_rows.proofs.OneRow.{longest_same}
 use Rattle.tbr_rows.proofs.ComputedRow.{longest_items, longest_are, computed}
 use Rattle.tbr_kept_lines.specs.Line.{Line, text, border}
 use Rattle.tbr_kept_lines.specs.LastBorder.{last_border}
@@ -19,7 +24,63 @@ use Rattle.tbr_renderer.specs.Flush.{after_flush}
 use Rattle.tbr_renderer.specs.Outcomes.{and_then}
 use Rattle.tbr_renderer.specs.Rows.{GivenCell, FillsCell, ComesAs, style_in, with_row, PutsRow, AppendsRow, filled, cells_from, row_put, placed, after_row}
 use Rattle.tbr_renderer.proofs.OutcomeParts.{one_done, done_first}
-use Rattle.text_block_renderer.proofs.RowsOfCells.{one_own}
+
+-- ---- lists of tags
+
+-- where tags can be told apart, lists of them can
+pub lists_apart : {A : Type 0} (same : A → A → Bool) → TellsApart same → TellsApart (pointwise same)
+lists_apart same tells [] [] = (λ _. refl, λ _. refl)
+lists_apart same tells [] (y ∷ ys) = (λ h. absurd (false≢true h), λ e. absurd (let no : ⊥ = cc in no))
+lists_apart same tells (x ∷ xs) [] = (λ h. absurd (false≢true h), λ e. absurd (let no : ⊥ = cc in no))
+lists_apart {A} same tells (x ∷ xs) (y ∷ ys) = (
+  λ h. let (first, rest) = both_true (same x y) (pointwise same xs ys) h in
+      ap (λ (z : A). z ∷ xs) ((tells x y).0 first) ∙ ap (λ (zs : List A). y ∷ zs) ((lists_apart same tells xs ys).0 rest),
+  λ e. let first : same x y ≡ true = (tells x y).1 (let one : x ≡ y = cc in one) in
+      let rest : pointwise same xs ys ≡ true = (lists_apart same tells xs ys).1 (let others : xs ≡ ys = cc in others) in
+      rw (first, rest) refl,
+)
+  where
+    both_true : (s t : Bool) → (s && t) ≡ true → (s ≡ true) × (t ≡ true)
+    both_true true true h = (refl, refl)
+    both_true true false h = cc
+    both_true false t h = cc
+
+-- ---- the same cells
+
+one_line : {A : Type 0} (columns : ℕ → Option ℕ) (align : CellAlign) (width : ℕ) (a : A) (l : Line A) (x y : RenderLine A) → FillsCell columns align width a l x → FillsCell columns align width a l y → x ≡ y
+one_line columns align width a (text is) (Text es) (Text fs) h k = ap (λ ds. Text ds) (longest_same es fs h.1 k.1 (h.0 ∙ sym k.0))
+one_line columns align width a (border b) (Rule c) (Rule d) h k = ap (λ e. Rule e) (h ∙ sym k)
+one_line columns align width a (text is) (Rule c) y h k = absurd h
+one_line columns align width a (text is) (Text es) (Rule d) h k = absurd k
+one_line columns align width a (border b) (Text es) y h k = absurd h
+one_line columns align width a (border b) (Rule c) (Text fs) h k = absurd k
+
+one_each : {X Y : Type 0} (R : X → Y → Type 0) → ((x : X) (y z : Y) → R x y → R x z → y ≡ z) → (xs : List X) (ys zs : List Y) → AllZip R xs ys → AllZip R xs zs → ys ≡ zs
+one_each R one [] [] [] h k = refl
+one_each R one [] (y ∷ ys) zs h k = absurd h
+one_each R one [] [] (z ∷ zs) h k = absurd k
+one_each R one (x ∷ xs) [] zs h k = absurd h
+one_each R one (x ∷ xs) (y ∷ ys) [] h k = absurd k
+one_each R one (x ∷ xs) (y ∷ ys) (z ∷ zs) h k = ap (λ v. v ∷ ys) (one x y z h.0 k.0) ∙ ap (λ vs. z ∷ vs) (one_each R one xs ys zs h.1 k.1)
+
+module _ {A : Type 0} (columns : ℕ → Option ℕ) (a : A) where
+  one_cell : (given : GivenCell A) (c d : Cell A) → c.place ≡ d.place → ComesAs columns a given c → ComesAs columns a given d → c ≡ d
+  one_cell given c d place h k =
+      let wide : c.width ≡ d.width = h.0 ∙ sym k.0 in
+      let span : c.span ≡ d.span = h.1 ∙ sym k.1 in
+      let lines : c.lines ≡ d.lines = one_each (FillsCell columns given.align given.width a) (one_line columns given.align given.width a) given.lines c.lines d.lines h.2 k.2 in
+      λ i. record { place = place i; width = wide i; span = span i; lines = lines i }
+
+  pub one_own : (at : ℕ) (given : List (GivenCell A)) (cs ds : List (Cell A)) → AllZip (ComesAs columns a) given cs → AllZip (ComesAs columns a) given ds → AreSideBySide at cs → AreSideBySide at ds → cs ≡ ds
+  one_own at [] [] [] h k p q = refl
+  one_own at [] (c ∷ cs) ds h k p q = absurd h
+  one_own at [] [] (d ∷ ds) h k p q = absurd k
+  one_own at (g ∷ gs) [] ds h k p q = absurd h
+  one_own at (g ∷ gs) (c ∷ cs) [] h k p q = absurd k
+  one_own at (g ∷ gs) (c ∷ cs) (d ∷ ds) h k p q =
+      let first : c ≡ d = one_cell g c d (p.0 ∙ sym q.0) h.0 k.0 in
+      let after : AreSideBySide (d.place + d.width + 1) cs = subst (λ (e : Cell A). AreSideBySide (e.place + e.width + 1) cs) first p.1 in
+      ap (λ (e : Cell A). e ∷ cs) first ∙ ap (λ (es : List (Cell A)). d ∷ es) (one_own (d.place + d.width + 1) gs cs ds h.1 k.1 after q.1)
 
 -- ---- the cells
 

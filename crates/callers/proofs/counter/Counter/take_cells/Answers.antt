@@ -1,0 +1,30 @@
+use Rattle.std.proofs.Common.{◌≡◌, ℕ, true, false, ◌∙◌, sym, subst}
+use Rattle.std.proofs.lemmas.List.{map-id}
+use Rattle.std.proofs.lemmas.Result.{err_from_is_err_and}
+use Rattle.std.proofs.lemmas.Iterator.Adapters.{YieldsList-from_vec}
+use Rattle.std.proofs.lemmas.Iterator.Consumers.{YieldsList-end}
+use Rattle.callers.specs.Counted.{Counted}
+use Rattle.callers.proofs.Counts.{HasTaken, goes_on, none_taken, one_more, stopped}
+use Rattle.callers.proofs.counter.Counter.take_cells.Goals as goal
+
+pub loop-cell-init : goal.loop-cell-init
+loop-cell-init c = none_taken (λ (x : Counted × ℕ). x.0) c.args.self.now (goes_on c.args.self.now.failed c.in_ok-refusal.field-0 c.in_ok-refusal.ensures)
+
+pub loop-cell-preserved : goal.loop-cell-preserved
+loop-cell-preserved c =
+    let taken = c.in_ok-take.ensures.ok in
+    one_more (λ (x : Counted × ℕ). x.0) c.args.self.now c.loop-cell.self c.take.new.self c.loop-cell.yielded (c.in-Some.cell, c.in-Some.field-0-1) c.loop-cell.invariant taken.1 taken.2
+
+pub returns-in_err-take-clause-err : goal.returns-in_err-take-clause-err
+returns-in_err-take-clause-err c =
+    let told = c.in_err-take.ensures.err in
+    let kept = stopped (λ (x : Counted × ℕ). x.0) c.args.self.now c.loop-cell.self c.take.new.self c.loop-cell.yielded c.loop-cell.invariant told.1 in
+    let (e, is, same) = err_from_is_err_and c.from_residual-in_err-take.result c.from_residual-in_err-take.ensures.1 in
+    rw is (same ∙ told.0, kept.0, kept.1, λ was. let no : true ≡ false = sym was ∙ c.loop-cell.invariant.0 in absurd (let none : ⊥ = cc in none))
+
+pub returns-clause-ok : goal.returns-clause-ok
+returns-clause-ok c =
+    let given = c.into_iter-cell-iterator.ensures.into_iter_gives in
+    let list = YieldsList-from_vec c.args.cells.items given.0 (given.1 ∙ c.args.cells.ok.0) in
+    let end = YieldsList-end list c.loop-cell.yielded c.loop-cell.cell-iterator c.loop-cell.yielded_by c.next.result c.next.new.self c.in-None.is c.next.ensures.steps in
+    subst (λ xs. HasTaken (λ (x : Counted × ℕ). x.0) c.args.self.now xs c.loop-cell.self) (sym (map-id c.loop-cell.yielded) ∙ end.0) c.loop-cell.invariant
