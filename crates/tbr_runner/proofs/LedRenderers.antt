@@ -1,9 +1,8 @@
 -- Each renderer of a script is led to by calls and rows.
-use Rattle.std.proofs.Common.{◌≡◌, ◌≢◌, ◌<◌, ◌+◌, inl, inr, Ok, ℕ, Bool, true, false, if◌then◌else◌, Option, Some, None, List, [], ◌∷◌, ◌++◌, drop, flat_map, fold, chars, length, refl, ap, sym, ◌∙◌, subst, arith, append_assoc, append-nil}
+use Rattle.std.proofs.Common.{◌≡◌, ◌≢◌, ◌<◌, ◌+◌, inl, inr, Ok, ℕ, Bool, true, false, if◌then◌else◌, Option, Some, None, List, [], ◌∷◌, ◌++◌, drop, flat_map, fold, chars, length, refl, ap, sym, ◌∙◌, subst, arith}
 use Rattle.std.specs.List.{AllByRecursion as Each}
 use Rattle.std.specs.Cmp.Lexicographic.{pointwise}
-use Rattle.tbr_model.specs.Run.{Entry, Item}
-use Rattle.tbr_model.specs.Layout.{joined}
+use Rattle.tbr_model.specs.Run.{Item}
 use Rattle.tbr_model.proofs.lists.Each.{each_append}
 use Rattle.tbr_tagged.specs.Outcome.{Outcome, done, refused}
 use Rattle.tbr_decor.specs.Decoration.{Decoration}
@@ -11,7 +10,6 @@ use Rattle.tbr_decor.specs.Start as start
 use Rattle.tbr_decor.specs.End as end
 use Rattle.tbr_renderer.specs.Outcomes.{changed}
 use Rattle.tbr_renderer.proofs.OutcomeParts.{done_first, done_before, taken}
-use Rattle.tbr_renderer.proofs.ComputedRows.{lists_apart, row_computed}
 use Rattle.tbr_commands.specs.declared.opening.Opening.{Opening}
 use Rattle.tbr_commands.specs.Request.{Request, call_of}
 use Rattle.tbr_commands.specs.Command.{Command, ask, link, end_link, sub, append, cell, end_cell, row, vertical_row}
@@ -46,14 +44,15 @@ use Rattle.std.specs.List.{AllZip}
 use Rattle.std.specs.Prelude.{encode_utf8_all}
 use Rattle.text_block_renderer.specs.Text.{lines_text}
 use Rattle.text_block_renderer.proofs.Settings.{call_beside}
-use Rattle.text_block_renderer.proofs.RowsOfCells.{failure_stays}
+use Rattle.text_block_renderer.proofs.RowsOfCells.{row_laid, failure_stays}
 use Rattle.tbr_runner.specs.Scripts.{LinesGive, OpensUnder, Begins, Gives}
 use Rattle.tbr_program.specs.Meaning.{Closes, RequestDoes, LinkDoes, EndLinkDoes, LevelOpens, AppendDoes, CellDoes, cells_waiting, row_made, RowDoes, VerticalRowDoes, CommandDoes, LineDoes, started}
 use Rattle.text_block_renderer.specs.Renderer.{Open, Renderer, IsSound, new_renderer, with_line, has_content}
 use Rattle.text_block_renderer.specs.Rows.{after_row}
-use Rattle.text_block_renderer.specs.Calls.{Call, new_line, begin, finish, add_inline_text, append_subrender, append_vert_row, after, entries_brought, laid_entries}
+use Rattle.text_block_renderer.specs.Calls.{Call, new_line, begin, finish, add_inline_text, append_subrender, append_vert_row, after}
 use Rattle.text_block_renderer.specs.Decorated.{sub_renderer}
-use Rattle.text_block_renderer.specs.Acts.{Act, call, row as row_of_cells, ActBrings, ActsBring}
+use Rattle.text_block_renderer.specs.Acts.{Act, call, row as row_of_cells, after_act, act_brought}
+use Rattle.text_block_renderer.proofs.ActSteps.{acts_then}
 use Rattle.text_block_renderer.proofs.Moves.{sound_alike, flushed_none}
 use Rattle.text_block_renderer.proofs.ActParts.{acts_along}
 use Rattle.text_block_renderer.proofs.SoundRenderers.{new_sound, inside_sound}
@@ -71,21 +70,20 @@ module _ {D M : Type 0} (columns : ℕ → Option ℕ) (decoration : Decoration 
 
   -- ---- one act more
 
-  pub one_act : (act : Act (List M)) (r m s : Top) (es : List (Entry (List M))) → m ≡ r → ActBrings columns decoration act m es s → ActsBring columns decoration (act ∷ []) r es s
-  one_act act r m s es same h = (s, es, [], subst (λ (q : Top). ActBrings columns decoration act q es s) same h, (refl, refl), sym (append-nil es))
+  act_live : (act : Act (List M)) (r s : Top) → after_act columns decoration act r ≡ done s → s.failure ≡ r.failure
+  act_live (call c) r s h = (call_beside columns decoration c r s h).0
+  act_live (row_of_cells collapses cells) r s h = failure_stays columns r s (row_laid (pointwise decoration.same) columns collapses cells r s h)
 
-  act_after : (acts : List (Act (List M))) (act : Act (List M)) (r m s : Top) (es fs : List (Entry (List M))) → ActsBring columns decoration acts r es m → ActBrings columns decoration act m fs s → ActsBring columns decoration (acts ++ act ∷ []) r (es ++ fs) s
-  act_after [] act r m s es fs h k = subst (λ gs. ActsBring columns decoration (act ∷ []) r (gs ++ fs) s) (sym h.1) (one_act act r m s fs h.0 k)
-  act_after (a ∷ acts) act r m s es fs h k =
-      let (q, first, rest, does, others, is) = h in
-      (q, first, rest ++ fs, does, act_after acts act q m s rest fs others k, ap (λ gs. gs ++ fs) is ∙ append_assoc first rest fs)
-
-  act_live : (act : Act (List M)) (r s : Top) (es : List (Entry (List M))) → ActBrings columns decoration act r es s → s.failure ≡ r.failure
-  act_live (call c) r s es h = (call_beside columns decoration c r s h.0).0
-  act_live (row_of_cells collapses cells) r s es h = let puts = h.2 in failure_stays columns r s (h.0, h.1, puts.row, puts.is)
-
-  pub led_on : (act : Act (List M)) (r s : Top) (fs : List (Entry (List M))) → ActBrings columns decoration act r fs s → Led r → Led s
-  led_on act r s fs h k = record { first = k.first; fresh = k.fresh; sound = k.sound; acts = k.acts ++ act ∷ []; es = k.es ++ fs; bring = act_after k.acts act k.first r s k.es fs k.bring h; live = act_live act r s fs h ∙ k.live }
+  pub led_on : (act : Act (List M)) (r s : Top) → after_act columns decoration act r ≡ done s → Led r → Led s
+  led_on act r s h k = record {
+    first = k.first;
+    fresh = k.fresh;
+    sound = k.sound;
+    acts = k.acts ++ act ∷ [];
+    es = k.es ++ act_brought columns decoration act r;
+    bring = acts_then columns decoration k.acts act k.first r s k.es k.bring h;
+    live = act_live act r s h ∙ k.live;
+  }
 
   -- such a renderer is sound
   pub led_sound : (r : Top) → Led r → IsSound columns r
@@ -101,10 +99,10 @@ module _ {D M : Type 0} (columns : ℕ → Option ℕ) (decoration : Decoration 
 
   -- ---- what acts keep, and blocks inside have
 
-  module _ (Is : Top → Type 0) (Wide : ℕ → Type 0) (on : (act : Act (List M)) (r s : Top) (es : List (Entry (List M))) → ActBrings columns decoration act r es s → Is r → Is s)
+  module _ (Is : Top → Type 0) (Wide : ℕ → Type 0) (on : (act : Act (List M)) (r s : Top) → after_act columns decoration act r ≡ done s → Is r → Is s)
       (inside : (width : ℕ) (r : Top) → Wide width → Is r → Is (sub_renderer decoration width r)) where
     called : (c : Call (List M)) (r s : Top) → after columns decoration c r ≡ done s → Is r → Is s
-    called c r s h = on (call c) r s (entries_brought columns decoration c r) (h, refl)
+    called c r s h = on (call c) r s h
 
     -- ---- levels
 
@@ -223,8 +221,7 @@ module _ {D M : Type 0} (columns : ℕ → Option ℕ) (decoration : Decoration 
           let row = after_row (pointwise decoration.same) columns collapse in
           let (before, later, top, made, is) = top_changed (row_made columns decoration p.pending collapse) p.stack next.stack d.does in
           let (_, cells, _, _, does) = taken (after columns decoration new_line) (cells_waiting columns decoration p.pending) row before later made in
-          let (m, flushed, puts) = (row_computed (pointwise decoration.same) (lists_apart decoration.same decoration.tells) columns collapse cells before later).1 does in
-          let led = on (row_of_cells collapse cells) before later (laid_entries (joined puts.row.lines)) (m, flushed, puts, refl) (first_led p.stack.levels before top h.on_stack) in
+          let led = on (row_of_cells collapse cells) before later does (first_led p.stack.levels before top h.on_stack) in
           record {
             on_stack = subst (λ (s : Stack Top). AllOf s.levels) (sym is) (top_led later p.stack.levels led h.on_stack);
             waiting = subst Waits (sym d.pending) tt;
@@ -314,7 +311,7 @@ module _ {D M : Type 0} (columns : ℕ → Option ℕ) (decoration : Decoration 
       let stay = flush_keeps columns r m (footnotes_of columns decoration targets) (λ texts names. notes_stay targets texts (record r { block = None })) first in
       record {
         renderer = m;
-        led = led_on (call new_line) r m [] (live_goes r.failure (after_flush columns r) k.live ∙ first, refl) k;
+        led = led_on (call new_line) r m (live_goes r.failure (after_flush columns r) k.live ∙ first) k;
         whole = flushed_none columns r m (flushes columns r m first);
         is =
             is ∙ ap (λ ls. encode_utf8_all (lines_text ls)) (are ∙ ap (λ (q : Top). let t = with_notes columns notes q in t.lines) same ∙ notes_alike d notes m)

@@ -3,8 +3,7 @@ use Rattle.std.proofs.Common.{◌≡◌, ◌≤◌, ◌+◌, inl, inr, ℕ, Bool
 use Rattle.std.specs.Prelude.{nat_le, encode_utf8_all}
 use Rattle.std.specs.List.{AllByRecursion as Each}
 use Rattle.std.proofs.lemmas.Bool.{leb-true}
-use Rattle.tbr_model.specs.Run.{Entry}
-use Rattle.tbr_tagged.specs.Outcome.{Outcome, refused}
+use Rattle.tbr_tagged.specs.Outcome.{Outcome, done, refused}
 use Rattle.tbr_tagged.specs.declared.Error.TheVariants as E
 use Rattle.tbr_tagged.proofs.Outcomes.{live_refused}
 use Rattle.tbr_decor.specs.Decoration.{Decoration}
@@ -35,15 +34,16 @@ use Rattle.text_block_renderer.specs.Appended.{handed_out}
 use Rattle.tbr_tagged.specs.declared.CellAlign.{CellAlign}
 use Rattle.text_block_renderer.specs.Rows.{GivenCell, next_align, cell_given, cells_given}
 use Rattle.tbr_renderer.proofs.GivenCells.{cell_of}
-use Rattle.text_block_renderer.specs.Calls.{Call, new_line, begin, finish, add_inline_text, made, after, entries_brought}
+use Rattle.text_block_renderer.specs.Calls.{Call, new_line, begin, finish, add_inline_text, made, after}
 use Rattle.text_block_renderer.specs.Decorated.{sub_renderer}
-use Rattle.text_block_renderer.specs.Acts.{Act, call, ActBrings}
+use Rattle.text_block_renderer.specs.Acts.{Act, call, after_act, act_brought}
+use Rattle.text_block_renderer.proofs.ActSteps.{one_act}
 use Rattle.text_block_renderer.specs.Headline.{TakeTwoAtMost}
 use Rattle.text_block_renderer.proofs.ActParts.{acts_along}
 use Rattle.text_block_renderer.proofs.TwoColumns.{act_fits}
 use Rattle.tbr_runner.specs.Scripts.{LinesGive}
 use Rattle.tbr_runner.specs.Led.{AllAre, LineAsksForTwo}
-use Rattle.tbr_runner.proofs.LedRenderers.{Top, Led, with_decorator, led_on, led_sound, nothing_came, inside_led, one_act, first_led, others_led, line_keeps}
+use Rattle.tbr_runner.proofs.LedRenderers.{Top, Led, with_decorator, led_on, led_sound, nothing_came, inside_led, first_led, others_led, line_keeps}
 
 -- ---- the lesser of two widths
 
@@ -63,11 +63,11 @@ module _ {D M : Type 0} (columns : ℕ → Option ℕ) (decoration : Decoration 
   abbrev Two : Top columns decoration → Type 0
   Two r = Led columns decoration r × (2 ≤ block_width r)
 
-  two_on : (act : Act (List M)) (r s : Top columns decoration) (es : List (Entry (List M))) → ActBrings columns decoration act r es s → Two r → Two s
-  two_on act r s es h k =
-      let along = acts_along columns decoration (act ∷ []) r s es (led_sound columns decoration r k.0) (one_act columns decoration act r r s es refl h) in
+  two_on : (act : Act (List M)) (r s : Top columns decoration) → after_act columns decoration act r ≡ done s → Two r → Two s
+  two_on act r s h k =
+      let along = acts_along columns decoration (act ∷ []) r s (act_brought columns decoration act r) (led_sound columns decoration r k.0) (one_act columns decoration act r s h) in
       let same : block_width s ≡ block_width r = ap (λ w. least w s.options.wrap_width) along.width ∙ ap (λ (o : RenderOptions). least r.width o.wrap_width) along.options in
-      (led_on columns decoration act r s es h k.0, subst (λ n. 2 ≤ n) (sym same) k.1)
+      (led_on columns decoration act r s h k.0, subst (λ n. 2 ≤ n) (sym same) k.1)
 
   two_inside : (width : ℕ) (r : Top columns decoration) → 2 ≤ width → Two r → Two (sub_renderer decoration width r)
   two_inside width r wide k = (inside_led columns decoration width r (omega (arith, wide)) k.0, wraps_two width r.width r.options.wrap_width wide k.1)
@@ -122,7 +122,7 @@ module _ {D M : Type 0} (columns : ℕ → Option ℕ) (decoration : Decoration 
   no_end (Some k) r two h =
       elim (refused_first (after columns decoration (finish end.link) r) (after columns decoration (add_inline_text (link_number k))) E.TooNarrow h) [
         | inl first ↦ no_call (finish end.link) r two first
-        | inr later ↦ no_call (add_inline_text (link_number k)) later.0 (two_on (call (finish end.link)) r later.0 (entries_brought columns decoration (finish end.link) r) (later.1, refl) two) later.2
+        | inr later ↦ no_call (add_inline_text (link_number k)) later.0 (two_on (call (finish end.link)) r later.0 later.1 two) later.2
       ]
 
   -- ---- commands and lines

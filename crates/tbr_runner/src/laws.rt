@@ -42,7 +42,7 @@ pub fn the_renderers_of_a_script_are_led_to<D, M>()
         Gives columns script (Ok text) → (commands : List Command)
         × AskAfterFirst (lines_of script) commands × IsTextOfScript columns (link_targets commands) text }
     ensures headline { (columns : ℕ → Option ℕ) (decoration : Decoration D M) (r : Renderer D M (List M)) →
-        (led : IsLed columns decoration r) → Headline columns decoration led.acts led.first led.es r led.bring }
+        (led : IsLed columns decoration r) → Headline columns decoration led.acts led.first led.es r }
 {}
 
 /// A script isn't refused as too narrow whose blocks and cells have two columns or more, the wrap width included, where

@@ -19,14 +19,16 @@ use Rattle.tbr_renderer.specs.Appended.{border_line}
 use Rattle.tbr_renderer.specs.Calls.{Call, new_line, after, Does, entries_brought, Brings, laid_entries}
 use Rattle.tbr_tagged.specs.Outcome.{Outcome, done, refused}
 use Rattle.tbr_renderer.specs.Outcomes.{and_then, told_by}
+use Rattle.tbr_renderer.proofs.OutcomeParts.{one_done, done_first}
 use Rattle.tbr_renderer.proofs.SettingsStay.{Steady, lines_added}
 use Rattle.text_block_renderer.specs.EndedRuns.{EndedRun, flush_ends, call_ends, runs_ended}
 use Rattle.text_block_renderer.specs.Stretches.{Part, ended, laid, ruled, lines_laid, IsPart, ComesInParts}
-use Rattle.text_block_renderer.specs.Acts.{Act, call, row, rows_of, ActBrings, ActsBring, Piece, part, put, cells_in, rows_in, border_lines_of, lines_of_piece, entries_of_piece, run_of_piece, act_ends, acts_end, IsPiece, StaysLine, ComesInPieces}
+use Rattle.text_block_renderer.specs.Acts.{Act, call, row, rows_of, after_act, act_brought, ActsBring, Piece, part, put, cells_in, rows_in, border_lines_of, lines_of_piece, entries_of_piece, run_of_piece, act_ends, acts_end, IsPiece, StaysLine, ComesInPieces}
 use Rattle.text_block_renderer.proofs.Moves.{any, Frame, frame, frame_of_lines, sound_alike, flushed_none, path_width, path_options, path_hanging}
 use Rattle.text_block_renderer.proofs.CallMoves.{calls_move}
 use Rattle.text_block_renderer.proofs.LineParts.{brings_parts}
 use Rattle.text_block_renderer.proofs.LaidTexts.{laid_lines}
+use Rattle.text_block_renderer.proofs.ActSteps.{told_then, ActStep, after_acts, brought_by, act_step, brought_then}
 use Rattle.text_block_renderer.proofs.RowsOfCells.{row_flushes, row_closed}
 use Rattle.text_block_renderer.proofs.LastingLines.{all_stay, stay_on, stay_append, top_put_back}
 use Rattle.tbr_rows.proofs.Among.{each_gives}
@@ -203,7 +205,7 @@ module _ {D A : Type 0} (columns : ℕ → Option ℕ) where
           chain = (refl, refl, ap (λ (f : Frame A). f.hanging) same);
         }
 
-    act_along : (act : Act (List A)) (r s : Renderer D A (List A)) (es : List (Entry (List A))) → IsSound columns r → ActBrings columns decoration act r es s → Along (rows_of (act ∷ [])) (act_ends columns decoration act r) r es s
+    act_along : (act : Act (List A)) (r s : Renderer D A (List A)) (es : List (Entry (List A))) → IsSound columns r → ActStep columns decoration act r es s → Along (rows_of (act ∷ [])) (act_ends columns decoration act r) r es s
     act_along (call c) r s es sound h = call_along c r s es sound (alone c r s es h.0 h.1)
     act_along (row collapses cells) r s es sound h =
         let (m, flushed, puts, is) = h in
@@ -213,23 +215,29 @@ module _ {D A : Type 0} (columns : ℕ → Option ℕ) where
         subst (λ (ss : List (EndedRun D A)). Along (cells ∷ []) ss r es s) (append-nil (flush_ends r))
         (subst (λ fs. Along (cells ∷ []) (flush_ends r ++ []) r fs s) (sym is) (along_on [] (cells ∷ []) (flush_ends r) [] r m s [] (laid_entries (joined puts.row.lines)) first second))
 
-    pub acts_along : (acts : List (Act (List A))) (r s : Renderer D A (List A)) (es : List (Entry (List A))) → IsSound columns r → (brings : ActsBring columns decoration acts r es s) → Along (rows_of acts) (acts_end columns decoration acts r s es brings) r es s
-    acts_along [] r s es sound h =
-        subst (λ (q : Renderer D A (List A)). Along [] [] r es q) (sym h.0) (subst (λ fs. Along [] [] r fs r) (sym h.1) (record {
+    all_along : (acts : List (Act (List A))) (r s : Renderer D A (List A)) → IsSound columns r → after_acts columns decoration acts r ≡ done s → Along (rows_of acts) (acts_end columns decoration acts r) r (brought_by columns decoration acts r) s
+    all_along [] r s sound h =
+        subst (λ (q : Renderer D A (List A)). Along [] [] r [] q) (sym (one_done r s h)) (record {
           width = refl;
           options = refl;
           came = record { pieces = []; are = tt; lines = subst (λ ls. AllZip StaysLine ls r.lines) (sym (append-nil r.lines)) (all_stay r.lines); entries = append-nil (open_run r.block); put_rows = refl };
           runs = refl;
           chain = refl;
-        }))
-    acts_along (act ∷ acts) r s es sound h =
-        let (m, first, rest, does, others, is) = h in
-        let here = act_along act r m first sound does in
+        })
+    all_along (act ∷ acts) r s sound h =
+        let (m, does, others) = done_first (after_act columns decoration act r) (after_acts columns decoration acts) s h in
+        let first = act_brought columns decoration act r in
+        let rest = brought_by columns decoration acts m in
+        let here = act_along act r m first sound (act_step columns decoration act r m does) in
         let still = sound_alike columns r m here.width here.options sound in
         let ends = act_ends columns decoration act r in
-        let later = acts_end columns decoration acts m s rest others in
-        subst (λ fs. Along (rows_of (act ∷ acts)) (ends ++ later) r fs s) (sym is)
-        (subst (λ xs. Along xs (ends ++ later) r (first ++ rest) s) (sym (rows_one act acts)) (along_on (rows_of (act ∷ [])) (rows_of acts) ends later r m s first rest here (acts_along acts m s rest still others)))
+        let later = acts_end columns decoration acts m in
+        subst (λ xs. Along (rows_of (act ∷ acts)) xs r (brought_by columns decoration (act ∷ acts) r) s) (sym (told_then (act_ends columns decoration) (after_act columns decoration) act acts r m does))
+        (subst (λ fs. Along (rows_of (act ∷ acts)) (ends ++ later) r fs s) (sym (brought_then columns decoration act acts r m does))
+        (subst (λ xs. Along xs (ends ++ later) r (first ++ rest) s) (sym (rows_one act acts)) (along_on (rows_of (act ∷ [])) (rows_of acts) ends later r m s first rest here (all_along acts m s still others))))
 
-    pub act_sound : (act : Act (List A)) (r s : Renderer D A (List A)) (es : List (Entry (List A))) → IsSound columns r → ActBrings columns decoration act r es s → (s.options ≡ r.options) × IsSound columns s
+    pub acts_along : (acts : List (Act (List A))) (r s : Renderer D A (List A)) (es : List (Entry (List A))) → IsSound columns r → ActsBring columns decoration acts r es s → Along (rows_of acts) (acts_end columns decoration acts r) r es s
+    acts_along acts r s es sound h = subst (λ fs. Along (rows_of acts) (acts_end columns decoration acts r) r fs s) (sym h.1) (all_along acts r s sound h.0)
+
+    pub act_sound : (act : Act (List A)) (r s : Renderer D A (List A)) (es : List (Entry (List A))) → IsSound columns r → ActStep columns decoration act r es s → (s.options ≡ r.options) × IsSound columns s
     act_sound act r s es sound h = let along = act_along act r s es sound h in (along.options, sound_alike columns r s along.width along.options sound)

@@ -19,7 +19,8 @@ use Rattle.tbr_model.specs.Hard.{IsShown, visible_glyphs, visible_entries}
 use Rattle.std.specs.List.{AllZip}
 use Rattle.tbr_renderer.specs.Calls.{Shows}
 use Rattle.text_block_renderer.specs.MarkersStand.{Stands}
-use Rattle.text_block_renderer.specs.Acts.{Act, call, row, ActBrings, ActsBring}
+use Rattle.text_block_renderer.specs.Acts.{Act, call, row, ActsBring}
+use Rattle.text_block_renderer.proofs.ActSteps.{ActStep, ActSteps, steps}
 use Rattle.text_block_renderer.proofs.Moves.{Move, line, brought_by, Makes, undrawn, sound_alike, flushed_none}
 use Rattle.text_block_renderer.proofs.DrawnBorders.{brings_on_all}
 use Rattle.text_block_renderer.proofs.RowsOfCells.{row_flushes, under_row, same_texts}
@@ -50,7 +51,7 @@ module _ {D A : Type 0} (columns : ℕ → Option ℕ) (P : Renderer D A (List A
       below full seen.next (es ++ laid_entries (joined seen.lines)) still (laid seen.lines first es none (sound_alike columns m first refl refl sound) (top m seen es k))
 
   module _ (decoration : Decoration D A) where
-    act_keeps : (act : Act (List A)) (r s : Renderer D A (List A)) (before es : List (Entry (List A))) → IsSound columns r → r.options.pad_block_width ≡ false → ActBrings columns decoration act r es s → P r before → P s (before ++ es)
+    act_keeps : (act : Act (List A)) (r s : Renderer D A (List A)) (before es : List (Entry (List A))) → IsSound columns r → r.options.pad_block_width ≡ false → ActStep columns decoration act r es s → P r before → P s (before ++ es)
     act_keeps (call c) r s before es sound unpadded h k = brings_on_all columns P each decoration (c ∷ []) r s before es sound (inl unpadded) (alone columns decoration c r s es h.0 h.1) k
     act_keeps (row collapses cells) r s before es sound unpadded h k =
         let (m, flushed, puts, is) = h in
@@ -61,7 +62,7 @@ module _ {D A : Type 0} (columns : ℕ → Option ℕ) (P : Renderer D A (List A
         let all = row_keeps m puts.row before still (flushed_none columns r m (row_flushes columns r m flushed)) sound_there first in
         subst (λ fs. P s (before ++ fs)) (sym is) (subst (λ (q : Renderer D A (List A)). P q (before ++ laid_entries (joined puts.row.lines))) (sym puts.is) all)
 
-    pub acts_keep : (acts : List (Act (List A))) (r s : Renderer D A (List A)) (before es : List (Entry (List A))) → IsSound columns r → r.options.pad_block_width ≡ false → ActsBring columns decoration acts r es s → P r before → P s (before ++ es)
+    pub acts_keep : (acts : List (Act (List A))) (r s : Renderer D A (List A)) (before es : List (Entry (List A))) → IsSound columns r → r.options.pad_block_width ≡ false → ActSteps columns decoration acts r es s → P r before → P s (before ++ es)
     acts_keep [] r s before es sound unpadded h k =
         subst (λ (q : Renderer D A (List A)). P q (before ++ es)) (sym h.0) (subst (λ fs. P r (before ++ fs)) (sym h.1) (subst (P r) (sym (append-nil before)) k))
     acts_keep (act ∷ acts) r s before es sound unpadded h k =
@@ -84,11 +85,15 @@ module _ {D A : Type 0} (columns : ℕ → Option ℕ) where
 
   pub acts_show : (decoration : Decoration D A) (acts : List (Act (List A))) (r s : Renderer D A (List A)) (before es : List (Entry (List A))) → IsSound columns r → r.options.pad_block_width ≡ false → ActsBring columns decoration acts r es s → Shows columns r before →
       Shows columns s (before ++ es)
-  acts_show = acts_keep columns (Shows columns) (shows_move columns) shows_top (λ r b es unpadded k. shows_rule columns r (with_border columns r b) b es unpadded refl k)
+  acts_show decoration acts r s before es sound unpadded h k =
+      acts_keep columns (Shows columns) (shows_move columns) shows_top (λ q b fs no_pad j. shows_rule columns q (with_border columns q b) b fs no_pad refl j)
+      decoration acts r s before es sound unpadded (steps columns decoration acts r s es h) k
 
   stands_top : (m : Renderer D A (List A)) (seen : SeenRow (List A)) (es : List (Entry (List A))) → Stands columns m es → Stands columns (under_row m seen) es
   stands_top m seen es k = as_before columns m (under_row m seen) es k.ended (same_seen columns m (under_row m seen) (ap (λ is. is ++ marker_items m.waiting) (same_texts m seen))) k.whole (stand columns m es k)
 
   pub acts_stand : (decoration : Decoration D A) (acts : List (Act (List A))) (r s : Renderer D A (List A)) (before es : List (Entry (List A))) → IsSound columns r → r.options.pad_block_width ≡ false → ActsBring columns decoration acts r es s → Stands columns r before →
       Stands columns s (before ++ es)
-  acts_stand = acts_keep columns (Stands columns) (move_stands columns) stands_top (λ r b es unpadded k. rule_stands columns r (with_border columns r b) b es unpadded refl k)
+  acts_stand decoration acts r s before es sound unpadded h k =
+      acts_keep columns (Stands columns) (move_stands columns) stands_top (λ q b fs no_pad j. rule_stands columns q (with_border columns q b) b fs no_pad refl j)
+      decoration acts r s before es sound unpadded (steps columns decoration acts r s es h) k

@@ -39,7 +39,7 @@ module _ {D A : Type 0} (columns : ℕ → Option ℕ) where
     once r (part (ruled q cells)) h = tt
     once r (put p) h = tt
 
-    pub headline : (acts : List (Act (List A))) (r s : Renderer D A (List A)) (es : List (Entry (List A))) → IsSound columns r → (brings : ActsBring columns decoration acts r es s) → Headline columns decoration acts r es s brings
+    pub headline : (acts : List (Act (List A))) (r s : Renderer D A (List A)) (es : List (Entry (List A))) → IsSound columns r → ActsBring columns decoration acts r es s → Headline columns decoration acts r es s
     headline acts r s es sound h =
         let along = acts_along columns decoration acts r s es sound h in
         let same : block_width s ≡ block_width r = ap (λ w. least w s.options.wrap_width) along.width ∙ ap (λ (o : RenderOptions). least r.width o.wrap_width) along.options in

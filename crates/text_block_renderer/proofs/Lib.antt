@@ -29,3 +29,4 @@ pub mod Headline
 pub mod ActsKeep
 pub mod WaitingUnderRows
 pub mod SoundRenderers
+pub mod ActSteps

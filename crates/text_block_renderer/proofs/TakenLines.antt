@@ -18,7 +18,8 @@ use Rattle.tbr_renderer.specs.Appended.{border_of_cells, with_border, as_text, p
 use Rattle.tbr_renderer.specs.Calls.{Call, append_subrender, append_vert_row, Does, text_of_lines, Shows}
 use Rattle.tbr_tagged.specs.Outcome.{done}
 use Rattle.tbr_renderer.proofs.CallParts.{handed_then}
-use Rattle.text_block_renderer.specs.Acts.{Act, call, row, ActBrings, ActsBring, StaysLine}
+use Rattle.text_block_renderer.specs.Acts.{Act, call, row, StaysLine}
+use Rattle.text_block_renderer.proofs.ActSteps.{ActStep, ActSteps, steps}
 use Rattle.text_block_renderer.proofs.ActParts.{alone}
 use Rattle.text_block_renderer.proofs.RowsOfCells.{row_flushes, under_row, row_grows}
 use Rattle.text_block_renderer.proofs.Moves.{flush}
@@ -138,7 +139,7 @@ module _ {D A : Type 0} (columns : ℕ → Option ℕ) where
         subst (λ (q : Renderer D A (List A)). StandWithin (seen columns lines) (seen columns q.lines)) (sym (whole ∙ ap (λ cs. with_divider columns horizontal (with_cells columns m cs)) is)) row
     taken_within other r s lines t h = elim t [ ]
 
-    act_adds : (act : Act (List A)) (r s : Renderer D A (List A)) (es : List (Entry (List A))) → ActBrings columns decoration act r es s → MoreText r s
+    act_adds : (act : Act (List A)) (r s : Renderer D A (List A)) (es : List (Entry (List A))) → ActStep columns decoration act r es s → MoreText r s
     act_adds (call c) r s es h = more_text r s (steps_grow columns decoration (c ∷ []) r s (alone columns decoration c r s es h.0 h.1).0)
     act_adds (row collapses cells) r s es h =
         let (m, flushed, puts, is) = h in
@@ -152,20 +153,20 @@ module _ {D A : Type 0} (columns : ℕ → Option ℕ) where
         )
 
     -- what is there stays through calls and rows
-    acts_within : (gs : List (ℕ × List A)) (acts : List (Act (List A))) (r s : Renderer D A (List A)) (es : List (Entry (List A))) → ActsBring columns decoration acts r es s → StandWithin gs (seen columns r.lines) → StandWithin gs (seen columns s.lines)
+    acts_within : (gs : List (ℕ × List A)) (acts : List (Act (List A))) (r s : Renderer D A (List A)) (es : List (Entry (List A))) → ActSteps columns decoration acts r es s → StandWithin gs (seen columns r.lines) → StandWithin gs (seen columns s.lines)
     acts_within gs [] r s es h k = subst (λ (q : Renderer D A (List A)). StandWithin gs (seen columns q.lines)) (sym h.0) k
     acts_within gs (act ∷ acts) r s es h k =
         let (m, first, rest, does, others, is) = h in
         acts_within gs acts m s rest others (more_within gs r m (act_adds act r m first does) k)
 
-    act_within : (act : Act (List A)) (r s : Renderer D A (List A)) (es : List (Entry (List A))) (lines : List (Line (List A))) → Takes lines act → ActBrings columns decoration act r es s → StandWithin (seen columns lines) (seen columns s.lines)
+    act_within : (act : Act (List A)) (r s : Renderer D A (List A)) (es : List (Entry (List A))) (lines : List (Line (List A))) → Takes lines act → ActStep columns decoration act r es s → StandWithin (seen columns lines) (seen columns s.lines)
     act_within (call c) r s es lines t h = taken_within c r s lines t h.0
     act_within (row collapses cells) r s es lines t h =
         let (cell, among, one, is) = t in
         let (m, flushed, puts, brings) = h in
         subst (λ (ls : List (Line (List A))). StandWithin (seen columns ls) (seen columns s.lines)) is (cell_within_row columns collapses cells m s puts cell among one)
 
-    steps_within : (before : List (Act (List A))) (act : Act (List A)) (after : List (Act (List A))) (r s : Renderer D A (List A)) (es : List (Entry (List A))) (lines : List (Line (List A))) → Takes lines act → ActsBring columns decoration (before ++ act ∷ after) r es s →
+    steps_within : (before : List (Act (List A))) (act : Act (List A)) (after : List (Act (List A))) (r s : Renderer D A (List A)) (es : List (Entry (List A))) (lines : List (Line (List A))) → Takes lines act → ActSteps columns decoration (before ++ act ∷ after) r es s →
         StandWithin (seen columns lines) (seen columns s.lines)
     steps_within [] act after r s es lines t h =
         let (m, first, rest, does, others, is) = h in
@@ -183,7 +184,7 @@ module _ {D A : Type 0} (columns : ℕ → Option ℕ) where
     all_within zero inside outside h = subst (λ (ls : List (Line (List A))). StandWithin (seen columns inside) (seen columns ls)) (sym h) (within_itself (seen columns inside))
     all_within (suc depth) inside outside h =
         let (between, taken, others) = h in
-        let here = handed_within (seen columns inside) taken.last between taken.gives (steps_within taken.before taken.taking taken.after taken.first taken.last taken.es inside taken.takes taken.bring) in
+        let here = handed_within (seen columns inside) taken.last between taken.gives (steps_within taken.before taken.taking taken.after taken.first taken.last taken.es inside taken.takes (steps columns decoration (taken.before ++ taken.taking ∷ taken.after) taken.first taken.last taken.es taken.bring)) in
         within_on (seen columns inside) (seen columns between) (seen columns outside) here (all_within depth between outside others)
 
     pub brought_within : (depth : ℕ) (r : Renderer D A (List A)) (borders : List (List Cell)) (es : List (Entry (List A))) (inside outside : List (Line (List A))) →

@@ -1,18 +1,23 @@
 -- Calls and rows of cells, one after another, and what they add to a renderer's lines.
 use Rattle.std.specs.Prelude.{◌≡◌, ℕ, Bool, Option, None, Some, List, [], ◌∷◌, ◌++◌, map, flat_map}
+use Rattle.std.specs.Cmp.Lexicographic.{pointwise}
 use Rattle.std.specs.List.{AllZip, AllByRecursion as Each}
 use Rattle.tbr_model.specs.Run.{Entry}
 use Rattle.tbr_model.specs.Layout.{joined}
 use Rattle.tbr_border.specs.Border.{Border}
 use Rattle.tbr_decor.specs.Decoration.{Decoration}
+use Rattle.tbr_rows.specs.Meant.{SeenRow}
+use Rattle.tbr_rows.specs.Computed.{row_of}
+use Rattle.tbr_kept_lines.specs.LastBorder.{last_border}
 use Rattle.tbr_kept_lines.specs.Line.{Line, text, border}
 use Rattle.tbr_renderer.specs.Renderer.{Renderer, open_run}
-use Rattle.tbr_tagged.specs.Outcome.{done, refused, if_live}
+use Rattle.tbr_tagged.specs.Outcome.{Outcome, done, refused}
 use Rattle.tbr_tagged.specs.declared.Error.TheVariants.{TooNarrow}
+use Rattle.tbr_renderer.specs.Outcomes.{run, told_by, told}
 use Rattle.tbr_renderer.specs.Flush.{after_flush}
 use Rattle.tbr_renderer.specs.Appended.{border_line}
-use Rattle.tbr_renderer.specs.Rows.{GivenCell, PutsRow}
-use Rattle.tbr_renderer.specs.Calls.{Call, Does, made, entries_brought, laid_entries}
+use Rattle.tbr_renderer.specs.Rows.{GivenCell, style_in, cells_from, PutsRow, after_row}
+use Rattle.tbr_renderer.specs.Calls.{Call, made, after, entries_brought, laid_entries}
 use Rattle.text_block_renderer.specs.EndedRuns.{EndedRun, flush_ends, call_ends}
 use Rattle.text_block_renderer.specs.Stretches.{Part, entries_of_part, run_of_part, lines_of_part, lines_laid, IsBetweenBlocks, IsPart}
 
@@ -28,21 +33,37 @@ rows_of (call c ∷ acts) = rows_of acts
 rows_of (row collapses cells ∷ acts) = cells ∷ rows_of acts
 
 module _ {D A : Type 0} (columns : ℕ → Option ℕ) (decoration : Decoration D A) where
-  -- What one that succeeds leaves, and the entries that it brings. A row comes after a flush, and brings its texts as
-  -- laid ones.
-  abbrev pub ActBrings : Act (List A) → Renderer D A (List A) → List (Entry (List A)) → Renderer D A (List A) → Type 0
-  ActBrings (call c) r es s = Does columns decoration c r s × (es ≡ entries_brought columns decoration c r)
-  ActBrings (row collapses cells) r es s =
-      (m : Renderer D A (List A)) × (if_live r.failure (after_flush columns r) ≡ done m)
-      × (puts : PutsRow columns collapses cells m s) × (es ≡ laid_entries (joined puts.row.lines))
+  -- what one makes of a renderer
+  abbrev pub after_act : Act (List A) → Renderer D A (List A) → Outcome (Renderer D A (List A))
+  after_act (call c) r = after columns decoration c r
+  after_act (row collapses cells) r = after_row (pointwise decoration.same) columns collapses cells r
 
-  -- and one after another
+  -- a row of these cells, and nothing where a cell that overhangs has no place
+  abbrev pub row_seen : Bool → List (GivenCell (List A)) → Renderer D A (List A) → Option (SeenRow (List A))
+  row_seen collapses cells r =
+      let same = pointwise decoration.same in
+      let own = cells_from same columns r.annotations 0 cells in
+      row_of same columns (style_in r collapses) r.annotations r.hanging own (last_border r.lines)
+
+  -- its texts as laid entries
+  abbrev pub texts_of_row : Option (SeenRow (List A)) → List (Entry (List A))
+  texts_of_row None = []
+  texts_of_row (Some seen) = laid_entries (joined seen.lines)
+
+  -- The entries that one brings. A row comes after a flush, and brings its texts.
+  abbrev pub act_brought : Act (List A) → Renderer D A (List A) → List (Entry (List A))
+  act_brought (call c) r = entries_brought columns decoration c r
+  act_brought (row collapses cells) r =
+      told_by (λ m. texts_of_row (row_seen collapses cells m)) (after_flush columns r)
+
+  -- and those of acts, one after another
+  abbrev pub acts_brought : List (Act (List A)) → Renderer D A (List A) → List (Entry (List A))
+  acts_brought acts r = told act_brought after_act acts r
+
+  -- What acts leave, one after another, and the entries that they bring.
   abbrev pub ActsBring :
       List (Act (List A)) → Renderer D A (List A) → List (Entry (List A)) → Renderer D A (List A) → Type 0
-  ActsBring [] r es s = (s ≡ r) × (es ≡ [])
-  ActsBring (act ∷ acts) r es s =
-      (m : Renderer D A (List A)) × (first rest : List (Entry (List A))) × ActBrings act r first m
-      × ActsBring acts m rest s × (es ≡ first ++ rest)
+  ActsBring acts r es s = (run after_act acts r ≡ done s) × (es ≡ acts_brought acts r)
 
   -- the run that one ends, if it ends one
   abbrev pub act_ends : Act (List A) → Renderer D A (List A) → List (EndedRun D A)
@@ -50,10 +71,8 @@ module _ {D A : Type 0} (columns : ℕ → Option ℕ) (decoration : Decoration 
   act_ends (row collapses cells) r = flush_ends r
 
   -- the runs that acts end, one after another
-  abbrev pub acts_end : (acts : List (Act (List A))) (r s : Renderer D A (List A)) (es : List (Entry (List A))) →
-      ActsBring acts r es s → List (EndedRun D A)
-  acts_end [] r s es h = []
-  acts_end (act ∷ acts) r s es h = act_ends act r ++ acts_end acts h.0 s h.2 h.4
+  abbrev pub acts_end : List (Act (List A)) → Renderer D A (List A) → List (EndedRun D A)
+  acts_end acts r = told act_ends after_act acts r
 
   -- where one answers `TooNarrow` for its own wrapping
   abbrev pub ActIsTooNarrow : Act (List A) → Renderer D A (List A) → Type 0

@@ -21,6 +21,5 @@ ghost use Rattle.text_block_renderer.specs.Headline.{Headline};
 pub fn the_headline<D, A>()
     ensures { (columns : ℕ → Option ℕ) (decoration : Decoration D A) (acts : List (Act (List A)))
         (r s : Renderer D A (List A)) (es : List (Entry (List A))) →
-        IsSound columns r → (brings : ActsBring columns decoration acts r es s) →
-        Headline columns decoration acts r es s brings }
+        IsSound columns r → ActsBring columns decoration acts r es s → Headline columns decoration acts r es s }
 {}
