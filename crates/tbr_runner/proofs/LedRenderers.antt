@@ -51,7 +51,7 @@ use Rattle.text_block_renderer.specs.Renderer.{Open, Renderer, IsSound, new_rend
 use Rattle.text_block_renderer.specs.Rows.{after_row}
 use Rattle.text_block_renderer.specs.Calls.{Call, new_line, begin, finish, add_inline_text, append_subrender, append_vert_row, after}
 use Rattle.text_block_renderer.specs.Decorated.{sub_renderer}
-use Rattle.text_block_renderer.specs.Acts.{Act, call, row as row_of_cells, after_act, act_brought}
+use Rattle.text_block_renderer.specs.Acts.{Act, call, row as row_of_cells, after_act, acts_brought}
 use Rattle.text_block_renderer.proofs.ActSteps.{acts_then}
 use Rattle.text_block_renderer.proofs.Moves.{sound_alike, flushed_none}
 use Rattle.text_block_renderer.proofs.ActParts.{acts_along}
@@ -80,19 +80,18 @@ module _ {D M : Type 0} (columns : ℕ → Option ℕ) (decoration : Decoration 
     fresh = k.fresh;
     sound = k.sound;
     acts = k.acts ++ act ∷ [];
-    es = k.es ++ act_brought columns decoration act r;
-    bring = acts_then columns decoration k.acts act k.first r s k.es k.bring h;
+    leads = (acts_then columns decoration k.acts act k.first r s (acts_brought columns decoration k.acts k.first) (k.leads, refl) h).0;
     live = act_live act r s h ∙ k.live;
   }
 
   -- such a renderer is sound
   pub led_sound : (r : Top) → Led r → IsSound columns r
-  led_sound r k = let along = acts_along columns decoration k.acts k.first r k.es k.sound k.bring in sound_alike columns k.first r along.width along.options k.sound
+  led_sound r k = let along = acts_along columns decoration k.acts k.first r (acts_brought columns decoration k.acts k.first) k.sound (k.leads, refl) in sound_alike columns k.first r along.width along.options k.sound
 
   -- ---- renderers to which nothing has come
 
   pub nothing_came : (r : Top) → IsFresh r → IsSound columns r → r.failure ≡ None → Led r
-  nothing_came r fresh sound live = record { first = r; fresh = fresh; sound = sound; acts = []; es = []; bring = (refl, refl); live = live }
+  nothing_came r fresh sound live = record { first = r; fresh = fresh; sound = sound; acts = []; leads = refl; live = live }
 
   pub inside_led : (width : ℕ) (r : Top) → 0 < width → Led r → Led (sub_renderer decoration width r)
   inside_led width r wide k = nothing_came (sub_renderer decoration width r) (record { lines = refl; block = refl; waiting = refl; hanging = refl }) (inside_sound columns decoration width r wide (led_sound r k)) refl

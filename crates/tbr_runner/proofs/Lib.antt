@@ -4,3 +4,4 @@ pub mod StackCalls
 pub mod LedRenderers
 pub mod TwoColumns
 pub mod once
+pub mod ShownTexts

@@ -1,10 +1,11 @@
 -- The renderers of a script and its text, and how they came to be.
 use Rattle.std.specs.Prelude.{◌≡◌, ◌⊎◌, ◌≤◌, ℕ, Option, None, List, [], encode_utf8_all}
 use Rattle.std.specs.List.{AllByRecursion as Each}
-use Rattle.tbr_model.specs.Run.{Entry}
+use Rattle.tbr_tagged.specs.Outcome.{done}
 use Rattle.tbr_decor.specs.Decoration.{Decoration}
+use Rattle.tbr_renderer.specs.Outcomes.{run}
 use Rattle.text_block_renderer.specs.Renderer.{Renderer, IsSound}
-use Rattle.text_block_renderer.specs.Acts.{Act, ActsBring}
+use Rattle.text_block_renderer.specs.Acts.{Act, after_act}
 use Rattle.text_block_renderer.specs.Text.{lines_text}
 use Rattle.tbr_commands.specs.Command.{Command, sub, cell}
 use Rattle.tbr_commands.specs.Syntax.{IsCommand}
@@ -36,8 +37,7 @@ module _ {D M : Type 0} (columns : ℕ → Option ℕ) (decoration : Decoration 
     pub fresh : IsFresh first
     pub sound : IsSound columns first
     pub acts : List (Act (List M))
-    pub es : List (Entry (List M))
-    pub bring : ActsBring columns decoration acts first es r
+    pub leads : run (after_act columns decoration) acts first ≡ done r
     pub live : r.failure ≡ None
 
   abbrev pub AreLed : Progress D M (List M) → Type 0

@@ -1,10 +1,13 @@
 //! What holds of the meaning of scripts, as the contract of a function that does nothing.
-ghost use Rattle.std.specs.Prelude.{◌≡◌, ◌≢◌, ◌<◌, ◌≤◌, ◌+◌, ℕ, List, length, [], ◌∷◌, ◌++◌, Option, Some, Ok, Err, Result};
+ghost use Rattle.std.specs.Prelude.{false, ◌≡◌, ◌≢◌, ◌<◌, ◌≤◌, ◌+◌, ℕ, List, length, [], ◌∷◌, ◌++◌, Option, Some, Ok, Err, Result};
 ghost use Rattle.tbr_decor.specs.Decoration.{Decoration};
 ghost use Rattle.tbr_commands.specs.declared.opening.Opening.{Opening};
 ghost use Rattle.tbr_stack.specs.Links.{after_link_end};
 ghost use Rattle.tbr_stack.specs.StackCalls.{IsNextToEnd, StackSteps, after_end_as};
 ghost use Rattle.text_block_renderer.specs.Renderer.{Renderer, least};
+ghost use Rattle.text_block_renderer.specs.Calls.{Shows};
+ghost use Rattle.text_block_renderer.specs.MarkersStand.{Stands};
+ghost use Rattle.text_block_renderer.specs.Acts.{acts_brought};
 ghost use Rattle.text_block_renderer.specs.Headline.{Headline, TakeTwoAtMost};
 ghost use Rattle.tbr_program.specs.Progress.{Progress};
 ghost use Rattle.tbr_program.specs.Meaning.{LineDoes, LinkDoes, started};
@@ -26,7 +29,8 @@ pub fn a_script_gives_one_thing()
 /// Calls and rows lead to each renderer that a script fills, also to those of cells that wait, from a sound one to
 /// which nothing had come: first to the script's own, and then after each line. The script's text is that of such a
 /// one's lines, without an open run, and then of the footnotes of all its links, in their order. So the laws of lists of
-/// calls and rows hold of it, the first promise among them.
+/// calls and rows hold of it: the first promise, and where lines aren't padded, that its lines show the visible
+/// characters and the markers of all that came to it, once and in order.
 pub fn the_renderers_of_a_script_are_led_to<D, M>()
     ensures first { (columns : ℕ → Option ℕ) (decoration : Decoration D M) → columns 32 ≡ Some 1 →
         (opening : Opening) (decorator : D) → 0 < opening.width → opening.options.wrap_width ≢ Some 0 →
@@ -42,7 +46,14 @@ pub fn the_renderers_of_a_script_are_led_to<D, M>()
         Gives columns script (Ok text) → (commands : List Command)
         × AskAfterFirst (lines_of script) commands × IsTextOfScript columns (link_targets commands) text }
     ensures headline { (columns : ℕ → Option ℕ) (decoration : Decoration D M) (r : Renderer D M (List M)) →
-        (led : IsLed columns decoration r) → Headline columns decoration led.acts led.first led.es r }
+        (led : IsLed columns decoration r) →
+        Headline columns decoration led.acts led.first (acts_brought columns decoration led.acts led.first) r }
+    ensures shows { (columns : ℕ → Option ℕ) (decoration : Decoration D M) (r : Renderer D M (List M)) →
+        (led : IsLed columns decoration r) → led.first.options.pad_block_width ≡ false →
+        Shows columns r (acts_brought columns decoration led.acts led.first) }
+    ensures stands { (columns : ℕ → Option ℕ) (decoration : Decoration D M) (r : Renderer D M (List M)) →
+        (led : IsLed columns decoration r) → led.first.options.pad_block_width ≡ false →
+        Stands columns r (acts_brought columns decoration led.acts led.first) }
 {}
 
 /// A script isn't refused as too narrow whose blocks and cells have two columns or more, the wrap width included, where

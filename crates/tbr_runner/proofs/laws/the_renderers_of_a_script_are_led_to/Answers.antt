@@ -1,5 +1,8 @@
+use Rattle.std.proofs.Common.{refl}
+use Rattle.text_block_renderer.specs.Acts.{acts_brought}
 use Rattle.text_block_renderer.proofs.Headline.{headline}
 use Rattle.tbr_runner.proofs.LedRenderers.{started_led, line_led, text_led, script_led}
+use Rattle.tbr_runner.proofs.ShownTexts.{led_shows, led_stands}
 use Rattle.tbr_runner.proofs.laws.the_renderers_of_a_script_are_led_to.Goals as goal
 
 pub returns : goal.returns
@@ -8,5 +11,7 @@ returns g c = record {
   line = line_led;
   text = text_led;
   script = script_led;
-  headline = λ columns decoration r led. headline columns decoration led.acts led.first r led.es led.sound led.bring;
+  headline = λ columns decoration r led. headline columns decoration led.acts led.first r (acts_brought columns decoration led.acts led.first) led.sound (led.leads, refl);
+  shows = led_shows;
+  stands = led_stands;
 }
