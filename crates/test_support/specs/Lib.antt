@@ -1,2 +1,3 @@
 pub mod EveryOne
 pub mod NoEmSpace
+pub mod Marks

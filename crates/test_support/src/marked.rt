@@ -1,8 +1,9 @@
 //! A decorator that marks what it is asked to, and has the usual answers for the rest.
-ghost use Rattle.std.specs.Prelude.{None, true, false, []};
+ghost use Rattle.std.specs.Prelude.{None, false, []};
 ghost use Rattle.std.proofs.Common.{rules};
 ghost use Rattle.test_support.specs.declared.marked.Mark.{Mark};
 ghost use Rattle.test_support.specs.declared.marked.Mark.TheVariants.{Nothing, Marked};
+ghost use Rattle.test_support.specs.Marks.{same_mark, marks_apart};
 ghost use Rattle.tbr_decor.specs.Start as start;
 ghost use Rattle.tbr_decor.specs.Trivial as trivial;
 ghost use Rattle.tbr_decor.specs.Usual as usual;
@@ -37,9 +38,9 @@ impl TextDecorator for MarkedDecorator {
 
     ghost meaning = { λ m. m };
 
-    ghost same = { elim [ Nothing ↦ elim [ Nothing ↦ true | Marked ↦ false ] | Marked ↦ elim [ Nothing ↦ false | Marked ↦ true ] ] };
+    ghost same = { same_mark };
 
-    ghost tells = { Prim.search rules };
+    ghost tells = { marks_apart };
 
     ghost start_text = { λ _. trivial.start_text };
 
