@@ -3,5 +3,6 @@ pub mod ScriptRefusals
 pub mod StackCalls
 pub mod LedRenderers
 pub mod TwoColumns
-pub mod once
+pub mod OneScript
 pub mod ShownTexts
+pub mod MadeCommands

@@ -1,5 +1,5 @@
 //! What holds of the meaning of scripts, as the contract of a function that does nothing.
-ghost use Rattle.std.specs.Prelude.{false, ◌≡◌, ◌≢◌, ◌<◌, ◌≤◌, ◌+◌, ℕ, List, length, [], ◌∷◌, ◌++◌, Option, Some, Ok, Err, Result};
+ghost use Rattle.std.specs.Prelude.{false, ◌≡◌, ◌↔◌, ◌≢◌, ◌<◌, ◌≤◌, ◌+◌, ℕ, List, length, [], ◌∷◌, ◌++◌, Option, Some, Ok, Err, Result};
 ghost use Rattle.tbr_decor.specs.Decoration.{Decoration};
 ghost use Rattle.tbr_commands.specs.declared.opening.Opening.{Opening};
 ghost use Rattle.tbr_stack.specs.Links.{after_link_end};
@@ -10,15 +10,26 @@ ghost use Rattle.text_block_renderer.specs.MarkersStand.{Stands};
 ghost use Rattle.text_block_renderer.specs.Acts.{acts_brought};
 ghost use Rattle.text_block_renderer.specs.Headline.{Headline, TakeTwoAtMost};
 ghost use Rattle.tbr_program.specs.Progress.{Progress};
-ghost use Rattle.tbr_program.specs.Meaning.{LineDoes, LinkDoes, started};
+ghost use Rattle.tbr_program.specs.Meaning.{LineDoes, LinkDoes, CommandDoes, CommandRefuses, started};
 ghost use Rattle.tbr_script.specs.Script.{lines_of};
 ghost use Rattle.tbr_commands.specs.Command.{Command};
 ghost use Rattle.tbr_runner.specs.StackCalls.{stack_calls, link_targets, AskFor, AskAfterFirst, LinesDo};
+ghost use Rattle.tbr_runner.specs.Commands.{after_command};
 ghost use Rattle.tbr_runner.specs.Led.{IsLed, AreLed, IsTextOfLed, IsTextOfScript, LineAsksForTwo};
 ghost use Rattle.std.specs.List.{AllByRecursion as Each};
 ghost use Rattle.tbr_script.specs.declared.error.RunError.TheVariants.{TooNarrow};
 ghost use Rattle.tbr_runner.specs.Scripts.{LinesGive, Gives};
 ghost use Rattle.tbr_script.specs.declared.error.RunError.{RunError};
+
+/// Where a command leads is computed, and so is with what it is refused on the line of its number.
+pub fn a_command_is_computed<D, M>()
+    ensures does { (columns : ℕ → Option ℕ) (decoration : Decoration D M) (p next : Progress D M (List M))
+        (number : ℕ) (command : Command) → CommandDoes columns decoration p command next
+        ↔ (after_command columns decoration number command p ≡ Ok next) }
+    ensures refuses { (columns : ℕ → Option ℕ) (decoration : Decoration D M) (p : Progress D M (List M))
+        (number : ℕ) (command : Command) (e : RunError) → CommandRefuses columns decoration p number command e →
+        after_command columns decoration number command p ≡ Err e }
+{}
 
 /// A script gives one thing: a text, or a refusal with its line.
 pub fn a_script_gives_one_thing()
@@ -28,8 +39,8 @@ pub fn a_script_gives_one_thing()
 
 /// Calls and rows lead to each renderer that a script fills, also to those of cells that wait, from a sound one to
 /// which nothing had come: first to the script's own, and then after each line. The script's text is that of such a
-/// one's lines, without an open run, and then of the footnotes of all its links, in their order. So the laws of lists of
-/// calls and rows hold of it: the first promise, and where lines aren't padded, that its lines show the visible
+/// one's lines, without an open run, and then of the footnotes of all its links, in their order. So the laws of lists
+/// of calls and rows hold of it: the first promise, and where lines aren't padded, that its lines show the visible
 /// characters and the markers of all that came to it, once and in order.
 pub fn the_renderers_of_a_script_are_led_to<D, M>()
     ensures first { (columns : ℕ → Option ℕ) (decoration : Decoration D M) → columns 32 ≡ Some 1 →

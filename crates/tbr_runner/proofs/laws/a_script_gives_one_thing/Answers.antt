@@ -1,5 +1,5 @@
 use Rattle.tbr_script.specs.Script.{lines_of}
-use Rattle.tbr_runner.proofs.once.Scripts.{begins_once}
+use Rattle.tbr_runner.proofs.OneScript.{begins_once}
 use Rattle.tbr_runner.proofs.laws.a_script_gives_one_thing.Goals as goal
 
 pub returns : goal.returns

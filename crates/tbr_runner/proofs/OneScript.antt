@@ -1,5 +1,5 @@
 -- A script gives one thing.
-use Rattle.std.proofs.Common.{◌≡◌, ◌≢◌, ◌⊎◌, ℕ, ◌+◌, List, [], ◌∷◌, sym, ap, ◌∙◌, Option, Result, Ok, Err, subst, inl, inr}
+use Rattle.std.proofs.Common.{◌≡◌, ◌≢◌, ◌⊎◌, ℕ, ◌+◌, List, [], ◌∷◌, sym, ap, ◌∙◌, Option, Some, Result, Ok, Err, subst, inl, inr}
 use Rattle.tbr_decor.specs.Decoration.{Decoration}
 use Rattle.tbr_tagged.specs.Outcome.{done, refused}
 use Rattle.tbr_tagged.specs.declared.Error.TheVariants as E
@@ -15,9 +15,18 @@ use Rattle.tbr_program.specs.Closing.{closed_text}
 use Rattle.tbr_program.specs.Progress.{Progress}
 use Rattle.tbr_program.specs.Meaning.{CommandDoes, CommandRefuses, LineDoes, LineRefuses, Ends, started}
 use Rattle.tbr_runner.specs.Scripts.{LinesGive, OpensUnder, Begins}
-use Rattle.tbr_runner.proofs.once.Tops.{top_is_both}
-use Rattle.tbr_runner.proofs.once.Refusals.{refused_once}
-use Rattle.tbr_runner.proofs.once.Commands.{does_once, does_or_not}
+use Rattle.tbr_stack.specs.Stack.{Stack, top_of}
+use Rattle.tbr_stack.specs.Top.{OfTop}
+use Rattle.tbr_runner.proofs.MadeCommands.{does_once, refused_once, does_or_not}
+
+-- ---- the renderer on top
+
+module _ {R : Type 0} where
+  top_once : (stack : Stack R) (r s : R) → top_of stack ≡ Some r → top_of stack ≡ Some s → r ≡ s
+  top_once stack r s a b = cc (a, b)
+
+  top_is_both : (Is Has : R → Type 0) (stack : Stack R) → OfTop Is stack → OfTop Has stack → OfTop (λ r. Is r × Has r) stack
+  top_is_both Is Has stack a b = (a.0, a.1, (a.2, subst Has (top_once stack b.0 a.0 b.1 a.1) b.2))
 
 module _ {D M : Type 0} (columns : ℕ → Option ℕ) (decoration : Decoration D M) where
   -- ---- lines
