@@ -11,3 +11,4 @@ pub mod Markers
 pub mod WaitingMarkers
 pub mod TerminalColumns
 pub mod Tables
+pub mod Commands

@@ -1,2 +1,3 @@
-//! Worked examples of blocks and tables: what small texts become, each as a lemma that the definitions compute.
+//! Worked examples of blocks, tables and scripts: what small texts become, each as a lemma that the definitions
+//! compute.
 #![tactic(auto)]
