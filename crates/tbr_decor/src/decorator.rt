@@ -25,8 +25,8 @@ use tbr_tagged::{OutOfMemory, TaggedLine};
 ///
 /// Ghost members say what a decorator means: its texts as characters, its annotations by what they mean. Code over any
 /// decorator is proved from these alone. Two annotations are equal exactly where they mean the same, `same` tells
-/// whether they do, and a copy of an annotation equals it. A call that may change the decorator leaves what `after` says. A decorator that holds a
-/// collection has an `impl Model`, so that this is a value.
+/// whether they do, and a copy of an annotation equals it. A call that may change the decorator leaves what `after`
+/// says. A decorator that holds a collection has an `impl Model`, so that this is a value.
 ///
 /// No call has a body of its own here, since a body in a trait is proved for every decorator, whatever its members say.
 /// A decorator that has no superscripts, colours and footnotes of its own answers those calls by

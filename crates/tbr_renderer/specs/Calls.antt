@@ -161,8 +161,8 @@ pub record Shows {D A : Type 0} (columns : ℕ → Option ℕ) (r : Renderer D A
 
 -- ---- what a call answers
 
--- What a contract sees of a renderer, what calls and rows of cells make of that, and what of it stays: the kept refusal,
--- and what is kept where a call refuses.
+-- What a contract sees of a renderer, what calls and rows of cells make of that, and what of it stays: the kept
+-- refusal, and what is kept where a call refuses.
 pub record CallsOf (T S V : Type 0) : Type 0 where
   pub state : S → V
   pub after : Call T → V → Outcome V

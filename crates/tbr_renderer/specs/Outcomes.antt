@@ -39,8 +39,8 @@ abbrev pub gathered : {X Y : Type 0} → (X → Outcome Y) → List X → Outcom
 gathered give [] = done []
 gathered give (x ∷ xs) = and_then (give x) (λ y. changed (λ ys. y ∷ ys) (gathered give xs))
 
--- What a function tries that makes this of a state: it is `Ok` only where it leaves that, and `TooNarrow` only where that
--- is the outcome. Else it is `OutOfMemory`.
+-- What a function tries that makes this of a state: it is `Ok` only where it leaves that, and `TooNarrow` only where
+-- that is the outcome. Else it is `OutOfMemory`.
 pub record Tries {S V R : Type 0} (state : S → V) (make : V → Outcome V) (old : S) (result : Result R Error) (new : S) :
     Type 0 where
   pub ok : OnOk result (make (state old) ≡ done (state new))

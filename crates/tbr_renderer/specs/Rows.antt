@@ -81,17 +81,18 @@ module _ {S T : Type 0} (columns_of : S → ℕ) (hand_out : S → Outcome (List
   cell_given col align =
       changed (λ lines. record { width = columns_of col.0; span = col.1; align = align; lines = lines }) (hand_out col.0)
 
-  -- the cells of all, or the first refusal
+  -- the cells of all, each with the alignment that is next, or the first refusal
   abbrev pub cells_given : List (S × ℕ) → List CellAlign → Outcome (List (GivenCell T))
   cells_given [] aligns = done []
   cells_given (col ∷ cols) aligns =
       let others = cells_given cols (drop 1 aligns) in
       and_then (cell_given col (next_align aligns)) (λ cell. changed (λ cells. cell ∷ cells) others)
 
--- those that renderers give as what their annotations mean
-abbrev pub cells_meant : {D A M : Type 0} → (ℕ → Option ℕ) → (A → M) → List (Renderer D A (Vec A) × ℕ) → List CellAlign →
-    Outcome (List (GivenCell (List M)))
-cells_meant columns meaning cols aligns = cells_given (λ r. r.width) (λ r. handed_out columns (meant meaning r)) cols aligns
+-- the same of renderers by what their annotations mean
+abbrev pub cells_meant : {D A M : Type 0} → (ℕ → Option ℕ) → (A → M) → List (Renderer D A (Vec A) × ℕ) →
+    List CellAlign → Outcome (List (GivenCell (List M)))
+cells_meant columns meaning cols aligns =
+    cells_given (λ r. r.width) (λ r. handed_out columns (meant meaning r)) cols aligns
 
 -- the cell in the row
 abbrev pub ComesAs : {A : Type 0} → (ℕ → Option ℕ) → A → GivenCell A → Cell A → Type 0

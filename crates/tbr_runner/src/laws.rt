@@ -21,7 +21,7 @@ ghost use Rattle.tbr_script.specs.declared.error.RunError.TheVariants.{TooNarrow
 ghost use Rattle.tbr_runner.specs.Scripts.{LinesGive, Gives};
 ghost use Rattle.tbr_script.specs.declared.error.RunError.{RunError};
 
-/// Where a command leads is computed, and so is with what it is refused on the line of its number.
+/// A command leads exactly where is computed. What refuses it, on the line of its number, is the computed refusal.
 pub fn a_command_is_computed<D, M>()
     ensures does { (columns : ℕ → Option ℕ) (decoration : Decoration D M) (p next : Progress D M (List M))
         (number : ℕ) (command : Command) → CommandDoes columns decoration p command next
