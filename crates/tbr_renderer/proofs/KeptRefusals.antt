@@ -12,6 +12,7 @@ use Rattle.tbr_renderer.specs.Meant.{meant}
 use Rattle.tbr_renderer.specs.Renderer.{Renderer, kept_of, block_columns, block_width}
 use Rattle.tbr_renderer.specs.Outcomes.{and_then, taking, Tries}
 use Rattle.tbr_renderer.specs.Calls.{Call, new_line, made, CallsOf, calls_by, failure_in, kept_in, Takes, Answers, Fails}
+use Rattle.tbr_renderer.proofs.OutcomeParts.{taking_none, taking_refused}
 
 pub on_err : {X E P : Type 0} (r : Result X E) → P → OnErr r P
 on_err (Ok x) p = tt
@@ -62,7 +63,7 @@ module _ {T S V R : Type 0} (calls : CallsOf T S V) where
         Takes calls given wide take old result new
     takes_of flushed outcome old mid new result tried flush makes live same is failed ok narrow two stay = record {
       ok = kept_ok (λ s. taking (calls.after new_line) given take (calls.state old) ≡ done (calls.state s)) result tried mid new same is (made_ok tried ok);
-      too_narrow = λ e. ap (λ o. and_then o (λ _. given)) flush ∙ narrow (sym same ∙ e);
+      too_narrow = λ e. taking_none (calls.after new_line) given take (calls.state old) E.TooNarrow (ap (λ o. and_then o (λ _. given)) flush ∙ narrow (sym same ∙ e));
       two_columns = λ broad others e. two broad.1 others (sym same ∙ e);
       fails = kept_fails old mid new result live failed (subst (λ r. OnErr r (kept_in calls mid ≡ kept_in calls old)) (sym same) stay);
     }
@@ -75,7 +76,7 @@ module _ {T S V R : Type 0} (calls : CallsOf T S V) where
     refused_takes old e (Ok x) flush was same = absurd same
     refused_takes old e (Err x) flush was same = record {
       ok = tt;
-      too_narrow = λ is. ap (λ o. and_then o (λ _. given)) flush ∙ ap (λ d. refused d) (sym same ∙ (let told : x ≡ E.TooNarrow = cc is in told));
+      too_narrow = λ is. taking_refused (calls.after new_line) given take (calls.state old) E.TooNarrow (flush ∙ ap (λ d. refused d) (sym same ∙ (let told : x ≡ E.TooNarrow = cc is in told)));
       two_columns = λ broad others is. (let no : Some e ≡ None = sym was ∙ broad.0 in cc);
       fails = refused_fails old e (Err x) was same;
     }

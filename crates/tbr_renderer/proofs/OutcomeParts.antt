@@ -117,6 +117,13 @@ module _ {V X : Type 0} (flush : V → Outcome V) (given : Outcome X) (take : X 
   pub taking_stops : (m : V) (e : Error) → flush v ≡ done m → given ≡ refused e → taking flush given take v ≡ refused e
   taking_stops m e h k = taking_on m h ∙ ap (λ o. and_then o (λ y. take y v)) k
 
+  pub taking_none : (e : Error) → and_then (flush v) (λ _. given) ≡ refused e → taking flush given take v ≡ refused e
+  taking_none e h = go (refused_first (flush v) (λ _. given) e h)
+    where
+      go : (flush v ≡ refused e) ⊎ ((m : V) × (flush v ≡ done m) × (given ≡ refused e)) → taking flush given take v ≡ refused e
+      go (inl refuses) = taking_refused e refuses
+      go (inr stops) = taking_stops stops.0 e stops.1 stops.2
+
   pub taken : (s : V) → taking flush given take v ≡ done s → (m : V) × (x : X) × (flush v ≡ done m) × (given ≡ done x) × (take x v ≡ done s)
   taken s h =
       let (m, flushed, rest) = done_first (flush v) (λ _. and_then given (λ x. take x v)) s h in

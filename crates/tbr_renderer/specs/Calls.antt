@@ -226,12 +226,13 @@ pub record Answers {T S V R : Type 0} (calls : CallsOf T S V) (call : Call T) (o
   pub two_columns : IsWide calls old → result ≢ Err E.TooNarrow
   pub fails : Fails calls old result new
 
--- What a call answers and leaves that takes what others give. It is `TooNarrow` only where it is too narrow for its own
--- open line, or one of the others is for its own.
+-- What a call answers and leaves that takes what others give. It is `Ok` only where it leaves what taking that makes of
+-- the renderer, and `TooNarrow` only where that is the outcome, which it never is where all blocks have two columns.
 pub record Takes {T S V X R : Type 0} (calls : CallsOf T S V) (given : Outcome X) (others_are_wide : Type 0)
     (take : X → V → Outcome V) (old : S) (result : Result R Error) (new : S) : Type 0 where
   pub ok : OnOk result (taking (calls.after new_line) given take (calls.state old) ≡ done (calls.state new))
-  pub too_narrow : result ≡ Err E.TooNarrow → TakesNone calls given old
+  pub too_narrow :
+      result ≡ Err E.TooNarrow → taking (calls.after new_line) given take (calls.state old) ≡ refused E.TooNarrow
   pub two_columns : IsWide calls old → others_are_wide → result ≢ Err E.TooNarrow
   pub fails : Fails calls old result new
 

@@ -170,9 +170,9 @@ module _ {A : Type 0} (same : A → A → Bool) (columns : ℕ → Option ℕ) w
       } in
       cell ∷ cells_from a (at + given.width + 1) more
 
--- what a row left, if it had a place
+-- What a row left, if it had a place. Nobody may ask for one that hasn't, so only memory can refuse it.
 abbrev pub placed : {S : Type 0} → Option S → Outcome S
-placed None = refused E.TooNarrow
+placed None = refused E.OutOfMemory
 placed (Some s) = done s
 
 module _ {D A : Type 0} (same : List A → List A → Bool) (columns : ℕ → Option ℕ) (collapses : Bool)
