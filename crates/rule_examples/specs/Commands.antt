@@ -1,20 +1,13 @@
 -- Commands of a script, one after another, and the text that they leave.
-use Rattle.std.specs.Prelude.{ℕ, ◌+◌, Option, None, Some, Result, Ok, Err, List, [], ◌∷◌}
-use Rattle.tbr_tagged.specs.Outcome.{Outcome, done, refused}
-use Rattle.tbr_tagged.specs.declared.Error.TheVariants as E
+use Rattle.std.specs.Prelude.{ℕ, ◌+◌, Result, Ok, Err, List, [], ◌∷◌, length}
 use Rattle.tbr_decor.specs.declared.PlainDecorator.{PlainDecorator}
 use Rattle.tbr_renderer.specs.declared.RenderOptions.{RenderOptions}
-use Rattle.tbr_renderer.specs.Renderer.{Renderer}
 use Rattle.tbr_script.specs.declared.error.RunError.{RunError}
-use Rattle.tbr_script.specs.declared.error.RunError.TheVariants.{TooNarrow, OutOfMemory}
-use Rattle.tbr_stack.specs.Stack.{top_of}
 use Rattle.tbr_commands.specs.declared.opening.Decorator.TheVariants.{Plain}
 use Rattle.tbr_commands.specs.Command.{Command}
 use Rattle.tbr_program.specs.Decorations.{plain_decoration}
-use Rattle.tbr_program.specs.Closing.{closed_text}
 use Rattle.tbr_program.specs.Progress.{Progress}
-use Rattle.tbr_program.specs.Meaning.{started}
-use Rattle.tbr_runner.specs.Commands.{after_command}
+use Rattle.tbr_program.specs.Commands.{after_command, ended, started}
 use Rattle.rule_examples.specs.Scripts.{example_columns}
 
 -- Where a script is under the plain decorator.
@@ -36,17 +29,7 @@ after_commands number [] p = Ok p
 after_commands number (command ∷ commands) p =
     goes_on (after_command example_columns plain_decoration number command p) (after_commands (number + 1) commands)
 
--- the text of a script that ends there, as bytes
-abbrev pub told : Outcome (List ℕ) → Result (List ℕ) RunError
-told (done bytes) = Ok bytes
-told (refused E.TooNarrow) = Err TooNarrow
-told (refused E.OutOfMemory) = Err OutOfMemory
-
-abbrev pub text_of : List (List ℕ) → Option (Renderer PlainDecorator (Unit {0}) (List (Unit {0}))) →
-    Result (List ℕ) RunError
-text_of targets None = Err OutOfMemory
-text_of targets (Some top) = told (closed_text example_columns plain_decoration targets top)
-
 -- the text of the commands that come after a first line
 abbrev pub script : List Command → Place → Result (List ℕ) RunError
-script commands p = goes_on (after_commands 2 commands p) (λ q. text_of (let s = q.stack in s.links) (top_of q.stack))
+script commands p =
+    goes_on (after_commands 2 commands p) (λ q. ended example_columns plain_decoration (2 + length commands) q)

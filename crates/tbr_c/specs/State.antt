@@ -1,12 +1,12 @@
 -- How far a renderer is that C holds.
-use Rattle.std.specs.Prelude.{◌≡◌, ◌≢◌, ℕ, Option, None, Some, Result, Err, List, [], chars}
+use Rattle.std.specs.Prelude.{◌≡◌, ◌≢◌, ℕ, Option, None, Some, Result, Ok, Err, List, [], chars}
 use Rattle.tbr_tagged.specs.UnicodeColumns.{unicode_columns}
 use Rattle.tbr_decor.specs.Style.{style_of}
 use Rattle.tbr_script.specs.declared.error.RunError.{RunError}
 use Rattle.tbr_commands.specs.Command.{Command}
 use Rattle.tbr_program.specs.Progress.{GoesOn, progress_meant}
 use Rattle.tbr_program.specs.Decorations.{plain_decoration, trivial_decoration, rich_decoration}
-use Rattle.tbr_program.specs.Meaning.{CommandDoes, CommandRefuses, Ends}
+use Rattle.tbr_program.specs.Commands.{after_command, ended}
 use Rattle.tbr_c_lines.specs.Copied.{IsCopied}
 use Rattle.tbr_c_lines.specs.Status.{fault_of, fault_of_command, status_of}
 use Rattle.tbr_c_lines.specs.Line.{Line, size_of}
@@ -53,11 +53,11 @@ HasEnded (Rich program) result = Unit {0}
 -- It leads from one state to another under the same decorator, as it does in a script.
 abbrev pub Does : State → Command → State → Type 0
 Does (Plain p) command (Plain q) =
-    CommandDoes unicode_columns plain_decoration (progress_meant (λ a. a) p) command (progress_meant (λ a. a) q)
+    after_command unicode_columns plain_decoration 0 command (progress_meant (λ a. a) p) ≡ Ok (progress_meant (λ a. a) q)
 Does (Trivial p) command (Trivial q) =
-    CommandDoes unicode_columns trivial_decoration (progress_meant (λ a. a) p) command (progress_meant (λ a. a) q)
+    after_command unicode_columns trivial_decoration 0 command (progress_meant (λ a. a) p) ≡ Ok (progress_meant (λ a. a) q)
 Does (Rich p) command (Rich q) =
-    CommandDoes unicode_columns rich_decoration (progress_meant style_of p) command (progress_meant style_of q)
+    after_command unicode_columns rich_decoration 0 command (progress_meant style_of p) ≡ Ok (progress_meant style_of q)
 Does (Plain p) command other = ⊥
 Does (Trivial p) command other = ⊥
 Does (Rich p) command other = ⊥
@@ -67,13 +67,13 @@ Does (Refused e) command other = ⊥
 -- With what it is refused, but where memory is refused: as in a script, whose lines don't count here.
 abbrev pub Refuses : State → Command → Fault → Type 0
 Refuses (Plain p) command f =
-    (e : RunError) × CommandRefuses unicode_columns plain_decoration (progress_meant (λ a. a) p) 0 command e
+    (e : RunError) × (after_command unicode_columns plain_decoration 0 command (progress_meant (λ a. a) p) ≡ Err e)
     × (f ≡ fault_of_command e)
 Refuses (Trivial p) command f =
-    (e : RunError) × CommandRefuses unicode_columns trivial_decoration (progress_meant (λ a. a) p) 0 command e
+    (e : RunError) × (after_command unicode_columns trivial_decoration 0 command (progress_meant (λ a. a) p) ≡ Err e)
     × (f ≡ fault_of_command e)
 Refuses (Rich p) command f =
-    (e : RunError) × CommandRefuses unicode_columns rich_decoration (progress_meant style_of p) 0 command e
+    (e : RunError) × (after_command unicode_columns rich_decoration 0 command (progress_meant style_of p) ≡ Err e)
     × (f ≡ fault_of_command e)
 Refuses (Finished lines) command f = f ≡ fault.Finished
 Refuses (Refused e) command f = f ≡ fault_of e
@@ -82,9 +82,9 @@ Refuses (Refused e) command f = f ≡ fault_of e
 
 -- What the end gives, as that of a script: its text, with the footnotes of its links, or a refusal.
 abbrev pub EndsAs : State → Result (List ℕ) RunError → Type 0
-EndsAs (Plain p) outcome = Ends unicode_columns plain_decoration (progress_meant (λ a. a) p) 0 outcome
-EndsAs (Trivial p) outcome = Ends unicode_columns trivial_decoration (progress_meant (λ a. a) p) 0 outcome
-EndsAs (Rich p) outcome = Ends unicode_columns rich_decoration (progress_meant style_of p) 0 outcome
+EndsAs (Plain p) outcome = ended unicode_columns plain_decoration 0 (progress_meant (λ a. a) p) ≡ outcome
+EndsAs (Trivial p) outcome = ended unicode_columns trivial_decoration 0 (progress_meant (λ a. a) p) ≡ outcome
+EndsAs (Rich p) outcome = ended unicode_columns rich_decoration 0 (progress_meant style_of p) ≡ outcome
 EndsAs (Finished lines) outcome = ⊥
 EndsAs (Refused e) outcome = ⊥
 

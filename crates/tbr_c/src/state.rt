@@ -7,7 +7,7 @@ ghost use Rattle.tbr_script.specs.declared.error.RunError.{RunError as Unrun};
 ghost use Rattle.tbr_script.specs.declared.error.RunError.TheVariants as script;
 ghost use Rattle.tbr_commands.specs.Command.{command_of, IsSized};
 ghost use Rattle.tbr_program.specs.Progress.{GoesOn, progress_meant};
-ghost use Rattle.tbr_program.specs.Meaning.{CommandDoes, CommandRefuses, Ends};
+ghost use Rattle.tbr_program.specs.Commands.{after_command, ended};
 ghost use Rattle.tbr_c_lines.specs.Status.{fault_of_command};
 ghost use Rattle.tbr_c.specs.State.{CanGoOn, MayFinish, IsKept, HasEnded, Does, Refuses, EndsAs, HasNoLines, TakesLine, HasNoNext, CopiesRest};
 ghost use Rattle.tbr_c.specs.declared.state.State.TheVariants as S;
@@ -273,11 +273,13 @@ fn run_on<D: TextDecorator>(
     requires goes_on { GoesOn program.old }
     requires sized { IsSized (command_of command.now) }
     ensures goes_on { OnOk result (GoesOn program.new) }
-    ensures done { OnOk result (CommandDoes unicode_columns (decoration_of D.TextDecorator)
-        (progress_meant D.meaning program.old) (command_of command.now) (progress_meant D.meaning program.new)) }
-    ensures refused { IfErr result (λ fault. fault ≢ F.OutOfMemory → (e : Unrun)
-        × CommandRefuses unicode_columns (decoration_of D.TextDecorator) (progress_meant D.meaning program.old) 0
-        (command_of command.now) e × (fault ≡ fault_of_command e)) }
+    ensures done { let make = after_command unicode_columns (decoration_of D.TextDecorator) 0 in OnOk result
+        (make (command_of command.now) (progress_meant D.meaning program.old)
+        ≡ Ok (progress_meant D.meaning program.new)) }
+    ensures refused { let make = after_command unicode_columns (decoration_of D.TextDecorator) 0 in
+        IfErr result (λ fault. fault ≢ F.OutOfMemory → (e : Unrun)
+        × (make (command_of command.now) (progress_meant D.meaning program.old) ≡ Err e)
+        × (fault ≡ fault_of_command e)) }
     ensures left { IfErr result (λ fault. (IsKept fault → ⊥) → program.new ≡ program.old) }
 {
     match program.run(alloc, 0, command) {
@@ -289,10 +291,10 @@ fn run_on<D: TextDecorator>(
 /// The text of a program. It refuses with `NotACommand` only where a level is open or cells wait.
 fn text_of<D: TextDecorator>(program: Program<D, UnicodeColumns>) -> Result<String, Error>
     requires { GoesOn program }
-    ensures text { IfOk result (λ text. Ends unicode_columns (decoration_of D.TextDecorator)
-        (progress_meant D.meaning program) 0 (Ok (string_bytes text))) }
-    ensures too_narrow { result ≡ Err Refusal.TooNarrow → Ends unicode_columns (decoration_of D.TextDecorator)
-        (progress_meant D.meaning program) 0 (Err script.TooNarrow) }
+    ensures text { IfOk result (λ text. ended unicode_columns (decoration_of D.TextDecorator) 0
+        (progress_meant D.meaning program) ≡ Ok (string_bytes text)) }
+    ensures too_narrow { result ≡ Err Refusal.TooNarrow → ended unicode_columns (decoration_of D.TextDecorator) 0
+        (progress_meant D.meaning program) ≡ Err script.TooNarrow }
 {
     match program.finish(0) {
         Ok(text) => Ok(text),

@@ -1,9 +1,10 @@
 pub mod GivenPrefixes
 pub mod Levels
-pub mod MeantCommands
+pub mod CommandParts
+pub mod MadeCommands
+pub mod LiveRenderers
 pub mod LivePrograms
-pub mod Links
+pub mod LiveLinks
 pub mod Notes
-pub mod Rows
-pub mod CommandLines
 pub mod Results
+pub mod CommandLines

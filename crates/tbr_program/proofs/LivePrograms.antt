@@ -1,177 +1,117 @@
--- A program that goes on.
-use Rattle.std.proofs.Common.{◌≡◌, ◌<◌, ℕ, zero, suc, ◌-◌, ◌==◌, Bool, true, false, Option, None, Some, List, refl, ap, sym, ◌∙◌, subst, arith, chars}
-use Rattle.std.proofs.lemmas.Bool.{false≢true}
+-- Programs that go on after their commands.
+use Rattle.std.proofs.Common.{◌≡◌, ℕ, ◌-◌, Option, Result, Ok, List, [], ◌∷◌, map, length, refl, ap, sym, subst, chars}
 use Rattle.std.specs.Global.{Vec}
-use Rattle.std.specs.Cmp.Lexicographic.{pointwise}
 use Rattle.tbr_tagged.specs.Outcome.{Outcome, done}
-use Rattle.tbr_renderer.specs.Outcomes.{taking}
-use Rattle.tbr_renderer.proofs.OutcomeParts.{taken}
-use Rattle.tbr_decor.specs.Ground as ground
-use Rattle.tbr_decor.specs.Ground.{Ground}
-use Rattle.tbr_decor.specs.declared.colour.Colour.{Colour}
+use Rattle.tbr_renderer.specs.Outcomes.{gathered}
 use Rattle.tbr_decor.specs.Decoration.{Decoration}
-use Rattle.text_block_renderer.specs.Renderer.{Renderer, Settings, settings_of}
-use Rattle.text_block_renderer.specs.declared.RenderOptions.{RenderOptions}
-use Rattle.text_block_renderer.specs.Image.{shown_title}
-use Rattle.text_block_renderer.specs.Decorated.{coloured, uncoloured}
-use Rattle.text_block_renderer.specs.Settings.{settled, settled_by_image}
-use Rattle.text_block_renderer.specs.Meant.{meant}
-use Rattle.text_block_renderer.specs.Calls.{Call, new_line, start_strikeout, end_strikeout, add_image, push_colour, pop_colour, after, Does}
-use Rattle.text_block_renderer.proofs.Settings.{preformats_after, call_beside, call_changes}
-use Rattle.text_block_renderer.proofs.RowsOfCells.{row_laid, settings_stay, failure_stays}
-use Rattle.text_block_renderer.specs.Rows.{GivenCell, after_row}
+use Rattle.text_block_renderer.specs.Renderer.{Renderer}
+use Rattle.text_block_renderer.specs.Calls.{append_subrender, append_vert_row, after}
+use Rattle.text_block_renderer.specs.Rows.{spots_of}
+use Rattle.text_block_renderer.specs.Appended.{handed_out}
+use Rattle.tbr_rows.specs.Cells.{row_fits}
+use Rattle.tbr_script.specs.declared.error.RunError.{RunError}
+use Rattle.tbr_script.specs.declared.error.RunError.TheVariants.{NothingToEnd, RowDoesNotFit}
+use Rattle.tbr_stack.specs.Stack.{Level, top_of, below}
+use Rattle.tbr_stack.specs.Top.{in_top, level_meant}
+use Rattle.tbr_stack.specs.Links.{open_links}
+use Rattle.tbr_stack.proofs.Tops.{top_changed}
+use Rattle.tbr_commands.specs.Command.{Command, ask, link, end_link, sub, append, cell, end_cell, row, vertical_row}
 use Rattle.tbr_commands.specs.declared.begun.Begun.{Begun}
-use Rattle.tbr_commands.specs.declared.request.layout.Layout.TheVariants.{StartBlock}
-use Rattle.tbr_commands.specs.declared.request.beginning.Beginning.{Beginning}
-use Rattle.tbr_commands.specs.declared.request.beginning.Beginning.TheVariants as beginning
-use Rattle.tbr_commands.specs.declared.request.kind.Kind.{Kind}
-use Rattle.tbr_commands.specs.declared.request.kind.Kind.TheVariants as kind
-use Rattle.tbr_commands.specs.Request.{Request, layout, begin, end, text, image, colour, border, call_of}
 use Rattle.tbr_commands.specs.Begun.{ends_nothing, counted}
-use Rattle.tbr_program.specs.Progress.{IsLive}
-
--- ---- what is counted
-
-positive : (n : ℕ) → (n == 0) ≡ false → 0 < n
-positive zero e = absurd (false≢true (sym e))
-positive (suc n) e = omega arith
-
-module _ (begun : Begun) (request : Request) (some : ends_nothing begun request ≡ false) where
-  pub some_preformats : request ≡ end kind.Preformat → 0 < begun.preformats
-  some_preformats is = positive begun.preformats (subst (λ r. ends_nothing begun r ≡ false) is some)
-
-  pub some_strikeouts : request ≡ end kind.Strikeout → 0 < begun.strikeouts
-  some_strikeouts is = positive begun.strikeouts (subst (λ r. ends_nothing begun r ≡ false) is some)
-
--- ---- what the renderer keeps
+use Rattle.tbr_program.specs.declared.opened.Opener.{Opener}
+use Rattle.tbr_program.specs.declared.opened.Opener.TheVariants.{Sub, Cell}
+use Rattle.tbr_program.specs.Prefixes.{prefixes}
+use Rattle.tbr_program.specs.Progress.{Pending, Opened, Progress, renderers_of, without_cells, pending_meant, opened_meant, progress_meant, IsLive, begun_on_each, GoesOn}
+use Rattle.tbr_program.specs.Commands.{Runs, with_stack, level_opened, block_made, block_joined, request_made, cells_waiting, row_made, vertical_made, after_command}
+use Rattle.tbr_program.proofs.CommandParts.{one_ok, unless, if_so, some_are, of_top, stack_done, opens, Ends, block_ends, cell_ends}
+use Rattle.tbr_program.proofs.Levels.{Zipped, top_live, with_top_live, below_live}
+use Rattle.tbr_program.proofs.LiveRenderers.{still_live, uncounted_live, row_live, taken_live}
+use Rattle.tbr_program.proofs.LiveLinks.{start_live, end_live}
+use Rattle.tbr_program.proofs.Results.{runs_done}
 
 module _ {D M : Type 0} (columns : ℕ → Option ℕ) (decoration : Decoration D M) where
-  abbrev Preformats : ℕ → Request → Begun → Type 0
-  Preformats width request begun = preformats_after columns decoration (call_of width request) begun.preformats ≡ (counted begun request).preformats
+  -- ---- on the stack
 
-  begun_preformats : (width : ℕ) (what : Beginning) (begun : Begun) → Preformats width (begin what) begun
-  begun_preformats width (beginning.Mode mode) begun = refl
-  begun_preformats width other begun = refl
+  module _ (p q : Progress D M (List M)) (live : GoesOn p) where
+    -- a change of the renderer on top
+    top_goes_on : (left : Pending D M (List M)) (make : Renderer D M (List M) → Outcome (Renderer D M (List M))) → ((r s : Renderer D M (List M)) → IsLive r p.pending.begun → make r ≡ done s → IsLive s left.begun) →
+        with_stack columns decoration (record p { pending = left }) (in_top make p.stack) ≡ Ok q → GoesOn q
+    top_goes_on left make on is =
+        let (s, made, same) = stack_done columns decoration (record p { pending = left }) (in_top make p.stack) q is in
+        let (before, next, top, step, there) = top_changed make p.stack s made in
+        subst GoesOn (sym same) (with_top_live p.stack p.pending p.opened live s next left there (on before next (top_live p.stack p.pending p.opened live before top) step))
 
-  ended_preformats : (width : ℕ) (what : Kind) (begun : Begun) → Preformats width (end what) begun
-  ended_preformats width kind.Mode begun = refl
-  ended_preformats width other begun = refl
+    level_goes_on : (by : Opener) (width : ℕ) → level_opened columns decoration by width p ≡ Ok q → GoesOn q
+    level_goes_on by width is = let (r, top, same) = opens columns decoration by width p q is in subst GoesOn (sym same) ((refl, refl, λ on. refl), live)
 
-  counted_preformats : (width : ℕ) (request : Request) (begun : Begun) → Preformats width request begun
-  counted_preformats width (begin what) begun = begun_preformats width what begun
-  counted_preformats width (end what) begun = ended_preformats width what begun
-  counted_preformats width (layout StartBlock) begun = refl
-  counted_preformats width (colour ground.text c) begun = refl
-  counted_preformats width (border None) begun = refl
-  counted_preformats width other begun = refl
+    ended_goes_on : (make : Renderer D M (List M) → Progress D M (List M) → Result (Progress D M (List M)) RunError) (by : Opener) → ((inside : Renderer D M (List M)) (left : Progress D M (List M)) → GoesOn left → make inside left ≡ Ok q → GoesOn q) →
+        Ends columns decoration make p by p.opened (Ok q) → GoesOn q
+    ended_goes_on make by on ends =
+        on ends.inside (record { stack = below p.stack; pending = ends.pending; opened = ends.others })
+        (below_live p.stack p.pending p.opened live (below p.stack) ends.pending ends.others refl (by, ends.opened)) ends.makes
 
-  -- the options are as they were, and so are the strikeouts
-  Unstruck : Renderer D M (List M) → Renderer D M (List M) → Type 0
-  Unstruck r s = (s.options ≡ r.options) × (s.strikeouts ≡ r.strikeouts)
+  block_goes_on : (first others : List ℕ) (q : Progress D M (List M)) (inside : Renderer D M (List M)) (left : Progress D M (List M)) → GoesOn left → block_joined columns decoration first others inside left ≡ Ok q → GoesOn q
+  block_goes_on first others q inside left live is =
+      top_goes_on left q live left.pending (block_made columns decoration first others inside)
+      (taken_live columns decoration (handed_out columns inside) _ left.pending.begun (λ lines r s here does. uncounted_live columns decoration (append_subrender (prefixes first others (length lines)) lines) r s left.pending.begun (λ x. refl) (λ n. refl) here does)) is
 
-  unstruck_by_image : (source : List ℕ) (title : Option (List ℕ)) (r : Renderer D M (List M)) → Unstruck r (settled_by_image decoration source title r)
-  unfolding Unstruck
-  unstruck_by_image source None r = (refl, refl)
-  unstruck_by_image source (Some title) r = (refl, refl)
+  -- ---- commands
 
-  unstruck_by_colour : (g : Ground) (c : Colour) (r : Renderer D M (List M)) (o : Option M) → decoration.colour_annotation r.decorator g c ≡ o → Unstruck r (coloured decoration g c r)
-  unfolding Unstruck
-  unstruck_by_colour g c r None e = rw e (refl, refl)
-  unstruck_by_colour g c r (Some a) e = rw e (refl, refl)
+  goes_on : (number : ℕ) (command : Command) (p q : Progress D M (List M)) → GoesOn p → after_command columns decoration number command p ≡ Ok q → GoesOn q
+  goes_on number (ask request) p q live is =
+      let (some, made) = unless (ends_nothing p.pending.begun request) (NothingToEnd number) _ (Ok q) (λ no. no) tt is in
+      top_goes_on p q live (record p.pending { begun = counted p.pending.begun request }) (request_made columns decoration request) (λ r s here does. still_live columns decoration request r s p.pending.begun here does) made
+  goes_on number (link target) p q live is =
+      let (s, made, same) = stack_done columns decoration p _ q is in
+      subst GoesOn (sym same) (start_live columns decoration p.pending.begun _ p.stack s live (chars target) made)
+  goes_on number end_link p q live is =
+      let (s, made, same) = stack_done columns decoration p _ q (some_are (open_links p.stack) (NothingToEnd number) _ (Ok q) (λ no. no) tt is) in
+      subst GoesOn (sym same) (end_live columns decoration p.pending.begun _ p.stack s live made)
+  goes_on number (sub width) p q live is = level_goes_on p q live Sub width is
+  goes_on number (append first others) p q live is =
+      ended_goes_on p q live (block_joined columns decoration first others) Sub (block_goes_on first others q) (block_ends columns decoration number p p.opened (Ok q) tt first others is)
+  goes_on number (cell width span align) p q live is = level_goes_on p q live (Cell span align) width is
+  goes_on number end_cell p q live is =
+      let (span, align, ends) = cell_ends columns decoration number p p.opened (Ok q) tt is in
+      ended_goes_on p q live _ (Cell span align) (λ inside left here made. subst GoesOn (sym (one_ok _ q made)) here) ends
+  goes_on number (row collapse) p q live is =
+      let (top, there, made) = of_top (top_of p.stack) _ (Ok q) tt is in
+      let (fits, lays) = if_so (row_fits top.hanging (spots_of columns p.pending.cells)) (RowDoesNotFit number) _ (Ok q) (λ no. no) tt made in
+      top_goes_on p q live (without_cells p.pending) (row_made columns decoration p.pending collapse)
+      (taken_live columns decoration (cells_waiting columns decoration p.pending) _ p.pending.begun (λ cells r s here does. row_live columns decoration collapse cells r s p.pending.begun here does)) lays
+  goes_on number vertical_row p q live is =
+      top_goes_on p q live (without_cells p.pending) (vertical_made columns decoration p.pending)
+      (taken_live columns decoration (gathered (handed_out columns) (renderers_of p.pending.cells)) _ p.pending.begun (λ cells r s here does. uncounted_live columns decoration (append_vert_row cells) r s p.pending.begun (λ x. refl) (λ n. refl) here does)) is
 
-  unstruck_by_end : (g : Ground) (r : Renderer D M (List M)) (b : Bool) → decoration.ends_colour r.decorator g ≡ b → Unstruck r (uncoloured decoration g r)
-  unfolding Unstruck
-  unstruck_by_end g r true e = rw e (refl, refl)
-  unstruck_by_end g r false e = rw e (refl, refl)
+-- ---- by what annotations mean
 
-  pub settled_options : (call : Call (List M)) (r : Renderer D M (List M)) → (settled decoration call r).options ≡ r.options
-  unfolding Unstruck
-  settled_options start_strikeout r = go r.options.use_unicode_strikeout refl
-    where
-      go : (b : Bool) → r.options.use_unicode_strikeout ≡ b → (settled decoration start_strikeout r).options ≡ r.options
-      go true e = rw e refl
-      go false e = rw e refl
-  settled_options end_strikeout r = go r.options.use_unicode_strikeout refl
-    where
-      go : (b : Bool) → r.options.use_unicode_strikeout ≡ b → (settled decoration end_strikeout r).options ≡ r.options
-      go true e = rw e refl
-      go false e = rw e refl
-  settled_options (add_image source title) r = (unstruck_by_image source (shown_title r.options.img_mode source title) r).0
-  settled_options (push_colour g c) r = (unstruck_by_colour g c r (decoration.colour_annotation r.decorator g c) refl).0
-  settled_options (pop_colour g) r = (unstruck_by_end g r (decoration.ends_colour r.decorator g) refl).0
-  settled_options call r = refl
+module _ {D A M : Type 0} (meaning : A → M) where
+  zipped_meant : (levels : List (Level (Renderer D A (Vec A)))) (begun : List Begun) → Zipped levels begun → Zipped (map (level_meant meaning) levels) begun
+  zipped_meant [] begun live = live
+  zipped_meant (level ∷ levels) [] live = live
+  zipped_meant (level ∷ levels) (b ∷ begun) live = (live.0, zipped_meant levels begun live.1)
 
-  -- Where struck out text has strokes, the strikeouts are those that were counted.
-  abbrev Strikeouts : Renderer D M (List M) → Begun → Request → Type 0
-  Strikeouts r begun request =
-      r.options.use_unicode_strikeout ≡ true → r.strikeouts ≡ begun.strikeouts → (settled decoration (call_of r.width request) r).strikeouts ≡ (counted begun request).strikeouts
+  zipped_told : (levels : List (Level (Renderer D A (Vec A)))) (begun : List Begun) → Zipped (map (level_meant meaning) levels) begun → Zipped levels begun
+  zipped_told [] begun live = live
+  zipped_told (level ∷ levels) [] live = live
+  zipped_told (level ∷ levels) (b ∷ begun) live = (live.0, zipped_told levels begun live.1)
 
-  begun_strikeouts : (r : Renderer D M (List M)) (begun : Begun) (what : Beginning) → Strikeouts r begun (begin what)
-  begun_strikeouts r begun beginning.Strikeout on e = rw on (ap suc e)
-  begun_strikeouts r begun other on e = e
+  begun_meant : (pending : Pending D A (Vec A)) (os : List (Opened D A (Vec A))) → begun_on_each (pending_meant meaning pending) (map (opened_meant meaning) os) ≡ begun_on_each pending os
+  begun_meant pending [] = refl
+  begun_meant pending (o ∷ os) = ap (λ bs. pending.begun ∷ bs) (begun_meant o.below os)
 
-  ended_strikeouts : (r : Renderer D M (List M)) (begun : Begun) (what : Kind) → Strikeouts r begun (end what)
-  unfolding Unstruck
-  ended_strikeouts r begun kind.Strikeout on e = rw on (ap (λ n. n - 1) e)
-  ended_strikeouts r begun kind.Colour on e = (unstruck_by_end ground.text r (decoration.ends_colour r.decorator ground.text) refl).1 ∙ e
-  ended_strikeouts r begun kind.Background on e = (unstruck_by_end ground.background r (decoration.ends_colour r.decorator ground.background) refl).1 ∙ e
-  ended_strikeouts r begun other on e = e
+  meant_live : (p : Progress D A (Vec A)) → GoesOn p → GoesOn (progress_meant meaning p)
+  meant_live p live = subst (Zipped (map (level_meant meaning) p.stack.levels)) (sym (begun_meant p.pending p.opened)) (zipped_meant p.stack.levels _ live)
 
-  counted_strikeouts : (r : Renderer D M (List M)) (begun : Begun) (request : Request) → Strikeouts r begun request
-  unfolding Unstruck
-  counted_strikeouts r begun (begin what) on e = begun_strikeouts r begun what on e
-  counted_strikeouts r begun (end what) on e = ended_strikeouts r begun what on e
-  counted_strikeouts r begun (image s t) on e = (unstruck_by_image (chars s) (shown_title r.options.img_mode (chars s) (chars t)) r).1 ∙ e
-  counted_strikeouts r begun (colour ground.text c) on e = (unstruck_by_colour ground.text c r (decoration.colour_annotation r.decorator ground.text c) refl).1 ∙ e
-  counted_strikeouts r begun (colour ground.background c) on e = (unstruck_by_colour ground.background c r (decoration.colour_annotation r.decorator ground.background c) refl).1 ∙ e
-  counted_strikeouts r begun (layout StartBlock) on e = e
-  counted_strikeouts r begun (border None) on e = e
-  counted_strikeouts r begun other on e = e
+  told_live : (p : Progress D A (Vec A)) → GoesOn (progress_meant meaning p) → GoesOn p
+  told_live p live = zipped_told p.stack.levels _ (subst (Zipped (map (level_meant meaning) p.stack.levels)) (begun_meant p.pending p.opened) live)
 
-pub still_live : {D A M : Type 0} (columns : ℕ → Option ℕ) (decoration : Decoration D M) (meaning : A → M) (request : Request) (r s : Renderer D A (Vec A)) (begun next : Begun) →
-    IsLive r begun → next ≡ counted begun request → Does columns decoration (call_of r.width request) (meant meaning r) (meant meaning s) → IsLive s next
-still_live {D} {A} {M} columns decoration meaning request r s begun next live is does =
-    let before = meant meaning r in
-    let call = call_of r.width request in
-    let after = call_beside columns decoration call before (meant meaning s) does in
-    let settings : settings_of (meant meaning s) ≡ settings_of (settled decoration call before) = call_changes columns decoration call before (meant meaning s) does in
-    let options = ap (λ (x : Settings D M). x.kept.options) settings ∙ settled_options columns decoration call before in (
-      after.0 ∙ live.0,
-      after.1 ∙ ap (λ n. preformats_after columns decoration call n) live.1 ∙ counted_preformats columns decoration r.width request begun ∙ ap (λ (b : Begun). b.preformats) (sym is),
-      λ on.
-          let before_on = sym (ap (λ (x : RenderOptions). x.use_unicode_strikeout) options) ∙ on in
-          ap (λ (x : Settings D M). x.kept.strikeouts) settings ∙ counted_strikeouts columns decoration before begun request before_on (live.2 before_on) ∙ ap (λ (b : Begun). b.strikeouts) (sym is),
-    )
+  module _ (columns : ℕ → Option ℕ) (decoration : Decoration D M) (number : ℕ) (command : Command) (old new : Progress D A (Vec A)) (live : GoesOn old) where
+    -- a command that is done
+    pub command_done : {R : Type 0} (x : R) → after_command columns decoration number command (progress_meant meaning old) ≡ Ok (progress_meant meaning new) → Runs meaning (after_command columns decoration number command) old (Ok x) new
+    command_done x is = runs_done meaning (after_command columns decoration number command) old new x is (told_live new (goes_on columns decoration number command (progress_meant meaning old) (progress_meant meaning new) (meant_live old live) is))
 
--- a call that begins and ends no strikeout and no preformatted stretch
-pub uncounted_live : {D M : Type 0} (columns : ℕ → Option ℕ) (decoration : Decoration D M) (call : Call (List M)) (r s : Renderer D M (List M)) (begun : Begun) →
-    ((x : Renderer D M (List M)) → (settled decoration call x).strikeouts ≡ x.strikeouts) → ((n : ℕ) → preformats_after columns decoration call n ≡ n) →
-    IsLive r begun → Does columns decoration call r s → IsLive s begun
-uncounted_live {D} {M} columns decoration call r s begun strikes counts live does =
-    let after = call_beside columns decoration call r s does in
-    let settings : settings_of s ≡ settings_of (settled decoration call r) = call_changes columns decoration call r s does in
-    let options = ap (λ (x : Settings D M). x.kept.options) settings ∙ settled_options columns decoration call r in (
-      after.0 ∙ live.0,
-      after.1 ∙ counts r.preformatted ∙ live.1,
-      λ on. ap (λ (x : Settings D M). x.kept.strikeouts) settings ∙ strikes r ∙ live.2 (sym (ap (λ (x : RenderOptions). x.use_unicode_strikeout) options) ∙ on),
-    )
-
--- lines of other renderers
-pub steady_live : {D A M : Type 0} (columns : ℕ → Option ℕ) (decoration : Decoration D M) (meaning : A → M) (call : Call (List M)) (r s : Renderer D A (Vec A)) (begun : Begun) →
-    ((x : Renderer D M (List M)) → (settled decoration call x).strikeouts ≡ x.strikeouts) → ((n : ℕ) → preformats_after columns decoration call n ≡ n) →
-    IsLive r begun → Does columns decoration call (meant meaning r) (meant meaning s) → IsLive s begun
-steady_live columns decoration meaning call r s begun strikes counts live does =
-    uncounted_live columns decoration call (meant meaning r) (meant meaning s) begun strikes counts live does
-
--- a row of cells side by side
-pub row_live : {D A M : Type 0} (columns : ℕ → Option ℕ) (decoration : Decoration D M) (meaning : A → M) (collapse : Bool) (given : Outcome (List (GivenCell (List M)))) (r s : Renderer D A (Vec A)) (begun : Begun) →
-    IsLive r begun → taking (after columns decoration new_line) given (after_row (pointwise decoration.same) columns collapse) (meant meaning r) ≡ done (meant meaning s) → IsLive s begun
-row_live {D} {A} {M} columns decoration meaning collapse given r s begun live takes =
-    let row = after_row (pointwise decoration.same) columns collapse in
-    let (m, cells, flushed, gives, does) = taken (after columns decoration new_line) given row (meant meaning r) (meant meaning s) takes in
-    let lays = row_laid (pointwise decoration.same) columns collapse cells (meant meaning r) (meant meaning s) does in
-    let same : settings_of (meant meaning s) ≡ settings_of (meant meaning r) = settings_stay columns (meant meaning r) (meant meaning s) lays in (
-      failure_stays columns (meant meaning r) (meant meaning s) lays ∙ live.0,
-      ap (λ (x : Settings D M). x.kept.preformatted) same ∙ live.1,
-      λ on. ap (λ (x : Settings D M). x.kept.strikeouts) same ∙ live.2 (sym (ap (λ (x : Settings D M). x.kept.options.use_unicode_strikeout) same) ∙ on),
-    )
+  module _ (columns : ℕ → Option ℕ) (decoration : Decoration D M) (by : Opener) (width : ℕ) (old new : Progress D A (Vec A)) (live : GoesOn old) where
+    -- a level that is opened
+    pub opening_done : {R : Type 0} (x : R) → level_opened columns decoration by width (progress_meant meaning old) ≡ Ok (progress_meant meaning new) → Runs meaning (level_opened columns decoration by width) old (Ok x) new
+    opening_done x is = runs_done meaning (level_opened columns decoration by width) old new x is (told_live new (level_goes_on columns decoration (progress_meant meaning old) (progress_meant meaning new) (meant_live old live) by width is))

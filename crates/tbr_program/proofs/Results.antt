@@ -1,12 +1,15 @@
--- What results say.
-use Rattle.std.proofs.Common.{◌≡◌, ◌≢◌, Result, Ok, Err, IfOk, IfErr, refl, sym, ◌∙◌, subst}
+-- What results say, and what functions answer that run commands.
+use Rattle.std.proofs.Common.{◌≡◌, ◌≢◌, List, Result, Ok, Err, IfOk, IfErr, refl, sym, ◌∙◌, subst}
 use Rattle.std.specs.Result.{IsErrAnd}
+use Rattle.std.specs.Global.{Vec}
 use Rattle.tbr_tagged.specs.Outcome.{Outcome, done}
 use Rattle.tbr_tagged.specs.declared.Error.{Error}
 use Rattle.tbr_tagged.specs.declared.Error.TheVariants as block
 use Rattle.tbr_script.specs.Refusal.{refusal_of}
 use Rattle.tbr_script.specs.declared.error.RunError.{RunError}
 use Rattle.tbr_script.specs.declared.error.RunError.TheVariants.{TooNarrow, OutOfMemory}
+use Rattle.tbr_program.specs.Progress.{Progress, progress_meant, GoesOn}
+use Rattle.tbr_program.specs.Commands.{Runs}
 
 -- what a text is, or a refusal
 pub if_ok_then : {X E : Type 0} {P Q : X → Type 0} (r : Result X E) → ((x : X) → P x → Q x) → IfOk r P → IfOk r Q
@@ -22,11 +25,32 @@ pub if_err_then : {X E : Type 0} {P Q : E → Type 0} (r : Result X E) → ((e :
 if_err_then (Ok x) f h = tt
 if_err_then (Err e) f h = f e h
 
-pub if_err_is : {X E : Type 0} (P : E → Type 0) (r : Result X E) (y : E) → r ≡ Err y → P y → IfErr r P
-if_err_is P r y is h = subst (λ q. IfErr q P) (sym is) h
-
 -- where a refusal of a block is passed on
 pub refused_by : {X : Type 0} (P : RunError → Type 0) (r : Result X RunError) (e : Error) → IsErrAnd r (λ x. x ≡ refusal_of e) → (e ≡ block.TooNarrow → P TooNarrow) → IfErr r (λ x. x ≢ OutOfMemory → P x)
 refused_by P (Ok x) e is h = tt
 refused_by P (Err x) block.TooNarrow is h = λ _. subst P (sym is) (h refl)
 refused_by P (Err x) block.OutOfMemory is h = λ other. absurd (other is)
+
+-- ---- functions that run commands
+
+module _ {D A M R : Type 0} (meaning : A → M) (make : Progress D M (List M) → Result (Progress D M (List M)) RunError) (old new : Progress D A (Vec A)) where
+  abbrev RunsSo : Result R RunError → Type 0
+  RunsSo result = Runs meaning make old result new
+
+  pub runs_done : (x : R) → make (progress_meant meaning old) ≡ Ok (progress_meant meaning new) → GoesOn new → RunsSo (Ok x)
+  runs_done x is live = record { ok = is; goes_on = live; refused = tt; left = tt }
+
+  -- a refusal before anything is done
+  pub runs_early : (e : RunError) → new ≡ old → make (progress_meant meaning old) ≡ Err e → RunsSo (Err e)
+  runs_early e same is = record { ok = tt; goes_on = tt; refused = λ _. is; left = λ _ _. same }
+
+  -- memory is refused
+  pub runs_out : (result : Result R RunError) → IsErrAnd result (λ x. x ≡ OutOfMemory) → RunsSo result
+  runs_out (Ok x) is = absurd is
+  runs_out (Err x) is = record { ok = tt; goes_on = tt; refused = λ other. absurd (other is); left = λ other _. absurd (other is) }
+
+  -- a block refuses
+  pub runs_refused : (result : Result R RunError) (e : Error) → IsErrAnd result (λ x. x ≡ refusal_of e) → (e ≡ block.TooNarrow → make (progress_meant meaning old) ≡ Err TooNarrow) → RunsSo result
+  runs_refused (Ok x) e is h = absurd is
+  runs_refused (Err x) block.TooNarrow is h = record { ok = tt; goes_on = tt; refused = λ _. subst (λ y. make (progress_meant meaning old) ≡ Err y) (sym is) (h refl); left = λ _ other. absurd (other is) }
+  runs_refused (Err x) block.OutOfMemory is h = runs_out (Err x) is

@@ -2,4 +2,4 @@ pub mod Prefixes
 pub mod Progress
 pub mod Decorations
 pub mod Closing
-pub mod Meaning
+pub mod Commands

@@ -1,11 +1,11 @@
 -- Where a script is after its first command.
-use Rattle.std.specs.Prelude.{◌≡◌, ◌<◌, ℕ, true, None, List, [], ◌∷◌, map}
+use Rattle.std.specs.Prelude.{◌≡◌, ◌<◌, ℕ, true, Option, None, Some, List, [], ◌∷◌, ◌++◌, map}
 use Rattle.std.specs.List.{AllZip}
 use Rattle.std.specs.Global.{Vec}
 use Rattle.tbr_tagged.specs.declared.CellAlign.{CellAlign}
 use Rattle.text_block_renderer.specs.Renderer.{Renderer}
 use Rattle.text_block_renderer.specs.Meant.{meant}
-use Rattle.tbr_stack.specs.Stack.{Stack}
+use Rattle.tbr_stack.specs.Stack.{Stack, top_of, below}
 use Rattle.tbr_stack.specs.Top.{stack_meant}
 use Rattle.tbr_commands.specs.Begun.{nothing_begun}
 use Rattle.tbr_commands.specs.declared.begun.Begun.{Begun}
@@ -33,6 +33,38 @@ pub record Progress (D A T : Type 0) : Type 0 where
 -- nothing begun, and no cell that waits
 abbrev pub nothing_pending : {D A T : Type 0} → Pending D A T
 nothing_pending = record { begun = nothing_begun; cells = []; aligns = [] }
+
+-- by which command the innermost level that is open was opened
+abbrev pub opener : {D A T : Type 0} → List (Opened D A T) → Option Opener
+opener [] = None
+opener (level ∷ levels) = Some level.by
+
+-- ---- cells that wait
+
+-- the renderers of cells
+abbrev pub renderers_of : {D A T : Type 0} → List (Renderer D A T × ℕ) → List (Renderer D A T)
+renderers_of cells = map (λ cell. cell.0) cells
+
+-- one cell more that waits
+abbrev pub with_cell : {D A T : Type 0} → Pending D A T → Renderer D A T → ℕ → CellAlign → Pending D A T
+with_cell pending inside span align = record pending {
+  cells = pending.cells ++ (inside, span) ∷ [];
+  aligns = pending.aligns ++ align ∷ [];
+}
+
+-- none that waits
+abbrev pub without_cells : {D A T : Type 0} → Pending D A T → Pending D A T
+without_cells pending = record pending { cells = []; aligns = [] }
+
+-- ---- levels
+
+-- The innermost level ends: its renderer is taken, and what was pending below it is pending again.
+pub record Closes {D A T : Type 0} (p : Progress D A T) (inside : Renderer D A T) (next : Progress D A T) :
+    Type 0 where
+  pub by : Opener
+  pub opened : p.opened ≡ record { by = by; below = next.pending } ∷ next.opened
+  pub top : top_of p.stack ≡ Some inside
+  pub stack : next.stack ≡ below p.stack
 
 -- a cell to come spans at least one row
 abbrev pub IsSpanned : Opener → Type 0

@@ -1,9 +1,8 @@
 //! Levels that are open.
 ghost use Rattle.std.specs.Prelude.{◌≡◌, ◌≢◌, ◌↔◌, ◌<◌, ℕ, true, None, Some, [], ◌∷◌, length, OnOk, IfSome, IfNone};
 ghost use Rattle.tbr_tagged.specs.declared.CellAlign.{CellAlign as Align};
-ghost use Rattle.tbr_program.specs.Progress.{IsSpanned};
+ghost use Rattle.tbr_program.specs.Progress.{opener, IsSpanned};
 ghost use Rattle.tbr_program.specs.declared.opened.Opener.{Opener as By};
-ghost use Rattle.tbr_program.specs.Meaning.{opener};
 
 use crate::pending::Pending;
 use std::alloc::{AllocError, Global};

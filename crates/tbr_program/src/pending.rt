@@ -3,8 +3,7 @@ ghost use Rattle.std.specs.Prelude.{◌≡◌, ◌↔◌, ◌<◌, false, [], le
 ghost use Rattle.std.specs.List.{AllByRecursion as Each};
 ghost use Rattle.tbr_commands.specs.Begun.{begins, ends_nothing, counted, MorePasses};
 ghost use Rattle.tbr_commands.specs.Request.{request_of};
-ghost use Rattle.tbr_program.specs.Progress.{nothing_pending};
-ghost use Rattle.tbr_program.specs.Meaning.{renderers_of, with_cell, without_cells};
+ghost use Rattle.tbr_program.specs.Progress.{nothing_pending, renderers_of, with_cell, without_cells};
 
 use std::alloc::{AllocError, Global};
 use std::marker::Model;

@@ -1,16 +1,12 @@
 //! Lines that are appended after prefixes.
-ghost use Rattle.std.specs.Prelude.{◌≡◌, List, length, None, Err, OnOk, IfOk, IfErr, string_bytes};
+ghost use Rattle.std.specs.Prelude.{◌≡◌, None, IfOk, IfErr, string_bytes};
 ghost use Rattle.tbr_tagged.specs.View.{chars_of};
 ghost use Rattle.tbr_tagged.specs.declared.Error.TheVariants as E;
 ghost use Rattle.tbr_decor.specs.Decoration.{decoration_of};
 ghost use Rattle.tbr_decor.specs.Prefix.{asked_prefix};
-ghost use Rattle.text_block_renderer.specs.Line.{Line};
+ghost use Rattle.tbr_renderer.specs.Outcomes.{Tries};
 ghost use Rattle.text_block_renderer.specs.Meant.{meant};
-ghost use Rattle.tbr_tagged.specs.Outcome.{done};
-ghost use Rattle.text_block_renderer.specs.Appended.{handed_out};
-ghost use Rattle.tbr_program.specs.Meaning.{TakesNone};
-ghost use Rattle.text_block_renderer.specs.Calls.{Does, append_subrender};
-ghost use Rattle.tbr_program.specs.Prefixes.{prefixes};
+ghost use Rattle.tbr_program.specs.Commands.{block_made};
 
 use std::iter;
 use tbr_decor::{DecoratorPrefix, TextDecorator};
@@ -31,13 +27,9 @@ pub fn append_after<D: TextDecorator, W: CharWidth>(
     texts: &TextPair,
 ) -> Result<(), Error>
     requires { renderer.old.failure ≡ None }
-    ensures ok { OnOk result ((lines : List (Line (List D.Meaning)))
-        × (handed_out W.columns (meant D.meaning inside) ≡ done lines)
-        × Does W.columns (decoration_of D.TextDecorator) (append_subrender
-        (prefixes (string_bytes texts.now.first) (string_bytes texts.now.second) (length lines)) lines)
-        (meant D.meaning renderer.old) (meant D.meaning renderer.new)) }
-    ensures too_narrow { result ≡ Err E.TooNarrow → TakesNone W.columns (decoration_of D.TextDecorator)
-        (handed_out W.columns (meant D.meaning inside)) (meant D.meaning renderer.old) }
+    ensures tries { let texts = block_made W.columns (decoration_of D.TextDecorator)
+        (string_bytes texts.now.first) (string_bytes texts.now.second) in
+        Tries (meant D.meaning) (texts (meant D.meaning inside)) renderer.old result renderer.new }
 {
     let first = iter::once(texts.first.as_str());
     let others = iter::repeat_n(texts.second.as_str(), OTHERS);

@@ -1,6 +1,7 @@
 //! A script's commands, one after another.
 ghost use Rattle.std.specs.Prelude.{◌≡◌, ℕ, [], ◌≢◌, ◌<◌, None, Some, Ok, Err, IfOk, IfErr, OnOk, length, map, string_bytes};
 ghost use Rattle.tbr_tagged.specs.View.{chars_of};
+ghost use Rattle.tbr_tagged.specs.Outcome.{done, refused};
 ghost use Rattle.tbr_tagged.specs.declared.Error.TheVariants as Refusal;
 ghost use Rattle.tbr_decor.specs.Decoration.{decoration_of};
 ghost use Rattle.tbr_decor.specs.Prefix.{asked_prefix};
@@ -15,11 +16,10 @@ ghost use Rattle.tbr_stack.specs.Links.{open_links};
 ghost use Rattle.tbr_commands.specs.Request.{request_of};
 ghost use Rattle.tbr_commands.specs.Request as requests;
 ghost use Rattle.tbr_commands.specs.Command.{command_of, IsSized};
-ghost use Rattle.tbr_program.specs.Progress.{progress_meant, nothing_pending, IsSpanned, GoesOn};
-ghost use Rattle.tbr_program.specs.declared.opened.Opener.{Opener as By};
-ghost use Rattle.tbr_tagged.specs.Outcome.{done, refused};
+ghost use Rattle.tbr_commands.specs.Command as asked;
+ghost use Rattle.tbr_program.specs.Progress.{progress_meant, nothing_pending, opener, Closes, IsSpanned, GoesOn};
 ghost use Rattle.tbr_program.specs.Closing.{closed};
-ghost use Rattle.tbr_program.specs.Meaning.{opener, Closes, RequestDoes, RequestRefuses, LinkDoes, LinkRefuses, EndLinkDoes, EndLinkRefuses, LevelOpens, AppendDoes, AppendRefuses, CellDoes, CellRefuses, VerticalRowDoes, VerticalRowRefuses, RowDoes, RowRefuses, CommandDoes, CommandRefuses, LineDoes, LineRefuses, Ends};
+ghost use Rattle.tbr_program.specs.Commands.{Runs, level_opened, after_command, LineMakes, ended};
 
 use crate::closing::{close, close_lines};
 use crate::opened::{OpenLevels, Opener};
@@ -70,7 +70,7 @@ impl<D: TextDecorator, W: CharWidth> Program<D, W> {
           pending = nothing_pending;
           opened = [];
         }) }
-        ensures live { IfOk result (λ program. GoesOn program) }
+        ensures goes_on { IfOk result (λ program. GoesOn program) }
         ensures memory { IfErr result (λ e. e ≡ E.OutOfMemory) }
     {
         let renderer = SubRenderer::new(alloc, width, options, decorator);
@@ -87,12 +87,13 @@ impl<D: TextDecorator, W: CharWidth> Program<D, W> {
     /// `TooNarrow` the program isn't to be used any more. Each other refusal leaves it as it was.
     pub fn run_line(&mut self, alloc: Global, number: usize, line: &[u8]) -> Result<(), RunError>
         requires { GoesOn self.old }
-        ensures done { OnOk result (LineDoes W.columns (decoration_of D.TextDecorator)
-            (progress_meant D.meaning self.old) line.now (progress_meant D.meaning self.new)) }
-        ensures live { OnOk result (GoesOn self.new) }
+        ensures done { OnOk result (LineMakes W.columns (decoration_of D.TextDecorator) number line.now
+            (progress_meant D.meaning self.old) (Ok (progress_meant D.meaning self.new))) }
+        ensures goes_on { OnOk result (GoesOn self.new) }
         ensures refused { IfErr result (λ e. e ≢ RunError.OutOfMemory →
-            LineRefuses W.columns (decoration_of D.TextDecorator) (progress_meant D.meaning self.old) number
-            line.now e) }
+            LineMakes W.columns (decoration_of D.TextDecorator) number line.now
+            (progress_meant D.meaning self.old) (Err e)) }
+        ensures left { IfErr result (λ e. e ≢ RunError.OutOfMemory → e ≢ RunError.TooNarrow → self.new ≡ self.old) }
     {
         if line.is_empty() {
             return Ok(());
@@ -112,15 +113,10 @@ impl<D: TextDecorator, W: CharWidth> Program<D, W> {
     /// After `OutOfMemory` and `TooNarrow` the program isn't to be used any more. Each other refusal leaves it as it
     /// was.
     pub fn run(&mut self, alloc: Global, number: usize, command: &Command) -> Result<(), RunError>
-        requires live { GoesOn self.old }
+        requires goes_on { GoesOn self.old }
         requires sized { IsSized (command_of command.now) }
-        ensures done { OnOk result (CommandDoes W.columns (decoration_of D.TextDecorator)
-            (progress_meant D.meaning self.old) (command_of command.now) (progress_meant D.meaning self.new)) }
-        ensures live { OnOk result (GoesOn self.new) }
-        ensures refused { IfErr result (λ e. e ≢ RunError.OutOfMemory →
-            CommandRefuses W.columns (decoration_of D.TextDecorator) (progress_meant D.meaning self.old) number
-            (command_of command.now) e) }
-        ensures left { IfErr result (λ e. e ≢ RunError.OutOfMemory → e ≢ RunError.TooNarrow → self.new ≡ self.old) }
+        ensures runs { let make = after_command W.columns (decoration_of D.TextDecorator) number in
+            Runs D.meaning (make (command_of command.now)) self.old result self.new }
     {
         match command {
             Command::Ask(request) => self.call(number, request),
@@ -141,12 +137,8 @@ impl<D: TextDecorator, W: CharWidth> Program<D, W> {
     /// Adds a text to the renderer on top, as a line asks for it.
     fn add_text(&mut self, text: &str) -> Result<(), RunError>
         requires { GoesOn self.old }
-        ensures done { OnOk result (RequestDoes W.columns (decoration_of D.TextDecorator)
-            (progress_meant D.meaning self.old) (requests.text text.now) (progress_meant D.meaning self.new)) }
-        ensures live { OnOk result (GoesOn self.new) }
-        ensures refused { IfErr result (λ e. e ≢ RunError.OutOfMemory → (number : ℕ) →
-            RequestRefuses W.columns (decoration_of D.TextDecorator) (progress_meant D.meaning self.old) number
-            (requests.text text.now) e) }
+        ensures runs { (number : ℕ) → let make = after_command W.columns (decoration_of D.TextDecorator) number in
+            Runs D.meaning (make (asked.ask (requests.text text.now))) self.old result self.new }
     {
         self.renderers.top_mut().add_inline_text(text)?;
         Ok(())
@@ -155,13 +147,8 @@ impl<D: TextDecorator, W: CharWidth> Program<D, W> {
     /// Does what a request asks for, on the line of this number.
     fn call(&mut self, number: usize, request: &Request) -> Result<(), RunError>
         requires { GoesOn self.old }
-        ensures done { OnOk result (RequestDoes W.columns (decoration_of D.TextDecorator)
-            (progress_meant D.meaning self.old) (request_of request.now) (progress_meant D.meaning self.new)) }
-        ensures live { OnOk result (GoesOn self.new) }
-        ensures refused { IfErr result (λ e. e ≢ RunError.OutOfMemory →
-            RequestRefuses W.columns (decoration_of D.TextDecorator) (progress_meant D.meaning self.old) number
-            (request_of request.now) e) }
-        ensures left { IfErr result (λ e. e ≢ RunError.OutOfMemory → e ≢ RunError.TooNarrow → self.new ≡ self.old) }
+        ensures runs { let make = after_command W.columns (decoration_of D.TextDecorator) number in
+            Runs D.meaning (make (asked.ask (request_of request.now))) self.old result self.new }
     {
         if self.pending.lacks(request) {
             return Err(RunError::NothingToEnd(number));
@@ -175,11 +162,8 @@ impl<D: TextDecorator, W: CharWidth> Program<D, W> {
     /// Begins a link to a target.
     fn start_link(&mut self, target: &str) -> Result<(), RunError>
         requires { GoesOn self.old }
-        ensures done { OnOk result (LinkDoes W.columns (decoration_of D.TextDecorator)
-            (progress_meant D.meaning self.old) target.now (progress_meant D.meaning self.new)) }
-        ensures live { OnOk result (GoesOn self.new) }
-        ensures refused { IfErr result (λ e. e ≢ RunError.OutOfMemory →
-            LinkRefuses W.columns (decoration_of D.TextDecorator) (progress_meant D.meaning self.old) target.now e) }
+        ensures runs { (number : ℕ) → let make = after_command W.columns (decoration_of D.TextDecorator) number in
+            Runs D.meaning (make (asked.link target.now)) self.old result self.new }
     {
         self.renderers.start_link(target)?;
         Ok(())
@@ -188,12 +172,8 @@ impl<D: TextDecorator, W: CharWidth> Program<D, W> {
     /// Ends the link that began last, on the line of this number.
     fn end_link(&mut self, number: usize) -> Result<(), RunError>
         requires { GoesOn self.old }
-        ensures done { OnOk result (EndLinkDoes W.columns (decoration_of D.TextDecorator)
-            (progress_meant D.meaning self.old) (progress_meant D.meaning self.new)) }
-        ensures live { OnOk result (GoesOn self.new) }
-        ensures refused { IfErr result (λ e. e ≢ RunError.OutOfMemory →
-            EndLinkRefuses W.columns (decoration_of D.TextDecorator) (progress_meant D.meaning self.old) number e) }
-        ensures left { IfErr result (λ e. e ≢ RunError.OutOfMemory → e ≢ RunError.TooNarrow → self.new ≡ self.old) }
+        ensures runs { let make = after_command W.columns (decoration_of D.TextDecorator) number in
+            Runs D.meaning (make asked.end_link) self.old result self.new }
     {
         if self.renderers.open_links() == 0 {
             return Err(RunError::NothingToEnd(number));
@@ -204,13 +184,11 @@ impl<D: TextDecorator, W: CharWidth> Program<D, W> {
 
     /// Opens a level of a width of at least 1.
     fn open(&mut self, alloc: Global, by: Opener, width: usize) -> Result<(), RunError>
-        requires live { GoesOn self.old }
+        requires goes_on { GoesOn self.old }
         requires width { 0 < width }
         requires spans { IsSpanned by }
-        ensures done { OnOk result (LevelOpens (decoration_of D.TextDecorator)
-            (progress_meant D.meaning self.old) by width (progress_meant D.meaning self.new)) }
-        ensures live { OnOk result (GoesOn self.new) }
-        ensures memory { IfErr result (λ e. e ≡ E.OutOfMemory) }
+        ensures runs { let make = level_opened W.columns (decoration_of D.TextDecorator) by width in
+            Runs D.meaning make self.old result self.new }
     {
         let inside = self.renderers.top().new_sub_renderer(width)?;
         self.renderers.push(inside)?;
@@ -219,13 +197,12 @@ impl<D: TextDecorator, W: CharWidth> Program<D, W> {
         Ok(())
     }
 
-    /// Closes the innermost level, and answers its renderer. It asks that a level is open in which no cell waits.
+    /// Closes the innermost level, and answers its renderer. It asks that a level is open.
     fn close(&mut self) -> SubRenderer<D, W>
-        requires live { GoesOn self.old }
+        requires goes_on { GoesOn self.old }
         requires opened { opener self.old.opened ≢ None }
-        requires cells { self.old.pending.cells ≡ [] }
-        ensures closes { (by : By) × Closes self.old by result self.new }
-        ensures live { GoesOn self.new }
+        ensures closes { Closes self.old result self.new }
+        ensures goes_on { GoesOn self.new }
     {
         let inside = self.renderers.pop();
         self.pending = self.opened.close();
@@ -235,14 +212,9 @@ impl<D: TextDecorator, W: CharWidth> Program<D, W> {
     /// Closes the level that `sub` opened, on the line of this number: its lines join those below it.
     fn append(&mut self, number: usize, prefixes: &TextPair) -> Result<(), RunError>
         requires { GoesOn self.old }
-        ensures done { OnOk result (AppendDoes W.columns (decoration_of D.TextDecorator)
-            (progress_meant D.meaning self.old) (string_bytes prefixes.now.first) (string_bytes prefixes.now.second)
-            (progress_meant D.meaning self.new)) }
-        ensures live { OnOk result (GoesOn self.new) }
-        ensures refused { IfErr result (λ e. e ≢ RunError.OutOfMemory →
-            AppendRefuses W.columns (decoration_of D.TextDecorator)
-            (progress_meant D.meaning self.old) number e) }
-        ensures left { IfErr result (λ e. e ≢ RunError.OutOfMemory → e ≢ RunError.TooNarrow → self.new ≡ self.old) }
+        ensures runs { let make = after_command W.columns (decoration_of D.TextDecorator) number in
+            let texts = asked.append (string_bytes prefixes.now.first) (string_bytes prefixes.now.second) in
+            Runs D.meaning (make texts) self.old result self.new }
     {
         if !self.opened.is_sub() {
             return Err(RunError::NothingToEnd(number));
@@ -259,12 +231,8 @@ impl<D: TextDecorator, W: CharWidth> Program<D, W> {
     /// Closes the level that `cell` opened, on the line of this number: it waits below as a cell.
     fn end_cell(&mut self, number: usize) -> Result<(), RunError>
         requires { GoesOn self.old }
-        ensures done { OnOk result
-            (CellDoes (progress_meant D.meaning self.old) (progress_meant D.meaning self.new)) }
-        ensures live { OnOk result (GoesOn self.new) }
-        ensures refused { IfErr result (λ e. e ≢ RunError.OutOfMemory →
-            CellRefuses (progress_meant D.meaning self.old) number e) }
-        ensures left { IfErr result (λ e. e ≢ RunError.OutOfMemory → e ≢ RunError.TooNarrow → self.new ≡ self.old) }
+        ensures runs { let make = after_command W.columns (decoration_of D.TextDecorator) number in
+            Runs D.meaning (make asked.end_cell) self.old result self.new }
     {
         let Some((span, align)) = self.opened.cell() else {
             return Err(RunError::NothingToEnd(number));
@@ -280,13 +248,8 @@ impl<D: TextDecorator, W: CharWidth> Program<D, W> {
     /// Adds the waiting cells side by side, on the line of this number.
     fn add_row(&mut self, alloc: Global, number: usize, collapse: bool) -> Result<(), RunError>
         requires { GoesOn self.old }
-        ensures done { OnOk result (RowDoes W.columns (decoration_of D.TextDecorator)
-            (progress_meant D.meaning self.old) collapse (progress_meant D.meaning self.new)) }
-        ensures live { OnOk result (GoesOn self.new) }
-        ensures refused { IfErr result (λ e. e ≢ RunError.OutOfMemory →
-            RowRefuses W.columns (decoration_of D.TextDecorator)
-            (progress_meant D.meaning self.old) number e) }
-        ensures left { IfErr result (λ e. e ≢ RunError.OutOfMemory → e ≢ RunError.TooNarrow → self.new ≡ self.old) }
+        ensures runs { let make = after_command W.columns (decoration_of D.TextDecorator) number in
+            Runs D.meaning (make (asked.row collapse)) self.old result self.new }
     {
         if !self.renderers.top().row_fits(self.pending.cells()) {
             return Err(RunError::RowDoesNotFit(number));
@@ -300,12 +263,8 @@ impl<D: TextDecorator, W: CharWidth> Program<D, W> {
     /// Adds the waiting cells, one below another.
     fn add_vertical_row(&mut self, alloc: Global) -> Result<(), RunError>
         requires { GoesOn self.old }
-        ensures done { OnOk result (VerticalRowDoes W.columns (decoration_of D.TextDecorator)
-            (progress_meant D.meaning self.old) (progress_meant D.meaning self.new)) }
-        ensures live { OnOk result (GoesOn self.new) }
-        ensures refused { IfErr result (λ e. e ≢ RunError.OutOfMemory →
-            VerticalRowRefuses W.columns (decoration_of D.TextDecorator)
-            (progress_meant D.meaning self.old) e) }
+        ensures runs { (number : ℕ) → let make = after_command W.columns (decoration_of D.TextDecorator) number in
+            Runs D.meaning (make asked.vertical_row) self.old result self.new }
     {
         let cells = self.pending.take_renderers(alloc)?;
         self.renderers.top_mut().append_vert_row(cells)?;
@@ -317,11 +276,10 @@ impl<D: TextDecorator, W: CharWidth> Program<D, W> {
     /// It refuses as the end of the script does, and with `OutOfMemory` only where memory is refused.
     pub fn finish(self, number: usize) -> Result<String, RunError>
         requires { GoesOn self }
-        ensures text { IfOk result (λ text.
-            Ends W.columns (decoration_of D.TextDecorator) (progress_meant D.meaning self) number
-            (Ok (string_bytes text))) }
+        ensures text { IfOk result (λ text. ended W.columns (decoration_of D.TextDecorator) number
+            (progress_meant D.meaning self) ≡ Ok (string_bytes text)) }
         ensures refused { IfErr result (λ e. e ≢ RunError.OutOfMemory →
-            Ends W.columns (decoration_of D.TextDecorator) (progress_meant D.meaning self) number (Err e)) }
+            ended W.columns (decoration_of D.TextDecorator) number (progress_meant D.meaning self) ≡ Err e) }
     {
         if !self.opened.is_empty() || self.pending.has_cells() {
             return Err(RunError::NotACommand(number));
@@ -332,7 +290,7 @@ impl<D: TextDecorator, W: CharWidth> Program<D, W> {
 
     /// The lines of the text, where no level is open and no cell waits. It refuses as `finish` does then.
     pub fn finish_lines(self) -> Result<LinkedList<RenderLine<Vec<D::Annotation>>>, Error>
-        requires live { GoesOn self }
+        requires goes_on { GoesOn self }
         requires opened { self.opened ≡ [] }
         requires cells { self.pending.cells ≡ [] }
         ensures lines { IfOk result (λ lines. OfTop (λ r.

@@ -1,5 +1,5 @@
 -- Each renderer of a script is led to by calls and rows.
-use Rattle.std.proofs.Common.{◌≡◌, ◌≢◌, ◌<◌, ◌+◌, inl, inr, Ok, ℕ, Bool, true, false, if◌then◌else◌, Option, Some, None, List, [], ◌∷◌, ◌++◌, drop, flat_map, fold, chars, length, refl, ap, sym, ◌∙◌, subst, arith}
+use Rattle.std.proofs.Common.{◌≡◌, ◌≢◌, ◌<◌, ◌+◌, inl, inr, Result, Ok, ℕ, Bool, true, false, if◌then◌else◌, Option, Some, None, List, [], ◌∷◌, ◌++◌, drop, flat_map, fold, chars, length, refl, ap, sym, ◌∙◌, subst, arith}
 use Rattle.std.specs.List.{AllByRecursion as Each}
 use Rattle.std.specs.Cmp.Lexicographic.{pointwise}
 use Rattle.tbr_model.specs.Run.{Item}
@@ -8,19 +8,18 @@ use Rattle.tbr_tagged.specs.Outcome.{Outcome, done, refused}
 use Rattle.tbr_decor.specs.Decoration.{Decoration}
 use Rattle.tbr_decor.specs.Start as start
 use Rattle.tbr_decor.specs.End as end
-use Rattle.tbr_renderer.specs.Outcomes.{changed}
+use Rattle.tbr_renderer.specs.Outcomes.{changed, taking, gathered}
 use Rattle.tbr_renderer.proofs.OutcomeParts.{done_first, done_before, taken}
 use Rattle.tbr_commands.specs.declared.opening.Opening.{Opening}
-use Rattle.tbr_commands.specs.Request.{Request, call_of}
+use Rattle.tbr_commands.specs.Request.{call_of}
 use Rattle.tbr_commands.specs.Command.{Command, ask, link, end_link, sub, append, cell, end_cell, row, vertical_row}
 use Rattle.tbr_commands.specs.Syntax.{IsCommand}
-use Rattle.tbr_stack.specs.Stack.{Level, Stack, first_renderer, top_of, in_first, with_top}
+use Rattle.tbr_stack.specs.Stack.{Level, Stack, first_renderer, top_of, below, in_first, with_top}
 use Rattle.tbr_stack.specs.Top.{in_top_of, in_top}
-use Rattle.tbr_stack.proofs.Tops.{top_changed}
 use Rattle.tbr_stack.specs.Links.{closed, link_number, shown_number, open_links, with_link, after_end_with}
 use Rattle.tbr_program.specs.declared.opened.Opener.{Opener}
 use Rattle.tbr_program.specs.declared.opened.Opener.TheVariants.{Sub, Cell}
-use Rattle.tbr_program.specs.Progress.{Pending, Opened, Progress}
+use Rattle.tbr_program.specs.Progress.{Pending, Opened, Progress, renderers_of, without_cells}
 use Rattle.tbr_program.specs.Prefixes.{prefixes}
 use Rattle.tbr_program.specs.Closing.{with_notes, footnotes_of, closed as lines_closed, closed_text}
 use Rattle.tbr_program.specs.Decorations.{plain_decoration, trivial_decoration, rich_decoration}
@@ -46,9 +45,15 @@ use Rattle.text_block_renderer.specs.Text.{lines_text}
 use Rattle.text_block_renderer.proofs.Settings.{call_beside}
 use Rattle.text_block_renderer.proofs.RowsOfCells.{row_laid, failure_stays}
 use Rattle.tbr_runner.specs.Scripts.{LinesGive, OpensUnder, Begins, Gives}
-use Rattle.tbr_program.specs.Meaning.{Closes, RequestDoes, LinkDoes, EndLinkDoes, LevelOpens, AppendDoes, CellDoes, cells_waiting, row_made, RowDoes, VerticalRowDoes, CommandDoes, LineDoes, started}
+use Rattle.tbr_rows.specs.Cells.{row_fits}
+use Rattle.text_block_renderer.specs.Rows.{spots_of}
+use Rattle.text_block_renderer.specs.Appended.{handed_out}
+use Rattle.tbr_script.specs.declared.error.RunError.{RunError}
+use Rattle.tbr_script.specs.declared.error.RunError.TheVariants.{NotACommand, NothingToEnd, RowDoesNotFit}
+use Rattle.tbr_commands.specs.Begun.{ends_nothing, counted}
+use Rattle.tbr_program.specs.Commands.{with_stack, level_opened, block_made, block_joined, request_made, cells_waiting, row_made, vertical_made, after_command, LineMakes, ended, started}
+use Rattle.tbr_program.proofs.CommandParts.{one_ok, unless, if_so, none_are, some_are, of_top, answer_done, stack_done, opens, Ends, block_ends, cell_ends}
 use Rattle.text_block_renderer.specs.Renderer.{Open, Renderer, IsSound, new_renderer, with_line, has_content}
-use Rattle.text_block_renderer.specs.Rows.{after_row}
 use Rattle.text_block_renderer.specs.Calls.{Call, new_line, begin, finish, add_inline_text, append_subrender, append_vert_row, after}
 use Rattle.text_block_renderer.specs.Decorated.{sub_renderer}
 use Rattle.text_block_renderer.specs.Acts.{Act, call, row as row_of_cells, after_act, acts_brought}
@@ -149,105 +154,79 @@ module _ {D M : Type 0} (columns : ℕ → Option ℕ) (decoration : Decoration 
     Asks (cell width span align) = Wide width
     Asks other = Unit {0}
 
-    module _ (p : Progress D M (List M)) (h : AllAre Is p) where
-      abbrev Waits : Pending D M (List M) → Type 0
-      Waits pending = CellsAre Is pending
+    abbrev Waits : Pending D M (List M) → Type 0
+    Waits pending = CellsAre Is pending
 
-      abbrev WaitBelow : List (Opened D M (List M)) → Type 0
-      WaitBelow os = Each (λ (o : Opened D M (List M)). Waits o.below) os
+    abbrev WaitBelow : List (Opened D M (List M)) → Type 0
+    WaitBelow os = Each (λ (o : Opened D M (List M)). Waits o.below) os
 
-      -- the levels that are left where one closes
-      level_closed : (by : Opener) (r : Top) (next : Progress D M (List M)) → Closes p by r next → Is r × AllAre Is next
-      level_closed by r next c =
-          let both = subst WaitBelow c.opened h.below in (
-            first_led p.stack.levels r c.top h.on_stack,
-            record { on_stack = subst (λ (s : Stack Top). AllOf s.levels) (sym c.stack) (others_led p.stack.levels h.on_stack); waiting = both.0; below = both.1 },
-          )
+    -- what takes what others give
+    taken_led : {X : Type 0} (given : Outcome X) (take : X → Top → Outcome Top) → ((x : X) (r q : Top) → take x r ≡ done q → Is r → Is q) → (r q : Top) → taking (after columns decoration new_line) given take r ≡ done q → Is r → Is q
+    taken_led given take leads r q takes k =
+        let (m, x, flushed, gives, does) = taken (after columns decoration new_line) given take r q takes in leads x r q does k
 
-      request_led : (request : Request) (next : Progress D M (List M)) → RequestDoes columns decoration p request next → AllAre Is next
-      request_led request next d = record {
-        on_stack = changed_led (λ r. after columns decoration (call_of r.width request) r) (λ r q e k. called (call_of r.width request) r q e k) p.stack next.stack d.does h.on_stack;
-        waiting = subst Waits (sym d.counts) h.waiting;
-        below = subst WaitBelow (sym d.opened) h.below;
-      }
+    -- a change of the renderer on top, whatever is pending then
+    on_top_led : (p next : Progress D M (List M)) → AllAre Is p → (left : Pending D M (List M)) → Waits left → (make : Top → Outcome Top) → ((r q : Top) → make r ≡ done q → Is r → Is q) → with_stack columns decoration (record p { pending = left }) (in_top make p.stack) ≡ Ok next → AllAre Is next
+    on_top_led p next h left waits make leads is =
+        let (s, made, same) = stack_done columns decoration (record p { pending = left }) (in_top make p.stack) next is in
+        subst (AllAre Is) (sym same) (record { on_stack = changed_led make leads p.stack s made h.on_stack; waiting = waits; below = h.below })
 
-      link_led : (target : List ℕ) (next : Progress D M (List M)) → LinkDoes columns decoration p target next → AllAre Is next
-      link_led target next d = record {
-        on_stack = changed_led (after columns decoration (begin (start.link (chars target)))) (λ r q e k. called (begin (start.link (chars target))) r q e k) (with_link (chars target) p.stack) next.stack d.starts (linked_led _ (λ l. refl) p.stack.levels h.on_stack);
-        waiting = subst Waits (sym d.pending) h.waiting;
-        below = subst WaitBelow (sym d.opened) h.below;
-      }
+    level_led : (by : Opener) (width : ℕ) (p next : Progress D M (List M)) → AllAre Is p → Wide width → level_opened columns decoration by width p ≡ Ok next → AllAre Is next
+    level_led by width p next h wide is =
+        let (r, top, same) = opens columns decoration by width p next is in
+        subst (AllAre Is) (sym same) (record { on_stack = (inside width r wide (first_led p.stack.levels r top h.on_stack), h.on_stack); waiting = tt; below = (h.waiting, h.below) })
 
-      end_link_led : (next : Progress D M (List M)) → EndLinkDoes columns decoration p next → AllAre Is next
-      end_link_led next d =
-          let shown = λ (r : Top). shown_number r (open_links p.stack) in
-          let (m, ended, whole) = done_before _ (in_top (λ r. after_end_with columns decoration (shown r) r) p.stack) next.stack d.ends in
-          let there = changed_led (λ r. after_end_with columns decoration (shown r) r) (λ r q e k. link_ended (shown r) r q e k) p.stack m ended h.on_stack in
-          record {
-            on_stack = subst (λ (s : Stack Top). AllOf s.levels) (sym whole) (linked_led closed (λ l. refl) m.levels there);
-            waiting = subst Waits (sym d.pending) h.waiting;
-            below = subst WaitBelow (sym d.opened) h.below;
-          }
+    -- the levels that are left where one ends
+    ended_led : (make : Top → Progress D M (List M) → Result (Progress D M (List M)) RunError) (by : Opener) (p next : Progress D M (List M)) → AllAre Is p → (ends : Ends columns decoration make p by p.opened (Ok next)) →
+        Is ends.inside × AllAre Is (record { stack = below p.stack; pending = ends.pending; opened = ends.others })
+    ended_led make by p next h ends =
+        let both = subst WaitBelow ends.opened h.below in (
+          first_led p.stack.levels ends.inside ends.top h.on_stack,
+          record { on_stack = others_led p.stack.levels h.on_stack; waiting = both.0; below = both.1 },
+        )
 
-      level_led : (by : Opener) (width : ℕ) (next : Progress D M (List M)) → Wide width → LevelOpens decoration p by width next → AllAre Is next
-      level_led by width next wide d =
-          let (r, top, is) = d.stack in
-          record {
-            on_stack = subst (λ (s : Stack Top). AllOf s.levels) (sym is) (inside width r wide (first_led p.stack.levels r top h.on_stack), h.on_stack);
-            waiting = subst Waits (sym d.pending) tt;
-            below = subst WaitBelow (sym d.opened) (h.waiting, h.below);
-          }
+    command_led : (number : ℕ) (command : Command) (p next : Progress D M (List M)) → AllAre Is p → Asks command → after_command columns decoration number command p ≡ Ok next → AllAre Is next
+    command_led number (ask request) p next h asks is =
+        let (some, made) = unless (ends_nothing p.pending.begun request) (NothingToEnd number) _ (Ok next) (λ no. no) tt is in
+        on_top_led p next h (record p.pending { begun = counted p.pending.begun request }) h.waiting (request_made columns decoration request) (λ r q e k. called (call_of r.width request) r q e k) made
+    command_led number (link target) p next h asks is =
+        let (s, made, same) = stack_done columns decoration p _ next is in
+        subst (AllAre Is) (sym same) (record {
+          on_stack = changed_led (after columns decoration (begin (start.link (chars target)))) (λ r q e k. called (begin (start.link (chars target))) r q e k) (with_link (chars target) p.stack) s made (linked_led _ (λ l. refl) p.stack.levels h.on_stack);
+          waiting = h.waiting;
+          below = h.below;
+        })
+    command_led number end_link p next h asks is =
+        let shown = λ (r : Top). shown_number r (open_links p.stack) in
+        let (s, made, same) = stack_done columns decoration p _ next (some_are (open_links p.stack) (NothingToEnd number) _ (Ok next) (λ no. no) tt is) in
+        let (m, ended, whole) = done_before _ (in_top (λ r. after_end_with columns decoration (shown r) r) p.stack) s made in
+        let there = changed_led (λ r. after_end_with columns decoration (shown r) r) (λ r q e k. link_ended (shown r) r q e k) p.stack m ended h.on_stack in
+        subst (AllAre Is) (sym same) (record { on_stack = subst (λ (x : Stack Top). AllOf x.levels) (sym whole) (linked_led closed (λ l. refl) m.levels there); waiting = h.waiting; below = h.below })
+    command_led number (sub width) p next h asks is = level_led Sub width p next h asks is
+    command_led number (append first others) p next h asks is =
+        let ends = block_ends columns decoration number p p.opened (Ok next) tt first others is in
+        let (of_it, left) = ended_led (block_joined columns decoration first others) Sub p next h ends in
+        on_top_led (record { stack = below p.stack; pending = ends.pending; opened = ends.others }) next left ends.pending left.waiting (block_made columns decoration first others ends.inside)
+        (taken_led (handed_out columns ends.inside) _ (λ lines r q e k. called (append_subrender (prefixes first others (length lines)) lines) r q e k)) ends.makes
+    command_led number (cell width span align) p next h asks is = level_led (Cell span align) width p next h asks is
+    command_led number end_cell p next h asks is =
+        let (span, align, ends) = cell_ends columns decoration number p p.opened (Ok next) tt is in
+        let (of_it, left) = ended_led _ (Cell span align) p next h ends in
+        subst (AllAre Is) (sym (one_ok _ next ends.makes))
+        (record { on_stack = left.on_stack; waiting = each_append (λ (c : Top × ℕ). Is c.0) ends.pending.cells ((ends.inside, span) ∷ []) left.waiting (of_it, tt); below = left.below })
+    command_led number (row collapse) p next h asks is =
+        let (top, there, made) = of_top (top_of p.stack) _ (Ok next) tt is in
+        let (fits, lays) = if_so (row_fits top.hanging (spots_of columns p.pending.cells)) (RowDoesNotFit number) _ (Ok next) (λ no. no) tt made in
+        on_top_led p next h (without_cells p.pending) tt (row_made columns decoration p.pending collapse)
+        (taken_led (cells_waiting columns decoration p.pending) _ (λ cells r q e k. on (row_of_cells collapse cells) r q e k)) lays
+    command_led number vertical_row p next h asks is =
+        on_top_led p next h (without_cells p.pending) tt (vertical_made columns decoration p.pending)
+        (taken_led (gathered (handed_out columns) (renderers_of p.pending.cells)) _ (λ cells r q e k. called (append_vert_row cells) r q e k)) is
 
-      append_led : (first other : List ℕ) (next : Progress D M (List M)) → AppendDoes columns decoration p first other next → AllAre Is next
-      append_led first other next d =
-          let (of_it, left) = level_closed Sub d.inside d.closed d.closes in
-          let taken = append_subrender (prefixes first other (length d.lines)) d.lines in
-          record {
-            on_stack = changed_led (after columns decoration taken) (λ r q e k. called taken r q e k) d.closed.stack next.stack d.does left.on_stack;
-            waiting = subst Waits (sym d.pending) left.waiting;
-            below = subst WaitBelow (sym d.opened) left.below;
-          }
-
-      cell_led : (next : Progress D M (List M)) → CellDoes p next → AllAre Is next
-      cell_led next d =
-          let (span, align, r, closed_there, closes, is) = d in
-          let (led, left) = level_closed (Cell span align) r closed_there closes in
-          let cell_is : Each (λ (c : Top × ℕ). Is c.0) ((r, span) ∷ []) = (led, tt) in
-          subst (AllAre Is) (sym is) (record { on_stack = left.on_stack; waiting = each_append (λ (c : Top × ℕ). Is c.0) closed_there.pending.cells ((r, span) ∷ []) left.waiting cell_is; below = left.below })
-
-      row_led : (collapse : Bool) (next : Progress D M (List M)) → RowDoes columns decoration p collapse next → AllAre Is next
-      row_led collapse next d =
-          let row = after_row (pointwise decoration.same) columns collapse in
-          let (before, later, top, made, is) = top_changed (row_made columns decoration p.pending collapse) p.stack next.stack d.does in
-          let (_, cells, _, _, does) = taken (after columns decoration new_line) (cells_waiting columns decoration p.pending) row before later made in
-          let led = on (row_of_cells collapse cells) before later does (first_led p.stack.levels before top h.on_stack) in
-          record {
-            on_stack = subst (λ (s : Stack Top). AllOf s.levels) (sym is) (top_led later p.stack.levels led h.on_stack);
-            waiting = subst Waits (sym d.pending) tt;
-            below = subst WaitBelow (sym d.opened) h.below;
-          }
-
-      vertical_row_led : (next : Progress D M (List M)) → VerticalRowDoes columns decoration p next → AllAre Is next
-      vertical_row_led next d = record {
-        on_stack = changed_led (after columns decoration (append_vert_row d.cells)) (λ r q e k. called (append_vert_row d.cells) r q e k) p.stack next.stack d.does h.on_stack;
-        waiting = subst Waits (sym d.pending) tt;
-        below = subst WaitBelow (sym d.opened) h.below;
-      }
-
-      command_led : (command : Command) (next : Progress D M (List M)) → Asks command → CommandDoes columns decoration p command next → AllAre Is next
-      command_led (ask request) next is d = request_led request next d
-      command_led (link target) next is d = link_led target next d
-      command_led end_link next is d = end_link_led next d
-      command_led (sub width) next is d = level_led Sub width next is d
-      command_led (append first other) next is d = append_led first other next d
-      command_led (cell width span align) next is d = level_led (Cell span align) width next is d
-      command_led end_cell next is d = cell_led next d
-      command_led (row collapse) next is d = row_led collapse next d
-      command_led vertical_row next is d = vertical_row_led next d
-
-      pub line_keeps : (line : List ℕ) (next : Progress D M (List M)) → ((command : Command) → IsCommand line command → Asks command) → LineDoes columns decoration p line next → AllAre Is next
-      line_keeps [] next asks e = subst (AllAre Is) (sym e) h
-      line_keeps (b ∷ bs) next asks (command, is, does) = command_led command next (asks command is) does
+    pub line_keeps : (p : Progress D M (List M)) → AllAre Is p → (number : ℕ) (line : List ℕ) (next : Progress D M (List M)) → ((command : Command) → IsCommand line command → Asks command) → LineMakes columns decoration number line p (Ok next) → AllAre Is next
+    line_keeps p h number [] next asks e = subst (AllAre Is) (one_ok next p e) h
+    line_keeps p h number (b ∷ bs) next asks (inl (none, is)) = absurd (let no : ⊥ = cc is in no)
+    line_keeps p h number (b ∷ bs) next asks (inr (command, is, made)) = command_led number command p next h (asks command is) (sym made)
 
   -- ---- such renderers
 
@@ -256,8 +235,8 @@ module _ {D M : Type 0} (columns : ℕ → Option ℕ) (decoration : Decoration 
   sized line (cell width span align) is = is.writes.2.4.2
   sized line other is = tt
 
-  pub line_led : (p next : Progress D M (List M)) (line : List ℕ) → AreLed columns decoration p → LineDoes columns decoration p line next → AreLed columns decoration next
-  line_led p next line h does = line_keeps Led (λ width. 0 < width) led_on inside_led p h line next (sized line) does
+  pub line_led : (p next : Progress D M (List M)) (number : ℕ) (line : List ℕ) → AreLed columns decoration p → LineMakes columns decoration number line p (Ok next) → AreLed columns decoration next
+  line_led p next number line h does = line_keeps Led (λ width. 0 < width) led_on inside_led p h number line next (sized line) does
 
   of_first : (ls : List (Level Top)) (r : Top) → first_renderer ls ≡ Some r → Each (λ (l : Level Top). Led l.renderer) ls → Led r
   of_first ls r top h = first_led Led (λ width. 0 < width) led_on inside_led ls r top h
@@ -317,9 +296,17 @@ module _ {D M : Type 0} (columns : ℕ → Option ℕ) (decoration : Decoration 
             ∙ ap (λ (ns : List (List (Element M))). encode_utf8_all (lines_text (let t = with_notes columns ns m in t.lines))) (sym stay);
       }
 
-  lines_led : (lines : List (List ℕ)) (p q : Progress D M (List M)) → AreLed columns decoration p → LinesDo columns decoration p lines q → AreLed columns decoration q
-  lines_led [] p q h same = subst (AreLed columns decoration) (sym same) h
-  lines_led (line ∷ lines) p q h (next, does, lead) = lines_led lines next q (line_led p next line h does) lead
+  lines_led : (number : ℕ) (lines : List (List ℕ)) (p q : Progress D M (List M)) → AreLed columns decoration p → LinesDo columns decoration p number lines q → AreLed columns decoration q
+  lines_led number [] p q h same = subst (AreLed columns decoration) (sym same) h
+  lines_led number (line ∷ lines) p q h (next, does, lead) = lines_led (number + 1) lines next q (line_led p next number line h does) lead
+
+  -- the renderer whose text the end gives
+  at_end : (number : ℕ) (p : Progress D M (List M)) (text : List ℕ) → Ok text ≡ ended columns decoration number p → (r : Top) × (top_of p.stack ≡ Some r) × (closed_text columns decoration p.stack.links r ≡ done text)
+  at_end number p text is =
+      let (none_open, first) = none_are p.opened (NotACommand number) _ (Ok text) (λ no. no) tt (sym is) in
+      let (none_wait, next) = none_are p.pending.cells (NotACommand number) _ (Ok text) (λ no. no) tt first in
+      let (r, top, gives) = of_top (top_of p.stack) _ (Ok text) tt next in
+      (r, top, answer_done (closed_text columns decoration p.stack.links r) text gives)
 
   -- it comes of the script's own renderer, after all lines
   pub text_led : (p : Progress D M (List M)) (number : ℕ) (lines : List (List ℕ)) (text : List ℕ) → AreLed columns decoration p → LinesGive columns decoration p number lines (Ok text) →
@@ -327,9 +314,9 @@ module _ {D M : Type 0} (columns : ℕ → Option ℕ) (decoration : Decoration 
   text_led p number lines text h gives =
       let end = lines_end columns decoration p number lines text gives in
       let there = end.there in
-      let (r, top, is) = end.ends.2 in
-      let led = closed_led there.stack.links r text (of_first there.stack.levels r top (let all = lines_led lines p there h end.lead in all.on_stack)) is in
-      let steps = lines_step columns decoration lines end.commands p there end.ask end.lead in
+      let (r, top, is) = at_end end.last there text end.ends in
+      let led = closed_led there.stack.links r text (of_first there.stack.levels r top (let all = lines_led number lines p there h end.lead in all.on_stack)) is in
+      let steps = lines_step columns decoration number lines end.commands p there end.ask end.lead in
       (end.commands, end.ask, subst (λ ts. IsTextOfLed columns decoration ts text) (targets_come columns decoration (stack_calls end.commands) p.stack there.stack steps) led)
 
   pub started_led : columns 32 ≡ Some 1 → (opening : Opening) (decorator : D) → 0 < opening.width → opening.options.wrap_width ≢ Some 0 → AreLed columns decoration (started {M = M} opening decorator)

@@ -5,4 +5,3 @@ pub mod LedRenderers
 pub mod TwoColumns
 pub mod OneScript
 pub mod ShownTexts
-pub mod MadeCommands

@@ -3,20 +3,24 @@ use Rattle.std.proofs.Common.{◌≡◌, ℕ, ◌+◌, Option, List, [], ◌∷�
 use Rattle.tbr_decor.specs.Decoration.{Decoration}
 use Rattle.tbr_tagged.specs.Outcome.{Outcome, done}
 use Rattle.text_block_renderer.specs.Renderer.{Renderer}
-use Rattle.text_block_renderer.specs.Calls.{append_subrender, append_vert_row, after}
 use Rattle.text_block_renderer.specs.Decorated.{sub_renderer}
 use Rattle.text_block_renderer.proofs.LinkNumbers.{own_number}
-use Rattle.tbr_stack.specs.Stack.{Stack, with_top}
+use Rattle.tbr_stack.specs.Stack.{Stack, top_of, below}
 use Rattle.tbr_stack.specs.Top.{in_top}
-use Rattle.tbr_stack.specs.Links.{after_link_end}
-use Rattle.tbr_stack.specs.StackCalls.{StackCall, IsNextToEnd, StackSteps, after_end_as}
+use Rattle.tbr_stack.specs.Links.{open_links, after_link_end}
+use Rattle.tbr_stack.specs.StackCalls.{StackCall, change_top, push, IsNextToEnd, StackSteps, after_end_as}
 use Rattle.tbr_stack.proofs.Tops.{top_changed}
-use Rattle.tbr_commands.specs.Request.{call_of}
 use Rattle.tbr_commands.specs.Command.{Command, ask, link, end_link, sub, append, cell, end_cell, row, vertical_row}
 use Rattle.tbr_commands.proofs.OneCommand.{command_once}
-use Rattle.tbr_program.specs.Prefixes.{prefixes}
-use Rattle.tbr_program.specs.Progress.{Progress}
-use Rattle.tbr_program.specs.Meaning.{Ends, LinkDoes, row_made, CommandDoes}
+use Rattle.tbr_program.specs.Progress.{Pending, Progress, without_cells}
+use Rattle.tbr_rows.specs.Cells.{row_fits}
+use Rattle.text_block_renderer.specs.Rows.{spots_of}
+use Rattle.tbr_script.specs.declared.error.RunError.TheVariants.{NothingToEnd, RowDoesNotFit}
+use Rattle.tbr_commands.specs.Begun.{ends_nothing, counted}
+use Rattle.tbr_program.specs.declared.opened.Opener.{Opener}
+use Rattle.tbr_program.specs.declared.opened.Opener.TheVariants.{Sub, Cell}
+use Rattle.tbr_program.specs.Commands.{with_stack, level_opened, block_made, request_made, row_made, vertical_made, after_command, ended}
+use Rattle.tbr_program.proofs.CommandParts.{one_ok, unless, if_so, some_are, of_top, stack_done, opens, block_ends, cell_ends}
 use Rattle.tbr_runner.specs.Scripts.{LinesGive}
 use Rattle.tbr_runner.specs.StackCalls.{calls_of, stack_calls, AskFor, LinesDo}
 
@@ -31,55 +35,77 @@ module _ {D M : Type 0} (columns : ℕ → Option ℕ) (decoration : Decoration 
   steps_append [] rest s m t same steps = subst (λ (q : Stack Top). Steps rest q t) same steps
   steps_append (call ∷ calls) rest s m t (between, does, others) steps = (between, does, steps_append calls rest between m t others steps)
 
-  top_is_other : (make : Top → Outcome Top) (s t : Stack Top) → in_top make s ≡ done t → (top : Top) × (t ≡ with_top s top)
-  top_is_other make s t h = let changes = top_changed make s t h in (changes.1, changes.4)
+  -- a change of the top, whatever is pending then
+  top_steps : (p next : Progress D M (List M)) (left : Pending D M (List M)) (make : Top → Outcome Top) → with_stack columns decoration (record p { pending = left }) (in_top make p.stack) ≡ Ok next → Steps (change_top ∷ []) p.stack next.stack
+  top_steps p next left make is =
+      let (s, made, same) = stack_done columns decoration (record p { pending = left }) (in_top make p.stack) next is in
+      let changes = top_changed make p.stack s made in
+      (next.stack, (changes.1, ap (λ (q : Progress D M (List M)). q.stack) same ∙ changes.4), refl)
 
-  module _ (p next : Progress D M (List M)) where
-    command_steps : (command : Command) → CommandDoes columns decoration p command next → Steps (calls_of command) p.stack next.stack
-    command_steps (ask request) d = (next.stack, top_is_other (λ r. after columns decoration (call_of r.width request) r) p.stack next.stack d.does, refl)
-    command_steps (link target) d = (next.stack, d.starts, refl)
-    command_steps end_link d = (next.stack, d.ends, refl)
-    command_steps (sub width) d = let (r, top, is) = d.stack in (next.stack, (sub_renderer decoration width r, is), refl)
-    command_steps (append first other) d =
-        let taken = append_subrender (prefixes first other (length d.lines)) d.lines in
-        (d.closed.stack, d.closes.stack, (next.stack, top_is_other (after columns decoration taken) d.closed.stack next.stack d.does, refl))
-    command_steps (cell width span align) d = let (r, top, is) = d.stack in (next.stack, (sub_renderer decoration width r, is), refl)
-    command_steps end_cell (span, align, inside, closed, closes, is) = (next.stack, ap (λ (q : Progress D M (List M)). q.stack) is ∙ closes.stack, refl)
-    command_steps (row collapse) d = (next.stack, top_is_other (row_made columns decoration p.pending collapse) p.stack next.stack d.does, refl)
-    command_steps vertical_row d = (next.stack, top_is_other (after columns decoration (append_vert_row d.cells)) p.stack next.stack d.does, refl)
+  level_steps : (by : Opener) (width : ℕ) (p next : Progress D M (List M)) → level_opened columns decoration by width p ≡ Ok next → Steps (push ∷ []) p.stack next.stack
+  level_steps by width p next is =
+      let (r, top, same) = opens columns decoration by width p next is in
+      (next.stack, (sub_renderer decoration width r, ap (λ (q : Progress D M (List M)). q.stack) same), refl)
 
-  pub lines_step : (lines : List (List ℕ)) (commands : List Command) (p q : Progress D M (List M)) → AskFor lines commands → LinesDo columns decoration p lines q → Steps (stack_calls commands) p.stack q.stack
-  lines_step [] commands p q none same = subst (λ cs. Steps (stack_calls cs) p.stack q.stack) (sym none) (ap (λ (o : Progress D M (List M)). o.stack) same)
-  lines_step ([] ∷ lines) commands p q asks (next, same, lead) =
-      subst (λ (o : Progress D M (List M)). Steps (stack_calls commands) o.stack q.stack) same (lines_step lines commands next q asks lead)
-  lines_step ((b ∷ bs) ∷ lines) commands p q (command, others, is, are, asks) (next, (other, other_is, does), lead) =
+  command_steps : (number : ℕ) (command : Command) (p next : Progress D M (List M)) → after_command columns decoration number command p ≡ Ok next → Steps (calls_of command) p.stack next.stack
+  command_steps number (ask request) p next is =
+      let (some, made) = unless (ends_nothing p.pending.begun request) (NothingToEnd number) _ (Ok next) (λ no. no) tt is in
+      top_steps p next (record p.pending { begun = counted p.pending.begun request }) (request_made columns decoration request) made
+  command_steps number (link target) p next is =
+      let (s, made, same) = stack_done columns decoration p _ next is in
+      (next.stack, made ∙ ap (λ (q : Progress D M (List M)). done q.stack) (sym same), refl)
+  command_steps number end_link p next is =
+      let (s, made, same) = stack_done columns decoration p _ next (some_are (open_links p.stack) (NothingToEnd number) _ (Ok next) (λ no. no) tt is) in
+      (next.stack, made ∙ ap (λ (q : Progress D M (List M)). done q.stack) (sym same), refl)
+  command_steps number (sub width) p next is = level_steps Sub width p next is
+  command_steps number (append first others) p next is =
+      let ends = block_ends columns decoration number p p.opened (Ok next) tt first others is in
+      (below p.stack, refl, top_steps (record { stack = below p.stack; pending = ends.pending; opened = ends.others }) next ends.pending (block_made columns decoration first others ends.inside) ends.makes)
+  command_steps number (cell width span align) p next is = level_steps (Cell span align) width p next is
+  command_steps number end_cell p next is =
+      let (span, align, ends) = cell_ends columns decoration number p p.opened (Ok next) tt is in
+      (next.stack, ap (λ (q : Progress D M (List M)). q.stack) (one_ok _ next ends.makes), refl)
+  command_steps number (row collapse) p next is =
+      let (top, there, made) = of_top (top_of p.stack) _ (Ok next) tt is in
+      let (fits, lays) = if_so (row_fits top.hanging (spots_of columns p.pending.cells)) (RowDoesNotFit number) _ (Ok next) (λ no. no) tt made in
+      top_steps p next (without_cells p.pending) (row_made columns decoration p.pending collapse) lays
+  command_steps number vertical_row p next is = top_steps p next (without_cells p.pending) (vertical_made columns decoration p.pending) is
+
+  pub lines_step : (number : ℕ) (lines : List (List ℕ)) (commands : List Command) (p q : Progress D M (List M)) → AskFor lines commands → LinesDo columns decoration p number lines q → Steps (stack_calls commands) p.stack q.stack
+  lines_step number [] commands p q none same = subst (λ cs. Steps (stack_calls cs) p.stack q.stack) (sym none) (ap (λ (o : Progress D M (List M)). o.stack) same)
+  lines_step number ([] ∷ lines) commands p q asks (next, same, lead) =
+      subst (λ (o : Progress D M (List M)). Steps (stack_calls commands) o.stack q.stack) (sym (one_ok next p same)) (lines_step (number + 1) lines commands next q asks lead)
+  lines_step number ((b ∷ bs) ∷ lines) commands p q (command, others, is, are, asks) (next, inl (none, refuses), lead) = absurd (none command is)
+  lines_step number ((b ∷ bs) ∷ lines) commands p q (command, others, is, are, asks) (next, inr (other, other_is, made), lead) =
       let same = command_once (b ∷ bs) other command other_is is in
-      let first = command_steps p next command (subst (λ c. CommandDoes columns decoration p c next) same does) in
+      let first = command_steps number command p next (ap (λ c. after_command columns decoration number c p) (sym same) ∙ sym made) in
       subst (λ cs. Steps (stack_calls cs) p.stack q.stack) (sym are)
-      (steps_append (calls_of command) (stack_calls others) p.stack next.stack q.stack first (lines_step lines others next q asks lead))
+      (steps_append (calls_of command) (stack_calls others) p.stack next.stack q.stack first (lines_step (number + 1) lines others next q asks lead))
 
-  pub link_number_is_its_own : (target : List ℕ) (lines : List (List ℕ)) (commands : List Command) (p m q : Progress D M (List M)) → LinkDoes columns decoration p target m → AskFor lines commands → LinesDo columns decoration m lines q → IsNextToEnd (0 ∷ []) (stack_calls commands) →
+  pub link_number_is_its_own : (target : List ℕ) (number : ℕ) (lines : List (List ℕ)) (commands : List Command) (p m q : Progress D M (List M)) → after_command columns decoration number (link target) p ≡ Ok m → AskFor lines commands → LinesDo columns decoration m (number + 1) lines q → IsNextToEnd (0 ∷ []) (stack_calls commands) →
       after_link_end columns decoration q.stack ≡ after_end_as columns decoration (length p.stack.links + 1) q.stack
-  link_number_is_its_own target lines commands p m q begins asks lead next =
-      own_number columns decoration (chars target) (stack_calls commands) p.stack m.stack q.stack begins.starts (lines_step lines commands m q asks lead) next
+  link_number_is_its_own target number lines commands p m q begins asks lead next =
+      let (s, starts, same) = stack_done columns decoration p _ m begins in
+      own_number columns decoration (chars target) (stack_calls commands) p.stack m.stack q.stack (starts ∙ ap (λ (o : Progress D M (List M)). done o.stack) (sym same)) (lines_step (number + 1) lines commands m q asks lead) next
 
   -- ---- where a script ends
 
   -- Where lines give a text: their commands, and where they lead, which is where the script ends.
-  pub record End (p : Progress D M (List M)) (lines : List (List ℕ)) (text : List ℕ) : Type 0 where
+  pub record End (p : Progress D M (List M)) (number : ℕ) (lines : List (List ℕ)) (text : List ℕ) : Type 0 where
     pub commands : List Command
     pub there : Progress D M (List M)
-    pub number : ℕ
+    pub last : ℕ
     pub ask : AskFor lines commands
-    pub lead : LinesDo columns decoration p lines there
-    pub ends : Ends columns decoration there number (Ok text)
+    pub lead : LinesDo columns decoration p number lines there
+    pub ends : Ok text ≡ ended columns decoration last there
 
-  pub lines_end : (p : Progress D M (List M)) (number : ℕ) (lines : List (List ℕ)) (text : List ℕ) → LinesGive columns decoration p number lines (Ok text) → End p lines text
-  lines_end p number [] text ends = record { commands = []; there = p; number = number; ask = refl; lead = refl; ends = ends }
-  lines_end p number (line ∷ lines) text (inl (e, refuses, is)) = cc
+  pub lines_end : (p : Progress D M (List M)) (number : ℕ) (lines : List (List ℕ)) (text : List ℕ) → LinesGive columns decoration p number lines (Ok text) → End p number lines text
+  lines_end p number [] text ends = record { commands = []; there = p; last = number; ask = refl; lead = refl; ends = ends }
+  lines_end p number (line ∷ lines) text (inl (e, refuses, is)) = absurd (let no : ⊥ = cc is in no)
   lines_end p number ([] ∷ lines) text (inr (next, same, gives)) =
       let end = lines_end next (number + 1) lines text gives in
-      record { commands = end.commands; there = end.there; number = end.number; ask = end.ask; lead = (next, same, end.lead); ends = end.ends }
-  lines_end p number ((b ∷ bs) ∷ lines) text (inr (next, (command, is, does), gives)) =
+      record { commands = end.commands; there = end.there; last = end.last; ask = end.ask; lead = (next, same, end.lead); ends = end.ends }
+  lines_end p number ((b ∷ bs) ∷ lines) text (inr (next, inl (none, is), gives)) = absurd (let no : ⊥ = cc is in no)
+  lines_end p number ((b ∷ bs) ∷ lines) text (inr (next, inr (command, is, made), gives)) =
       let end = lines_end next (number + 1) lines text gives in
-      record { commands = command ∷ end.commands; there = end.there; number = end.number; ask = (command, end.commands, is, refl, end.ask); lead = (next, (command, is, does), end.lead); ends = end.ends }
+      record { commands = command ∷ end.commands; there = end.there; last = end.last; ask = (command, end.commands, is, refl, end.ask); lead = (next, inr (command, is, made), end.lead); ends = end.ends }

@@ -1,16 +1,18 @@
 -- A script whose blocks and cells have two columns or more isn't too narrow.
-use Rattle.std.proofs.Common.{◌≡◌, ◌≤◌, ◌+◌, inl, inr, ℕ, Bool, true, false, if◌then◌else◌, Option, Some, None, Err, List, [], ◌∷◌, drop, chars, refl, ap, sym, ◌∙◌, subst, arith}
+use Rattle.std.proofs.Common.{◌≡◌, ◌≤◌, ◌+◌, inl, inr, ℕ, Bool, true, false, if◌then◌else◌, Option, Some, None, Err, List, [], ◌∷◌, drop, length, chars, refl, ap, sym, ◌∙◌, subst, arith}
 use Rattle.std.specs.Prelude.{nat_le, encode_utf8_all}
 use Rattle.std.specs.List.{AllByRecursion as Each}
 use Rattle.std.proofs.lemmas.Bool.{leb-true}
-use Rattle.tbr_tagged.specs.Outcome.{Outcome, done, refused}
+use Rattle.tbr_tagged.specs.Outcome.{Outcome, done, refused, if_live}
 use Rattle.tbr_tagged.specs.declared.Error.TheVariants as E
 use Rattle.tbr_tagged.proofs.Outcomes.{live_refused}
 use Rattle.tbr_decor.specs.Decoration.{Decoration}
 use Rattle.tbr_decor.specs.Start as start
 use Rattle.tbr_decor.specs.End as end
 use Rattle.tbr_decor.specs.Change as change
-use Rattle.tbr_renderer.specs.Outcomes.{changed, gathered}
+use Rattle.std.specs.Cmp.Lexicographic.{pointwise}
+use Rattle.tbr_renderer.specs.Outcomes.{and_then, changed, taking, gathered}
+use Rattle.tbr_renderer.specs.Rows.{placed, row_put}
 use Rattle.tbr_renderer.specs.Footnotes.{listed}
 use Rattle.tbr_renderer.specs.Flush.{after_flush}
 use Rattle.tbr_renderer.proofs.OutcomeParts.{refused_before, refused_first}
@@ -18,23 +20,28 @@ use Rattle.tbr_renderer.specs.declared.RenderOptions.{RenderOptions}
 use Rattle.tbr_commands.specs.declared.opening.Opening.{Opening}
 use Rattle.tbr_commands.specs.Request.{call_of}
 use Rattle.tbr_commands.specs.Command.{Command, ask, link, end_link, sub, append, cell, end_cell, row, vertical_row}
-use Rattle.tbr_stack.specs.Stack.{Level, Stack, top_of}
-use Rattle.tbr_stack.specs.Top.{in_top_of, in_top, OfTop}
+use Rattle.tbr_stack.specs.Stack.{Level, Stack, top_of, below}
+use Rattle.tbr_stack.specs.Top.{in_top_of, in_top}
 use Rattle.tbr_stack.proofs.Tops.{top_linked}
 use Rattle.tbr_stack.specs.Links.{link_number, shown_number, open_links, with_link, without_open_link, after_end_with}
-use Rattle.tbr_script.specs.declared.error.RunError.TheVariants.{TooNarrow}
-use Rattle.tbr_program.specs.declared.opened.Opener.TheVariants.{Sub}
-use Rattle.tbr_program.specs.Progress.{Progress}
+use Rattle.tbr_script.specs.declared.error.RunError.TheVariants.{TooNarrow, NotACommand, NothingToEnd, RowDoesNotFit}
+use Rattle.tbr_program.specs.declared.opened.Opener.{Opener}
+use Rattle.tbr_program.specs.declared.opened.Opener.TheVariants.{Sub, Cell}
+use Rattle.tbr_program.specs.Progress.{Progress, renderers_of, without_cells}
 use Rattle.tbr_program.specs.Closing.{with_notes, footnotes_of, closed as lines_closed, closed_text}
-use Rattle.tbr_program.specs.Meaning.{renderers_of, Closes, TakesNone, cells_waiting, CommandRefuses, LineRefuses, started}
+use Rattle.tbr_rows.specs.Cells.{row_fits}
+use Rattle.tbr_commands.specs.Begun.{ends_nothing, counted}
+use Rattle.tbr_program.specs.Prefixes.{prefixes}
+use Rattle.tbr_program.specs.Commands.{with_stack, level_opened, block_made, request_made, cells_waiting, row_made, vertical_made, after_command, LineMakes, ended, started}
+use Rattle.tbr_program.proofs.CommandParts.{unless, if_so, none_are, some_are, of_top, answer_narrow, stack_narrow, block_ends, cell_ends}
 use Rattle.text_block_renderer.specs.Renderer.{new_renderer, least, block_width}
 use Rattle.text_block_renderer.specs.Line.{Line}
 use Rattle.text_block_renderer.specs.Text.{lines_text}
 use Rattle.text_block_renderer.specs.Appended.{handed_out}
 use Rattle.tbr_tagged.specs.declared.CellAlign.{CellAlign}
-use Rattle.text_block_renderer.specs.Rows.{GivenCell, next_align, cell_given, cells_given}
+use Rattle.text_block_renderer.specs.Rows.{spots_of, GivenCell, next_align, cell_given, cells_given, after_row}
 use Rattle.tbr_renderer.proofs.GivenCells.{cell_of}
-use Rattle.text_block_renderer.specs.Calls.{Call, new_line, begin, finish, add_inline_text, made, after}
+use Rattle.text_block_renderer.specs.Calls.{Call, new_line, begin, finish, add_inline_text, append_subrender, append_vert_row, made, after}
 use Rattle.text_block_renderer.specs.Decorated.{sub_renderer}
 use Rattle.text_block_renderer.specs.Acts.{Act, call, after_act, act_brought}
 use Rattle.text_block_renderer.proofs.ActSteps.{one_act}
@@ -99,8 +106,26 @@ module _ {D M : Type 0} (columns : ℕ → Option ℕ) (decoration : Decoration 
         | inr later ↦ all_come cells (drop 1 aligns) k.1 (refused_before (λ xs. later.0 ∷ xs) others E.TooNarrow later.2)
       ]
 
-  takes_all : {X : Type 0} (given : Outcome X) (r : Top columns decoration) → Two r → (given ≡ refused E.TooNarrow → ⊥) → TakesNone columns decoration given r → ⊥
-  takes_all given r k none h = elim (refused_first (after columns decoration new_line r) (λ s. given) E.TooNarrow h) [ inl first ↦ no_call new_line r k first | inr later ↦ none later.2 ]
+  -- what takes what others give: neither is too narrow
+  takes_all : {X : Type 0} (given : Outcome X) (take : X → Top columns decoration → Outcome (Top columns decoration)) (r : Top columns decoration) → Two r → (given ≡ refused E.TooNarrow → ⊥) → ((x : X) → take x r ≡ refused E.TooNarrow → ⊥) →
+      taking (after columns decoration new_line) given take r ≡ refused E.TooNarrow → ⊥
+  takes_all given take r k none never h =
+      elim (refused_first (after columns decoration new_line r) (λ _. and_then given (λ x. take x r)) E.TooNarrow h) [
+        | inl first ↦ no_call new_line r k first
+        | inr later ↦ elim (refused_first given (λ x. take x r) E.TooNarrow later.2) [ inl gives ↦ none gives | inr takes ↦ never takes.0 takes.2 ]
+      ]
+
+  -- a row that has no place isn't too narrow either
+  placed_or_not : (o : Option (Top columns decoration)) → placed o ≡ refused E.TooNarrow → ⊥
+  placed_or_not None h = cc
+  placed_or_not (Some s) h = cc
+
+  no_row_of : (collapse : Bool) (cells : List (GivenCell (List M))) (r : Top columns decoration) → Two r → after_row (pointwise decoration.same) columns collapse cells r ≡ refused E.TooNarrow → ⊥
+  no_row_of collapse cells r k h =
+      elim (refused_first (if_live r.failure (after_flush columns r)) (λ m. placed (row_put (pointwise decoration.same) columns collapse cells m)) E.TooNarrow h) [
+        | inl first ↦ no_flush r k.1 (live_refused r.failure (after_flush columns r) E.TooNarrow k.0.live first)
+        | inr later ↦ placed_or_not (row_put (pointwise decoration.same) columns collapse cells later.0) later.2
+      ]
 
   -- ---- on a stack
 
@@ -128,44 +153,47 @@ module _ {D M : Type 0} (columns : ℕ → Option ℕ) (decoration : Decoration 
   -- ---- commands and lines
 
   module _ (p : Progress D M (List M)) (h : AllAre Two p) where
-    no_row : OfTop (TakesNone columns decoration (cells_waiting columns decoration p.pending)) p.stack → ⊥
-    no_row (r, top, none) = takes_all (cells_waiting columns decoration p.pending) r (top_two p.stack r top h.on_stack) (all_come p.pending.cells p.pending.aligns h.waiting) none
+    -- a change of the top
+    no_change : (q : Progress D M (List M)) (make : Top columns decoration → Outcome (Top columns decoration)) (stack : Stack (Top columns decoration)) → AllTwo stack → ((r : Top columns decoration) → Two r → make r ≡ refused E.TooNarrow → ⊥) → with_stack columns decoration q (in_top make stack) ≡ Err TooNarrow → ⊥
+    no_change q make stack two none is = no_top make stack (λ r top e. none r (top_two stack r top two) e) (stack_narrow columns decoration q (in_top make stack) is)
 
-    no_cells : OfTop (TakesNone columns decoration (gathered (handed_out columns) (renderers_of p.pending.cells))) p.stack → ⊥
-    no_cells (r, top, none) = takes_all (gathered (handed_out columns) (renderers_of p.pending.cells)) r (top_two p.stack r top h.on_stack) (all_hand_out p.pending.cells h.waiting) none
+    no_level : (by : Opener) (width : ℕ) → level_opened columns decoration by width p ≡ Err TooNarrow → ⊥
+    no_level by width is = let (r, top, made) = of_top (top_of p.stack) _ (Err TooNarrow) tt is in cc made
 
-    no_append : (inside : Top columns decoration) (left : Progress D M (List M)) (r : Top columns decoration) → Closes p Sub inside left → top_of left.stack ≡ Some r → TakesNone columns decoration (handed_out columns inside) r → ⊥
-    no_append inside left r c top none =
-        takes_all (handed_out columns inside) r
-        (top_two left.stack r top (subst AllTwo (sym c.stack) (others_led columns decoration Two (λ width. 2 ≤ width) two_on two_inside p.stack.levels h.on_stack)))
-        (hands_out inside (top_two p.stack inside c.top h.on_stack)) none
-
-    no_command : (number : ℕ) (command : Command) → CommandRefuses columns decoration p number command TooNarrow → ⊥
-    no_command number (ask request) (inl (ends, is)) = cc
-    no_command number (ask request) (inr (ends, is, same)) = no_top (λ r. after columns decoration (call_of r.width request) r) p.stack (λ r top e. no_call (call_of r.width request) r (top_two p.stack r top h.on_stack) e) is
-    no_command number (link target) (is, same) =
+    no_command : (number : ℕ) (command : Command) → after_command columns decoration number command p ≡ Err TooNarrow → ⊥
+    no_command number (ask request) is =
+        let (some, made) = unless (ends_nothing p.pending.begun request) (NothingToEnd number) _ (Err TooNarrow) (λ no. no) tt is in
+        no_change (record p { pending = record p.pending { begun = counted p.pending.begun request } }) (request_made columns decoration request) p.stack h.on_stack (λ r two e. no_call (call_of r.width request) r two e) made
+    no_command number (link target) is =
         no_top (after columns decoration (begin (start.link (chars target)))) (with_link (chars target) p.stack)
-        (λ r top e. no_call (begin (start.link (chars target))) r (top_two p.stack r (sym (top_linked (chars target) p.stack) ∙ top) h.on_stack) e) is
-    no_command number end_link (inl (none, is)) = cc
-    no_command number end_link (inr (some, is, same)) =
+        (λ r top e. no_call (begin (start.link (chars target))) r (top_two p.stack r (sym (top_linked (chars target) p.stack) ∙ top) h.on_stack) e) (stack_narrow columns decoration p _ is)
+    no_command number end_link is =
+        let made = stack_narrow columns decoration p _ (some_are (open_links p.stack) (NothingToEnd number) _ (Err TooNarrow) (λ no. no) tt is) in
         no_top (λ r. after_end_with columns decoration (shown_number r (open_links p.stack)) r) p.stack
         (λ r top e. no_end (shown_number r (open_links p.stack)) r (top_two p.stack r top h.on_stack) e)
-        (refused_before (λ (s : Stack (Top columns decoration)). without_open_link s) _ E.TooNarrow is)
-    no_command number (sub width) is = is
-    no_command number (append first other) (inl (none, is)) = cc
-    no_command number (append first other) (inr (inl (by, (some, is)))) = cc
-    no_command number (append first other) (inr (inr (inside, left, closes, of_top, same))) = let (r, top, none) = of_top in no_append inside left r closes top none
-    no_command number (cell width span align) is = is
-    no_command number end_cell (inl (none, is)) = cc
-    no_command number end_cell (inr (span, align, by, (some, is))) = cc
-    no_command number (row collapse) (inl (fits, is)) = cc
-    no_command number (row collapse) (inr (fits, none, same)) = no_row none
-    no_command number vertical_row (none, same) = no_cells none
+        (refused_before (λ (s : Stack (Top columns decoration)). without_open_link s) _ E.TooNarrow made)
+    no_command number (sub width) is = no_level Sub width is
+    no_command number (append first others) is =
+        let ends = block_ends columns decoration number p p.opened (Err TooNarrow) tt first others is in
+        no_change (record { stack = below p.stack; pending = ends.pending; opened = ends.others }) (block_made columns decoration first others ends.inside) (below p.stack) (others_led columns decoration Two (λ width. 2 ≤ width) two_on two_inside p.stack.levels h.on_stack)
+        (λ r two e. takes_all (handed_out columns ends.inside) (λ lines. after columns decoration (append_subrender (prefixes first others (length lines)) lines)) r two (hands_out ends.inside (top_two p.stack ends.inside ends.top h.on_stack)) (λ lines narrow_there. no_call (append_subrender (prefixes first others (length lines)) lines) r two narrow_there) e) ends.makes
+    no_command number (cell width span align) is = no_level (Cell span align) width is
+    no_command number end_cell is =
+        let (span, align, ends) = cell_ends columns decoration number p p.opened (Err TooNarrow) tt is in
+        let no = ends.makes in cc no
+    no_command number (row collapse) is =
+        let (top, there, made) = of_top (top_of p.stack) _ (Err TooNarrow) tt is in
+        let (fits, lays) = if_so (row_fits top.hanging (spots_of columns p.pending.cells)) (RowDoesNotFit number) _ (Err TooNarrow) (λ no. no) tt made in
+        no_change (record p { pending = without_cells p.pending }) (row_made columns decoration p.pending collapse) p.stack h.on_stack
+        (λ r two e. takes_all (cells_waiting columns decoration p.pending) (after_row (pointwise decoration.same) columns collapse) r two (all_come p.pending.cells p.pending.aligns h.waiting) (λ cells. no_row_of collapse cells r two) e) lays
+    no_command number vertical_row is =
+        no_change (record p { pending = without_cells p.pending }) (vertical_made columns decoration p.pending) p.stack h.on_stack
+        (λ r two e. takes_all (gathered (handed_out columns) (renderers_of p.pending.cells)) (λ cells. after columns decoration (append_vert_row cells)) r two (all_hand_out p.pending.cells h.waiting) (λ cells narrow_there. no_call (append_vert_row cells) r two narrow_there) e) is
 
-    no_line : (number : ℕ) (line : List ℕ) → LineRefuses columns decoration p number line TooNarrow → ⊥
-    no_line number [] is = is
-    no_line number (b ∷ bs) (inl (none, is)) = cc
-    no_line number (b ∷ bs) (inr (command, is, refuses)) = no_command number command refuses
+    no_line : (number : ℕ) (line : List ℕ) → LineMakes columns decoration number line p (Err TooNarrow) → ⊥
+    no_line number [] is = cc is
+    no_line number (b ∷ bs) (inl (none, is)) = cc is
+    no_line number (b ∷ bs) (inr (command, is, made)) = no_command number command (sym made)
 
     no_text : (targets : List (List ℕ)) (r : Top columns decoration) → top_of p.stack ≡ Some r → closed_text columns decoration targets r ≡ refused E.TooNarrow → ⊥
     no_text targets r top e =
@@ -174,13 +202,19 @@ module _ {D M : Type 0} (columns : ℕ → Option ℕ) (decoration : Decoration 
         no_flush (with_decorator columns decoration d r) (top_two p.stack r top h.on_stack).1
         (refused_before (λ (s : Top columns decoration). let t = with_notes columns (footnotes_of columns decoration targets r) s in t.lines) (after_flush columns (with_decorator columns decoration d r)) E.TooNarrow closes)
 
+    no_end_of_script : (number : ℕ) → ended columns decoration number p ≡ Err TooNarrow → ⊥
+    no_end_of_script number is =
+        let (none_open, first) = none_are p.opened (NotACommand number) _ (Err TooNarrow) (λ no. no) tt is in
+        let (none_wait, next) = none_are p.pending.cells (NotACommand number) _ (Err TooNarrow) (λ no. no) tt first in
+        let (r, top, gives) = of_top (top_of p.stack) _ (Err TooNarrow) tt next in
+        no_text p.stack.links r top (answer_narrow (closed_text columns decoration p.stack.links r) gives)
+
   no_lines : (p : Progress D M (List M)) (number : ℕ) (lines : List (List ℕ)) → AllAre Two p → Each LineAsksForTwo lines → LinesGive columns decoration p number lines (Err TooNarrow) → ⊥
-  no_lines p number [] h asks (inl (open_still, is)) = cc
-  no_lines p number [] h asks (inr (none_open, none_wait, of_top, same)) = let (r, top, e) = of_top in no_text p h p.stack.links r top e
+  no_lines p number [] h asks is = no_end_of_script p h number (sym is)
   no_lines p number (line ∷ lines) h asks (inl (e, refuses, is)) =
-      no_line p h number line (subst (λ x. LineRefuses columns decoration p number line x) (let same : e ≡ TooNarrow = cc in same) refuses)
+      no_line p h number line (subst (λ x. LineMakes columns decoration number line p (Err x)) (let same : e ≡ TooNarrow = cc is in same) refuses)
   no_lines p number (line ∷ lines) h asks (inr (next, does, gives)) =
-      no_lines next (number + 1) lines (line_keeps columns decoration Two (λ width. 2 ≤ width) two_on two_inside p h line next asks.0 does) asks.1 gives
+      no_lines next (number + 1) lines (line_keeps columns decoration Two (λ width. 2 ≤ width) two_on two_inside p h number line next asks.0 does) asks.1 gives
 
   pub not_too_narrow : (opening : Opening) (decorator : D) → 2 ≤ least opening.width opening.options.wrap_width → (number : ℕ) (lines : List (List ℕ)) → Each LineAsksForTwo lines → LinesGive columns decoration (started opening decorator) number lines (Err TooNarrow) → ⊥
   not_too_narrow opening decorator wide number lines asks h =

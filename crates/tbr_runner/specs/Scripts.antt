@@ -1,5 +1,5 @@
 -- The meaning of a script: that of its commands one after another, up to the first line that is faulty or refuses.
-use Rattle.std.specs.Prelude.{◌≡◌, ℕ, ◌+◌, ◌⊎◌, Option, Result, Err, List, [], ◌∷◌}
+use Rattle.std.specs.Prelude.{◌≡◌, ℕ, ◌+◌, ◌⊎◌, Option, Result, Ok, Err, List, [], ◌∷◌}
 use Rattle.tbr_decor.specs.Decoration.{Decoration}
 use Rattle.tbr_script.specs.declared.error.RunError.{RunError}
 use Rattle.tbr_script.specs.declared.error.RunError.TheVariants.{NotACommand}
@@ -10,15 +10,16 @@ use Rattle.tbr_commands.specs.declared.opening.Opening.{Opening}
 use Rattle.tbr_commands.specs.Opening.{IsOpening}
 use Rattle.tbr_program.specs.Progress.{Progress}
 use Rattle.tbr_program.specs.Decorations.{plain_decoration, trivial_decoration, rich_decoration}
-use Rattle.tbr_program.specs.Meaning.{Ends, LineDoes, LineRefuses, started}
+use Rattle.tbr_program.specs.Commands.{LineMakes, ended, started}
 
--- What lines give that follow here, the first of them with this number.
+-- What lines give that follow here, the first of them with this number: what the end does after all of them, or the first
+-- refusal.
 abbrev pub LinesGive : {D M : Type 0} →
     (ℕ → Option ℕ) → Decoration D M → Progress D M (List M) → ℕ → List (List ℕ) → Result (List ℕ) RunError → Type 0
-LinesGive columns decoration p number [] outcome = Ends columns decoration p number outcome
+LinesGive columns decoration p number [] outcome = outcome ≡ ended columns decoration number p
 LinesGive {D} {M} columns decoration p number (line ∷ lines) outcome =
-    ((e : RunError) × LineRefuses columns decoration p number line e × (outcome ≡ Err e))
-    ⊎ ((next : Progress D M (List M)) × LineDoes columns decoration p line next
+    ((e : RunError) × LineMakes columns decoration number line p (Err e) × (outcome ≡ Err e))
+    ⊎ ((next : Progress D M (List M)) × LineMakes columns decoration number line p (Ok next)
     × LinesGive columns decoration next (number + 1) lines outcome)
 
 -- What lines give after the first command, whose decorator this is.

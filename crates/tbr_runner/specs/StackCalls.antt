@@ -1,11 +1,11 @@
 -- The commands of a script as calls on a stack.
-use Rattle.std.specs.Prelude.{◌≡◌, ℕ, Option, List, [], ◌∷◌, chars, flat_map}
+use Rattle.std.specs.Prelude.{◌≡◌, ℕ, ◌+◌, Option, Ok, List, [], ◌∷◌, chars, flat_map}
 use Rattle.tbr_decor.specs.Decoration.{Decoration}
 use Rattle.tbr_stack.specs.StackCalls.{StackCall, change_top, push, pop, start_link, end_link as ends_link, targets_of}
 use Rattle.tbr_commands.specs.Command.{Command, link, end_link, sub, append, cell, end_cell}
 use Rattle.tbr_commands.specs.Syntax.{IsCommand}
 use Rattle.tbr_program.specs.Progress.{Progress}
-use Rattle.tbr_program.specs.Meaning.{LineDoes}
+use Rattle.tbr_program.specs.Commands.{LineMakes}
 
 -- ---- commands
 
@@ -43,9 +43,10 @@ AskAfterFirst [] commands = ⊥
 AskAfterFirst ([] ∷ lines) commands = AskAfterFirst lines commands
 AskAfterFirst ((b ∷ bs) ∷ lines) commands = AskFor lines commands
 
--- Lines lead from here to there, one after another.
+-- Lines lead from here to there, one after another, the first of them with this number.
 abbrev pub LinesDo : {D M : Type 0} → (ℕ → Option ℕ) → Decoration D M →
-    Progress D M (List M) → List (List ℕ) → Progress D M (List M) → Type 0
-LinesDo columns decoration p [] q = q ≡ p
-LinesDo {D} {M} columns decoration p (line ∷ lines) q =
-    (next : Progress D M (List M)) × LineDoes columns decoration p line next × LinesDo columns decoration next lines q
+    Progress D M (List M) → ℕ → List (List ℕ) → Progress D M (List M) → Type 0
+LinesDo columns decoration p number [] q = q ≡ p
+LinesDo {D} {M} columns decoration p number (line ∷ lines) q =
+    (next : Progress D M (List M)) × LineMakes columns decoration number line p (Ok next)
+    × LinesDo columns decoration next (number + 1) lines q

@@ -1,5 +1,5 @@
 //! What holds of the meaning of scripts, as the contract of a function that does nothing.
-ghost use Rattle.std.specs.Prelude.{false, ◌≡◌, ◌↔◌, ◌≢◌, ◌<◌, ◌≤◌, ◌+◌, ℕ, List, length, [], ◌∷◌, ◌++◌, Option, Some, Ok, Err, Result};
+ghost use Rattle.std.specs.Prelude.{false, ◌≡◌, ◌≢◌, ◌<◌, ◌≤◌, ◌+◌, ℕ, List, length, [], ◌∷◌, ◌++◌, Option, Some, Ok, Err, Result};
 ghost use Rattle.tbr_decor.specs.Decoration.{Decoration};
 ghost use Rattle.tbr_commands.specs.declared.opening.Opening.{Opening};
 ghost use Rattle.tbr_stack.specs.Links.{after_link_end};
@@ -10,26 +10,15 @@ ghost use Rattle.text_block_renderer.specs.MarkersStand.{Stands};
 ghost use Rattle.text_block_renderer.specs.Acts.{acts_brought};
 ghost use Rattle.text_block_renderer.specs.Headline.{Headline, TakeTwoAtMost};
 ghost use Rattle.tbr_program.specs.Progress.{Progress};
-ghost use Rattle.tbr_program.specs.Meaning.{LineDoes, LinkDoes, CommandDoes, CommandRefuses, started};
+ghost use Rattle.tbr_program.specs.Commands.{after_command, LineMakes, started};
 ghost use Rattle.tbr_script.specs.Script.{lines_of};
-ghost use Rattle.tbr_commands.specs.Command.{Command};
+ghost use Rattle.tbr_commands.specs.Command.{Command, link};
 ghost use Rattle.tbr_runner.specs.StackCalls.{stack_calls, link_targets, AskFor, AskAfterFirst, LinesDo};
-ghost use Rattle.tbr_runner.specs.Commands.{after_command};
 ghost use Rattle.tbr_runner.specs.Led.{IsLed, AreLed, IsTextOfLed, IsTextOfScript, LineAsksForTwo};
 ghost use Rattle.std.specs.List.{AllByRecursion as Each};
 ghost use Rattle.tbr_script.specs.declared.error.RunError.TheVariants.{TooNarrow};
 ghost use Rattle.tbr_runner.specs.Scripts.{LinesGive, Gives};
 ghost use Rattle.tbr_script.specs.declared.error.RunError.{RunError};
-
-/// A command leads exactly where is computed. What refuses it, on the line of its number, is the computed refusal.
-pub fn a_command_is_computed<D, M>()
-    ensures does { (columns : ℕ → Option ℕ) (decoration : Decoration D M) (p next : Progress D M (List M))
-        (number : ℕ) (command : Command) → CommandDoes columns decoration p command next
-        ↔ (after_command columns decoration number command p ≡ Ok next) }
-    ensures refuses { (columns : ℕ → Option ℕ) (decoration : Decoration D M) (p : Progress D M (List M))
-        (number : ℕ) (command : Command) (e : RunError) → CommandRefuses columns decoration p number command e →
-        after_command columns decoration number command p ≡ Err e }
-{}
 
 /// A script gives one thing: a text, or a refusal with its line.
 pub fn a_script_gives_one_thing()
@@ -47,8 +36,8 @@ pub fn the_renderers_of_a_script_are_led_to<D, M>()
         (opening : Opening) (decorator : D) → 0 < opening.width → opening.options.wrap_width ≢ Some 0 →
         AreLed columns decoration (started {M = M} opening decorator) }
     ensures line { (columns : ℕ → Option ℕ) (decoration : Decoration D M) (p next : Progress D M (List M))
-        (line : List ℕ) → AreLed columns decoration p → LineDoes columns decoration p line next →
-        AreLed columns decoration next }
+        (number : ℕ) (line : List ℕ) → AreLed columns decoration p →
+        LineMakes columns decoration number line p (Ok next) → AreLed columns decoration next }
     ensures text { (columns : ℕ → Option ℕ) (decoration : Decoration D M) (p : Progress D M (List M)) (number : ℕ)
         (lines : List (List ℕ)) (text : List ℕ) → AreLed columns decoration p →
         LinesGive columns decoration p number lines (Ok text) → (commands : List Command) × AskFor lines commands
@@ -80,13 +69,14 @@ pub fn a_script_of_two_columns_is_not_too_narrow<D, M>()
 /// that ends brings its own number, which is the place of its target among the footnotes, from 1, whatever commands
 /// come in between, and however deep links, blocks and cells are in one another.
 pub fn links_of_scripts_end_with_their_own_numbers<D, M>()
-    ensures calls { (columns : ℕ → Option ℕ) (decoration : Decoration D M) (lines : List (List ℕ))
+    ensures calls { (columns : ℕ → Option ℕ) (decoration : Decoration D M) (number : ℕ) (lines : List (List ℕ))
         (commands : List Command) (p q : Progress D M (List M)) → AskFor lines commands →
-        LinesDo columns decoration p lines q → StackSteps columns decoration (stack_calls commands) p.stack q.stack }
-    ensures number { (columns : ℕ → Option ℕ) (decoration : Decoration D M) (target : List ℕ)
+        LinesDo columns decoration p number lines q →
+        StackSteps columns decoration (stack_calls commands) p.stack q.stack }
+    ensures number { (columns : ℕ → Option ℕ) (decoration : Decoration D M) (target : List ℕ) (number : ℕ)
         (lines : List (List ℕ)) (commands : List Command) (p m q : Progress D M (List M)) →
-        LinkDoes columns decoration p target m → AskFor lines commands → LinesDo columns decoration m lines q →
-        IsNextToEnd (0 ∷ []) (stack_calls commands) →
+        after_command columns decoration number (link target) p ≡ Ok m → AskFor lines commands →
+        LinesDo columns decoration m (number + 1) lines q → IsNextToEnd (0 ∷ []) (stack_calls commands) →
         after_link_end columns decoration q.stack
         ≡ after_end_as columns decoration (length p.stack.links + 1) q.stack }
 {}

@@ -6,7 +6,7 @@ ghost use Rattle.tbr_script.specs.Streams.{AppendsBeginning};
 ghost use Rattle.tbr_decor.specs.Decoration.{decoration_of};
 ghost use Rattle.tbr_script.specs.Script.{lines_of};
 ghost use Rattle.tbr_program.specs.Progress.{progress_meant, GoesOn};
-ghost use Rattle.tbr_program.specs.Meaning.{Ends, started};
+ghost use Rattle.tbr_program.specs.Commands.{ended, started};
 ghost use Rattle.tbr_runner.specs.Scripts.{LinesGive, Opens, Gives};
 ghost use Rattle.tbr_script.specs.declared.error.RunError.{RunError as Refusal};
 ghost use Rattle.tbr_script.specs.Refusal.{IsOfScript};
@@ -124,11 +124,10 @@ fn run_under<D: TextDecorator, W: CharWidth>(
     requires width { 0 < opening.width }
     requires wrap_width { opening.options.wrap_width ≢ Some 0 }
     requires number { number + length script.now < 2 ^ 64 }
-    ensures told { IfOk result (λ told. (outcome : Result (List ℕ) Refusal) →
-        Ends W.columns (decoration_of D.TextDecorator) (progress_meant D.meaning told.0) told.1 outcome →
-        LinesGive W.columns (decoration_of D.TextDecorator)
-        (started opening decorator) number (lines_of script.now) outcome) }
-    ensures live { IfOk result (λ told. GoesOn told.0) }
+    ensures told { IfOk result (λ told. LinesGive W.columns (decoration_of D.TextDecorator)
+        (started opening decorator) number (lines_of script.now)
+        (ended W.columns (decoration_of D.TextDecorator) told.1 (progress_meant D.meaning told.0))) }
+    ensures goes_on { IfOk result (λ told. GoesOn told.0) }
     ensures refusal { IfErr result (λ e. e ≢ RunError.OutOfMemory → LinesGive W.columns (decoration_of D.TextDecorator)
         (started opening decorator) number (lines_of script.now) (Err e)) }
     ensures of_script { IfErr result (λ e. e ≢ RunError.OutOfMemory → IsOfScript e) }
@@ -144,11 +143,10 @@ fn finish<D: TextDecorator, W: CharWidth, B: Drop>(
     script: B,
 ) -> Result<String, RunError>
     requires { GoesOn program }
-    ensures text { IfOk result (λ text.
-        Ends W.columns (decoration_of D.TextDecorator) (progress_meant D.meaning program) number
-        (Ok (string_bytes text))) }
+    ensures text { IfOk result (λ text. ended W.columns (decoration_of D.TextDecorator) number
+        (progress_meant D.meaning program) ≡ Ok (string_bytes text)) }
     ensures refused { IfErr result (λ e. e ≢ RunError.OutOfMemory →
-        Ends W.columns (decoration_of D.TextDecorator) (progress_meant D.meaning program) number (Err e)) }
+        ended W.columns (decoration_of D.TextDecorator) number (progress_meant D.meaning program) ≡ Err e) }
     ensures of_script { IfErr result (λ e. e ≢ RunError.OutOfMemory → IsOfScript e) }
 {
     drop(script);
@@ -188,13 +186,12 @@ fn run_lines<D: TextDecorator, W: CharWidth>(
     number: usize,
     script: &[u8],
 ) -> Result<(Program<D, W>, usize), RunError>
-    requires live { GoesOn program }
+    requires goes_on { GoesOn program }
     requires number { number + length script.now < 2 ^ 64 }
-    ensures told { IfOk result (λ told. (outcome : Result (List ℕ) Refusal) →
-        Ends W.columns (decoration_of D.TextDecorator) (progress_meant D.meaning told.0) told.1 outcome →
-        LinesGive W.columns (decoration_of D.TextDecorator)
-        (progress_meant D.meaning program) number (lines_of script.now) outcome) }
-    ensures live { IfOk result (λ told. GoesOn told.0) }
+    ensures told { IfOk result (λ told. LinesGive W.columns (decoration_of D.TextDecorator)
+        (progress_meant D.meaning program) number (lines_of script.now)
+        (ended W.columns (decoration_of D.TextDecorator) told.1 (progress_meant D.meaning told.0))) }
+    ensures goes_on { IfOk result (λ told. GoesOn told.0) }
     ensures refusal { IfErr result (λ e. e ≢ RunError.OutOfMemory → LinesGive W.columns (decoration_of D.TextDecorator)
         (progress_meant D.meaning program) number (lines_of script.now) (Err e)) }
     ensures of_script { IfErr result (λ e. e ≢ RunError.OutOfMemory → IsOfScript e) }

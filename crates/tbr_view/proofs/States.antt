@@ -20,8 +20,7 @@ use Rattle.tbr_commands.specs.declared.request.layout.Layout.TheVariants.{StartB
 use Rattle.tbr_commands.specs.Request.{layout}
 use Rattle.tbr_commands.specs.Command.{ask, sub, command_of}
 use Rattle.tbr_program.specs.Progress.{Progress, progress_meant}
-use Rattle.tbr_program.specs.Meaning.{CommandDoes}
-use Rattle.tbr_program.proofs.MeantCommands.{top_is_meant}
+use Rattle.tbr_stack.proofs.Tops.{top_meant}
 use Rattle.tbr_statements.specs.declared.block.Block.{Block}
 use Rattle.tbr_statements.specs.declared.level.Level.{Level}
 use Rattle.tbr_statements.specs.declared.level.Notes.{Notes}
@@ -29,7 +28,7 @@ use Rattle.tbr_statements.specs.declared.level.Opener.{Opener}
 use Rattle.tbr_statements.specs.declared.level.Opener.TheVariants.{Block as OfBlock}
 use Rattle.tbr_statements.specs.Block.{prefix_of, other_prefix, stands_apart, end_of}
 use Rattle.tbr_statements.specs.Level.{Known, Leaves, innermost, opener_of, may_not_append, is_closed_by, known_outside, left, noted}
-use Rattle.tbr_view.specs.Session.{State, openers, state_of, opened_by, DoesIf, Commands, BlockOpens, BlockAppends, BlockCloses, LineDoes, LinesDo}
+use Rattle.tbr_view.specs.Session.{State, openers, state_of, opened_by, CommandDoes, DoesIf, Commands, BlockOpens, BlockAppends, BlockCloses, LineDoes, LinesDo}
 
 -- ---- lists of levels
 
@@ -112,10 +111,9 @@ module _ {D A M : Type 0} (meaning : A → M) (columns : ℕ → Option ℕ) (de
         BlockOpens columns decoration (state_of meaning p old) block (state_of meaning q new)
     block_opens block texts r top apart n is_r is_top first others fits columns_are begins opens levels =
         let same : r ≡ top = cc in
-        let above = top_is_meant meaning (λ x. x ≡ meant meaning top) p.stack top is_top refl in
         record {
           top = meant meaning top;
-          is_top = above.1 ∙ ap Some above.2;
+          is_top = top_meant meaning p.stack top is_top;
           texts = texts;
           first = subst (λ (x : Renderer D A (Vec A)). chars_of texts.first ≡ decoration.prefix_text x.decorator (prefix_of block)) same first;
           others = others;

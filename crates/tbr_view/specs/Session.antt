@@ -1,5 +1,5 @@
 -- What a script for people does, line after line.
-use Rattle.std.specs.Prelude.{◌≡◌, ◌⊎◌, ℕ, ◌-◌, ◌<◌, Bool, true, false, Option, None, Some, List, [], ◌∷◌, ◌++◌, map, take, length, string_bytes}
+use Rattle.std.specs.Prelude.{◌≡◌, ◌⊎◌, ℕ, ◌-◌, ◌<◌, Bool, true, false, Option, None, Some, Ok, List, [], ◌∷◌, ◌++◌, map, take, length, string_bytes}
 use Rattle.std.specs.Global.{Vec}
 use Rattle.std.specs.List.{list_any}
 use Rattle.tbr_model.specs.Width.{width_of_text}
@@ -20,7 +20,7 @@ use Rattle.tbr_commands.specs.Command.{Command, ask, sub, append, command_of}
 use Rattle.tbr_program.specs.Progress.{Progress, progress_meant}
 use Rattle.tbr_tagged.specs.Outcome.{done}
 use Rattle.tbr_program.specs.Closing.{closed}
-use Rattle.tbr_program.specs.Meaning.{CommandDoes, started}
+use Rattle.tbr_program.specs.Commands.{after_command, started}
 use Rattle.tbr_statements.specs.declared.block.Block.{Block}
 use Rattle.tbr_statements.specs.declared.level.Level.{Level}
 use Rattle.tbr_statements.specs.declared.level.Opener.{Opener}
@@ -78,15 +78,19 @@ opened_by asked.EndCell levels = take (length levels - 1) levels
 opened_by other levels = levels
 
 module _ {D M : Type 0} (columns : ℕ → Option ℕ) (decoration : Decoration D M) where
-  -- A command leads from one program to another, or isn't asked for.
+  -- A command leads from one program to another. The number of its line tells refusals alone.
+  abbrev pub CommandDoes : Progress D M (List M) → Command → Progress D M (List M) → Type 0
+  CommandDoes p command q = after_command columns decoration 0 command p ≡ Ok q
+
+  -- It does, or isn't asked for.
   abbrev pub DoesIf : Bool → Progress D M (List M) → Command → Progress D M (List M) → Type 0
-  DoesIf true p command q = CommandDoes columns decoration p command q
+  DoesIf true p command q = CommandDoes p command q
   DoesIf false p command q = q ≡ p
 
   -- A command of `blockrender`. An `append` closes no block with a prefix.
   pub record Commands (s : State D M) (command : declared.Command) (t : State D M) : Type 0 where
     pub may : may_not_append command (innermost s.levels) ≡ false
-    pub does : CommandDoes columns decoration s.program (command_of command) t.program
+    pub does : CommandDoes s.program (command_of command) t.program
     pub levels : t.levels ≡ opened_by command s.levels
 
   -- A block opens in the columns that its prefix leaves, after an empty line if it stands apart.
@@ -99,7 +103,7 @@ module _ {D M : Type 0} (columns : ℕ → Option ℕ) (decoration : Decoration 
     pub fits : width_of_text columns (chars_of texts.first) < top.width
     pub apart : Progress D M (List M)
     pub begins : DoesIf (stands_apart block) s.program (ask (layout StartBlock)) apart
-    pub opens : CommandDoes columns decoration apart
+    pub opens : CommandDoes apart
         (sub (top.width - width_of_text columns (chars_of texts.first))) t.program
     pub levels : t.levels ≡ s.levels ++ OfBlock block texts ∷ []
 
@@ -108,7 +112,7 @@ module _ {D M : Type 0} (columns : ℕ → Option ℕ) (decoration : Decoration 
       (q : Progress D M (List M)) : Type 0 where
     pub appended : Progress D M (List M)
     pub appends :
-        CommandDoes columns decoration p (append (string_bytes texts.first) (string_bytes texts.second)) appended
+        CommandDoes p (append (string_bytes texts.first) (string_bytes texts.second)) appended
     pub ends : DoesIf (stands_apart block) appended (ask (layout EndBlock)) q
 
   -- The innermost level is a block that this command ends.

@@ -4,7 +4,6 @@ ghost use Rattle.tbr_decor.specs.Decoration.{decoration_of};
 ghost use Rattle.tbr_commands.specs.Command.{command_of, ask};
 ghost use Rattle.tbr_commands.specs.Command as asked;
 ghost use Rattle.tbr_commands.specs.Request.{layout as laid};
-ghost use Rattle.tbr_program.specs.Meaning.{CommandDoes};
 ghost use Rattle.tbr_program.specs.Progress.{GoesOn, progress_meant};
 ghost use Rattle.text_block_renderer.specs.Tags.{tag_meant};
 ghost use Rattle.text_block_renderer.specs.Meant.{map_line};
@@ -119,7 +118,7 @@ impl<D: TextDecorator, W: CharWidth> Session<D, W> {
     fn command(&mut self, number: usize, command: &Command) -> Result<(), Refusal>
         requires live { GoesOn self.old.program }
         requires sized { asked.IsSized (command_of command.now) }
-        ensures does { OnOk result (CommandDoes W.columns (decoration_of D.TextDecorator)
+        ensures does { OnOk result (model.CommandDoes W.columns (decoration_of D.TextDecorator)
             (progress_meant D.meaning self.old.program) (command_of command.now)
             (progress_meant D.meaning self.new.program)) }
         ensures levels { self.new.levels ≡ self.old.levels }

@@ -11,16 +11,16 @@ returns-in_ok-program-in-Plain-clause-text g c =
     let script = g.B.AsSlice.items c.args.script in let same : c.as_slice.result.now ≡ script = c.as_slice.ensures in
     if_ok_then c.finish.result (λ text ends.
     let outcome = Ok (string_bytes text) in
-    opened_under columns Plain o.opening o.number (lines_of o.rest.now) outcome c.as_slice.result.now script same c.in-Plain.is
-    (o.ensures.found columns outcome) (p.ensures.told outcome ends)) c.finish.ensures.text
+    opened_under columns Plain o.opening o.number (lines_of o.rest.now) _ outcome c.as_slice.result.now script same c.in-Plain.is
+    (o.ensures.found columns outcome) p.ensures.told ends) c.finish.ensures.text
 
 pub returns-in_ok-program-in-Plain-clause-refusal : goal.returns-in_ok-program-in-Plain-clause-refusal
 returns-in_ok-program-in-Plain-clause-refusal g c =
     let columns = g.W.CharWidth.columns in let o = c.in_ok-opening in let p = c.in_ok-program-in-Plain in
     let script = g.B.AsSlice.items c.args.script in let same : c.as_slice.result.now ≡ script = c.as_slice.ensures in
     if_err_then c.finish.result (λ e ends found.
-    opened_under columns Plain o.opening o.number (lines_of o.rest.now) (Err e) c.as_slice.result.now script same c.in-Plain.is
-    (o.ensures.found columns (Err e)) (p.ensures.told (Err e) (ends found))) c.finish.ensures.refused
+    opened_under columns Plain o.opening o.number (lines_of o.rest.now) _ (Err e) c.as_slice.result.now script same c.in-Plain.is
+    (o.ensures.found columns (Err e)) p.ensures.told (ends found)) c.finish.ensures.refused
 
 pub returns-in_ok-program-in-Trivial-clause-text : goal.returns-in_ok-program-in-Trivial-clause-text
 returns-in_ok-program-in-Trivial-clause-text g c =
@@ -28,16 +28,16 @@ returns-in_ok-program-in-Trivial-clause-text g c =
     let script = g.B.AsSlice.items c.args.script in let same : c.as_slice.result.now ≡ script = c.as_slice.ensures in
     if_ok_then c.finish-in-Trivial.result (λ text ends.
     let outcome = Ok (string_bytes text) in
-    opened_under columns Trivial o.opening o.number (lines_of o.rest.now) outcome c.as_slice.result.now script same c.in-Trivial.is
-    (o.ensures.found columns outcome) (p.ensures.told outcome ends)) c.finish-in-Trivial.ensures.text
+    opened_under columns Trivial o.opening o.number (lines_of o.rest.now) _ outcome c.as_slice.result.now script same c.in-Trivial.is
+    (o.ensures.found columns outcome) p.ensures.told ends) c.finish-in-Trivial.ensures.text
 
 pub returns-in_ok-program-in-Trivial-clause-refusal : goal.returns-in_ok-program-in-Trivial-clause-refusal
 returns-in_ok-program-in-Trivial-clause-refusal g c =
     let columns = g.W.CharWidth.columns in let o = c.in_ok-opening in let p = c.in_ok-program-in-Trivial in
     let script = g.B.AsSlice.items c.args.script in let same : c.as_slice.result.now ≡ script = c.as_slice.ensures in
     if_err_then c.finish-in-Trivial.result (λ e ends found.
-    opened_under columns Trivial o.opening o.number (lines_of o.rest.now) (Err e) c.as_slice.result.now script same c.in-Trivial.is
-    (o.ensures.found columns (Err e)) (p.ensures.told (Err e) (ends found))) c.finish-in-Trivial.ensures.refused
+    opened_under columns Trivial o.opening o.number (lines_of o.rest.now) _ (Err e) c.as_slice.result.now script same c.in-Trivial.is
+    (o.ensures.found columns (Err e)) p.ensures.told (ends found)) c.finish-in-Trivial.ensures.refused
 
 pub returns-in_ok-program-in-Rich-clause-text : goal.returns-in_ok-program-in-Rich-clause-text
 returns-in_ok-program-in-Rich-clause-text g c =
@@ -45,13 +45,13 @@ returns-in_ok-program-in-Rich-clause-text g c =
     let script = g.B.AsSlice.items c.args.script in let same : c.as_slice.result.now ≡ script = c.as_slice.ensures in
     if_ok_then c.finish-in-Rich.result (λ text ends.
     let outcome = Ok (string_bytes text) in
-    opened_under columns Rich o.opening o.number (lines_of o.rest.now) outcome c.as_slice.result.now script same c.in-Rich.is
-    (o.ensures.found columns outcome) (p.ensures.told outcome ends)) c.finish-in-Rich.ensures.text
+    opened_under columns Rich o.opening o.number (lines_of o.rest.now) _ outcome c.as_slice.result.now script same c.in-Rich.is
+    (o.ensures.found columns outcome) p.ensures.told ends) c.finish-in-Rich.ensures.text
 
 pub returns-in_ok-program-in-Rich-clause-refusal : goal.returns-in_ok-program-in-Rich-clause-refusal
 returns-in_ok-program-in-Rich-clause-refusal g c =
     let columns = g.W.CharWidth.columns in let o = c.in_ok-opening in let p = c.in_ok-program-in-Rich in
     let script = g.B.AsSlice.items c.args.script in let same : c.as_slice.result.now ≡ script = c.as_slice.ensures in
     if_err_then c.finish-in-Rich.result (λ e ends found.
-    opened_under columns Rich o.opening o.number (lines_of o.rest.now) (Err e) c.as_slice.result.now script same c.in-Rich.is
-    (o.ensures.found columns (Err e)) (p.ensures.told (Err e) (ends found))) c.finish-in-Rich.ensures.refused
+    opened_under columns Rich o.opening o.number (lines_of o.rest.now) _ (Err e) c.as_slice.result.now script same c.in-Rich.is
+    (o.ensures.found columns (Err e)) p.ensures.told (ends found)) c.finish-in-Rich.ensures.refused

@@ -13,7 +13,7 @@ invariant-loop-rest g l = record {
       LinesGive g.W.CharWidth.columns (decoration_of g.D.TextDecorator) (progress_meant g.D.TextDecorator.meaning l.program) l.number (lines_of l.rest) outcome →
       LinesGive g.W.CharWidth.columns (decoration_of g.D.TextDecorator) (progress_meant g.D.TextDecorator.meaning l.fn.program) l.fn.number (lines_of l.fn.script) outcome;
   bound : l.number + length l.rest ≤ l.fn.number + length l.fn.script;
-  live : GoesOn l.program;
+  goes_on : GoesOn l.program;
 }
 
 abbrev pub decreases-loop-rest : goal.decreases-loop-rest

@@ -3,8 +3,7 @@ use Rattle.std.specs.List.{AllByRecursion as Each}
 use Rattle.tbr_tagged.specs.declared.CellAlign.{CellAlign}
 use Rattle.tbr_model.proofs.lists.Each.{each_append}
 use Rattle.text_block_renderer.specs.Renderer.{Renderer}
-use Rattle.tbr_program.specs.Progress.{Pending}
-use Rattle.tbr_program.specs.Meaning.{with_cell}
+use Rattle.tbr_program.specs.Progress.{Pending, with_cell}
 use Rattle.tbr_program.proofs.pending.Pending.add_cell.Goals as goal
 
 as_many : {X Y : Type 0} (xs all : List X) (ys each : List Y) (x : X) (y : Y) → all ≡ xs ++ x ∷ [] → each ≡ ys ++ y ∷ [] → length ys ≡ length xs → length each ≡ length all

@@ -1,23 +1,41 @@
-use Rattle.std.proofs.Common.{◌≡◌, false}
-use Rattle.tbr_program.proofs.MeantCommands.{no_cell, cells_in_cell, some_opened, none_waits, cell_waits}
+use Rattle.std.proofs.Common.{refl, ◌≡◌, false}
+use Rattle.tbr_decor.specs.Decoration.{decoration_of}
+use Rattle.tbr_commands.specs.Command.{end_cell}
+use Rattle.tbr_program.specs.Commands.{after_command}
+use Rattle.tbr_program.proofs.LivePrograms.{command_done}
+use Rattle.tbr_program.proofs.MadeCommands.{some_opened, no_cell, cell_waits, cell_done}
+use Rattle.tbr_program.proofs.Results.{runs_early}
 use Rattle.tbr_program.proofs.program.Program.end_cell.Goals as goal
 
-pub returns-in_default-clause-refused : goal.returns-in_default-clause-refused
-returns-in_default-clause-refused g c = λ _.
-    no_cell g.D.TextDecorator.meaning _ c.args.self.now c.self.view_is c.args.number c.in_default.ensures.none
+pub returns-in_default : goal.returns-in_default
+returns-in_default g c =
+    let meaning = g.D.TextDecorator.meaning in
+    let columns = g.W.CharWidth.columns in
+    let decoration = decoration_of g.D.TextDecorator in
+    record {
+      runs = runs_early meaning (after_command columns decoration c.args.number end_cell) c.args.self.now _ _ refl
+          (no_cell meaning columns decoration c.args.number _ c.args.self.now c.self.view_is c.in_default.ensures.none);
+    }
 
-pub returns-then-has_cells-clause-refused : goal.returns-then-has_cells-clause-refused
-returns-then-has_cells-clause-refused g c = λ _.
-    cells_in_cell g.D.TextDecorator.meaning _ c.args.self.now c.self.view_is c.args.number c.in-Some.span c.in-Some.align c.in-Some.ensures.found (λ none. let h : c.has_cells.result ≡ false = c.has_cells.ensures.1 none in cc)
+pub returns-then-has_cells : goal.returns-then-has_cells
+returns-then-has_cells g c =
+    let meaning = g.D.TextDecorator.meaning in
+    let columns = g.W.CharWidth.columns in
+    let decoration = decoration_of g.D.TextDecorator in
+    record {
+      runs = runs_early meaning (after_command columns decoration c.args.number end_cell) c.args.self.now _ _ refl
+          (cell_waits meaning columns decoration c.args.number _ c.args.self.now c.self.view_is c.in-Some.span c.in-Some.align c.in-Some.ensures.found (λ none. let h : c.has_cells.result ≡ false = c.has_cells.ensures.1 none in cc));
+    }
 
 pub close-inside-requires-clause-opened : goal.close-inside-requires-clause-opened
-close-inside-requires-clause-opened g c =
-    some_opened g.D.TextDecorator.meaning _ c.args.self.now c.self.view_is _ c.in-Some.ensures.found
+close-inside-requires-clause-opened g c = some_opened _ c.args.self.now c.self.view_is _ c.in-Some.ensures.found
 
-pub close-inside-requires-clause-cells : goal.close-inside-requires-clause-cells
-close-inside-requires-clause-cells g c =
-    none_waits g.D.TextDecorator.meaning _ c.args.self.now c.self.view_is (c.has_cells.ensures.0 (cc))
-
-pub returns-clause-done : goal.returns-clause-done
-returns-clause-done g c =
-    cell_waits g.D.TextDecorator.meaning _ c.args.self.now c.self.view_is c.close-inside.new.self _ c.close-inside.ensures.closes.0 c.close-inside.result c.close-inside.ensures.closes.1 c.self-2.view_is c.in-Some.span c.in-Some.align c.add_cell.new.self c.in-Some.ensures.found c.in_ok-add_cell.ensures.waits
+pub returns : goal.returns
+returns g c =
+    let meaning = g.D.TextDecorator.meaning in
+    let columns = g.W.CharWidth.columns in
+    let decoration = decoration_of g.D.TextDecorator in
+    record {
+      runs = command_done meaning columns decoration c.args.number end_cell c.args.self.now _ c.requires _
+          (cell_done meaning columns decoration c.args.number _ c.args.self.now c.self.view_is c.in-Some.span c.in-Some.align c.in-Some.ensures.found (c.has_cells.ensures.0 (cc)) c.close-inside.result c.close-inside.new.self _ c.add_cell.new.self c.close-inside.ensures.closes c.self-2.view_is c.in_ok-add_cell.ensures.waits);
+    }

@@ -14,7 +14,7 @@ use Rattle.tbr_program.proofs.program.Program.finish_lines.Goals as goal
 
 pub into_inner-renderer-requires : goal.into_inner-renderer-requires
 into_inner-renderer-requires g c =
-    only_level c.self.inside.renderers c.self.inside.pending c.self.inside.opened (subst GoesOn (sym c.self.view_is) c.requires.live) (ap (λ p. p.opened) c.self.view_is ∙ c.requires.opened)
+    only_level c.self.inside.renderers c.self.inside.pending c.self.inside.opened (subst GoesOn (sym c.self.view_is) c.requires.goes_on) (ap (λ p. p.opened) c.self.view_is ∙ c.requires.opened)
 
 pub returns-clause-lines : goal.returns-clause-lines
 returns-clause-lines g c =

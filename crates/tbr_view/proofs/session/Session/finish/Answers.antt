@@ -7,7 +7,7 @@ use Rattle.text_block_renderer.specs.Line.{line_seen}
 use Rattle.tbr_tagged.specs.Outcome.{done}
 use Rattle.tbr_program.specs.Closing.{closed}
 use Rattle.tbr_program.specs.Progress.{cell_meant}
-use Rattle.tbr_program.proofs.MeantCommands.{top_is_meant}
+use Rattle.tbr_stack.proofs.Tops.{top_meant}
 use Rattle.tbr_view.specs.Session.{openers}
 use Rattle.tbr_view.proofs.session.Session.finish.Goals as goal
 
@@ -21,5 +21,5 @@ returns-in-Ok-clause-lines g c =
     record {
       levels = ap openers c.in_ok-end.ensures.inside;
       cells = ap (map (cell_meant meaning)) c.in_ok-end.ensures.cells;
-      closes = top_is_meant meaning (λ r. ends_with stack.links r ≡ done lines) stack ends.0 ends.1 ends.2;
+      closes = (meant meaning ends.0, top_meant meaning stack ends.0 ends.1, ends.2);
     }
