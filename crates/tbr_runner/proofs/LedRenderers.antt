@@ -230,7 +230,7 @@ module _ {D M : Type 0} (columns : ℕ → Option ℕ) (decoration : Decoration 
 
   -- ---- such renderers
 
-  sized : (line : List ℕ) (command : Command) → IsCommand line command → Asks Led (λ width. 0 < width) led_on inside_led command
+  pub sized : (line : List ℕ) (command : Command) → IsCommand line command → Asks Led (λ width. 0 < width) led_on inside_led command
   sized line (sub width) is = is.writes.2.2
   sized line (cell width span align) is = is.writes.2.4.2
   sized line other is = tt
@@ -238,7 +238,7 @@ module _ {D M : Type 0} (columns : ℕ → Option ℕ) (decoration : Decoration 
   pub line_led : (p next : Progress D M (List M)) (number : ℕ) (line : List ℕ) → AreLed columns decoration p → LineMakes columns decoration number line p (Ok next) → AreLed columns decoration next
   line_led p next number line h does = line_keeps Led (λ width. 0 < width) led_on inside_led p h number line next (sized line) does
 
-  of_first : (ls : List (Level Top)) (r : Top) → first_renderer ls ≡ Some r → Each (λ (l : Level Top). Led l.renderer) ls → Led r
+  pub of_first : (ls : List (Level Top)) (r : Top) → first_renderer ls ≡ Some r → Each (λ (l : Level Top). Led l.renderer) ls → Led r
   of_first ls r top h = first_led Led (λ width. 0 < width) led_on inside_led ls r top h
 
   -- ---- the text
@@ -279,34 +279,36 @@ module _ {D M : Type 0} (columns : ℕ → Option ℕ) (decoration : Decoration 
   notes_stay targets [] r = refl
   notes_stay targets (t ∷ ts) r = notes_stay targets ts (with_line columns r t)
 
-  closed_led : (targets : List (List ℕ)) (r : Top) (text : List ℕ) → Led r → closed_text columns decoration targets r ≡ done text → IsTextOfLed columns decoration targets text
+  pub closed_led : (targets : List (List ℕ)) (r : Top) (text : List ℕ) → Led r → closed_text columns decoration targets r ≡ done text → (of : IsTextOfLed columns decoration targets text) × (handed_out columns r ≡ done (let m = of.renderer in m.lines))
   closed_led targets r text k h =
       let d = decoration.after r.decorator (change.finalise (listed r.options targets)) in
       let notes = footnotes_of columns decoration targets r in
       let (lines, made, is) = done_before (λ ls. encode_utf8_all (lines_text ls)) (lines_closed columns decoration targets r) text h in
       let (s, ended, are) = done_before (λ (q : Top). let t = with_notes columns notes q in t.lines) (after_flush columns (with_decorator d r)) lines made in
       let (m, first, same) = done_before (with_decorator d) (after_flush columns r) s (sym (block_alike d r r.block) ∙ ended) in
-      let stay = flush_keeps columns r m (footnotes_of columns decoration targets) (λ texts names. notes_stay targets texts (record r { block = None })) first in
-      record {
-        renderer = m;
-        led = led_on (call new_line) r m (live_goes r.failure (after_flush columns r) k.live ∙ first) k;
-        whole = flushed_none columns r m (flushes columns r m first);
-        is =
-            is ∙ ap (λ ls. encode_utf8_all (lines_text ls)) (are ∙ ap (λ (q : Top). let t = with_notes columns notes q in t.lines) same ∙ notes_alike d notes m)
-            ∙ ap (λ (ns : List (List (Element M))). encode_utf8_all (lines_text (let t = with_notes columns ns m in t.lines))) (sym stay);
-      }
+      let stay = flush_keeps columns r m (footnotes_of columns decoration targets) (λ texts names. notes_stay targets texts (record r { block = None })) first in (
+        record {
+          renderer = m;
+          led = led_on (call new_line) r m (live_goes r.failure (after_flush columns r) k.live ∙ first) k;
+          whole = flushed_none columns r m (flushes columns r m first);
+          is =
+              is ∙ ap (λ ls. encode_utf8_all (lines_text ls)) (are ∙ ap (λ (q : Top). let t = with_notes columns notes q in t.lines) same ∙ notes_alike d notes m)
+              ∙ ap (λ (ns : List (List (Element M))). encode_utf8_all (lines_text (let t = with_notes columns ns m in t.lines))) (sym stay);
+        },
+        live_goes r.failure (changed (λ (q : Top). q.lines) (after_flush columns r)) k.live ∙ ap (changed (λ (q : Top). q.lines)) first,
+      )
 
   lines_led : (number : ℕ) (lines : List (List ℕ)) (p q : Progress D M (List M)) → AreLed columns decoration p → LinesDo columns decoration p number lines q → AreLed columns decoration q
   lines_led number [] p q h same = subst (AreLed columns decoration) (sym same) h
   lines_led number (line ∷ lines) p q h (next, does, lead) = lines_led (number + 1) lines next q (line_led p next number line h does) lead
 
   -- the renderer whose text the end gives
-  at_end : (number : ℕ) (p : Progress D M (List M)) (text : List ℕ) → Ok text ≡ ended columns decoration number p → (r : Top) × (top_of p.stack ≡ Some r) × (closed_text columns decoration p.stack.links r ≡ done text)
+  pub at_end : (number : ℕ) (p : Progress D M (List M)) (text : List ℕ) → Ok text ≡ ended columns decoration number p → (r : Top) × (top_of p.stack ≡ Some r) × (closed_text columns decoration p.stack.links r ≡ done text) × (p.opened ≡ []) × (p.pending.cells ≡ [])
   at_end number p text is =
       let (none_open, first) = none_are p.opened (NotACommand number) _ (Ok text) (λ no. no) tt (sym is) in
       let (none_wait, next) = none_are p.pending.cells (NotACommand number) _ (Ok text) (λ no. no) tt first in
       let (r, top, gives) = of_top (top_of p.stack) _ (Ok text) tt next in
-      (r, top, answer_done (closed_text columns decoration p.stack.links r) text gives)
+      (r, top, answer_done (closed_text columns decoration p.stack.links r) text gives, none_open, none_wait)
 
   -- it comes of the script's own renderer, after all lines
   pub text_led : (p : Progress D M (List M)) (number : ℕ) (lines : List (List ℕ)) (text : List ℕ) → AreLed columns decoration p → LinesGive columns decoration p number lines (Ok text) →
@@ -314,8 +316,8 @@ module _ {D M : Type 0} (columns : ℕ → Option ℕ) (decoration : Decoration 
   text_led p number lines text h gives =
       let end = lines_end columns decoration p number lines text gives in
       let there = end.there in
-      let (r, top, is) = at_end end.last there text end.ends in
-      let led = closed_led there.stack.links r text (of_first there.stack.levels r top (let all = lines_led number lines p there h end.lead in all.on_stack)) is in
+      let (r, top, is, none_open, none_wait) = at_end end.last there text end.ends in
+      let (led, gives_it) = closed_led there.stack.links r text (of_first there.stack.levels r top (let all = lines_led number lines p there h end.lead in all.on_stack)) is in
       let steps = lines_step columns decoration number lines end.commands p there end.ask end.lead in
       (end.commands, end.ask, subst (λ ts. IsTextOfLed columns decoration ts text) (targets_come columns decoration (stack_calls end.commands) p.stack there.stack steps) led)
 

@@ -5,3 +5,4 @@ pub mod LedRenderers
 pub mod TwoColumns
 pub mod OneScript
 pub mod ShownTexts
+pub mod KeptTexts

@@ -1,0 +1,5 @@
+use Rattle.tbr_runner.proofs.KeptTexts.{started_keeps_all, line_keeps_all, text_keeps}
+use Rattle.tbr_runner.proofs.laws.no_visible_character_of_a_script_is_lost.Goals as goal
+
+pub returns : goal.returns
+returns g c = record { first = started_keeps_all; line = line_keeps_all; text = text_keeps }
