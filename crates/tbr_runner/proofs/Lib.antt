@@ -5,4 +5,6 @@ pub mod LedRenderers
 pub mod TwoColumns
 pub mod OneScript
 pub mod ShownTexts
+pub mod CameToRenderers
+pub mod OneRowCells
 pub mod KeptTexts
