@@ -1,7 +1,7 @@
 //! A script as a whole.
 ghost use Rattle.std.specs.Prelude.{◌≡◌, ◌≢◌, ℕ, List, length, take, Ok};
 ghost use Rattle.tbr_tagged.specs.UnicodeColumns.{unicode_columns};
-ghost use Rattle.tbr_runner.specs.Scripts.{Gives};
+ghost use Rattle.tbr_runner.specs.Scripts.{rendered};
 
 use std::alloc::Global;
 use tbr_c_lines::Fault;
@@ -22,7 +22,7 @@ pub struct Answer {
 #[unsafe(no_mangle)]
 pub extern "C" fn tbr1_render(alloc: Global, script: &[u8], out: &mut [u8]) -> Answer
     ensures room { length out.new ≡ length out.old }
-    ensures text { result.status ≡ 0 → (text : List ℕ) × Gives unicode_columns script.now (Ok text)
+    ensures text { result.status ≡ 0 → (text : List ℕ) × (rendered unicode_columns script.now ≡ Ok text)
         × (result.length ≡ length text) × (take (length text) out.new ≡ take (length out.old) text) }
 {
     match render::<UnicodeColumns, _>(alloc, script) {

@@ -5,3 +5,4 @@ pub mod OpeningWords
 pub mod Commands
 pub mod OneCommand
 pub mod OneOpening
+pub mod Reading

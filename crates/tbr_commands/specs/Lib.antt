@@ -4,3 +4,4 @@ pub mod Syntax
 pub mod Options
 pub mod Opening
 pub mod Begun
+pub mod Read

@@ -54,3 +54,8 @@ module _ {D A M R : Type 0} (meaning : A → M) (make : Progress D M (List M) �
   runs_refused (Ok x) e is h = absurd is
   runs_refused (Err x) block.TooNarrow is h = record { ok = tt; goes_on = tt; refused = λ _. subst (λ y. make (progress_meant meaning old) ≡ Err y) (sym is) (h refl); left = λ _ other. absurd (other is) }
   runs_refused (Err x) block.OutOfMemory is h = runs_out (Err x) is
+
+-- what makes the same of a program is run too
+pub runs_as : {D A M R : Type 0} (meaning : A → M) (make other : Progress D M (List M) → Result (Progress D M (List M)) RunError) (old new : Progress D A (Vec A)) (result : Result R RunError) → make (progress_meant meaning old) ≡ other (progress_meant meaning old) → Runs meaning make old result new → Runs meaning other old result new
+runs_as meaning make other old new (Ok x) same runs = record { ok = sym same ∙ runs.ok; goes_on = runs.goes_on; refused = tt; left = tt }
+runs_as meaning make other old new (Err e) same runs = record { ok = tt; goes_on = tt; refused = λ some. sym same ∙ runs.refused some; left = runs.left }

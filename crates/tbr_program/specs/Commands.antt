@@ -20,7 +20,7 @@ use Rattle.tbr_stack.specs.Links.{open_links, after_link_start, after_link_end}
 use Rattle.tbr_commands.specs.declared.opening.Opening.{Opening}
 use Rattle.tbr_commands.specs.Request.{Request, call_of}
 use Rattle.tbr_commands.specs.Command.{Command, ask, link, end_link, sub, append, cell, end_cell, row, vertical_row}
-use Rattle.tbr_commands.specs.Syntax.{IsCommand}
+use Rattle.tbr_commands.specs.Read.{command_read}
 use Rattle.tbr_commands.specs.Begun.{ends_nothing, counted}
 use Rattle.tbr_program.specs.declared.opened.Opener.{Opener}
 use Rattle.tbr_program.specs.declared.opened.Opener.TheVariants.{Sub, Cell}
@@ -158,11 +158,13 @@ module _ {D M : Type 0} (columns : ℕ → Option ℕ) (decoration : Decoration 
   -- ---- lines
 
   -- What the line of this number makes of a script. An empty line is skipped, and one that is no command is refused.
-  abbrev pub LineMakes : ℕ → List ℕ → Place → Made → Type 0
-  LineMakes number [] p made = made ≡ Ok p
-  LineMakes number (b ∷ bs) p made =
-      (((command : Command) → IsCommand (b ∷ bs) command → ⊥) × (made ≡ Err (NotACommand number)))
-      ⊎ ((command : Command) × IsCommand (b ∷ bs) command × (made ≡ after_command number command p))
+  abbrev pub after_read : ℕ → Option Command → Place → Made
+  after_read number None p = Err (NotACommand number)
+  after_read number (Some command) p = after_command number command p
+
+  abbrev pub after_line : ℕ → List ℕ → Place → Made
+  after_line number [] p = Ok p
+  after_line number (b ∷ bs) p = after_read number (command_read (b ∷ bs)) p
 
   -- What the end of a script gives, which counts as the line of this number: its text with the footnotes of its links.
   -- Where a level is open or a cell waits, the end is no command.

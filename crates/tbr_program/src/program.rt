@@ -19,7 +19,7 @@ ghost use Rattle.tbr_commands.specs.Command.{command_of, IsSized};
 ghost use Rattle.tbr_commands.specs.Command as asked;
 ghost use Rattle.tbr_program.specs.Progress.{progress_meant, nothing_pending, opener, Closes, IsSpanned, GoesOn};
 ghost use Rattle.tbr_program.specs.Closing.{closed};
-ghost use Rattle.tbr_program.specs.Commands.{Runs, level_opened, after_command, LineMakes, ended};
+ghost use Rattle.tbr_program.specs.Commands.{Runs, level_opened, after_command, after_line, ended};
 
 use crate::closing::{close, close_lines};
 use crate::opened::{OpenLevels, Opener};
@@ -87,13 +87,8 @@ impl<D: TextDecorator, W: CharWidth> Program<D, W> {
     /// `TooNarrow` the program isn't to be used any more. Each other refusal leaves it as it was.
     pub fn run_line(&mut self, alloc: Global, number: usize, line: &[u8]) -> Result<(), RunError>
         requires { GoesOn self.old }
-        ensures done { OnOk result (LineMakes W.columns (decoration_of D.TextDecorator) number line.now
-            (progress_meant D.meaning self.old) (Ok (progress_meant D.meaning self.new))) }
-        ensures goes_on { OnOk result (GoesOn self.new) }
-        ensures refused { IfErr result (λ e. e ≢ RunError.OutOfMemory →
-            LineMakes W.columns (decoration_of D.TextDecorator) number line.now
-            (progress_meant D.meaning self.old) (Err e)) }
-        ensures left { IfErr result (λ e. e ≢ RunError.OutOfMemory → e ≢ RunError.TooNarrow → self.new ≡ self.old) }
+        ensures runs { Runs D.meaning (after_line W.columns (decoration_of D.TextDecorator) number line.now)
+            self.old result self.new }
     {
         if line.is_empty() {
             return Ok(());

@@ -1,5 +1,5 @@
 -- Where in a script is what came to one of its renderers: in it, or in lines that others took from it.
-use Rattle.std.proofs.Common.{◌≡◌, ◌≤◌, ◌<◌, ◌^◌, ◌-◌, ◌+◌, ◌⊎◌, inl, inr, ℕ, zero, suc, Bool, Option, None, Some, Result, Ok, List, [], ◌∷◌, ◌++◌, drop, length, take, replicate, chars, refl, ap, sym, ◌∙◌, subst, arith, append_assoc}
+use Rattle.std.proofs.Common.{◌≡◌, ◌≤◌, ◌<◌, ◌^◌, ◌+◌, ◌⊎◌, inl, inr, ℕ, zero, suc, Bool, Option, None, Some, Result, Ok, List, [], ◌∷◌, ◌++◌, drop, length, take, replicate, chars, refl, ap, sym, ◌∙◌, subst, arith, append_assoc}
 use Rattle.std.specs.List.{AllByRecursion as Each}
 use Rattle.std.specs.Cmp.Lexicographic.{pointwise}
 use Rattle.std.proofs.lemmas.List.{length-take, length-replicate}
@@ -12,7 +12,7 @@ use Rattle.tbr_decor.specs.Decoration.{Decoration}
 use Rattle.tbr_decor.specs.Start as start
 use Rattle.tbr_decor.specs.End as end
 use Rattle.text_block_renderer.specs.Line.{Line}
-use Rattle.tbr_renderer.specs.Outcomes.{changed, run, taking, gathered}
+use Rattle.tbr_renderer.specs.Outcomes.{changed, run, gathered}
 use Rattle.tbr_renderer.proofs.OutcomeParts.{done_first, done_before, taken}
 use Rattle.text_block_renderer.specs.Renderer.{Renderer}
 use Rattle.text_block_renderer.specs.Rows.{spots_of, GivenCell, next_align, cell_given, cells_given, after_row}

@@ -1,11 +1,10 @@
 -- What came to a renderer of a script is in the lines of its text.
-use Rattle.std.proofs.Common.{◌≡◌, ◌<◌, ◌-◌, ◌+◌, inl, inr, ℕ, false, Option, Some, Ok, List, [], ◌∷◌, ◌++◌, length, append-nil, ◌≢◌, refl, ap, sym, ◌∙◌, subst, arith}
+use Rattle.std.proofs.Common.{◌≡◌, ◌<◌, ◌+◌, inl, ℕ, false, Option, Some, Ok, List, [], ◌∷◌, ◌++◌, length, append-nil, ◌≢◌, refl, ap, sym, ◌∙◌, subst, arith}
 use Rattle.std.specs.List.{AllByRecursion as Each}
 use Rattle.tbr_model.specs.Run.{Entry}
 use Rattle.tbr_model.specs.Hard.{visible_glyphs}
 use Rattle.tbr_tagged.specs.Outcome.{done}
 use Rattle.tbr_decor.specs.Decoration.{Decoration}
-use Rattle.tbr_decor.specs.End as end
 use Rattle.text_block_renderer.specs.Line.{Line, text, border}
 use Rattle.text_block_renderer.specs.Renderer.{Renderer}
 use Rattle.text_block_renderer.specs.Decorated.{sub_renderer}
@@ -15,16 +14,16 @@ use Rattle.text_block_renderer.specs.Taken.{StandWithin, text_before, written}
 use Rattle.text_block_renderer.proofs.TakenLines.{all_within}
 use Rattle.text_block_renderer.proofs.VisibleCharacters.{all_handed_out}
 use Rattle.text_block_renderer.proofs.Within.{within_on, two_within, itself_within, after_within}
-use Rattle.tbr_stack.specs.Stack.{top_of, below}
-use Rattle.tbr_stack.specs.Links.{opened}
-use Rattle.tbr_commands.specs.Command.{Command, ask, append}
+use Rattle.tbr_stack.specs.Stack.{top_of}
+use Rattle.tbr_commands.specs.Command.{Command}
 use Rattle.tbr_program.specs.Progress.{Progress}
-use Rattle.tbr_program.specs.Commands.{LineMakes}
+use Rattle.tbr_program.specs.Commands.{after_line}
 use Rattle.tbr_program.proofs.CommandParts.{one_ok}
 use Rattle.tbr_runner.specs.Led.{IsLed, AllAre}
 use Rattle.tbr_runner.specs.Kept.{LineAsksForOneRow, KeepsAll, IsShort, TextKeeps}
-use Rattle.tbr_runner.specs.Scripts.{LinesGive}
+use Rattle.tbr_runner.specs.Scripts.{rendered_on}
 use Rattle.tbr_runner.specs.StackCalls.{stack_calls, link_targets, AskFor, LinesDo}
+use Rattle.tbr_runner.proofs.RenderedLines.{line_command}
 use Rattle.tbr_runner.proofs.StackCalls.{lines_step, lines_end}
 use Rattle.text_block_renderer.proofs.LinkNumbers.{targets_come}
 use Rattle.text_block_renderer.proofs.ActParts.{acts_along}
@@ -66,7 +65,7 @@ module _ {D M : Type 0} (columns : ℕ → Option ℕ) (decoration : Decoration 
   led_of : (p : Progress D M (List M)) → AllAre Unpadded p → AllAre (IsLed columns decoration) p
   led_of p h = record { on_stack = each_weaker (λ level k. k.0) p.stack.levels h.on_stack; waiting = each_weaker (λ c k. k.0) p.pending.cells h.waiting; below = each_weaker (λ o wait. each_weaker (λ c k. k.0) (let w = o.below in w.cells) wait) p.opened h.below }
 
-  pub line_keeps_all : (p next : Progress D M (List M)) (number : ℕ) (line : List ℕ) → KeepsAll columns decoration p → LineAsksForOneRow line → LineMakes columns decoration number line p (Ok next) → KeepsAll columns decoration next
+  pub line_keeps_all : (p next : Progress D M (List M)) (number : ℕ) (line : List ℕ) → KeepsAll columns decoration p → LineAsksForOneRow line → after_line columns decoration number line p ≡ Ok next → KeepsAll columns decoration next
   line_keeps_all p next number line keeps one makes =
       let shape = go line one makes in
       record {
@@ -80,10 +79,11 @@ module _ {D M : Type 0} (columns : ℕ → Option ℕ) (decoration : Decoration 
       here : Shape p
       here = record { levels = keeps.levels; waiting = keeps.waiting; opened = keeps.opened; below_them = keeps.below }
 
-      go : (line : List ℕ) → LineAsksForOneRow line → LineMakes columns decoration number line p (Ok next) → Shape next
-      go [] asks e = subst Shape (one_ok next p e) here
-      go (b ∷ bs) asks (inl (none, is)) = absurd (let no : ⊥ = cc is in no)
-      go (b ∷ bs) asks (inr (command, is, made)) = command_shape columns decoration number command p next (asks command is) (sym made) here
+      go : (line : List ℕ) → LineAsksForOneRow line → after_line columns decoration number line p ≡ Ok next → Shape next
+      go [] asks e = subst Shape (sym (one_ok p next e)) here
+      go (b ∷ bs) asks e =
+          let (command, is, makes) = line_command columns decoration number p (Ok next) tt b bs e in
+          command_shape columns decoration number command p next (asks command is) makes here
 
   pub started_keeps_all : columns 32 ≡ Some 1 → (opening : Opening) (decorator : D) → 0 < opening.width → opening.options.wrap_width ≢ Some 0 → opening.options.pad_block_width ≡ false → KeepsAll columns decoration (started {M = M} opening decorator)
   started_keeps_all space opening decorator wide some unpadded =
@@ -96,10 +96,11 @@ module _ {D M : Type 0} (columns : ℕ → Option ℕ) (decoration : Decoration 
     abbrev In : Progress D M (List M) → Type 0
     In p = IsIn columns decoration first es p
 
-    line_has : (number : ℕ) (line : List ℕ) (p next : Progress D M (List M)) → KeepsAll columns decoration p → IsShort columns decoration p → LineMakes columns decoration number line p (Ok next) → In p → In next
-    line_has number [] p next keeps short e h = subst In (one_ok next p e) h
-    line_has number (b ∷ bs) p next keeps short (inl (none, is)) h = absurd (let no : ⊥ = cc is in no)
-    line_has number (b ∷ bs) p next keeps short (inr (command, is, made)) h = command_has columns decoration first es number command p next keeps short (led_of p keeps.renderers) (sym made) h
+    line_has : (number : ℕ) (line : List ℕ) (p next : Progress D M (List M)) → KeepsAll columns decoration p → IsShort columns decoration p → after_line columns decoration number line p ≡ Ok next → In p → In next
+    line_has number [] p next keeps short e h = subst In (sym (one_ok p next e)) h
+    line_has number (b ∷ bs) p next keeps short e h =
+        let (command, is, makes) = line_command columns decoration number p (Ok next) tt b bs e in
+        command_has columns decoration first es number command p next keeps short (led_of p keeps.renderers) makes h
 
     lines_keep : (number : ℕ) (lines : List (List ℕ)) (p q : Progress D M (List M)) → KeepsAll columns decoration p → Each LineAsksForOneRow lines → ((front back : List (List ℕ)) (there : Progress D M (List M)) → lines ≡ front ++ back → LinesDo columns decoration p number front there → IsShort columns decoration there) →
         LinesDo columns decoration p number lines q → In p → KeepsAll columns decoration q × In q
@@ -111,7 +112,7 @@ module _ {D M : Type 0} (columns : ℕ → Option ℕ) (decoration : Decoration 
 
   -- what came to the renderer on top, and later, is in the lines of the text
   pub text_keeps : (p : Progress D M (List M)) (number : ℕ) (lines : List (List ℕ)) (bytes : List ℕ) (r : Renderer D M (List M)) → KeepsAll columns decoration p → Each LineAsksForOneRow lines → ((front back : List (List ℕ)) (there : Progress D M (List M)) → lines ≡ front ++ back → LinesDo columns decoration p number front there → IsShort columns decoration there) →
-      top_of p.stack ≡ Some r → (led : IsLed columns decoration r) → led.first.options.pad_block_width ≡ false → LinesGive columns decoration p number lines (Ok bytes) →
+      top_of p.stack ≡ Some r → (led : IsLed columns decoration r) → led.first.options.pad_block_width ≡ false → rendered_on columns decoration number lines p ≡ Ok bytes →
       (commands : List Command) × AskFor lines commands × TextKeeps columns decoration (p.stack.links ++ link_targets commands) bytes (acts_brought columns decoration led.acts led.first)
   text_keeps p number lines bytes r keeps one short is_top led unpadded gives =
       let es = acts_brought columns decoration led.acts led.first in

@@ -11,6 +11,9 @@ use Rattle.tbr_decor.specs.End as end
 use Rattle.tbr_renderer.specs.Outcomes.{changed, taking, gathered}
 use Rattle.tbr_renderer.proofs.OutcomeParts.{done_first, done_before, taken}
 use Rattle.tbr_commands.specs.declared.opening.Opening.{Opening}
+use Rattle.tbr_commands.specs.Opening.{IsOpening}
+use Rattle.tbr_commands.specs.Read.{opening_read}
+use Rattle.tbr_commands.proofs.Reading.{read_opening}
 use Rattle.tbr_commands.specs.Request.{call_of}
 use Rattle.tbr_commands.specs.Command.{Command, ask, link, end_link, sub, append, cell, end_cell, row, vertical_row}
 use Rattle.tbr_commands.specs.Syntax.{IsCommand}
@@ -44,14 +47,14 @@ use Rattle.std.specs.Prelude.{encode_utf8_all}
 use Rattle.text_block_renderer.specs.Text.{lines_text}
 use Rattle.text_block_renderer.proofs.Settings.{call_beside}
 use Rattle.text_block_renderer.proofs.RowsOfCells.{row_laid, failure_stays}
-use Rattle.tbr_runner.specs.Scripts.{LinesGive, OpensUnder, Begins, Gives}
+use Rattle.tbr_runner.specs.Scripts.{rendered_on, rendered_under, rendered_by, rendered_from, rendered}
 use Rattle.tbr_rows.specs.Cells.{row_fits}
 use Rattle.text_block_renderer.specs.Rows.{spots_of}
 use Rattle.text_block_renderer.specs.Appended.{handed_out}
 use Rattle.tbr_script.specs.declared.error.RunError.{RunError}
 use Rattle.tbr_script.specs.declared.error.RunError.TheVariants.{NotACommand, NothingToEnd, RowDoesNotFit}
 use Rattle.tbr_commands.specs.Begun.{ends_nothing, counted}
-use Rattle.tbr_program.specs.Commands.{with_stack, level_opened, block_made, block_joined, request_made, cells_waiting, row_made, vertical_made, after_command, LineMakes, ended, started}
+use Rattle.tbr_program.specs.Commands.{with_stack, level_opened, block_made, block_joined, request_made, cells_waiting, row_made, vertical_made, after_command, after_line, ended, started}
 use Rattle.tbr_program.proofs.CommandParts.{one_ok, unless, if_so, none_are, some_are, of_top, answer_done, stack_done, opens, Ends, block_ends, cell_ends}
 use Rattle.text_block_renderer.specs.Renderer.{Open, Renderer, IsSound, new_renderer, with_line, has_content}
 use Rattle.text_block_renderer.specs.Calls.{Call, new_line, begin, finish, add_inline_text, append_subrender, append_vert_row, after}
@@ -63,6 +66,7 @@ use Rattle.text_block_renderer.proofs.ActParts.{acts_along}
 use Rattle.text_block_renderer.proofs.SoundRenderers.{new_sound, inside_sound}
 use Rattle.text_block_renderer.proofs.LinkNumbers.{targets_come}
 use Rattle.tbr_runner.specs.StackCalls.{stack_calls, link_targets, AskFor, AskAfterFirst, LinesDo}
+use Rattle.tbr_runner.proofs.RenderedLines.{line_command}
 use Rattle.tbr_runner.proofs.StackCalls.{lines_step, lines_end}
 use Rattle.tbr_runner.specs.Led.{IsFresh, IsLed, CellsAre, AllAre, AreLed, IsTextOfLed, IsTextOfScript}
 
@@ -223,10 +227,11 @@ module _ {D M : Type 0} (columns : ℕ → Option ℕ) (decoration : Decoration 
         on_top_led p next h (without_cells p.pending) tt (vertical_made columns decoration p.pending)
         (taken_led (gathered (handed_out columns) (renderers_of p.pending.cells)) _ (λ cells r q e k. called (append_vert_row cells) r q e k)) is
 
-    pub line_keeps : (p : Progress D M (List M)) → AllAre Is p → (number : ℕ) (line : List ℕ) (next : Progress D M (List M)) → ((command : Command) → IsCommand line command → Asks command) → LineMakes columns decoration number line p (Ok next) → AllAre Is next
-    line_keeps p h number [] next asks e = subst (AllAre Is) (one_ok next p e) h
-    line_keeps p h number (b ∷ bs) next asks (inl (none, is)) = absurd (let no : ⊥ = cc is in no)
-    line_keeps p h number (b ∷ bs) next asks (inr (command, is, made)) = command_led number command p next h (asks command is) (sym made)
+    pub line_keeps : (p : Progress D M (List M)) → AllAre Is p → (number : ℕ) (line : List ℕ) (next : Progress D M (List M)) → ((command : Command) → IsCommand line command → Asks command) → after_line columns decoration number line p ≡ Ok next → AllAre Is next
+    line_keeps p h number [] next asks e = subst (AllAre Is) (sym (one_ok p next e)) h
+    line_keeps p h number (b ∷ bs) next asks e =
+        let (command, is, makes) = line_command columns decoration number p (Ok next) tt b bs e in
+        command_led number command p next h (asks command is) makes
 
   -- ---- such renderers
 
@@ -235,7 +240,7 @@ module _ {D M : Type 0} (columns : ℕ → Option ℕ) (decoration : Decoration 
   sized line (cell width span align) is = is.writes.2.4.2
   sized line other is = tt
 
-  pub line_led : (p next : Progress D M (List M)) (number : ℕ) (line : List ℕ) → AreLed columns decoration p → LineMakes columns decoration number line p (Ok next) → AreLed columns decoration next
+  pub line_led : (p next : Progress D M (List M)) (number : ℕ) (line : List ℕ) → AreLed columns decoration p → after_line columns decoration number line p ≡ Ok next → AreLed columns decoration next
   line_led p next number line h does = line_keeps Led (λ width. 0 < width) led_on inside_led p h number line next (sized line) does
 
   pub of_first : (ls : List (Level Top)) (r : Top) → first_renderer ls ≡ Some r → Each (λ (l : Level Top). Led l.renderer) ls → Led r
@@ -303,15 +308,15 @@ module _ {D M : Type 0} (columns : ℕ → Option ℕ) (decoration : Decoration 
   lines_led number (line ∷ lines) p q h (next, does, lead) = lines_led (number + 1) lines next q (line_led p next number line h does) lead
 
   -- the renderer whose text the end gives
-  pub at_end : (number : ℕ) (p : Progress D M (List M)) (text : List ℕ) → Ok text ≡ ended columns decoration number p → (r : Top) × (top_of p.stack ≡ Some r) × (closed_text columns decoration p.stack.links r ≡ done text) × (p.opened ≡ []) × (p.pending.cells ≡ [])
+  pub at_end : (number : ℕ) (p : Progress D M (List M)) (text : List ℕ) → ended columns decoration number p ≡ Ok text → (r : Top) × (top_of p.stack ≡ Some r) × (closed_text columns decoration p.stack.links r ≡ done text) × (p.opened ≡ []) × (p.pending.cells ≡ [])
   at_end number p text is =
-      let (none_open, first) = none_are p.opened (NotACommand number) _ (Ok text) (λ no. no) tt (sym is) in
+      let (none_open, first) = none_are p.opened (NotACommand number) _ (Ok text) (λ no. no) tt is in
       let (none_wait, next) = none_are p.pending.cells (NotACommand number) _ (Ok text) (λ no. no) tt first in
       let (r, top, gives) = of_top (top_of p.stack) _ (Ok text) tt next in
       (r, top, answer_done (closed_text columns decoration p.stack.links r) text gives, none_open, none_wait)
 
   -- it comes of the script's own renderer, after all lines
-  pub text_led : (p : Progress D M (List M)) (number : ℕ) (lines : List (List ℕ)) (text : List ℕ) → AreLed columns decoration p → LinesGive columns decoration p number lines (Ok text) →
+  pub text_led : (p : Progress D M (List M)) (number : ℕ) (lines : List (List ℕ)) (text : List ℕ) → AreLed columns decoration p → rendered_on columns decoration number lines p ≡ Ok text →
       (commands : List Command) × AskFor lines commands × IsTextOfLed columns decoration (p.stack.links ++ link_targets commands) text
   text_led p number lines text h gives =
       let end = lines_end columns decoration p number lines text gives in
@@ -348,7 +353,7 @@ module _ (columns : ℕ → Option ℕ) (space : columns 32 ≡ Some 1) where
   wraps : (words : List (List ℕ)) (options : RenderOptions) → AreOptions words options → options.wrap_width ≢ Some 0
   wraps words options (settings, all, is) = subst (λ (o : RenderOptions). o.wrap_width ≢ Some 0) (sym is) (some_wrap words settings default_options all (λ none. cc))
 
-  under_led : (decorator : Decorator) (opening : Opening) (number : ℕ) (lines : List (List ℕ)) (text : List ℕ) → 0 < opening.width → opening.options.wrap_width ≢ Some 0 → OpensUnder columns decorator opening number lines (Ok text) →
+  under_led : (decorator : Decorator) (opening : Opening) (number : ℕ) (lines : List (List ℕ)) (text : List ℕ) → 0 < opening.width → opening.options.wrap_width ≢ Some 0 → rendered_under columns decorator opening number lines ≡ Ok text →
       (commands : List Command) × AskFor lines commands × IsTextOfScript columns (link_targets commands) text
   under_led Plain opening number lines text wide some h =
       let (commands, asks, led) = text_led columns plain_decoration (started opening (record {})) number lines text (started_led columns plain_decoration space opening (record {}) wide some) h in
@@ -360,13 +365,17 @@ module _ (columns : ℕ → Option ℕ) (space : columns 32 ≡ Some 1) where
       let (commands, asks, led) = text_led columns rich_decoration (started opening (record {})) number lines text (started_led columns rich_decoration space opening (record {}) wide some) h in
       (commands, asks, inr (inr led))
 
-  begins_led : (number : ℕ) (lines : List (List ℕ)) (text : List ℕ) → Begins columns number lines (Ok text) → (commands : List Command) × AskAfterFirst lines commands × IsTextOfScript columns (link_targets commands) text
+  begins_led : (number : ℕ) (lines : List (List ℕ)) (text : List ℕ) → rendered_from columns number lines ≡ Ok text → (commands : List Command) × AskAfterFirst lines commands × IsTextOfScript columns (link_targets commands) text
   begins_led number [] text h = cc
   begins_led number ([] ∷ lines) text h = begins_led (number + 1) lines text h
-  begins_led number ((b ∷ bs) ∷ lines) text (inl (none, is)) = cc
-  begins_led number ((b ∷ bs) ∷ lines) text (inr (opening, is, opens)) =
-      let (digits, words, are, size, options) = is.asks in
-      under_led opening.decorator opening (number + 1) lines text size.2 (wraps words opening.options options) opens
+  begins_led number ((b ∷ bs) ∷ lines) text h = read_led (opening_read (b ∷ bs)) (read_opening (b ∷ bs)) h
+    where
+      read_led : (read : Option Opening) → ((opening : Opening) → read ≡ Some opening → IsOpening (b ∷ bs) opening) → rendered_by columns read number lines ≡ Ok text → (commands : List Command) × AskFor lines commands × IsTextOfScript columns (link_targets commands) text
+      read_led None is h = cc
+      read_led (Some opening) is h =
+          let asked = is opening refl in
+          let (digits, words, are, size, options) = asked.asks in
+          under_led opening.decorator opening (number + 1) lines text size.2 (wraps words opening.options options) h
 
-  pub script_led : (script text : List ℕ) → Gives columns script (Ok text) → (commands : List Command) × AskAfterFirst (lines_of script) commands × IsTextOfScript columns (link_targets commands) text
+  pub script_led : (script text : List ℕ) → rendered columns script ≡ Ok text → (commands : List Command) × AskAfterFirst (lines_of script) commands × IsTextOfScript columns (link_targets commands) text
   script_led script text h = begins_led 1 (lines_of script) text h

@@ -1,9 +1,8 @@
-pub mod LinesGive
+pub mod RenderedLines
 pub mod ScriptRefusals
 pub mod StackCalls
 pub mod LedRenderers
 pub mod TwoColumns
-pub mod OneScript
 pub mod ShownTexts
 pub mod CameToRenderers
 pub mod OneRowCells

@@ -1,5 +1,5 @@
 -- The levels of a script whose cells span one row.
-use Rattle.std.proofs.Common.{◌≡◌, ◌-◌, ◌+◌, ℕ, Option, Result, Ok, List, [], ◌∷◌, drop, length, chars, refl, ap, sym, ◌∙◌, subst, arith}
+use Rattle.std.proofs.Common.{◌≡◌, ◌+◌, ℕ, Option, Result, Ok, List, [], ◌∷◌, drop, length, chars, refl, ap, sym, ◌∙◌, subst, arith}
 use Rattle.std.specs.List.{AllByRecursion as Each}
 use Rattle.tbr_tagged.specs.Outcome.{Outcome}
 use Rattle.tbr_rows.specs.Cells.{row_fits}
@@ -19,7 +19,6 @@ use Rattle.tbr_commands.specs.Begun.{ends_nothing, counted}
 use Rattle.tbr_commands.specs.Command.{Command, ask, link, end_link, sub, append, cell, end_cell, row, vertical_row}
 use Rattle.tbr_program.specs.declared.opened.Opener.{Opener}
 use Rattle.tbr_program.specs.declared.opened.Opener.TheVariants.{Sub, Cell}
-use Rattle.tbr_program.specs.Prefixes.{others}
 use Rattle.tbr_program.specs.Progress.{Pending, Opened, Progress, without_cells}
 use Rattle.tbr_program.specs.Commands.{with_stack, level_opened, block_made, block_joined, request_made, row_made, vertical_made, after_command}
 use Rattle.tbr_program.proofs.CommandParts.{one_ok, unless, if_so, some_are, of_top, stack_done, opens, Ends, block_ends, cell_ends}

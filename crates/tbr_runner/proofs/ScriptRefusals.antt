@@ -1,5 +1,5 @@
 -- But for memory, what a line or the end of a script is refused with, the script itself gives.
-use Rattle.std.proofs.Common.{◌≡◌, ◌≢◌, ℕ, Bool, true, false, if◌then◌else◌, Option, None, Some, List, [], ◌∷◌, Result, Ok, Err, IfErr, refl, sym, subst, inl, inr}
+use Rattle.std.proofs.Common.{◌≡◌, ◌≢◌, ℕ, Bool, true, false, if◌then◌else◌, Option, None, Some, List, [], ◌∷◌, Result, Ok, Err, IfErr, refl, sym, subst}
 use Rattle.tbr_tagged.specs.Outcome.{Outcome, done, refused}
 use Rattle.tbr_tagged.specs.declared.Error.TheVariants as E
 use Rattle.tbr_rows.specs.Cells.{row_fits}
@@ -12,10 +12,11 @@ use Rattle.tbr_stack.specs.Stack.{top_of}
 use Rattle.tbr_stack.specs.Links.{open_links}
 use Rattle.tbr_commands.specs.Command.{Command, ask, link, end_link, sub, append, cell, end_cell, row, vertical_row}
 use Rattle.tbr_commands.specs.Begun.{ends_nothing}
+use Rattle.tbr_commands.specs.Read.{command_read}
 use Rattle.tbr_program.specs.declared.opened.Opener.{Opener}
 use Rattle.tbr_program.specs.declared.opened.Opener.TheVariants.{Sub, Cell}
 use Rattle.tbr_program.specs.Progress.{Opened}
-use Rattle.tbr_program.specs.Commands.{Top, Place, Made, answered, on_top, if_some_are, ended_as, level_ended, block_joined, joins, waits, after_command, LineMakes, ended}
+use Rattle.tbr_program.specs.Commands.{Top, Place, Made, answered, on_top, if_some_are, ended_as, level_ended, block_joined, joins, waits, after_command, after_read, after_line, ended}
 
 pub if_err_is : {X E : Type 0} (P : E → Type 0) (r : Result X E) (y : E) → r ≡ Err y → P y → IfErr r P
 if_err_is P r y is h = subst (λ q. IfErr q P) (sym is) h
@@ -74,13 +75,16 @@ module _ {D M : Type 0} (columns : ℕ → Option ℕ) (decoration : Decoration 
   command_of_script (row collapse) p = of_top (top_of p.stack) _ (λ r. either (row_fits r.hanging (spots_of columns p.pending.cells)) _ _ (answer _) (λ _. tt))
   command_of_script vertical_row p = answer _
 
-  allowed_as : {X : Type 0} (m : Result X RunError) (e : RunError) → Err e ≡ m → IsAllowed m → e ≢ OutOfMemory → IsOfScript e
-  allowed_as m e is of_it = subst IsAllowed (sym is) of_it
+  allowed_as : {X : Type 0} (m : Result X RunError) (e : RunError) → m ≡ Err e → IsAllowed m → e ≢ OutOfMemory → IsOfScript e
+  allowed_as m e is of_it = subst IsAllowed is of_it
 
-  pub line_of_script : (p : Place columns decoration) (line : List ℕ) (e : RunError) → LineMakes columns decoration number line p (Err e) → e ≢ OutOfMemory → IsOfScript e
+  read_of_script : (read : Option Command) (p : Place columns decoration) → IsAllowed (after_read columns decoration number read p)
+  read_of_script None p = λ _. tt
+  read_of_script (Some command) p = command_of_script command p
+
+  pub line_of_script : (p : Place columns decoration) (line : List ℕ) (e : RunError) → after_line columns decoration number line p ≡ Err e → e ≢ OutOfMemory → IsOfScript e
   line_of_script p [] e is = allowed_as (Ok p) e is tt
-  line_of_script p (b ∷ bs) e (inl (none, is)) = allowed_as _ e is (λ _. tt)
-  line_of_script p (b ∷ bs) e (inr (command, asks, is)) = allowed_as (after_command columns decoration number command p) e is (command_of_script command p)
+  line_of_script p (b ∷ bs) e is = allowed_as _ e is (read_of_script (command_read (b ∷ bs)) p)
 
   pub end_of_script : (p : Place columns decoration) (e : RunError) → ended columns decoration number p ≡ Err e → e ≢ OutOfMemory → IsOfScript e
-  end_of_script p e is = allowed_as (ended columns decoration number p) e (sym is) (of_some p.opened _ _ (λ _. tt) (of_some p.pending.cells _ _ (λ _. tt) (of_top (top_of p.stack) _ (λ r. answer _))))
+  end_of_script p e is = allowed_as (ended columns decoration number p) e is (of_some p.opened _ _ (λ _. tt) (of_some p.pending.cells _ _ (λ _. tt) (of_top (top_of p.stack) _ (λ r. answer _))))

@@ -11,7 +11,6 @@ use Rattle.tbr_stack.specs.Links.{open_links, after_link_end}
 use Rattle.tbr_stack.specs.StackCalls.{StackCall, change_top, push, IsNextToEnd, StackSteps, after_end_as}
 use Rattle.tbr_stack.proofs.Tops.{top_changed}
 use Rattle.tbr_commands.specs.Command.{Command, ask, link, end_link, sub, append, cell, end_cell, row, vertical_row}
-use Rattle.tbr_commands.proofs.OneCommand.{command_once}
 use Rattle.tbr_program.specs.Progress.{Pending, Progress, without_cells}
 use Rattle.tbr_rows.specs.Cells.{row_fits}
 use Rattle.text_block_renderer.specs.Rows.{spots_of}
@@ -19,9 +18,11 @@ use Rattle.tbr_script.specs.declared.error.RunError.TheVariants.{NothingToEnd, R
 use Rattle.tbr_commands.specs.Begun.{ends_nothing, counted}
 use Rattle.tbr_program.specs.declared.opened.Opener.{Opener}
 use Rattle.tbr_program.specs.declared.opened.Opener.TheVariants.{Sub, Cell}
-use Rattle.tbr_program.specs.Commands.{with_stack, level_opened, block_made, request_made, row_made, vertical_made, after_command, ended}
+use Rattle.tbr_program.specs.Commands.{with_stack, level_opened, block_made, request_made, row_made, vertical_made, after_command, after_read, after_line, ended}
+use Rattle.tbr_commands.proofs.Reading.{command_is_read}
 use Rattle.tbr_program.proofs.CommandParts.{one_ok, unless, if_so, some_are, of_top, stack_done, opens, block_ends, cell_ends}
-use Rattle.tbr_runner.specs.Scripts.{LinesGive}
+use Rattle.tbr_runner.specs.Scripts.{rendered_on}
+use Rattle.tbr_runner.proofs.RenderedLines.{Parts, line_parts, line_command}
 use Rattle.tbr_runner.specs.StackCalls.{calls_of, stack_calls, AskFor, LinesDo}
 
 module _ {D M : Type 0} (columns : ℕ → Option ℕ) (decoration : Decoration D M) where
@@ -74,11 +75,9 @@ module _ {D M : Type 0} (columns : ℕ → Option ℕ) (decoration : Decoration 
   pub lines_step : (number : ℕ) (lines : List (List ℕ)) (commands : List Command) (p q : Progress D M (List M)) → AskFor lines commands → LinesDo columns decoration p number lines q → Steps (stack_calls commands) p.stack q.stack
   lines_step number [] commands p q none same = subst (λ cs. Steps (stack_calls cs) p.stack q.stack) (sym none) (ap (λ (o : Progress D M (List M)). o.stack) same)
   lines_step number ([] ∷ lines) commands p q asks (next, same, lead) =
-      subst (λ (o : Progress D M (List M)). Steps (stack_calls commands) o.stack q.stack) (sym (one_ok next p same)) (lines_step (number + 1) lines commands next q asks lead)
-  lines_step number ((b ∷ bs) ∷ lines) commands p q (command, others, is, are, asks) (next, inl (none, refuses), lead) = absurd (none command is)
-  lines_step number ((b ∷ bs) ∷ lines) commands p q (command, others, is, are, asks) (next, inr (other, other_is, made), lead) =
-      let same = command_once (b ∷ bs) other command other_is is in
-      let first = command_steps number command p next (ap (λ c. after_command columns decoration number c p) (sym same) ∙ sym made) in
+      subst (λ (o : Progress D M (List M)). Steps (stack_calls commands) o.stack q.stack) (one_ok p next same) (lines_step (number + 1) lines commands next q asks lead)
+  lines_step number ((b ∷ bs) ∷ lines) commands p q (command, others, is, are, asks) (next, does, lead) =
+      let first = command_steps number command p next (sym (ap (λ read. after_read columns decoration number read p) (command_is_read (b ∷ bs) command is)) ∙ does) in
       subst (λ cs. Steps (stack_calls cs) p.stack q.stack) (sym are)
       (steps_append (calls_of command) (stack_calls others) p.stack next.stack q.stack first (lines_step (number + 1) lines others next q asks lead))
 
@@ -97,15 +96,18 @@ module _ {D M : Type 0} (columns : ℕ → Option ℕ) (decoration : Decoration 
     pub last : ℕ
     pub ask : AskFor lines commands
     pub lead : LinesDo columns decoration p number lines there
-    pub ends : Ok text ≡ ended columns decoration last there
+    pub ends : ended columns decoration last there ≡ Ok text
 
-  pub lines_end : (p : Progress D M (List M)) (number : ℕ) (lines : List (List ℕ)) (text : List ℕ) → LinesGive columns decoration p number lines (Ok text) → End p number lines text
+  pub lines_end : (p : Progress D M (List M)) (number : ℕ) (lines : List (List ℕ)) (text : List ℕ) → rendered_on columns decoration number lines p ≡ Ok text → End p number lines text
   lines_end p number [] text ends = record { commands = []; there = p; last = number; ask = refl; lead = refl; ends = ends }
-  lines_end p number (line ∷ lines) text (inl (e, refuses, is)) = absurd (let no : ⊥ = cc is in no)
-  lines_end p number ([] ∷ lines) text (inr (next, same, gives)) =
-      let end = lines_end next (number + 1) lines text gives in
-      record { commands = end.commands; there = end.there; last = end.last; ask = end.ask; lead = (next, same, end.lead); ends = end.ends }
-  lines_end p number ((b ∷ bs) ∷ lines) text (inr (next, inl (none, is), gives)) = absurd (let no : ⊥ = cc is in no)
-  lines_end p number ((b ∷ bs) ∷ lines) text (inr (next, inr (command, is, made), gives)) =
-      let end = lines_end next (number + 1) lines text gives in
-      record { commands = command ∷ end.commands; there = end.there; last = end.last; ask = (command, end.commands, is, refl, end.ask); lead = (next, inr (command, is, made), end.lead); ends = end.ends }
+  lines_end p number (line ∷ lines) text gives = after_first (λ next gives. lines_end next (number + 1) lines text gives) line (line_parts columns decoration number p line lines (Ok text) gives)
+    where
+      after_first : ((next : Progress D M (List M)) → rendered_on columns decoration (number + 1) lines next ≡ Ok text → End next (number + 1) lines text) → (line : List ℕ) → Parts columns decoration number (after_line columns decoration number line p) lines (Ok text) → End p number (line ∷ lines) text
+      after_first others line (inl (e, refuses, is)) = absurd (let no : ⊥ = cc is in no)
+      after_first others [] (inr (next, does, gives)) =
+          let end = others next gives in
+          record { commands = end.commands; there = end.there; last = end.last; ask = end.ask; lead = (next, does, end.lead); ends = end.ends }
+      after_first others (b ∷ bs) (inr (next, does, gives)) =
+          let end = others next gives in
+          let (command, is, makes) = line_command columns decoration number p (Ok next) tt b bs does in
+          record { commands = command ∷ end.commands; there = end.there; last = end.last; ask = (command, end.commands, is, refl, end.ask); lead = (next, does, end.lead); ends = end.ends }

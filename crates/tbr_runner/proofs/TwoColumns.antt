@@ -32,7 +32,7 @@ use Rattle.tbr_program.specs.Closing.{with_notes, footnotes_of, closed as lines_
 use Rattle.tbr_rows.specs.Cells.{row_fits}
 use Rattle.tbr_commands.specs.Begun.{ends_nothing, counted}
 use Rattle.tbr_program.specs.Prefixes.{prefixes}
-use Rattle.tbr_program.specs.Commands.{with_stack, level_opened, block_made, request_made, cells_waiting, row_made, vertical_made, after_command, LineMakes, ended, started}
+use Rattle.tbr_program.specs.Commands.{with_stack, level_opened, block_made, request_made, cells_waiting, row_made, vertical_made, Place, after_command, after_line, ended, started}
 use Rattle.tbr_program.proofs.CommandParts.{unless, if_so, none_are, some_are, of_top, answer_narrow, stack_narrow, block_ends, cell_ends}
 use Rattle.text_block_renderer.specs.Renderer.{new_renderer, least, block_width}
 use Rattle.text_block_renderer.specs.Line.{Line}
@@ -48,8 +48,9 @@ use Rattle.text_block_renderer.proofs.ActSteps.{one_act}
 use Rattle.text_block_renderer.specs.Headline.{TakeTwoAtMost}
 use Rattle.text_block_renderer.proofs.ActParts.{acts_along}
 use Rattle.text_block_renderer.proofs.TwoColumns.{act_fits}
-use Rattle.tbr_runner.specs.Scripts.{LinesGive}
+use Rattle.tbr_runner.specs.Scripts.{rendered_on}
 use Rattle.tbr_runner.specs.Led.{AllAre, LineAsksForTwo}
+use Rattle.tbr_runner.proofs.RenderedLines.{Parts, line_parts, line_command}
 use Rattle.tbr_runner.proofs.LedRenderers.{Top, Led, with_decorator, led_on, led_sound, nothing_came, inside_led, first_led, others_led, line_keeps}
 
 -- ---- the lesser of two widths
@@ -190,10 +191,11 @@ module _ {D M : Type 0} (columns : ℕ → Option ℕ) (decoration : Decoration 
         no_change (record p { pending = without_cells p.pending }) (vertical_made columns decoration p.pending) p.stack h.on_stack
         (λ r two e. takes_all (gathered (handed_out columns) (renderers_of p.pending.cells)) (λ cells. after columns decoration (append_vert_row cells)) r two (all_hand_out p.pending.cells h.waiting) (λ cells narrow_there. no_call (append_vert_row cells) r two narrow_there) e) is
 
-    no_line : (number : ℕ) (line : List ℕ) → LineMakes columns decoration number line p (Err TooNarrow) → ⊥
+    no_line : (number : ℕ) (line : List ℕ) → after_line columns decoration number line p ≡ Err TooNarrow → ⊥
     no_line number [] is = cc is
-    no_line number (b ∷ bs) (inl (none, is)) = cc is
-    no_line number (b ∷ bs) (inr (command, is, made)) = no_command number command (sym made)
+    no_line number (b ∷ bs) is =
+        let (command, asks, makes) = line_command columns decoration number p (Err TooNarrow) tt b bs is in
+        no_command number command makes
 
     no_text : (targets : List (List ℕ)) (r : Top columns decoration) → top_of p.stack ≡ Some r → closed_text columns decoration targets r ≡ refused E.TooNarrow → ⊥
     no_text targets r top e =
@@ -209,14 +211,17 @@ module _ {D M : Type 0} (columns : ℕ → Option ℕ) (decoration : Decoration 
         let (r, top, gives) = of_top (top_of p.stack) _ (Err TooNarrow) tt next in
         no_text p.stack.links r top (answer_narrow (closed_text columns decoration p.stack.links r) gives)
 
-  no_lines : (p : Progress D M (List M)) (number : ℕ) (lines : List (List ℕ)) → AllAre Two p → Each LineAsksForTwo lines → LinesGive columns decoration p number lines (Err TooNarrow) → ⊥
-  no_lines p number [] h asks is = no_end_of_script p h number (sym is)
-  no_lines p number (line ∷ lines) h asks (inl (e, refuses, is)) =
-      no_line p h number line (subst (λ x. LineMakes columns decoration number line p (Err x)) (let same : e ≡ TooNarrow = cc is in same) refuses)
-  no_lines p number (line ∷ lines) h asks (inr (next, does, gives)) =
-      no_lines next (number + 1) lines (line_keeps columns decoration Two (λ width. 2 ≤ width) two_on two_inside p h number line next asks.0 does) asks.1 gives
+  no_lines : (p : Progress D M (List M)) (number : ℕ) (lines : List (List ℕ)) → AllAre Two p → Each LineAsksForTwo lines → rendered_on columns decoration number lines p ≡ Err TooNarrow → ⊥
+  no_lines p number [] h asks is = no_end_of_script p h number is
+  no_lines p number (line ∷ lines) h asks is = either (λ next two gives. no_lines next (number + 1) lines two asks.1 gives) (line_parts columns decoration number p line lines (Err TooNarrow) is)
+    where
+      either : ((next : Place columns decoration) → AllAre Two next → rendered_on columns decoration (number + 1) lines next ≡ Err TooNarrow → ⊥) → Parts columns decoration number (after_line columns decoration number line p) lines (Err TooNarrow) → ⊥
+      either others (inl (e, refuses, same)) =
+          no_line p h number line (subst (λ x. after_line columns decoration number line p ≡ Err x) (let narrow : e ≡ TooNarrow = cc same in narrow) refuses)
+      either others (inr (next, does, gives)) =
+          others next (line_keeps columns decoration Two (λ width. 2 ≤ width) two_on two_inside p h number line next asks.0 does) gives
 
-  pub not_too_narrow : (opening : Opening) (decorator : D) → 2 ≤ least opening.width opening.options.wrap_width → (number : ℕ) (lines : List (List ℕ)) → Each LineAsksForTwo lines → LinesGive columns decoration (started opening decorator) number lines (Err TooNarrow) → ⊥
+  pub not_too_narrow : (opening : Opening) (decorator : D) → 2 ≤ least opening.width opening.options.wrap_width → (number : ℕ) (lines : List (List ℕ)) → Each LineAsksForTwo lines → rendered_on columns decoration number lines (started opening decorator) ≡ Err TooNarrow → ⊥
   not_too_narrow opening decorator wide number lines asks h =
       let r : Top columns decoration = new_renderer opening.width opening.options decorator in
       let led = nothing_came columns decoration r (record { lines = refl; block = refl; waiting = refl; hanging = refl }) (record { space = space; wide = omega (arith, wide) }) refl in

@@ -5,7 +5,7 @@ use Rattle.tbr_stack.specs.StackCalls.{StackCall, change_top, push, pop, start_l
 use Rattle.tbr_commands.specs.Command.{Command, link, end_link, sub, append, cell, end_cell}
 use Rattle.tbr_commands.specs.Syntax.{IsCommand}
 use Rattle.tbr_program.specs.Progress.{Progress}
-use Rattle.tbr_program.specs.Commands.{LineMakes}
+use Rattle.tbr_program.specs.Commands.{after_line}
 
 -- ---- commands
 
@@ -48,5 +48,5 @@ abbrev pub LinesDo : {D M : Type 0} → (ℕ → Option ℕ) → Decoration D M 
     Progress D M (List M) → ℕ → List (List ℕ) → Progress D M (List M) → Type 0
 LinesDo columns decoration p number [] q = q ≡ p
 LinesDo {D} {M} columns decoration p number (line ∷ lines) q =
-    (next : Progress D M (List M)) × LineMakes columns decoration number line p (Ok next)
+    (next : Progress D M (List M)) × (after_line columns decoration number line p ≡ Ok next)
     × LinesDo columns decoration next (number + 1) lines q

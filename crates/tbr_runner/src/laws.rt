@@ -1,5 +1,5 @@
 //! What holds of the meaning of scripts, as the contract of a function that does nothing.
-ghost use Rattle.std.specs.Prelude.{false, ◌≡◌, ◌≢◌, ◌<◌, ◌≤◌, ◌+◌, ℕ, List, length, [], ◌∷◌, ◌++◌, Option, Some, Ok, Err, Result};
+ghost use Rattle.std.specs.Prelude.{false, ◌≡◌, ◌≢◌, ◌<◌, ◌≤◌, ◌+◌, ℕ, List, length, [], ◌∷◌, ◌++◌, Option, Some, Ok, Err};
 ghost use Rattle.tbr_decor.specs.Decoration.{Decoration};
 ghost use Rattle.tbr_commands.specs.declared.opening.Opening.{Opening};
 ghost use Rattle.tbr_stack.specs.Links.{after_link_end};
@@ -10,7 +10,7 @@ ghost use Rattle.text_block_renderer.specs.MarkersStand.{Stands};
 ghost use Rattle.text_block_renderer.specs.Acts.{acts_brought};
 ghost use Rattle.text_block_renderer.specs.Headline.{Headline, TakeTwoAtMost};
 ghost use Rattle.tbr_program.specs.Progress.{Progress};
-ghost use Rattle.tbr_program.specs.Commands.{after_command, LineMakes, started};
+ghost use Rattle.tbr_program.specs.Commands.{after_command, after_line, started};
 ghost use Rattle.tbr_script.specs.Script.{lines_of};
 ghost use Rattle.tbr_commands.specs.Command.{Command, link};
 ghost use Rattle.tbr_runner.specs.StackCalls.{stack_calls, link_targets, AskFor, AskAfterFirst, LinesDo};
@@ -19,14 +19,7 @@ ghost use Rattle.tbr_runner.specs.Kept.{LineAsksForOneRow, KeepsAll, IsShort, Te
 ghost use Rattle.tbr_runner.specs.Led.{IsLed, AreLed, IsTextOfLed, IsTextOfScript, LineAsksForTwo};
 ghost use Rattle.std.specs.List.{AllByRecursion as Each};
 ghost use Rattle.tbr_script.specs.declared.error.RunError.TheVariants.{TooNarrow};
-ghost use Rattle.tbr_runner.specs.Scripts.{LinesGive, Gives};
-ghost use Rattle.tbr_script.specs.declared.error.RunError.{RunError};
-
-/// A script gives one thing: a text, or a refusal with its line.
-pub fn a_script_gives_one_thing()
-    ensures { (columns : ℕ → Option ℕ) (script : List ℕ) (one other : Result (List ℕ) RunError) →
-        Gives columns script one → Gives columns script other → one ≡ other }
-{}
+ghost use Rattle.tbr_runner.specs.Scripts.{rendered_on, rendered};
 
 /// Calls and rows lead to each renderer that a script fills, also to those of cells that wait, from a sound one to
 /// which nothing had come: first to the script's own, and then after each line. The script's text is that of such a
@@ -39,13 +32,13 @@ pub fn the_renderers_of_a_script_are_led_to<D, M>()
         AreLed columns decoration (started {M = M} opening decorator) }
     ensures line { (columns : ℕ → Option ℕ) (decoration : Decoration D M) (p next : Progress D M (List M))
         (number : ℕ) (line : List ℕ) → AreLed columns decoration p →
-        LineMakes columns decoration number line p (Ok next) → AreLed columns decoration next }
+        after_line columns decoration number line p ≡ Ok next → AreLed columns decoration next }
     ensures text { (columns : ℕ → Option ℕ) (decoration : Decoration D M) (p : Progress D M (List M)) (number : ℕ)
         (lines : List (List ℕ)) (text : List ℕ) → AreLed columns decoration p →
-        LinesGive columns decoration p number lines (Ok text) → (commands : List Command) × AskFor lines commands
+        rendered_on columns decoration number lines p ≡ Ok text → (commands : List Command) × AskFor lines commands
         × IsTextOfLed columns decoration (p.stack.links ++ link_targets commands) text }
     ensures script { (columns : ℕ → Option ℕ) → columns 32 ≡ Some 1 → (script text : List ℕ) →
-        Gives columns script (Ok text) → (commands : List Command)
+        rendered columns script ≡ Ok text → (commands : List Command)
         × AskAfterFirst (lines_of script) commands × IsTextOfScript columns (link_targets commands) text }
     ensures headline { (columns : ℕ → Option ℕ) (decoration : Decoration D M) (r : Renderer D M (List M)) →
         (led : IsLed columns decoration r) →
@@ -68,13 +61,13 @@ pub fn no_visible_character_of_a_script_is_lost<D, M>()
         opening.options.pad_block_width ≡ false → KeepsAll columns decoration (started {M = M} opening decorator) }
     ensures line { (columns : ℕ → Option ℕ) (decoration : Decoration D M) (p next : Progress D M (List M))
         (number : ℕ) (line : List ℕ) → KeepsAll columns decoration p → LineAsksForOneRow line →
-        LineMakes columns decoration number line p (Ok next) → KeepsAll columns decoration next }
+        after_line columns decoration number line p ≡ Ok next → KeepsAll columns decoration next }
     ensures text { (columns : ℕ → Option ℕ) (decoration : Decoration D M) (p : Progress D M (List M)) (number : ℕ)
         (lines : List (List ℕ)) (text : List ℕ) (r : Renderer D M (List M)) → KeepsAll columns decoration p →
         Each LineAsksForOneRow lines → ((front back : List (List ℕ)) (there : Progress D M (List M)) →
         lines ≡ front ++ back → LinesDo columns decoration p number front there → IsShort columns decoration there) →
         top_of p.stack ≡ Some r → (led : IsLed columns decoration r) → led.first.options.pad_block_width ≡ false →
-        LinesGive columns decoration p number lines (Ok text) → (commands : List Command) × AskFor lines commands
+        rendered_on columns decoration number lines p ≡ Ok text → (commands : List Command) × AskFor lines commands
         × TextKeeps columns decoration (p.stack.links ++ link_targets commands) text
         (acts_brought columns decoration led.acts led.first) }
 {}
@@ -85,7 +78,7 @@ pub fn a_script_of_two_columns_is_not_too_narrow<D, M>()
     ensures { (columns : ℕ → Option ℕ) (decoration : Decoration D M) → columns 32 ≡ Some 1 → TakeTwoAtMost columns →
         (opening : Opening) (decorator : D) → 2 ≤ least opening.width opening.options.wrap_width → (number : ℕ)
         (lines : List (List ℕ)) → Each LineAsksForTwo lines →
-        LinesGive columns decoration (started opening decorator) number lines (Err TooNarrow) → ⊥ }
+        rendered_on columns decoration number lines (started opening decorator) ≡ Err TooNarrow → ⊥ }
 {}
 
 /// What the lines of a script do to its stack is what calls on a stack do, so the laws of these hold of scripts. A link

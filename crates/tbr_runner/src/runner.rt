@@ -7,8 +7,7 @@ ghost use Rattle.tbr_decor.specs.Decoration.{decoration_of};
 ghost use Rattle.tbr_script.specs.Script.{lines_of};
 ghost use Rattle.tbr_program.specs.Progress.{progress_meant, GoesOn};
 ghost use Rattle.tbr_program.specs.Commands.{ended, started};
-ghost use Rattle.tbr_runner.specs.Scripts.{LinesGive, Opens, Gives};
-ghost use Rattle.tbr_script.specs.declared.error.RunError.{RunError as Refusal};
+ghost use Rattle.tbr_runner.specs.Scripts.{rendered_on, rendered_under, rendered};
 ghost use Rattle.tbr_script.specs.Refusal.{IsOfScript};
 
 use std::alloc::Global;
@@ -39,12 +38,12 @@ pub fn run<R: Source, S: Sink>(
 
     // Over a reader that tells its bytes, the text that they give is written.
     ensures text { OnOk result (IfSome (R.remaining reader.old) (λ script. (text : List ℕ)
-        × Gives unicode_columns script (Ok text)
+        × (rendered unicode_columns script ≡ Ok text)
         × Appends (S.contents writer.old) (S.contents writer.new) text)) }
 
     // A refusal of the script is the one that they give, with its line.
     ensures refusal { IfErr result (λ e. IsOfScript e →
-        IfSome (R.remaining reader.old) (λ script. Gives unicode_columns script (Err e))) }
+        IfSome (R.remaining reader.old) (λ script. rendered unicode_columns script ≡ Err e)) }
     ensures unwritten { IfErr result (λ e. e ≢ RunError.WriteFailed →
         Keeps (S.contents writer.old) (S.contents writer.new)) }
 
@@ -53,7 +52,7 @@ pub fn run<R: Source, S: Sink>(
     ensures write_failed { IsErrOf result RunError.WriteFailed ↔ (S.failed writer.new ≡ true) }
     ensures beginning { IsErrOf result RunError.WriteFailed →
         IfSome (R.remaining reader.old) (λ script. (text : List ℕ)
-        × Gives unicode_columns script (Ok text)
+        × (rendered unicode_columns script ≡ Ok text)
         × AppendsBeginning (S.contents writer.old) (S.contents writer.new) text) }
 {
     let script = read_script(alloc, reader)?;
@@ -88,8 +87,8 @@ pub fn render<W: CharWidth, B: AsSlice<u8> + Drop>(
     alloc: Global,
     script: B,
 ) -> Result<String, RunError>
-    ensures text { IfOk result (λ text. Gives W.columns (B.items script) (Ok (string_bytes text))) }
-    ensures refusal { IfErr result (λ e. e ≢ RunError.OutOfMemory → Gives W.columns (B.items script) (Err e)) }
+    ensures text { IfOk result (λ text. rendered W.columns (B.items script) ≡ Ok (string_bytes text)) }
+    ensures refusal { IfErr result (λ e. e ≢ RunError.OutOfMemory → rendered W.columns (B.items script) ≡ Err e) }
     ensures of_script { IfErr result (λ e. e ≢ RunError.OutOfMemory → IsOfScript e) }
 {
     let (opening, number, rest) = first_command(script.as_slice())?;
@@ -124,12 +123,12 @@ fn run_under<D: TextDecorator, W: CharWidth>(
     requires width { 0 < opening.width }
     requires wrap_width { opening.options.wrap_width ≢ Some 0 }
     requires number { number + length script.now < 2 ^ 64 }
-    ensures told { IfOk result (λ told. LinesGive W.columns (decoration_of D.TextDecorator)
-        (started opening decorator) number (lines_of script.now)
-        (ended W.columns (decoration_of D.TextDecorator) told.1 (progress_meant D.meaning told.0))) }
+    ensures told { IfOk result (λ told. rendered_on W.columns (decoration_of D.TextDecorator)
+        number (lines_of script.now) (started opening decorator)
+        ≡ ended W.columns (decoration_of D.TextDecorator) told.1 (progress_meant D.meaning told.0)) }
     ensures goes_on { IfOk result (λ told. GoesOn told.0) }
-    ensures refusal { IfErr result (λ e. e ≢ RunError.OutOfMemory → LinesGive W.columns (decoration_of D.TextDecorator)
-        (started opening decorator) number (lines_of script.now) (Err e)) }
+    ensures refusal { IfErr result (λ e. e ≢ RunError.OutOfMemory → rendered_on W.columns (decoration_of D.TextDecorator)
+        number (lines_of script.now) (started opening decorator) ≡ Err e) }
     ensures of_script { IfErr result (λ e. e ≢ RunError.OutOfMemory → IsOfScript e) }
 {
     let program = Program::<D, W>::new(alloc, opening.width, opening.options, decorator)?;
@@ -155,12 +154,12 @@ fn finish<D: TextDecorator, W: CharWidth, B: Drop>(
 
 /// The first command of a script, the number of the line after it, and what follows it.
 fn first_command(script: &[u8]) -> Result<(Opening, usize, &[u8]), RunError>
-    ensures found { IfOk result (λ r. (columns : ℕ → Option ℕ) (outcome : Result (List ℕ) Refusal) →
-        Opens columns r.0 r.1 (lines_of r.2.now) outcome → Gives columns script.now outcome) }
+    ensures found { IfOk result (λ r. (columns : ℕ → Option ℕ) →
+        rendered columns script.now ≡ rendered_under columns r.0.decorator r.0 r.1 (lines_of r.2.now)) }
     ensures bound { IfOk result (λ r. r.1 + length r.2.now ≤ length script.now + 1) }
     ensures width { IfOk result (λ r. 0 < r.0.width) }
     ensures wrap_width { IfOk result (λ r. r.0.options.wrap_width ≢ Some 0) }
-    ensures refused { IfErr result (λ e. (columns : ℕ → Option ℕ) → Gives columns script.now (Err e)) }
+    ensures refused { IfErr result (λ e. (columns : ℕ → Option ℕ) → rendered columns script.now ≡ Err e) }
     ensures of_script { IfErr result (λ e. IsOfScript e) }
 {
     let mut rest = script;
@@ -188,12 +187,12 @@ fn run_lines<D: TextDecorator, W: CharWidth>(
 ) -> Result<(Program<D, W>, usize), RunError>
     requires goes_on { GoesOn program }
     requires number { number + length script.now < 2 ^ 64 }
-    ensures told { IfOk result (λ told. LinesGive W.columns (decoration_of D.TextDecorator)
-        (progress_meant D.meaning program) number (lines_of script.now)
-        (ended W.columns (decoration_of D.TextDecorator) told.1 (progress_meant D.meaning told.0))) }
+    ensures told { IfOk result (λ told. rendered_on W.columns (decoration_of D.TextDecorator)
+        number (lines_of script.now) (progress_meant D.meaning program)
+        ≡ ended W.columns (decoration_of D.TextDecorator) told.1 (progress_meant D.meaning told.0)) }
     ensures goes_on { IfOk result (λ told. GoesOn told.0) }
-    ensures refusal { IfErr result (λ e. e ≢ RunError.OutOfMemory → LinesGive W.columns (decoration_of D.TextDecorator)
-        (progress_meant D.meaning program) number (lines_of script.now) (Err e)) }
+    ensures refusal { IfErr result (λ e. e ≢ RunError.OutOfMemory → rendered_on W.columns (decoration_of D.TextDecorator)
+        number (lines_of script.now) (progress_meant D.meaning program) ≡ Err e) }
     ensures of_script { IfErr result (λ e. e ≢ RunError.OutOfMemory → IsOfScript e) }
 {
     let mut program = program;

@@ -12,7 +12,7 @@ abbrev pub IsSplitAt : List ℕ → List ℕ → Option (Bor (List ℕ) × Bor (
 IsSplitAt p bs r = MatchOption r (FindsText p bs None) (λ x. (i : ℕ) × (j : ℕ) × FindsText p bs (Some (i, j)) × (x.0.now ≡ take i bs) × (x.1.now ≡ drop j bs) × (i ≤ j) × (length x.0.now ≡ i) × (length x.1.now + j ≡ length bs))
 
 -- what begins alike and is as long is the same
-same_front : (xs ys vs ws : List ℕ) → length xs ≡ length ys → xs ++ vs ≡ ys ++ ws → (xs ≡ ys) × (vs ≡ ws)
+pub same_front : (xs ys vs ws : List ℕ) → length xs ≡ length ys → xs ++ vs ≡ ys ++ ws → (xs ≡ ys) × (vs ≡ ws)
 same_front [] [] vs ws n e = (refl, e)
 same_front [] (y ∷ ys) vs ws n e = absurd (omega (arith, n))
 same_front (x ∷ xs) [] vs ws n e = absurd (omega (arith, n))

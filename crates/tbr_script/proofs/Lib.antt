@@ -4,3 +4,4 @@ pub mod Texts
 pub mod Bars
 pub mod FirstWord
 pub mod Optional
+pub mod Reading

@@ -2,3 +2,4 @@ pub mod Script
 pub mod Streams
 pub mod Refusal
 pub mod Report
+pub mod Read

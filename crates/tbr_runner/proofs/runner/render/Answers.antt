@@ -1,7 +1,7 @@
 use Rattle.std.proofs.Common.{◌≡◌, Ok, Err, string_bytes}
 use Rattle.tbr_commands.specs.declared.opening.Decorator.TheVariants.{Plain, Trivial, Rich}
 use Rattle.tbr_script.specs.Script.{lines_of}
-use Rattle.tbr_runner.proofs.LinesGive.{opened_under}
+use Rattle.tbr_runner.proofs.RenderedLines.{opened_under}
 use Rattle.tbr_program.proofs.Results.{if_ok_then, if_err_then}
 use Rattle.tbr_runner.proofs.runner.render.Goals as goal
 
@@ -12,7 +12,7 @@ returns-in_ok-program-in-Plain-clause-text g c =
     if_ok_then c.finish.result (λ text ends.
     let outcome = Ok (string_bytes text) in
     opened_under columns Plain o.opening o.number (lines_of o.rest.now) _ outcome c.as_slice.result.now script same c.in-Plain.is
-    (o.ensures.found columns outcome) p.ensures.told ends) c.finish.ensures.text
+    (o.ensures.found columns) p.ensures.told ends) c.finish.ensures.text
 
 pub returns-in_ok-program-in-Plain-clause-refusal : goal.returns-in_ok-program-in-Plain-clause-refusal
 returns-in_ok-program-in-Plain-clause-refusal g c =
@@ -20,7 +20,7 @@ returns-in_ok-program-in-Plain-clause-refusal g c =
     let script = g.B.AsSlice.items c.args.script in let same : c.as_slice.result.now ≡ script = c.as_slice.ensures in
     if_err_then c.finish.result (λ e ends found.
     opened_under columns Plain o.opening o.number (lines_of o.rest.now) _ (Err e) c.as_slice.result.now script same c.in-Plain.is
-    (o.ensures.found columns (Err e)) p.ensures.told (ends found)) c.finish.ensures.refused
+    (o.ensures.found columns) p.ensures.told (ends found)) c.finish.ensures.refused
 
 pub returns-in_ok-program-in-Trivial-clause-text : goal.returns-in_ok-program-in-Trivial-clause-text
 returns-in_ok-program-in-Trivial-clause-text g c =
@@ -29,7 +29,7 @@ returns-in_ok-program-in-Trivial-clause-text g c =
     if_ok_then c.finish-in-Trivial.result (λ text ends.
     let outcome = Ok (string_bytes text) in
     opened_under columns Trivial o.opening o.number (lines_of o.rest.now) _ outcome c.as_slice.result.now script same c.in-Trivial.is
-    (o.ensures.found columns outcome) p.ensures.told ends) c.finish-in-Trivial.ensures.text
+    (o.ensures.found columns) p.ensures.told ends) c.finish-in-Trivial.ensures.text
 
 pub returns-in_ok-program-in-Trivial-clause-refusal : goal.returns-in_ok-program-in-Trivial-clause-refusal
 returns-in_ok-program-in-Trivial-clause-refusal g c =
@@ -37,7 +37,7 @@ returns-in_ok-program-in-Trivial-clause-refusal g c =
     let script = g.B.AsSlice.items c.args.script in let same : c.as_slice.result.now ≡ script = c.as_slice.ensures in
     if_err_then c.finish-in-Trivial.result (λ e ends found.
     opened_under columns Trivial o.opening o.number (lines_of o.rest.now) _ (Err e) c.as_slice.result.now script same c.in-Trivial.is
-    (o.ensures.found columns (Err e)) p.ensures.told (ends found)) c.finish-in-Trivial.ensures.refused
+    (o.ensures.found columns) p.ensures.told (ends found)) c.finish-in-Trivial.ensures.refused
 
 pub returns-in_ok-program-in-Rich-clause-text : goal.returns-in_ok-program-in-Rich-clause-text
 returns-in_ok-program-in-Rich-clause-text g c =
@@ -46,7 +46,7 @@ returns-in_ok-program-in-Rich-clause-text g c =
     if_ok_then c.finish-in-Rich.result (λ text ends.
     let outcome = Ok (string_bytes text) in
     opened_under columns Rich o.opening o.number (lines_of o.rest.now) _ outcome c.as_slice.result.now script same c.in-Rich.is
-    (o.ensures.found columns outcome) p.ensures.told ends) c.finish-in-Rich.ensures.text
+    (o.ensures.found columns) p.ensures.told ends) c.finish-in-Rich.ensures.text
 
 pub returns-in_ok-program-in-Rich-clause-refusal : goal.returns-in_ok-program-in-Rich-clause-refusal
 returns-in_ok-program-in-Rich-clause-refusal g c =
@@ -54,4 +54,4 @@ returns-in_ok-program-in-Rich-clause-refusal g c =
     let script = g.B.AsSlice.items c.args.script in let same : c.as_slice.result.now ≡ script = c.as_slice.ensures in
     if_err_then c.finish-in-Rich.result (λ e ends found.
     opened_under columns Rich o.opening o.number (lines_of o.rest.now) _ (Err e) c.as_slice.result.now script same c.in-Rich.is
-    (o.ensures.found columns (Err e)) p.ensures.told (ends found)) c.finish-in-Rich.ensures.refused
+    (o.ensures.found columns) p.ensures.told (ends found)) c.finish-in-Rich.ensures.refused
