@@ -1,12 +1,11 @@
 -- Colours by their three parts.
-use Rattle.std.proofs.Common.{◌≡◌, ◌≢◌, ℕ, ◌<◌, List, ◌∷◌, ◌++◌, length, get_or, Some, None, lit<, lit≤, sym, ap, ◌∙◌, subst}
+use Rattle.std.proofs.Common.{◌≡◌, ◌≢◌, ℕ, ◌<◌, List, ◌∷◌, ◌++◌, length, get_or, Some, None, lit<, lit≤, sym, subst}
 use Rattle.std.specs.Borrow.{Bor}
-use Rattle.std.specs.Str.Parse.{digits_value}
 use Rattle.std.proofs.lemmas.Str.Pattern.{IsSplitOnceResult, split_after}
 use Rattle.tbr_decor.specs.declared.colour.Colour.{Colour}
 use Rattle.tbr_script.specs.Script.{IsByte}
-use Rattle.tbr_commands.specs.Syntax.{IsPart, IsColour}
-use Rattle.tbr_script.proofs.Texts.{not_a_digit, digits_end}
+use Rattle.tbr_commands.specs.Syntax.{IsColour}
+use Rattle.tbr_script.proofs.Texts.{not_a_digit}
 
 -- no digit is a space
 no_space : (digits : List ℕ) → IsByte digits → (i : ℕ) → i < length digits → get_or digits i 0 ≢ 32
@@ -42,17 +41,3 @@ module _ (bs : List ℕ) (x : Pair) (h : IsSplitOnceResult 32 bs (Some x)) where
 
     pub blue_is : (colour : Colour) → IsColour bs colour → IsByte y.1.now
     blue_is colour k = subst IsByte (sym (split_is x.1.now k.1 k.2 k.5.0 (after colour k).1 y g).1) k.6.0
-
--- ---- a colour is written by one
-
-same_parts : {x y : Colour} → x.r ≡ y.r → x.g ≡ y.g → x.b ≡ y.b → x ≡ y
-same_parts r g b = λ i. record { r = r i; g = g i; b = b i }
-
-part_once : (ds es : List ℕ) (m n : ℕ) → ds ≡ es → IsPart ds m → IsPart es n → m ≡ n
-part_once ds es m n e a b = a.1 ∙ ap (digits_value 10) e ∙ sym b.1
-
-pub colour_once : (bs : List ℕ) (c d : Colour) → IsColour bs c → IsColour bs d → c ≡ d
-colour_once bs c d a b =
-    let first = digits_end 10 32 a.0 b.0 (a.1 ++ 32 ∷ a.2) (b.1 ++ 32 ∷ b.2) (lit≤ tt) a.4.0.0.1 b.4.0.0.1 (sym a.3 ∙ b.3) in
-    let second = digits_end 10 32 a.1 b.1 a.2 b.2 (lit≤ tt) a.5.0.0.1 b.5.0.0.1 first.1 in
-    same_parts (part_once a.0 b.0 c.r d.r first.0 a.4 b.4) (part_once a.1 b.1 c.g d.g second.0 a.5 b.5) (part_once a.2 b.2 c.b d.b second.1 a.6 b.6)

@@ -1,11 +1,11 @@
 -- What is read of a line is the command, or the first command, that it is.
-use Rattle.std.proofs.Common.{◌≡◌, ◌⊎◌, inl, inr, ℕ, ◌<◌, ◌==◌, Bool, true, false, if◌then◌else◌, Option, None, Some, List, [], ◌∷◌, ◌++◌, codes, fold, refl, sym, ap, ◌∙◌, subst, arith, append_assoc}
+use Rattle.std.proofs.Common.{◌≡◌, ◌⊎◌, inl, inr, ℕ, ◌<◌, ◌==◌, true, false, Option, None, Some, List, [], ◌∷◌, ◌++◌, codes, fold, refl, sym, ap, ◌∙◌, subst, arith, append_assoc}
 use Rattle.std.specs.Char.{digit_value}
 use Rattle.std.specs.List.{AllZip, AllByRecursion as Each}
 use Rattle.std.specs.Option.{option_map, option_and_then}
 use Rattle.std.specs.Str.{IsUtf8, bytes_eq, is_utf8}
-use Rattle.std.specs.Str.Parse.{AllDigits, digits_value}
-use Rattle.std.proofs.lemmas.Bool.{false≢true, eqb-true}
+use Rattle.std.specs.Str.Parse.{AllDigits}
+use Rattle.std.proofs.lemmas.Bool.{eqb-true}
 use Rattle.std.proofs.lemmas.Bool.Decides.{nat_tests}
 use Rattle.std.proofs.lemmas.Slice.Eq.{bytes_eq-Decides}
 use Rattle.std.proofs.lemmas.Str.{IsUtf8-from_is_utf8, is_utf8-from_IsUtf8}
@@ -18,7 +18,7 @@ use Rattle.tbr_decor.specs.declared.colour.Colour.{Colour}
 use Rattle.tbr_renderer.specs.Options.{default_options}
 use Rattle.tbr_renderer.specs.declared.RenderOptions.{RenderOptions}
 use Rattle.tbr_renderer.specs.declared.ImageRenderMode.TheVariants.{IgnoreEmpty, ShowAlways, Replace, Filename}
-use Rattle.tbr_script.specs.Script.{words_of, IsByte, IsSize, IsText, AreSplitTexts}
+use Rattle.tbr_script.specs.Script.{words_of, IsText, AreSplitTexts}
 use Rattle.tbr_script.specs.Read.{byte_read, number_read, size_read, text_read, texts_read}
 use Rattle.tbr_script.proofs.Reading.{some_once, no_some, test, if_so, if_not, mapped, followed, number_written, written_number, size_written, written_size, byte_written, written_byte, text_written, written_text, texts_written, written_texts}
 use Rattle.tbr_commands.specs.declared.options.Setting.{Setting}
@@ -26,17 +26,14 @@ use Rattle.tbr_commands.specs.declared.options.Setting.TheVariants.{Wrap, Overfl
 use Rattle.tbr_commands.specs.declared.opening.Decorator.{Decorator}
 use Rattle.tbr_commands.specs.declared.opening.Decorator.TheVariants.{Plain, Trivial, Rich}
 use Rattle.tbr_commands.specs.declared.opening.Opening.{Opening}
-use Rattle.tbr_commands.specs.declared.request.layout.Layout.{Layout}
 use Rattle.tbr_commands.specs.declared.request.layout.Layout.TheVariants.{StartBlock, EndBlock, StartTable, NewLine, HardNewLine, EmptyLine}
-use Rattle.tbr_commands.specs.declared.request.beginning.Beginning.{Beginning}
 use Rattle.tbr_commands.specs.declared.request.beginning.Beginning.TheVariants as beginning
-use Rattle.tbr_commands.specs.declared.request.kind.Kind.{Kind}
 use Rattle.tbr_commands.specs.declared.request.kind.Kind.TheVariants as kind
-use Rattle.tbr_commands.specs.Options.{IsSetting, with_setting, AreOptions}
+use Rattle.tbr_commands.specs.Options.{IsSetting, with_setting}
 use Rattle.tbr_commands.specs.Opening.{name_of, AsksFor, IsOpening}
 use Rattle.tbr_commands.specs.Request.{Request, layout, begin, end, text, fragment, image, colour, border}
 use Rattle.tbr_commands.specs.Command.{Command, ask, link, end_link, sub, append, cell, end_cell, row, vertical_row}
-use Rattle.tbr_commands.specs.Syntax.{layout_name, beginning_name, ending_name, IsAlone, HasArgument, IsColour, IsAlignment, IsNewCell, IsOfLevels, IsWritten, IsCommand}
+use Rattle.tbr_commands.specs.Syntax.{IsAlone, HasArgument, IsColour, IsAlignment, IsNewCell, IsWritten, IsCommand}
 use Rattle.tbr_commands.specs.Read.{first_of, looked_up, after_word, argument_after, names, colour_of, alignment_of, cell_of, argument_read, command_read, settings, setting_read, settings_read, decorator_read, asked_for, opening_words, opening_read}
 
 -- ---- choices
@@ -250,9 +247,67 @@ command_written line (row true) is = ap read_line is
 command_written line vertical_row is = ap read_line is
 
 all_named : Each (λ (entry : List ℕ × Command). IsWritten entry.0 entry.1) names
-all_named = (inl refl, (inl refl, (inl refl, (inl refl, (inl refl, (inl refl, (inl refl, (inl refl, (inl refl, (inl refl,
-    (inl refl, (inl refl, (inl refl, (inl refl, (inl refl, (inl refl, (inl refl, (inl refl, (inl refl, (inl refl,
-    (inl refl, (inl refl, (inl refl, (inl refl, (inl refl, (refl, (refl, (refl, (refl, (refl, tt))))))))))))))))))))))))))))))
+all_named = (
+  inl refl,
+  (
+    inl refl,
+    (
+      inl refl,
+      (
+        inl refl,
+        (
+          inl refl,
+          (
+            inl refl,
+            (
+              inl refl,
+              (
+                inl refl,
+                (
+                  inl refl,
+                  (
+                    inl refl,
+                    (
+                      inl refl,
+                      (
+                        inl refl,
+                        (
+                          inl refl,
+                          (
+                            inl refl,
+                            (
+                              inl refl,
+                              (
+                                inl refl,
+                                (
+                                  inl refl,
+                                  (
+                                    inl refl,
+                                    (
+                                      inl refl,
+                                      (
+                                        inl refl,
+                                        (inl refl, (inl refl, (inl refl, (inl refl, (inl refl, (refl, (refl, (refl, (refl, (refl, tt)))))))))),
+                                      ),
+                                    ),
+                                  ),
+                                ),
+                              ),
+                            ),
+                          ),
+                        ),
+                      ),
+                    ),
+                  ),
+                ),
+              ),
+            ),
+          ),
+        ),
+      ),
+    ),
+  ),
+)
 
 module _ (line : List ℕ) where
   by_text : (make : List ℕ → Command) (word : List ℕ) (command : Command) → ((w t : List ℕ) → line ≡ word ++ (codes " " ++ w) → IsText w t → IsWritten line (make t)) → argument_after word (λ w. option_map make (text_read w)) line ≡ Some command → IsWritten line command

@@ -1,5 +1,5 @@
 -- The command that a line is, read from how it is written.
-use Rattle.std.specs.Prelude.{ℕ, ◌==◌, Bool, true, false, if◌then◌else◌, Option, None, Some, List, [], ◌∷◌, ◌++◌, codes, fold}
+use Rattle.std.specs.Prelude.{ℕ, ◌==◌, true, false, if◌then◌else◌, Option, None, Some, List, [], ◌∷◌, ◌++◌, codes, fold}
 use Rattle.std.specs.Option.{option_map, option_and_then}
 use Rattle.std.specs.Str.{bytes_eq, is_utf8}
 use Rattle.tbr_model.specs.Codes.{space_character}
@@ -9,7 +9,6 @@ use Rattle.tbr_tagged.specs.declared.CellAlign.TheVariants.{Left, Right, Centre}
 use Rattle.tbr_decor.specs.Ground as ground
 use Rattle.tbr_decor.specs.declared.colour.Colour.{Colour}
 use Rattle.tbr_renderer.specs.Options.{default_options}
-use Rattle.tbr_renderer.specs.declared.RenderOptions.{RenderOptions}
 use Rattle.tbr_renderer.specs.declared.ImageRenderMode.TheVariants.{IgnoreEmpty, ShowAlways, Filename}
 use Rattle.tbr_script.specs.Script.{words_of}
 use Rattle.tbr_script.specs.Read.{number_read, size_read, byte_read, text_read, texts_read}
@@ -73,7 +72,8 @@ names =
 -- a colour by its three parts
 abbrev pub colour_of : List (List ℕ) → Option Colour
 colour_of (red ∷ green ∷ blue ∷ []) =
-    option_and_then (λ r. option_and_then (λ g. option_map (λ b. record { r = r; g = g; b = b }) (byte_read blue)) (byte_read green))
+    option_and_then (λ r.
+    option_and_then (λ g. option_map (λ b. record { r = r; g = g; b = b }) (byte_read blue)) (byte_read green))
     (byte_read red)
 colour_of other = None
 
@@ -87,7 +87,8 @@ alignment_of other = None
 -- a cell by its words
 abbrev pub cell_of : List (List ℕ) → Option Command
 cell_of (digits ∷ others ∷ words) =
-    option_and_then (λ width. option_and_then (λ span. option_map (λ align. cell width span align) (alignment_of words)) (size_read others))
+    option_and_then (λ width.
+    option_and_then (λ span. option_map (λ align. cell width span align) (alignment_of words)) (size_read others))
     (size_read digits)
 cell_of other = None
 
@@ -98,8 +99,10 @@ argument_read line =
     (first_of (argument_after (codes "frag") (λ w. option_map (λ t. ask (fragment t)) (text_read w)) line)
     (first_of (argument_after (codes "link") (λ w. option_map link (text_read w)) line)
     (first_of (argument_after (codes "image") (λ w. option_map (λ p. ask (image p.0 p.1)) (texts_read w)) line)
-    (first_of (argument_after (codes "colour") (λ w. option_map (λ c. ask (colour ground.text c)) (colour_of (words_of w))) line)
-    (first_of (argument_after (codes "bg") (λ w. option_map (λ c. ask (colour ground.background c)) (colour_of (words_of w))) line)
+    (first_of (argument_after (codes "colour")
+    (λ w. option_map (λ c. ask (colour ground.text c)) (colour_of (words_of w))) line)
+    (first_of (argument_after (codes "bg")
+    (λ w. option_map (λ c. ask (colour ground.background c)) (colour_of (words_of w))) line)
     (first_of (argument_after (codes "border") (λ w. option_map (λ n. ask (border (Some n))) (number_read w)) line)
     (first_of (argument_after (codes "sub") (λ w. option_map sub (size_read w)) line)
     (first_of (argument_after (codes "append") (λ w. option_map (λ p. append p.0 p.1) (texts_read w)) line)

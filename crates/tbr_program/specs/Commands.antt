@@ -28,9 +28,9 @@ use Rattle.tbr_program.specs.Prefixes.{prefixes}
 use Rattle.tbr_program.specs.Progress.{Pending, Opened, Progress, nothing_pending, renderers_of, with_cell, without_cells, progress_meant, GoesOn}
 use Rattle.tbr_program.specs.Closing.{closed_text}
 
--- What a function runs that makes this of a program, by what its annotations mean. It is `Ok` only where it leaves that,
--- and refused only with the refusal that this is, but where memory is refused. But for `TooNarrow` a refusal leaves the
--- program as it was, and else it goes on.
+-- What a function runs that makes this of a program, by what its annotations mean. It is `Ok` only where it leaves
+-- that, and refused only with the refusal that this is, but where memory is refused. But for `TooNarrow` a refusal
+-- leaves the program as it was, and else it goes on.
 pub record Runs {D A M R : Type 0} (meaning : A → M)
     (make : Progress D M (List M) → Result (Progress D M (List M)) RunError) (old : Progress D A (Vec A))
     (result : Result R RunError) (new : Progress D A (Vec A)) : Type 0 where
@@ -83,7 +83,8 @@ module _ {D M : Type 0} (columns : ℕ → Option ℕ) (decoration : Decoration 
 
   -- The innermost level ends, if the command that opened it is to be ended here, and no cell waits. Its renderer is
   -- taken, and what was pending below it is pending again.
-  abbrev pub ended_as : ℕ → Option (Top → Place → Made) → Place → Pending D M (List M) → List (Opened D M (List M)) → Made
+  abbrev pub ended_as : ℕ → Option (Top → Place → Made) → Place → Pending D M (List M) →
+      List (Opened D M (List M)) → Made
   ended_as number None p pending opened = Err (NothingToEnd number)
   ended_as number (Some make) p pending opened =
       if_some_are p.pending.cells (Err (NotACommand number)) (on_top (top_of p.stack) (λ inside.

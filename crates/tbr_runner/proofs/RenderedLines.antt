@@ -67,10 +67,6 @@ module _ (columns : ℕ → Option ℕ) (number : ℕ) where
   nothing_begun [] none = refl
   nothing_begun (b ∷ bs) none = absurd (no_length (length bs) none)
 
-  pub line_skipped : (rest line after : List ℕ) → true ≡ (length line == 0) → lines_of rest ≡ line ∷ lines_of after → rendered_from columns number (lines_of rest) ≡ rendered_from columns (number + 1) (lines_of after)
-  line_skipped rest [] after none are = ap (rendered_from columns number) are
-  line_skipped rest (b ∷ bs) after none are = absurd (no_length (length bs) none)
-
   pub no_opening : (rest line after : List ℕ) → false ≡ (length line == 0) → lines_of rest ≡ line ∷ lines_of after → ((opening : Opening) → IsOpening line opening → ⊥) → rendered_from columns number (lines_of rest) ≡ Err (NotACommand number)
   no_opening rest [] after some are none = absurd (false≢true some)
   no_opening rest (b ∷ bs) after some are none =

@@ -17,8 +17,8 @@ abbrev pub unless_refused : {X Y : Type 0} → (X → Result Y RunError) → Res
 unless_refused make (Ok x) = make x
 unless_refused make (Err e) = Err e
 
--- What a script gives of which these lines are left, the first of them with this number: what its end gives after all of
--- them, or the first refusal.
+-- What a script gives of which these lines are left, the first of them with this number: what its end gives after all
+-- of them, or the first refusal.
 abbrev pub rendered_on : {D M : Type 0} →
     (ℕ → Option ℕ) → Decoration D M → ℕ → List (List ℕ) → Progress D M (List M) → Result (List ℕ) RunError
 rendered_on columns decoration number [] p = ended columns decoration number p

@@ -1,5 +1,5 @@
 //! What holds of the meaning of scripts, as the contract of a function that does nothing.
-ghost use Rattle.std.specs.Prelude.{false, ◌≡◌, ◌≢◌, ◌<◌, ◌≤◌, ◌+◌, ℕ, List, length, [], ◌∷◌, ◌++◌, Option, Some, Ok, Err};
+ghost use Rattle.std.specs.Prelude.{false, ◌≡◌, ◌↔◌, ◌≢◌, ◌<◌, ◌≤◌, ◌+◌, ℕ, List, length, [], ◌∷◌, ◌++◌, Option, Some, Ok, Err};
 ghost use Rattle.tbr_decor.specs.Decoration.{Decoration};
 ghost use Rattle.tbr_commands.specs.declared.opening.Opening.{Opening};
 ghost use Rattle.tbr_stack.specs.Links.{after_link_end};
@@ -13,6 +13,9 @@ ghost use Rattle.tbr_program.specs.Progress.{Progress};
 ghost use Rattle.tbr_program.specs.Commands.{after_command, after_line, started};
 ghost use Rattle.tbr_script.specs.Script.{lines_of};
 ghost use Rattle.tbr_commands.specs.Command.{Command, link};
+ghost use Rattle.tbr_commands.specs.Opening.{IsOpening};
+ghost use Rattle.tbr_commands.specs.Syntax.{IsCommand};
+ghost use Rattle.tbr_commands.specs.Read.{command_read, opening_read};
 ghost use Rattle.tbr_runner.specs.StackCalls.{stack_calls, link_targets, AskFor, AskAfterFirst, LinesDo};
 ghost use Rattle.tbr_stack.specs.Stack.{top_of};
 ghost use Rattle.tbr_runner.specs.Kept.{LineAsksForOneRow, KeepsAll, IsShort, TextKeeps};
@@ -20,6 +23,14 @@ ghost use Rattle.tbr_runner.specs.Led.{IsLed, AreLed, IsTextOfLed, IsTextOfScrip
 ghost use Rattle.std.specs.List.{AllByRecursion as Each};
 ghost use Rattle.tbr_script.specs.declared.error.RunError.TheVariants.{TooNarrow};
 ghost use Rattle.tbr_runner.specs.Scripts.{rendered_on, rendered};
+
+/// A line is read as the command that it is, and as none where it is none. So it is with the first command.
+pub fn a_line_is_read_as_the_command_that_it_is()
+    ensures command { (line : List ℕ) (command : Command) →
+        IsCommand line command ↔ (command_read line ≡ Some command) }
+    ensures first { (line : List ℕ) (opening : Opening) →
+        IsOpening line opening ↔ (opening_read line ≡ Some opening) }
+{}
 
 /// Calls and rows lead to each renderer that a script fills, also to those of cells that wait, from a sound one to
 /// which nothing had come: first to the script's own, and then after each line. The script's text is that of such a

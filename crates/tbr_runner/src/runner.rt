@@ -127,7 +127,8 @@ fn run_under<D: TextDecorator, W: CharWidth>(
         number (lines_of script.now) (started opening decorator)
         ≡ ended W.columns (decoration_of D.TextDecorator) told.1 (progress_meant D.meaning told.0)) }
     ensures goes_on { IfOk result (λ told. GoesOn told.0) }
-    ensures refusal { IfErr result (λ e. e ≢ RunError.OutOfMemory → rendered_on W.columns (decoration_of D.TextDecorator)
+    ensures refusal { IfErr result (λ e. e ≢ RunError.OutOfMemory →
+        rendered_on W.columns (decoration_of D.TextDecorator)
         number (lines_of script.now) (started opening decorator) ≡ Err e) }
     ensures of_script { IfErr result (λ e. e ≢ RunError.OutOfMemory → IsOfScript e) }
 {
@@ -191,7 +192,8 @@ fn run_lines<D: TextDecorator, W: CharWidth>(
         number (lines_of script.now) (progress_meant D.meaning program)
         ≡ ended W.columns (decoration_of D.TextDecorator) told.1 (progress_meant D.meaning told.0)) }
     ensures goes_on { IfOk result (λ told. GoesOn told.0) }
-    ensures refusal { IfErr result (λ e. e ≢ RunError.OutOfMemory → rendered_on W.columns (decoration_of D.TextDecorator)
+    ensures refusal { IfErr result (λ e. e ≢ RunError.OutOfMemory →
+        rendered_on W.columns (decoration_of D.TextDecorator)
         number (lines_of script.now) (progress_meant D.meaning program) ≡ Err e) }
     ensures of_script { IfErr result (λ e. e ≢ RunError.OutOfMemory → IsOfScript e) }
 {

@@ -56,11 +56,3 @@ module _ (bs : List ℕ) (x : Bor (List ℕ) × Bor (List ℕ)) (h : IsSplitAt b
 
   pub second_is_text : (one other : List ℕ) → AreSplitTexts bs one other → IsText x.1.now other
   second_is_text one other t = subst (λ w. IsText w other) (sides one other t).1 t.other_is
-
--- two ways to split are one
-pub one_split : (bs one other p q : List ℕ) → (s : AreSplitTexts bs one other) → (t : AreSplitTexts bs p q) → (s.before ≡ t.before) × (s.after ≡ t.after)
-one_split bs one other p q s t =
-    let above = s.first t.before t.after t.splits in
-    let below = t.first s.before s.after s.splits in
-    let same = same_front s.before t.before (bar ++ s.after) (bar ++ t.after) (omega (arith, above, below)) (sym s.splits ∙ t.splits) in
-    (same.0, append_cancel_left bar s.after t.after same.1)

@@ -74,7 +74,8 @@ read_from in_escape (b ∷ bs) =
     else option_and_then (λ c. with_character c (read_from in_text bs)) (character_by_letter b)
 read_from at_brace (b ∷ bs) = if b == opening_brace then read_from (in_braces []) bs else None
 read_from (in_braces ds) (b ∷ bs) =
-    if b == closing_brace then (if names_character ds then with_character (digits_value 16 ds) (read_from in_text bs) else None)
+    if b == closing_brace
+    then (if names_character ds then with_character (digits_value 16 ds) (read_from in_text bs) else None)
     else read_from (in_braces (ds ++ b ∷ [])) bs
 
 abbrev pub text_read : List ℕ → Option (List ℕ)
@@ -91,5 +92,6 @@ split_at_bar (b ∷ bs) =
 
 abbrev pub texts_read : List ℕ → Option (List ℕ × List ℕ)
 texts_read writing =
-    option_and_then (λ parts. option_and_then (λ one. option_map (λ other. (one, other)) (text_read parts.1)) (text_read parts.0))
+    option_and_then (λ parts.
+    option_and_then (λ one. option_map (λ other. (one, other)) (text_read parts.1)) (text_read parts.0))
     (split_at_bar writing)
