@@ -1,11 +1,11 @@
 -- Programs that go on after their commands.
-use Rattle.std.proofs.Common.{◌≡◌, ℕ, ◌-◌, Option, Result, Ok, List, [], ◌∷◌, map, length, refl, ap, sym, subst, chars}
+use Rattle.std.proofs.Common.{◌≡◌, ℕ, Option, Result, Ok, List, [], ◌∷◌, map, length, refl, ap, sym, subst, chars}
 use Rattle.std.specs.Global.{Vec}
 use Rattle.tbr_tagged.specs.Outcome.{Outcome, done}
 use Rattle.tbr_renderer.specs.Outcomes.{gathered}
 use Rattle.tbr_decor.specs.Decoration.{Decoration}
 use Rattle.text_block_renderer.specs.Renderer.{Renderer}
-use Rattle.text_block_renderer.specs.Calls.{append_subrender, append_vert_row, after}
+use Rattle.text_block_renderer.specs.Calls.{append_subrender, append_vert_row}
 use Rattle.text_block_renderer.specs.Rows.{spots_of}
 use Rattle.text_block_renderer.specs.Appended.{handed_out}
 use Rattle.tbr_rows.specs.Cells.{row_fits}

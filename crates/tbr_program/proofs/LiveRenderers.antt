@@ -18,14 +18,13 @@ use Rattle.text_block_renderer.specs.Calls.{Call, new_line, start_strikeout, end
 use Rattle.text_block_renderer.proofs.Settings.{preformats_after, call_beside, call_changes}
 use Rattle.text_block_renderer.proofs.RowsOfCells.{row_laid, settings_stay, failure_stays}
 use Rattle.text_block_renderer.specs.Rows.{GivenCell, after_row}
-use Rattle.tbr_commands.specs.Command.{row}
 use Rattle.tbr_commands.specs.declared.begun.Begun.{Begun}
 use Rattle.tbr_commands.specs.declared.request.layout.Layout.TheVariants.{StartBlock}
 use Rattle.tbr_commands.specs.declared.request.beginning.Beginning.{Beginning}
 use Rattle.tbr_commands.specs.declared.request.beginning.Beginning.TheVariants as beginning
 use Rattle.tbr_commands.specs.declared.request.kind.Kind.{Kind}
 use Rattle.tbr_commands.specs.declared.request.kind.Kind.TheVariants as kind
-use Rattle.tbr_commands.specs.Request.{Request, layout, begin, end, text, image, colour, border, call_of}
+use Rattle.tbr_commands.specs.Request.{Request, layout, begin, end, image, colour, border, call_of}
 use Rattle.tbr_commands.specs.Begun.{ends_nothing, counted}
 use Rattle.tbr_program.specs.Progress.{IsLive}
 

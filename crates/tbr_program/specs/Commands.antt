@@ -1,5 +1,5 @@
 -- What each command makes of a script, and what its end gives.
-use Rattle.std.specs.Prelude.{◌≡◌, ◌≢◌, ◌⊎◌, ℕ, if◌then◌else◌, Bool, Option, None, Some, Result, Ok, Err, OnOk, IfErr, List, [], ◌∷◌, length, chars}
+use Rattle.std.specs.Prelude.{◌≡◌, ◌≢◌, ℕ, if◌then◌else◌, Bool, Option, None, Some, Result, Ok, Err, OnOk, IfErr, List, [], ◌∷◌, length, chars}
 use Rattle.std.specs.Cmp.Lexicographic.{pointwise}
 use Rattle.std.specs.Global.{Vec}
 use Rattle.tbr_tagged.specs.Outcome.{Outcome, done, refused}
@@ -158,11 +158,12 @@ module _ {D M : Type 0} (columns : ℕ → Option ℕ) (decoration : Decoration 
 
   -- ---- lines
 
-  -- What the line of this number makes of a script. An empty line is skipped, and one that is no command is refused.
+  -- what is made of a script by what is read of the line of this number: a command, or none, which is refused
   abbrev pub after_read : ℕ → Option Command → Place → Made
   after_read number None p = Err (NotACommand number)
   after_read number (Some command) p = after_command number command p
 
+  -- What the line of this number makes of a script. An empty line is skipped.
   abbrev pub after_line : ℕ → List ℕ → Place → Made
   after_line number [] p = Ok p
   after_line number (b ∷ bs) p = after_read number (command_read (b ∷ bs)) p
