@@ -2,7 +2,7 @@
 use Rattle.std.proofs.Common.{◌≡◌, ℕ, suc, ◌+◌, ◌-◌, ◌<◌, ◌≤◌, Bool, List, [], ◌∷◌, ◌++◌, map, length, get_or, refl, sym, ap, ◌∙◌, subst, arith}
 use Rattle.std.proofs.lemmas.List.{map_push}
 use Rattle.std.specs.List.{AllZip}
-use Rattle.tbr_border.specs.Border.{Hole, span_end, AreInOrder, SameHole}
+use Rattle.tbr_border.specs.Border.{Hole, span_end, AreInOrder, SameHole, MapsHole}
 
 -- where holes from a place on end
 abbrev pub last_end : {A : Type 0} → ℕ → List (Hole A) → ℕ
@@ -51,3 +51,12 @@ same_order eq from (h ∷ hs) (k ∷ ks) end p o =
     let place : from ≤ h.place = omega (arith, p.0.0, o.0) in
     let ends : k.place + k.width ≡ h.place + h.width = omega (arith, p.0.0, p.0.1) in
     (place, subst (λ n. AreInOrder n hs end) ends (same_order eq (k.place + k.width) hs ks end p.1 o.1))
+
+pub mapped_order : {A B : Type 0} (gives : A → B → Type 0) (from : ℕ) (hs : List (Hole A)) (ks : List (Hole B)) (end : ℕ) → AllZip (MapsHole gives) hs ks → AreInOrder from hs end → AreInOrder from ks end
+mapped_order gives from [] [] end p h = h
+mapped_order gives from [] (k ∷ ks) end p h = absurd p
+mapped_order gives from (h ∷ hs) [] end p o = absurd p
+mapped_order gives from (h ∷ hs) (k ∷ ks) end p o =
+    let place : from ≤ k.place = omega (arith, p.0.0, o.0) in
+    let ends : h.place + h.width ≡ k.place + k.width = omega (arith, p.0.0, p.0.1) in
+    (place, subst (λ n. AreInOrder n ks end) ends (mapped_order gives (h.place + h.width) hs ks end p.1 o.1))

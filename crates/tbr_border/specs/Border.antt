@@ -1,8 +1,9 @@
 -- Borders: cells, and text in front of them.
-use Rattle.std.specs.Prelude.{◌≡◌, ℕ, zero, suc, ◌+◌, ◌-◌, ◌≤◌, ◌||◌, Bool, true, false, if◌then◌else◌, Option, List, [], ◌∷◌, ◌++◌, map, length, replicate, drop, slice_range}
+use Rattle.std.specs.Prelude.{◌≡◌, ℕ, zero, suc, ◌+◌, ◌-◌, ◌≤◌, ◌||◌, Bool, true, false, if◌then◌else◌, Option, Result, Ok, List, [], ◌∷◌, ◌++◌, map, length, replicate, drop, slice_range}
 use Rattle.std.specs.List.{AllZip}
 use Rattle.tbr_model.specs.Run.{Item}
 use Rattle.tbr_tagged.specs.Elements.{Element, element_items, element_width, text_items, SameElement}
+use Rattle.tbr_tagged.specs.Mapped.{MapsElement}
 use Rattle.tbr_border.specs.Cell.{Cell, horizontal, Side, joined, chopped_left, chopped_right, character, merges, line_above}
 
 -- an element that hides as many cells as its width, from a place on
@@ -126,3 +127,18 @@ pub record SameBorder {A : Type 0} (eq : A → A → Bool) (b c : Border A) : Ty
   pub cells : b.cells ≡ c.cells
   pub tag : eq b.tag c.tag ≡ true
   pub holes : AllZip (SameHole eq) b.holes c.holes
+
+-- ---- mapped tags
+
+-- an answer of a call that may refuse
+abbrev pub Gives : {A B E : Type 0} → (A → Result B E → Type 0) → A → B → Type 0
+Gives post a b = post a (Ok b)
+
+abbrev pub MapsHole : {A B : Type 0} → (A → B → Type 0) → Hole A → Hole B → Type 0
+MapsHole gives h k = (k.place ≡ h.place) × (k.width ≡ h.width) × MapsElement gives h.element k.element
+
+-- the same cells, and answers in place of the tags
+pub record MapsBorder {A B : Type 0} (gives : A → B → Type 0) (b : Border A) (c : Border B) : Type 0 where
+  pub cells : c.cells ≡ b.cells
+  pub tag : gives b.tag c.tag
+  pub holes : AllZip (MapsHole gives) b.holes c.holes

@@ -7,6 +7,7 @@ ghost use Rattle.tbr_border.specs.Cell.{cell_of, cells_of, above, below, side_of
 ghost use Rattle.tbr_border.specs.Border as model;
 ghost use Rattle.std.specs.List.{AllZip};
 ghost use Rattle.tbr_tagged.specs.Copies.{CopiesAreEqual};
+ghost use Rattle.tbr_tagged.specs.Mapped.{MapsElement};
 ghost use Rattle.tbr_border.specs.Border.{drawn, shown, shown_from, AreInOrder, SameBorder, SameHole};
 ghost use Rattle.tbr_border.specs.BorderView.{holes_of};
 
@@ -379,6 +380,74 @@ impl<T> BorderHoriz<T> {
         }
         draw(&mut text, &cells[at..])?;
         Ok(text)
+    }
+}
+
+impl<T: Drop> BorderHoriz<T> {
+    /// The same cells and elements, under the tags that `f` makes of theirs. It asks that `f` may be called on every
+    /// tag. It refuses where `f` does, and where memory is refused; the border is dropped.
+    #[tactic(auto, using(crate::proofs::HolesInOrder::mapped_order))]
+    pub fn try_map_tag<U: Drop, F: Fn(T) -> Result<U, OutOfMemory>>(
+        self,
+        f: &F,
+    ) -> Result<BorderHoriz<U>, OutOfMemory>
+        requires { F.IsAlwaysCallable f.now }
+        ensures { IfOk result (λ b. model.MapsBorder (model.Gives (F.post f.now)) self b) }
+    {
+        let Shape {
+            segments,
+            tag,
+            holes,
+        } = Box::into_inner(self.shape);
+        let alloc = *segments.allocator();
+        let holes = mapped_holes(holes, f)?;
+        let tag = f(tag)?;
+        let shape = Shape {
+            segments,
+            tag,
+            holes,
+        };
+        Ok(BorderHoriz {
+            shape: Box::new(alloc, shape)?,
+        })
+    }
+}
+
+/// The same holes, whose pieces are under the tags that `f` makes of theirs.
+fn mapped_holes<T: Drop, U: Drop, F: Fn(T) -> Result<U, OutOfMemory>>(
+    holes: Vec<Span<T>>,
+    f: &F,
+) -> Result<Vec<Span<U>>, OutOfMemory>
+    requires { F.IsAlwaysCallable f.now }
+    ensures { IfOk result (λ mapped.
+        AllZip (model.MapsHole (model.Gives (F.post f.now))) (holes_of holes.items) (holes_of mapped.items)) }
+{
+    let mut mapped = Vec::with_capacity(*holes.allocator(), holes.len())?;
+    for span in holes {
+        mapped.push(Span {
+            place: span.place,
+            width: span.width,
+            element: mapped_element(span.element, f)?,
+        })?;
+    }
+    Ok(mapped)
+}
+
+/// The same element. A piece is under the tag that `f` makes of its own.
+fn mapped_element<T: Drop, U: Drop, F: Fn(T) -> Result<U, OutOfMemory>>(
+    element: TaggedLineElement<T>,
+    f: &F,
+) -> Result<TaggedLineElement<U>, OutOfMemory>
+    requires { F.IsAlwaysCallable f.now }
+    ensures { IfOk result (λ mapped.
+        MapsElement (model.Gives (F.post f.now)) (element_of element) (element_of mapped)) }
+{
+    match element {
+        TaggedLineElement::Str(TaggedString { s, tag }) => {
+            let tag = f(tag)?;
+            Ok(TaggedLineElement::Str(TaggedString { s, tag }))
+        }
+        TaggedLineElement::FragmentStart(name) => Ok(TaggedLineElement::FragmentStart(name)),
     }
 }
 
