@@ -1,6 +1,5 @@
 -- Footnotes that are cut into lines.
 use Rattle.std.proofs.Common.{◌≡◌, ◌≢◌, ℕ, ◌+◌, ◌≤◌, ◌==◌, Bool, true, false, if◌then◌else◌, Option, Some, None, List, [], ◌∷◌, ◌++◌, map, refl, ap, sym, ◌∙◌, append_assoc, append-nil, arith}
-use Rattle.std.specs.Global.{Vec}
 use Rattle.std.proofs.lemmas.Bool.{cond_both, eqb-true, leb-true, le-leb}
 use Rattle.std.proofs.lemmas.List.{map-append}
 use Rattle.std.proofs.lemmas.Grind.{fold-append}
@@ -9,7 +8,7 @@ use Rattle.tbr_model.specs.Run.{Item, glyph, item_width, items_width}
 use Rattle.tbr_model.specs.Mapped.{map_item}
 use Rattle.tbr_model.specs.Width.{width_of_text}
 use Rattle.tbr_model.proofs.words.Items.{items_width-append}
-use Rattle.tbr_tagged.specs.Copies.{equal_lists}
+use Rattle.tbr_annotations.specs.Annotations.{equal_annotations}
 use Rattle.tbr_tagged.specs.Elements.{Element, piece, marker_element, text_items, items_of, SameItems, IsMerged}
 use Rattle.tbr_tagged.specs.Mapped.{MeansEqual}
 use Rattle.tbr_tagged.proofs.MappedTags.{means_same_items}
@@ -116,31 +115,31 @@ module _ {A M : Type 0} (f : A → M) (columns : ℕ → Option ℕ) where
   elements_end c d es line so_far all = so_far ∙ ap (λ xs. with_items columns c (footnote_items (map (element_meant f) xs))) all
 
   -- the lines of a footnote, from the first character to the last
-  pub cut_whole : (width : Option ℕ) (c d : Cutting (Vec A)) (es : List (Element M)) (lines : List (List (Item (List M)))) → c ≡ nothing_cut width → cut_meant f d ≡ with_items columns (cut_meant f c) (footnote_items es) →
+  pub cut_whole : (width : Option ℕ) (c d : Cutting (List A)) (es : List (Element M)) (lines : List (List (Item (List M)))) → c ≡ nothing_cut width → cut_meant f d ≡ with_items columns (cut_meant f c) (footnote_items es) →
       lines ≡ (line_ended (cut_meant f d)).ended → lines ≡ cut_lines columns width [] (footnote_items es)
   cut_whole width c d es lines begun all last =
-      last ∙ ap (λ (x : Cutting (List M)). (line_ended x).ended) (all ∙ ap (λ (x : Cutting (Vec A)). with_items columns (cut_meant f x) (footnote_items es)) begun)
+      last ∙ ap (λ (x : Cutting (List M)). (line_ended x).ended) (all ∙ ap (λ (x : Cutting (List A)). with_items columns (cut_meant f x) (footnote_items es)) begun)
       ∙ cut_by_items columns (nothing_cut width) (footnote_items es)
 
 -- ---- what is in the fields
 
 module _ {A M : Type 0} (f : A → M) where
-  pub texts_are : (lines : List (List (Element (Vec A)))) → texts_meant f lines ≡ map (items_meant f) (map items_of lines)
+  pub texts_are : (lines : List (List (Element (List A)))) → texts_meant f lines ≡ map (items_meant f) (map items_of lines)
   texts_are [] = refl
   texts_are (l ∷ lines) = ap (λ (ls : List (List (Item (List M)))). items_meant f (items_of l) ∷ ls) (texts_are lines)
 
   -- a text more in the open line
-  module _ (widths : ℕ → Option ℕ) (eq : A → A → Bool) (agree : MeansEqual (tag_meant f) (equal_lists eq)) {D W : Type 0} (c : Inside D W A) (new : List (Element (Vec A))) (cs : List ℕ) (tag : Vec A)
-      (same : SameItems (equal_lists eq) (items_of new) (items_of c.held ++ text_items cs tag)) where
+  module _ (widths : ℕ → Option ℕ) (eq : A → A → Bool) (agree : MeansEqual (tag_meant f) (equal_annotations eq)) {D W : Type 0} (c : Inside D W A) (new : List (Element (List A))) (cs : List ℕ) (tag : List A)
+      (same : SameItems (equal_annotations eq) (items_of new) (items_of c.held ++ text_items cs tag)) where
     held_more : items_meant f (items_of new) ≡ items_meant f (items_of c.held) ++ text_items cs (tag_meant f tag)
     held_more =
-        means_same_items (tag_meant f) (equal_lists eq) agree (items_of new) (items_of c.held ++ text_items cs tag) same ∙ map-append (map_item (tag_meant f)) (items_of c.held) (text_items cs tag)
+        means_same_items (tag_meant f) (equal_annotations eq) agree (items_of new) (items_of c.held ++ text_items cs tag) same ∙ map-append (map_item (tag_meant f)) (items_of c.held) (text_items cs tag)
         ∙ ap (λ is. items_meant f (items_of c.held) ++ is) (text_items-map (tag_meant f) cs tag)
 
-    pub line_extended : (p : Cutting (Vec A)) → cutting_of c ≡ p → cut_meant f (record (cutting_of c) { held = items_of new }) ≡ extended (cut_meant f p) (text_items cs (tag_meant f tag))
-    line_extended p is = ap (λ (held : List (Item (List M))). record (cut_meant f (cutting_of c)) { held = held }) held_more ∙ ap (λ (q : Cutting (Vec A)). extended (cut_meant f q) (text_items cs (tag_meant f tag))) is
+    pub line_extended : (p : Cutting (List A)) → cutting_of c ≡ p → cut_meant f (record (cutting_of c) { held = items_of new }) ≡ extended (cut_meant f p) (text_items cs (tag_meant f tag))
+    line_extended p is = ap (λ (held : List (Item (List M))). record (cut_meant f (cutting_of c)) { held = held }) held_more ∙ ap (λ (q : Cutting (List A)). extended (cut_meant f q) (text_items cs (tag_meant f tag))) is
 
-    pub holds_extended : (columns : ℕ) → HoldsCutting widths eq f c → columns ≡ c.columns + width_of_text widths cs → IsMerged (equal_lists eq) new → HoldsCutting widths eq f (record c { held = new; columns = columns })
+    pub holds_extended : (columns : ℕ) → HoldsCutting widths eq f c → columns ≡ c.columns + width_of_text widths cs → IsMerged (equal_annotations eq) new → HoldsCutting widths eq f (record c { held = new; columns = columns })
     holds_extended columns h sum merged = record {
       taken = omega (
         arith,

@@ -1,9 +1,8 @@
 -- A footnote whose characters come in order.
 use Rattle.std.specs.Prelude.{◌≡◌, ℕ, Bool, Option, if◌then◌else◌, List, [], ◌∷◌, ◌++◌, map, fold}
 use Rattle.std.specs.List.{AllByRecursion as Each}
-use Rattle.std.specs.Global.{Vec}
 use Rattle.tbr_model.specs.Run.{Item, item_width, items_width}
-use Rattle.tbr_tagged.specs.Copies.{equal_lists}
+use Rattle.tbr_annotations.specs.Annotations.{equal_annotations}
 use Rattle.tbr_tagged.specs.Elements.{Element, items_of, IsMerged}
 use Rattle.tbr_footnotes.specs.Footnote.{fits_after}
 use Rattle.tbr_footnotes.specs.Tags.{items_meant}
@@ -44,7 +43,7 @@ with_items columns c is = fold (with_item columns) c is
 -- ---- by what annotations mean
 
 -- the same lines, each annotation as what it means
-abbrev pub cut_meant : {A M : Type 0} → (A → M) → Cutting (Vec A) → Cutting (List M)
+abbrev pub cut_meant : {A M : Type 0} → (A → M) → Cutting (List A) → Cutting (List M)
 cut_meant meaning c = record {
   width = c.width;
   ended = map (items_meant meaning) c.ended;
@@ -52,18 +51,18 @@ cut_meant meaning c = record {
 }
 
 -- the items of lines
-abbrev pub texts_meant : {A M : Type 0} → (A → M) → List (List (Element (Vec A))) → List (List (Item (List M)))
+abbrev pub texts_meant : {A M : Type 0} → (A → M) → List (List (Element (List A))) → List (List (Item (List M)))
 texts_meant meaning lines = map (λ line. items_meant meaning (items_of line)) lines
 
 -- ---- what a contract sees of the fields
 
 -- the items of the lines that have ended, and of the open one
-abbrev pub cutting_of : {D W A : Type 0} → Inside D W A → Cutting (Vec A)
+abbrev pub cutting_of : {D W A : Type 0} → Inside D W A → Cutting (List A)
 cutting_of c = record { width = c.width; ended = map items_of c.ended.items; held = items_of c.held }
 
 -- Pieces are the longest stretches under equal annotations, and the columns are those of the open line.
 pub record HoldsCutting {D W A M : Type 0} (widths : ℕ → Option ℕ) (eq : A → A → Bool) (meaning : A → M)
     (c : Inside D W A) : Type 0 where
   pub taken : c.columns ≡ items_width widths (items_meant meaning (items_of c.held))
-  pub merged : Each (IsMerged (equal_lists eq)) c.ended.items
-  pub merged_held : IsMerged (equal_lists eq) c.held
+  pub merged : Each (IsMerged (equal_annotations eq)) c.ended.items
+  pub merged_held : IsMerged (equal_annotations eq) c.held

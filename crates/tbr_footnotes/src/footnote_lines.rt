@@ -3,7 +3,7 @@ ghost use Rattle.std.specs.Prelude.{◌≡◌, ◌+◌, ◌∷◌, [], true, unw
 ghost use Rattle.std.specs.List.{AllByRecursion as Each};
 ghost use Rattle.tbr_model.specs.Run.{glyph, items_width};
 ghost use Rattle.tbr_model.specs.Width.{width_of_text};
-ghost use Rattle.tbr_tagged.specs.Copies.{equal_lists};
+ghost use Rattle.tbr_annotations.specs.Annotations.{equal_annotations};
 ghost use Rattle.tbr_tagged.specs.Elements.{text_items, IsMerged};
 ghost use Rattle.tbr_tagged.specs.View.{chars_of, element_of};
 ghost use Rattle.tbr_tagged.specs.Walks.{piece_of};
@@ -16,6 +16,7 @@ ghost use Rattle.tbr_footnotes.specs.Tags.{tag_meant};
 use std::alloc::Global;
 use std::marker::{Model, PhantomData};
 use std::mem;
+use tbr_annotations::Annotations;
 use tbr_decor::TextDecorator;
 use tbr_lines::{CharWidth, OutOfMemory, TaggedLine, TaggedLineElement, TaggedString};
 
@@ -26,19 +27,19 @@ pub struct FootnoteLines<D: TextDecorator, W: CharWidth> {
     /// The columns that a line may take, where lines are cut.
     width: Option<usize>,
     /// The lines that have ended.
-    ended: Vec<TaggedLine<Vec<D::Annotation>>>,
+    ended: Vec<TaggedLine<Annotations<D::Annotation>>>,
     /// The open line.
-    held: TaggedLine<Vec<D::Annotation>>,
+    held: TaggedLine<Annotations<D::Annotation>>,
     /// The columns that the open line takes.
     columns: usize,
     char_width: PhantomData<W>,
 }
 
 impl<D: TextDecorator, W: CharWidth> Model for FootnoteLines<D, W> {
-    ghost use Rattle.std.specs.Global.{Vec};
+    ghost use Rattle.std.specs.Prelude.{List};
     ghost use Rattle.tbr_footnotes.specs.Cutting.{Cutting, cutting_of, HoldsCutting};
 
-    ghost Value = { Cutting (Vec D.Annotation) };
+    ghost Value = { Cutting (List D.Annotation) };
 
     ghost view = { λ c. cutting_of c };
 
@@ -77,10 +78,10 @@ impl<D: TextDecorator, W: CharWidth> FootnoteLines<D, W> {
 
     /// Ends the open line, and answers all lines, at least one. Their pieces are the longest stretches under equal
     /// annotations. Where memory is refused all are lost.
-    pub fn finish(mut self) -> Result<Vec<TaggedLine<Vec<D::Annotation>>>, OutOfMemory>
+    pub fn finish(mut self) -> Result<Vec<TaggedLine<Annotations<D::Annotation>>>, OutOfMemory>
         ensures lines { IfOk result (λ lines.
             texts_meant D.meaning lines.items ≡ (line_ended (cut_meant D.meaning self)).ended) }
-        ensures merged { IfOk result (λ lines. Each (IsMerged (equal_lists D.Annotation.eq)) lines.items) }
+        ensures merged { IfOk result (λ lines. Each (IsMerged (equal_annotations D.Annotation.eq)) lines.items) }
     {
         self.end_line()?;
         Ok(self.ended)
@@ -102,8 +103,7 @@ impl<D: TextDecorator, W: CharWidth> FootnoteLines<D, W> {
         ensures { OnOk result (cut_meant D.meaning self.new ≡ with_items W.columns (cut_meant D.meaning self.old)
             (footnote_items (meant D.meaning (piece_of piece) ∷ []))) }
     {
-        let mut tag = Vec::new(self.alloc);
-        tag.push(piece.tag)?;
+        let tag = Annotations::new().with(self.alloc, piece.tag)?;
         match self.columns_with(piece.s.as_str()) {
             Some(columns) => self.extend(TaggedString { s: piece.s, tag }, columns),
             None => self.push_text(piece.s.as_str(), &tag),
@@ -128,7 +128,7 @@ impl<D: TextDecorator, W: CharWidth> FootnoteLines<D, W> {
     /// Adds a piece to the open line, which takes so many columns with it.
     fn extend(
         &mut self,
-        piece: TaggedString<Vec<D::Annotation>>,
+        piece: TaggedString<Annotations<D::Annotation>>,
         columns: usize,
     ) -> Result<(), OutOfMemory>
         requires { let held = (cut_meant D.meaning self.old).held in
@@ -142,7 +142,7 @@ impl<D: TextDecorator, W: CharWidth> FootnoteLines<D, W> {
     }
 
     /// Adds the characters of a text under these annotations.
-    fn push_text(&mut self, text: &str, tag: &Vec<D::Annotation>) -> Result<(), OutOfMemory>
+    fn push_text(&mut self, text: &str, tag: &Annotations<D::Annotation>) -> Result<(), OutOfMemory>
         ensures { OnOk result (cut_meant D.meaning self.new ≡ with_items W.columns (cut_meant D.meaning self.old)
             (text_items (map model.unbroken (chars text.now)) (tag_meant D.meaning tag.now))) }
     {
@@ -153,7 +153,7 @@ impl<D: TextDecorator, W: CharWidth> FootnoteLines<D, W> {
     }
 
     /// Adds a character, on a fresh line where it doesn't fit after what the open one holds.
-    fn push(&mut self, c: char, tag: &Vec<D::Annotation>) -> Result<(), OutOfMemory>
+    fn push(&mut self, c: char, tag: &Annotations<D::Annotation>) -> Result<(), OutOfMemory>
         ensures { OnOk result (cut_meant D.meaning self.new
             ≡ with_item W.columns (cut_meant D.meaning self.old) (glyph c (tag_meant D.meaning tag.now))) }
     {
@@ -186,7 +186,7 @@ impl<D: TextDecorator, W: CharWidth> FootnoteLines<D, W> {
     }
 
     /// Adds a character to the open line. It refuses too where the line's columns pass `usize`.
-    fn append(&mut self, c: char, tag: &Vec<D::Annotation>) -> Result<(), OutOfMemory>
+    fn append(&mut self, c: char, tag: &Annotations<D::Annotation>) -> Result<(), OutOfMemory>
         ensures { OnOk result (cut_meant D.meaning self.new
             ≡ appended (cut_meant D.meaning self.old) (glyph c (tag_meant D.meaning tag.now))) }
     {

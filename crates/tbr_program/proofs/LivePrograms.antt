@@ -1,6 +1,5 @@
 -- Programs that go on after their commands.
 use Rattle.std.proofs.Common.{◌≡◌, ℕ, Option, Result, Ok, List, [], ◌∷◌, map, length, refl, ap, sym, subst, chars}
-use Rattle.std.specs.Global.{Vec}
 use Rattle.tbr_tagged.specs.Outcome.{Outcome, done}
 use Rattle.tbr_renderer.specs.Outcomes.{gathered}
 use Rattle.tbr_decor.specs.Decoration.{Decoration}
@@ -86,32 +85,32 @@ module _ {D M : Type 0} (columns : ℕ → Option ℕ) (decoration : Decoration 
 -- ---- by what annotations mean
 
 module _ {D A M : Type 0} (meaning : A → M) where
-  zipped_meant : (levels : List (Level (Renderer D A (Vec A)))) (begun : List Begun) → Zipped levels begun → Zipped (map (level_meant meaning) levels) begun
+  zipped_meant : (levels : List (Level (Renderer D A (List A)))) (begun : List Begun) → Zipped levels begun → Zipped (map (level_meant meaning) levels) begun
   zipped_meant [] begun live = live
   zipped_meant (level ∷ levels) [] live = live
   zipped_meant (level ∷ levels) (b ∷ begun) live = (live.0, zipped_meant levels begun live.1)
 
-  zipped_told : (levels : List (Level (Renderer D A (Vec A)))) (begun : List Begun) → Zipped (map (level_meant meaning) levels) begun → Zipped levels begun
+  zipped_told : (levels : List (Level (Renderer D A (List A)))) (begun : List Begun) → Zipped (map (level_meant meaning) levels) begun → Zipped levels begun
   zipped_told [] begun live = live
   zipped_told (level ∷ levels) [] live = live
   zipped_told (level ∷ levels) (b ∷ begun) live = (live.0, zipped_told levels begun live.1)
 
-  begun_meant : (pending : Pending D A (Vec A)) (os : List (Opened D A (Vec A))) → begun_on_each (pending_meant meaning pending) (map (opened_meant meaning) os) ≡ begun_on_each pending os
+  begun_meant : (pending : Pending D A (List A)) (os : List (Opened D A (List A))) → begun_on_each (pending_meant meaning pending) (map (opened_meant meaning) os) ≡ begun_on_each pending os
   begun_meant pending [] = refl
   begun_meant pending (o ∷ os) = ap (λ bs. pending.begun ∷ bs) (begun_meant o.below os)
 
-  meant_live : (p : Progress D A (Vec A)) → GoesOn p → GoesOn (progress_meant meaning p)
+  meant_live : (p : Progress D A (List A)) → GoesOn p → GoesOn (progress_meant meaning p)
   meant_live p live = subst (Zipped (map (level_meant meaning) p.stack.levels)) (sym (begun_meant p.pending p.opened)) (zipped_meant p.stack.levels _ live)
 
-  told_live : (p : Progress D A (Vec A)) → GoesOn (progress_meant meaning p) → GoesOn p
+  told_live : (p : Progress D A (List A)) → GoesOn (progress_meant meaning p) → GoesOn p
   told_live p live = zipped_told p.stack.levels _ (subst (Zipped (map (level_meant meaning) p.stack.levels)) (begun_meant p.pending p.opened) live)
 
-  module _ (columns : ℕ → Option ℕ) (decoration : Decoration D M) (number : ℕ) (command : Command) (old new : Progress D A (Vec A)) (live : GoesOn old) where
+  module _ (columns : ℕ → Option ℕ) (decoration : Decoration D M) (number : ℕ) (command : Command) (old new : Progress D A (List A)) (live : GoesOn old) where
     -- a command that is done
     pub command_done : {R : Type 0} (x : R) → after_command columns decoration number command (progress_meant meaning old) ≡ Ok (progress_meant meaning new) → Runs meaning (after_command columns decoration number command) old (Ok x) new
     command_done x is = runs_done meaning (after_command columns decoration number command) old new x is (told_live new (goes_on columns decoration number command (progress_meant meaning old) (progress_meant meaning new) (meant_live old live) is))
 
-  module _ (columns : ℕ → Option ℕ) (decoration : Decoration D M) (by : Opener) (width : ℕ) (old new : Progress D A (Vec A)) (live : GoesOn old) where
+  module _ (columns : ℕ → Option ℕ) (decoration : Decoration D M) (by : Opener) (width : ℕ) (old new : Progress D A (List A)) (live : GoesOn old) where
     -- a level that is opened
     pub opening_done : {R : Type 0} (x : R) → level_opened columns decoration by width (progress_meant meaning old) ≡ Ok (progress_meant meaning new) → Runs meaning (level_opened columns decoration by width) old (Ok x) new
     opening_done x is = runs_done meaning (level_opened columns decoration by width) old new x is (told_live new (level_goes_on columns decoration (progress_meant meaning old) (progress_meant meaning new) (meant_live old live) by width is))

@@ -1,6 +1,5 @@
 -- What commands make of a program, by what its renderers leave.
 use Rattle.std.proofs.Common.{◌≡◌, ◌≢◌, ◌⊎◌, inl, inr, ℕ, Bool, true, false, if◌then◌else◌, Option, None, Some, Result, Ok, Err, List, [], ◌∷◌, ◌++◌, map, drop, length, chars, refl, sym, ap, ◌∙◌}
-use Rattle.std.specs.Global.{Vec}
 use Rattle.std.specs.Cmp.Lexicographic.{pointwise}
 use Rattle.std.proofs.lemmas.List.{map-append, nil_from_length}
 use Rattle.tbr_tagged.specs.declared.CellAlign.{CellAlign}
@@ -82,44 +81,44 @@ gathered_over give make (x ∷ xs) = ap (λ o. and_then (give (make x)) (λ z. c
 module _ {D A M : Type 0} (meaning : A → M) where
   -- ---- by what annotations mean
 
-  below_top_meant : (levels : List (Level (Renderer D A (Vec A)))) → map (level_meant meaning) (below_top levels) ≡ below_top (map (level_meant meaning) levels)
+  below_top_meant : (levels : List (Level (Renderer D A (List A)))) → map (level_meant meaning) (below_top levels) ≡ below_top (map (level_meant meaning) levels)
   below_top_meant [] = refl
   below_top_meant (level ∷ levels) = refl
 
-  opener_meant : (os : List (Opened D A (Vec A))) → opener (map (opened_meant meaning) os) ≡ opener os
+  opener_meant : (os : List (Opened D A (List A))) → opener (map (opened_meant meaning) os) ≡ opener os
   opener_meant [] = refl
   opener_meant (o ∷ os) = refl
 
-  no_cells : (cells : List (Renderer D A (Vec A) × ℕ)) → map (cell_meant meaning) cells ≡ [] → cells ≡ []
+  no_cells : (cells : List (Renderer D A (List A) × ℕ)) → map (cell_meant meaning) cells ≡ [] → cells ≡ []
   no_cells [] is = refl
   no_cells (cell ∷ cells) is = cc
 
-  no_opened : (os : List (Opened D A (Vec A))) → map (opened_meant meaning) os ≡ [] → os ≡ []
+  no_opened : (os : List (Opened D A (List A))) → map (opened_meant meaning) os ≡ [] → os ≡ []
   no_opened [] is = refl
   no_opened (o ∷ os) is = cc
 
-  renderers_meant : (cells : List (Renderer D A (Vec A) × ℕ)) → renderers_of (map (cell_meant meaning) cells) ≡ map (meant meaning) (renderers_of cells)
+  renderers_meant : (cells : List (Renderer D A (List A) × ℕ)) → renderers_of (map (cell_meant meaning) cells) ≡ map (meant meaning) (renderers_of cells)
   renderers_meant [] = refl
   renderers_meant (cell ∷ cells) = ap (λ (rs : List (Renderer D M (List M))). meant meaning cell.0 ∷ rs) (renderers_meant cells)
 
-  places_meant : (levels : List (Level (Renderer D A (Vec A)))) → open_in_first (map (level_meant meaning) levels) ≡ open_in_first levels
+  places_meant : (levels : List (Level (Renderer D A (List A)))) → open_in_first (map (level_meant meaning) levels) ≡ open_in_first levels
   places_meant [] = refl
   places_meant (level ∷ levels) = refl
 
-  module _ (columns : ℕ → Option ℕ) (decoration : Decoration D M) (number : ℕ) (i p : Progress D A (Vec A)) (same : i ≡ p) where
+  module _ (columns : ℕ → Option ℕ) (decoration : Decoration D M) (number : ℕ) (i p : Progress D A (List A)) (same : i ≡ p) where
     -- what the program would be with this stack
-    abbrev after_it : Stack (Renderer D A (Vec A)) → Pending D A (Vec A) → Made columns decoration
+    abbrev after_it : Stack (Renderer D A (List A)) → Pending D A (List A) → Made columns decoration
     after_it stack pending = Ok (progress_meant meaning (record { stack = stack; pending = pending; opened = i.opened }))
 
     abbrev makes : Command → Made columns decoration
     makes command = after_command columns decoration number command (progress_meant meaning p)
 
     here : (command : Command) → makes command ≡ after_command columns decoration number command (progress_meant meaning i)
-    here command = ap (λ (q : Progress D A (Vec A)). after_command columns decoration number command (progress_meant meaning q)) (sym same)
+    here command = ap (λ (q : Progress D A (List A)). after_command columns decoration number command (progress_meant meaning q)) (sym same)
 
     -- ---- links
 
-    pub link_done : (target : List ℕ) (next : Stack (Renderer D A (Vec A))) → after_link_start columns decoration (chars target) (stack_meant meaning i.stack) ≡ done (stack_meant meaning next) → makes (link target) ≡ after_it next i.pending
+    pub link_done : (target : List ℕ) (next : Stack (Renderer D A (List A))) → after_link_start columns decoration (chars target) (stack_meant meaning i.stack) ≡ done (stack_meant meaning next) → makes (link target) ≡ after_it next i.pending
     link_done target next h = here (link target) ∙ ap (with_stack columns decoration (progress_meant meaning i)) h
 
     pub link_narrow : (target : List ℕ) → after_link_start columns decoration (chars target) (stack_meant meaning i.stack) ≡ refused E.TooNarrow → makes (link target) ≡ Err TooNarrow
@@ -132,7 +131,7 @@ module _ {D A M : Type 0} (meaning : A → M) where
       ending : makes end_link ≡ with_stack columns decoration (progress_meant meaning i) (after_link_end columns decoration (stack_meant meaning i.stack))
       ending = here end_link ∙ still_some (open_links (stack_meant meaning i.stack)) _ _ (λ none. some (ap length (sym (places_meant (let s = i.stack in s.levels)) ∙ none)))
 
-      pub end_done : (next : Stack (Renderer D A (Vec A))) → after_link_end columns decoration (stack_meant meaning i.stack) ≡ done (stack_meant meaning next) → makes end_link ≡ after_it next i.pending
+      pub end_done : (next : Stack (Renderer D A (List A))) → after_link_end columns decoration (stack_meant meaning i.stack) ≡ done (stack_meant meaning next) → makes end_link ≡ after_it next i.pending
       end_done next h = ending ∙ ap (with_stack columns decoration (progress_meant meaning i)) h
 
       pub end_narrow : after_link_end columns decoration (stack_meant meaning i.stack) ≡ refused E.TooNarrow → makes end_link ≡ Err TooNarrow
@@ -146,11 +145,11 @@ module _ {D A M : Type 0} (meaning : A → M) where
 
     -- ---- the renderer on top
 
-    module _ (top : Renderer D A (Vec A)) (is_top : top_of i.stack ≡ Some top) where
+    module _ (top : Renderer D A (List A)) (is_top : top_of i.stack ≡ Some top) where
       abbrev in_it : Place columns decoration → (Top columns decoration → Outcome (Top columns decoration)) → Made columns decoration
       in_it q make = with_stack columns decoration q (in_top make (stack_meant meaning i.stack))
 
-      led : (q : Place columns decoration) (make : Top columns decoration → Outcome (Top columns decoration)) (s : Renderer D A (Vec A)) → make (meant meaning top) ≡ done (meant meaning s) → in_it q make ≡ Ok (record q { stack = stack_meant meaning (with_top i.stack s) })
+      led : (q : Place columns decoration) (make : Top columns decoration → Outcome (Top columns decoration)) (s : Renderer D A (List A)) → make (meant meaning top) ≡ done (meant meaning s) → in_it q make ≡ Ok (record q { stack = stack_meant meaning (with_top i.stack s) })
       led q make s h = ap (with_stack columns decoration q) (done_in meaning make i.stack top s is_top h)
 
       not_led : (q : Place columns decoration) (make : Top columns decoration → Outcome (Top columns decoration)) → make (meant meaning top) ≡ refused E.TooNarrow → in_it q make ≡ Err TooNarrow
@@ -159,7 +158,7 @@ module _ {D A M : Type 0} (meaning : A → M) where
       -- ---- requests
 
       module _ (request : Request) (some : ends_nothing i.pending.begun request ≡ false) where
-        abbrev noted : Pending D A (Vec A)
+        abbrev noted : Pending D A (List A)
         noted = record i.pending { begun = counted i.pending.begun request }
 
         abbrev noting : Place columns decoration
@@ -168,7 +167,7 @@ module _ {D A M : Type 0} (meaning : A → M) where
         asks : makes (ask request) ≡ in_it noting (request_made columns decoration request)
         asks = here (ask request) ∙ ap (λ b. if b then Err (NothingToEnd number) else in_it noting (request_made columns decoration request)) some
 
-        pub request_done : (s : Renderer D A (Vec A)) (pending : Pending D A (Vec A)) → pending ≡ noted → Does columns decoration (call_of top.width request) (meant meaning top) (meant meaning s) → makes (ask request) ≡ after_it (with_top i.stack s) pending
+        pub request_done : (s : Renderer D A (List A)) (pending : Pending D A (List A)) → pending ≡ noted → Does columns decoration (call_of top.width request) (meant meaning top) (meant meaning s) → makes (ask request) ≡ after_it (with_top i.stack s) pending
         request_done s pending counts does = asks ∙ led noting (request_made columns decoration request) s does ∙ ap (after_it (with_top i.stack s)) (sym counts)
 
         pub request_narrow : IsTooNarrow columns decoration (call_of top.width request) (meant meaning top) → makes (ask request) ≡ Err TooNarrow
@@ -179,7 +178,7 @@ module _ {D A M : Type 0} (meaning : A → M) where
       abbrev no_cell_waits : Place columns decoration
       no_cell_waits = record (progress_meant meaning i) { pending = pending_meant meaning (without_cells i.pending) }
 
-      module _ (cols : List (Renderer D A (Vec A))) (are : cols ≡ renderers_of i.pending.cells) where
+      module _ (cols : List (Renderer D A (List A))) (are : cols ≡ renderers_of i.pending.cells) where
         abbrev stacked : Outcome (List (List (Line (List M)))) → Outcome (Top columns decoration)
         stacked given = taking (after columns decoration new_line) given (λ cells. after columns decoration (append_vert_row cells)) (meant meaning top)
 
@@ -190,7 +189,7 @@ module _ {D A M : Type 0} (meaning : A → M) where
         stacks o h =
             ap stacked (ap (gathered (handed_out columns)) (renderers_meant i.pending.cells ∙ ap (map (meant meaning)) (sym are)) ∙ sym (gathered_over (handed_out columns) (meant meaning) cols)) ∙ h
 
-        pub vertical_done : (s : Renderer D A (Vec A)) (pending : Pending D A (Vec A)) → pending ≡ without_cells i.pending → stacked all_given ≡ done (meant meaning s) → makes vertical_row ≡ after_it (with_top i.stack s) pending
+        pub vertical_done : (s : Renderer D A (List A)) (pending : Pending D A (List A)) → pending ≡ without_cells i.pending → stacked all_given ≡ done (meant meaning s) → makes vertical_row ≡ after_it (with_top i.stack s) pending
         vertical_done s pending taken h =
             here vertical_row ∙ led no_cell_waits (vertical_made columns decoration (pending_meant meaning i.pending)) s (stacks (done (meant meaning s)) h) ∙ ap (after_it (with_top i.stack s)) (sym taken)
 
@@ -198,17 +197,17 @@ module _ {D A M : Type 0} (meaning : A → M) where
         vertical_narrow h =
             here vertical_row ∙ not_led no_cell_waits (vertical_made columns decoration (pending_meant meaning i.pending)) (stacks (refused E.TooNarrow) h)
 
-      looks_meant : (cols : List (Renderer D A (Vec A) × ℕ)) → map (looks columns) (map (cell_meant meaning) cols) ≡ map (looks columns) cols
+      looks_meant : (cols : List (Renderer D A (List A) × ℕ)) → map (looks columns) (map (cell_meant meaning) cols) ≡ map (looks columns) cols
       looks_meant [] = refl
       looks_meant (col ∷ cols) =
           ap (λ (blank : Bool). (col.0.width, blank) ∷ map (looks columns) (map (cell_meant meaning) cols)) (blank_meant meaning columns col.0) ∙ ap (λ seen. looks columns col ∷ seen) (looks_meant cols)
 
-      come_meant : (cols : List (Renderer D A (Vec A) × ℕ)) (aligns : List CellAlign) → cells_given (λ r. r.width) (handed_out columns) (map (cell_meant meaning) cols) aligns ≡ cells_meant columns meaning cols aligns
+      come_meant : (cols : List (Renderer D A (List A) × ℕ)) (aligns : List CellAlign) → cells_given (λ r. r.width) (handed_out columns) (map (cell_meant meaning) cols) aligns ≡ cells_meant columns meaning cols aligns
       come_meant [] aligns = refl
       come_meant (col ∷ cols) aligns =
           ap (λ o. and_then (cell_given (λ r. r.width) (handed_out columns) (cell_meant meaning col) (next_align aligns)) (λ x. changed (λ xs. x ∷ xs) o)) (come_meant cols (drop 1 aligns))
 
-      module _ (collapse : Bool) (seen : Renderer D A (Vec A)) (is_seen : top_of i.stack ≡ Some seen) (cols : List (Renderer D A (Vec A) × ℕ)) (are : cols ≡ i.pending.cells) where
+      module _ (collapse : Bool) (seen : Renderer D A (List A)) (is_seen : top_of i.stack ≡ Some seen) (cols : List (Renderer D A (List A) × ℕ)) (are : cols ≡ i.pending.cells) where
         abbrev laid : Made columns decoration
         laid = in_it no_cell_waits (row_made columns decoration (pending_meant meaning i.pending) collapse)
 
@@ -218,19 +217,19 @@ module _ {D A M : Type 0} (meaning : A → M) where
             ∙ ap (λ o. on_top o (λ (r : Top columns decoration). if row_fits r.hanging (spots_of columns (map (cell_meant meaning) i.pending.cells)) then laid else Err (RowDoesNotFit number))) (top_meant meaning i.stack seen is_seen)
             ∙ ap (λ (b : Bool). if b then laid else Err (RowDoesNotFit number))
             (ap (λ looked. row_fits (map (map_cell (tag_meant meaning)) seen.hanging) (spots_from 0 looked)) (looks_meant i.pending.cells) ∙ fits_mean (tag_meant meaning) seen.hanging (spots_of columns i.pending.cells)
-            ∙ ap (λ (cs : List (Renderer D A (Vec A) × ℕ)). row_fits seen.hanging (spots_of columns cs)) (sym are) ∙ is)
+            ∙ ap (λ (cs : List (Renderer D A (List A) × ℕ)). row_fits seen.hanging (spots_of columns cs)) (sym are) ∙ is)
 
         pub row_unfit : row_fits seen.hanging (spots_of columns cols) ≡ false → makes (row collapse) ≡ Err (RowDoesNotFit number)
         row_unfit unfit = lays false unfit
 
-        module _ (fit : row_fits seen.hanging (spots_of columns cols) ≡ true) (taken : List (Renderer D A (Vec A) × ℕ)) (those : taken ≡ i.pending.cells) (aligns : List CellAlign) (these : aligns ≡ i.pending.aligns) where
+        module _ (fit : row_fits seen.hanging (spots_of columns cols) ≡ true) (taken : List (Renderer D A (List A) × ℕ)) (those : taken ≡ i.pending.cells) (aligns : List CellAlign) (these : aligns ≡ i.pending.aligns) where
           abbrev beside : Outcome (List (GivenCell (List M))) → Outcome (Top columns decoration)
           beside given = taking (after columns decoration new_line) given (after_row (pointwise decoration.same) columns collapse) (meant meaning top)
 
           besides : (o : Outcome (Top columns decoration)) → beside (cells_meant columns meaning taken aligns) ≡ o → row_made columns decoration (pending_meant meaning i.pending) collapse (meant meaning top) ≡ o
           besides o h = ap beside (come_meant i.pending.cells i.pending.aligns ∙ (λ j. cells_meant columns meaning (sym those j) (sym these j))) ∙ h
 
-          pub row_done : (s : Renderer D A (Vec A)) (pending : Pending D A (Vec A)) → pending ≡ without_cells i.pending → beside (cells_meant columns meaning taken aligns) ≡ done (meant meaning s) → makes (row collapse) ≡ after_it (with_top i.stack s) pending
+          pub row_done : (s : Renderer D A (List A)) (pending : Pending D A (List A)) → pending ≡ without_cells i.pending → beside (cells_meant columns meaning taken aligns) ≡ done (meant meaning s) → makes (row collapse) ≡ after_it (with_top i.stack s) pending
           row_done s pending left h =
               lays true fit ∙ led no_cell_waits (row_made columns decoration (pending_meant meaning i.pending) collapse) s (besides (done (meant meaning s)) h) ∙ ap (after_it (with_top i.stack s)) (sym left)
 
@@ -239,12 +238,12 @@ module _ {D A M : Type 0} (meaning : A → M) where
 
     -- ---- levels
 
-    pub level_opens : (by : Opener) (width : ℕ) (r inside : Renderer D A (Vec A)) (stack : Stack (Renderer D A (Vec A))) (pending : Pending D A (Vec A)) (opened : List (Opened D A (Vec A))) →
+    pub level_opens : (by : Opener) (width : ℕ) (r inside : Renderer D A (List A)) (stack : Stack (Renderer D A (List A))) (pending : Pending D A (List A)) (opened : List (Opened D A (List A))) →
         top_of i.stack ≡ Some r → meant meaning inside ≡ sub_renderer decoration width (meant meaning r) → stack ≡ pushed inside i.stack → pending ≡ nothing_pending → opened ≡ record { by = by; below = i.pending } ∷ i.opened →
         level_opened columns decoration by width (progress_meant meaning p) ≡ Ok (progress_meant meaning (record { stack = stack; pending = pending; opened = opened }))
     level_opens by width r inside stack pending opened top is pushes nothing opens =
         let level : List (Opened D M (List M)) = record { by = by; below = pending_meant meaning i.pending } ∷ map (opened_meant meaning) i.opened in
-        ap (λ (q : Progress D A (Vec A)). level_opened columns decoration by width (progress_meant meaning q)) (sym same)
+        ap (λ (q : Progress D A (List A)). level_opened columns decoration by width (progress_meant meaning q)) (sym same)
         ∙ ap (λ o. on_top o (λ (x : Top columns decoration). Ok (record { stack = pushed (sub_renderer decoration width x) (stack_meant meaning i.stack); pending = nothing_pending; opened = level }))) (top_meant meaning i.stack r top)
         ∙ ap (λ (x : Top columns decoration). Ok (record { stack = pushed x (stack_meant meaning i.stack); pending = nothing_pending; opened = level })) (sym is)
         ∙ (λ j. Ok (progress_meant meaning (record { stack = sym pushes j; pending = sym nothing j; opened = sym opens j })))
@@ -256,25 +255,25 @@ module _ {D A M : Type 0} (meaning : A → M) where
       none_ends : ((by : Opener) → opener i.opened ≡ Some by → end by ≡ None) → level_ends ≡ Err (NothingToEnd number)
       none_ends none =
           ends_none columns decoration number end (progress_meant meaning p) (map (opened_meant meaning) p.opened)
-          (λ by is. none by (ap (λ (q : Progress D A (Vec A)). opener q.opened) same ∙ sym (opener_meant p.opened) ∙ is))
+          (λ by is. none by (ap (λ (q : Progress D A (List A)). opener q.opened) same ∙ sym (opener_meant p.opened) ∙ is))
 
       module _ (by : Opener) (make : Top columns decoration → Place columns decoration → Made columns decoration) (is : end by ≡ Some make) (this : opener i.opened ≡ Some by) where
         opened_by : opener p.opened ≡ Some by
-        opened_by = ap (λ (q : Progress D A (Vec A)). opener q.opened) (sym same) ∙ this
+        opened_by = ap (λ (q : Progress D A (List A)). opener q.opened) (sym same) ∙ this
 
         waits_still : i.pending.cells ≢ [] → level_ends ≡ Err (NotACommand number)
         waits_still some =
             ends_waiting columns decoration number end (progress_meant meaning p) by make is (map (opened_meant meaning) p.opened) (opener_meant p.opened ∙ opened_by)
-            (λ none. some (ap (λ (q : Progress D A (Vec A)). q.pending.cells) same ∙ no_cells p.pending.cells none))
+            (λ none. some (ap (λ (q : Progress D A (List A)). q.pending.cells) same ∙ no_cells p.pending.cells none))
 
-        closes : (inside : Renderer D A (Vec A)) (next : Progress D A (Vec A)) → i.pending.cells ≡ [] → Closes p inside next → level_ends ≡ make (meant meaning inside) (progress_meant meaning next)
+        closes : (inside : Renderer D A (List A)) (next : Progress D A (List A)) → i.pending.cells ≡ [] → Closes p inside next → level_ends ≡ make (meant meaning inside) (progress_meant meaning next)
         closes inside next none c =
             let by_it : Some c.by ≡ Some by = sym (ap opener c.opened) ∙ opened_by in
             let same_by : c.by ≡ by = cc by_it in
-            let waits_none : map (cell_meant meaning) p.pending.cells ≡ [] = ap (λ (q : Progress D A (Vec A)). map (cell_meant meaning) q.pending.cells) (sym same) ∙ ap (map (cell_meant meaning)) none in
+            let waits_none : map (cell_meant meaning) p.pending.cells ≡ [] = ap (λ (q : Progress D A (List A)). map (cell_meant meaning) q.pending.cells) (sym same) ∙ ap (map (cell_meant meaning)) none in
             let stack : below (stack_meant meaning p.stack) ≡ stack_meant meaning next.stack =
             sym (ap (stack_meant meaning) c.stack ∙ ap (λ (ls : List (Level (Renderer D M (List M)))). record (stack_meant meaning p.stack) { levels = ls }) (below_top_meant p.stack.levels)) in
-            ap (λ (os : List (Opened D A (Vec A))). level_ended columns decoration number end (progress_meant meaning p) (map (opened_meant meaning) os)) c.opened
+            ap (λ (os : List (Opened D A (List A))). level_ended columns decoration number end (progress_meant meaning p) (map (opened_meant meaning) os)) c.opened
             ∙ ap (λ b. level_ended columns decoration number end (progress_meant meaning p) (record { by = b; below = pending_meant meaning next.pending } ∷ map (opened_meant meaning) next.opened)) same_by
             ∙ ends_by columns decoration number end (progress_meant meaning p) by make is (meant meaning inside) (pending_meant meaning next.pending) (map (opened_meant meaning) next.opened) waits_none (top_meant meaning p.stack inside c.top)
             ∙ ap (λ (s : Stack (Renderer D M (List M))). make (meant meaning inside) (record { stack = s; pending = pending_meant meaning next.pending; opened = map (opened_meant meaning) next.opened })) stack
@@ -292,16 +291,16 @@ module _ {D A M : Type 0} (meaning : A → M) where
       pub block_waits : opener i.opened ≡ Some Sub → i.pending.cells ≢ [] → makes (append first others) ≡ Err (NotACommand number)
       block_waits is some = waits_still (joins columns decoration first others) Sub (block_joined columns decoration first others) refl is some
 
-      module _ (is : opener i.opened ≡ Some Sub) (none : i.pending.cells ≡ []) (inside : Renderer D A (Vec A)) (next j : Progress D A (Vec A)) (c : Closes p inside next) (left : j ≡ next) (top : Renderer D A (Vec A)) (is_top : top_of j.stack ≡ Some top) where
+      module _ (is : opener i.opened ≡ Some Sub) (none : i.pending.cells ≡ []) (inside : Renderer D A (List A)) (next j : Progress D A (List A)) (c : Closes p inside next) (left : j ≡ next) (top : Renderer D A (List A)) (is_top : top_of j.stack ≡ Some top) where
         abbrev joined : Top columns decoration → Outcome (Top columns decoration)
         joined = block_made columns decoration first others (meant meaning inside)
 
         joining : makes (append first others) ≡ with_stack columns decoration (progress_meant meaning j) (in_top joined (stack_meant meaning j.stack))
         joining =
             closes (joins columns decoration first others) Sub (block_joined columns decoration first others) refl is inside next none c
-            ∙ ap (λ (q : Progress D A (Vec A)). with_stack columns decoration (progress_meant meaning q) (in_top joined (stack_meant meaning q.stack))) (sym left)
+            ∙ ap (λ (q : Progress D A (List A)). with_stack columns decoration (progress_meant meaning q) (in_top joined (stack_meant meaning q.stack))) (sym left)
 
-        pub block_done : (s : Renderer D A (Vec A)) → joined (meant meaning top) ≡ done (meant meaning s) →
+        pub block_done : (s : Renderer D A (List A)) → joined (meant meaning top) ≡ done (meant meaning s) →
             makes (append first others) ≡ Ok (progress_meant meaning (record { stack = with_top j.stack s; pending = j.pending; opened = j.opened }))
         block_done s h = joining ∙ ap (with_stack columns decoration (progress_meant meaning j)) (done_in meaning joined j.stack top s is_top h)
 
@@ -324,13 +323,13 @@ module _ {D A M : Type 0} (meaning : A → M) where
       pub cell_waits : i.pending.cells ≢ [] → makes end_cell ≡ Err (NotACommand number)
       cell_waits some = waits_still (waits columns decoration) (Cell span align) waiting refl is some
 
-      pub cell_done : i.pending.cells ≡ [] → (inside : Renderer D A (Vec A)) (next j : Progress D A (Vec A)) (pending : Pending D A (Vec A)) → Closes p inside next → j ≡ next → pending ≡ with_cell j.pending inside span align →
+      pub cell_done : i.pending.cells ≡ [] → (inside : Renderer D A (List A)) (next j : Progress D A (List A)) (pending : Pending D A (List A)) → Closes p inside next → j ≡ next → pending ≡ with_cell j.pending inside span align →
           makes end_cell ≡ Ok (progress_meant meaning (record { stack = j.stack; pending = pending; opened = j.opened }))
       cell_done none inside next j pending c left now =
           closes (waits columns decoration) (Cell span align) waiting refl is inside next none c
-          ∙ ap (λ (q : Progress D A (Vec A)). waiting (meant meaning inside) (progress_meant meaning q)) (sym left)
+          ∙ ap (λ (q : Progress D A (List A)). waiting (meant meaning inside) (progress_meant meaning q)) (sym left)
           ∙ ap (λ (cells : List (Renderer D M (List M) × ℕ)). Ok (record (progress_meant meaning j) { pending = record (pending_meant meaning j.pending) { cells = cells; aligns = j.pending.aligns ++ align ∷ [] } })) (sym (map-append (cell_meant meaning) j.pending.cells ((inside, span) ∷ [])))
-          ∙ ap (λ (w : Pending D A (Vec A)). Ok (progress_meant meaning (record { stack = j.stack; pending = w; opened = j.opened }))) (sym now)
+          ∙ ap (λ (w : Pending D A (List A)). Ok (progress_meant meaning (record { stack = j.stack; pending = w; opened = j.opened }))) (sym now)
 
     -- ---- the end
 
@@ -338,7 +337,7 @@ module _ {D A M : Type 0} (meaning : A → M) where
     gives = ended columns decoration number (progress_meant meaning p)
 
     gives_here : gives ≡ ended columns decoration number (progress_meant meaning i)
-    gives_here = ap (λ (q : Progress D A (Vec A)). ended columns decoration number (progress_meant meaning q)) (sym same)
+    gives_here = ap (λ (q : Progress D A (List A)). ended columns decoration number (progress_meant meaning q)) (sym same)
 
     pub still_open : (i.opened ≢ []) ⊎ (i.pending.cells ≢ []) → gives ≡ Err (NotACommand number)
     still_open h = gives_here ∙ go h
@@ -354,7 +353,7 @@ module _ {D A M : Type 0} (meaning : A → M) where
         go (inl some) = still_some (map (opened_meant meaning) i.opened) _ _ (λ none. some (no_opened i.opened none))
         go (inr some) = twice (map (opened_meant meaning) i.opened) _ (waits_or_not (map (cell_meant meaning) i.pending.cells) _ (λ none. some (no_cells i.pending.cells none)))
 
-    pub text_given : (targets : List (List ℕ)) → targets ≡ (let s = i.stack in s.links) → (top : Renderer D A (Vec A)) → top_of i.stack ≡ Some top → i.opened ≡ [] → i.pending.cells ≡ [] → (o : Outcome (List ℕ)) →
+    pub text_given : (targets : List (List ℕ)) → targets ≡ (let s = i.stack in s.links) → (top : Renderer D A (List A)) → top_of i.stack ≡ Some top → i.opened ≡ [] → i.pending.cells ≡ [] → (o : Outcome (List ℕ)) →
         closed_text columns decoration targets (meant meaning top) ≡ o → gives ≡ answered o
     text_given targets are top is_top none_open none_wait o h =
         gives_here

@@ -1,7 +1,6 @@
 -- What results say, and what functions answer that run commands.
 use Rattle.std.proofs.Common.{◌≡◌, ◌≢◌, List, Result, Ok, Err, IfOk, IfErr, refl, sym, ◌∙◌, subst}
 use Rattle.std.specs.Result.{IsErrAnd}
-use Rattle.std.specs.Global.{Vec}
 use Rattle.tbr_tagged.specs.Outcome.{Outcome, done}
 use Rattle.tbr_tagged.specs.declared.Error.{Error}
 use Rattle.tbr_tagged.specs.declared.Error.TheVariants as block
@@ -33,7 +32,7 @@ refused_by P (Err x) block.OutOfMemory is h = λ other. absurd (other is)
 
 -- ---- functions that run commands
 
-module _ {D A M R : Type 0} (meaning : A → M) (make : Progress D M (List M) → Result (Progress D M (List M)) RunError) (old new : Progress D A (Vec A)) where
+module _ {D A M R : Type 0} (meaning : A → M) (make : Progress D M (List M) → Result (Progress D M (List M)) RunError) (old new : Progress D A (List A)) where
   abbrev RunsSo : Result R RunError → Type 0
   RunsSo result = Runs meaning make old result new
 
@@ -56,6 +55,6 @@ module _ {D A M R : Type 0} (meaning : A → M) (make : Progress D M (List M) �
   runs_refused (Err x) block.OutOfMemory is h = runs_out (Err x) is
 
 -- what makes the same of a program is run too
-pub runs_as : {D A M R : Type 0} (meaning : A → M) (make other : Progress D M (List M) → Result (Progress D M (List M)) RunError) (old new : Progress D A (Vec A)) (result : Result R RunError) → make (progress_meant meaning old) ≡ other (progress_meant meaning old) → Runs meaning make old result new → Runs meaning other old result new
+pub runs_as : {D A M R : Type 0} (meaning : A → M) (make other : Progress D M (List M) → Result (Progress D M (List M)) RunError) (old new : Progress D A (List A)) (result : Result R RunError) → make (progress_meant meaning old) ≡ other (progress_meant meaning old) → Runs meaning make old result new → Runs meaning other old result new
 runs_as meaning make other old new (Ok x) same runs = record { ok = sym same ∙ runs.ok; goes_on = runs.goes_on; refused = tt; left = tt }
 runs_as meaning make other old new (Err e) same runs = record { ok = tt; goes_on = tt; refused = λ some. sym same ∙ runs.refused some; left = runs.left }

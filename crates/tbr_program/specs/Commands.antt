@@ -1,7 +1,6 @@
 -- What each command makes of a script, and what its end gives.
 use Rattle.std.specs.Prelude.{◌≡◌, ◌≢◌, ℕ, if◌then◌else◌, Bool, Option, None, Some, Result, Ok, Err, OnOk, IfErr, List, [], ◌∷◌, length, chars}
 use Rattle.std.specs.Cmp.Lexicographic.{pointwise}
-use Rattle.std.specs.Global.{Vec}
 use Rattle.tbr_tagged.specs.Outcome.{Outcome, done, refused}
 use Rattle.tbr_rows.specs.Cells.{row_fits}
 use Rattle.tbr_decor.specs.Decoration.{Decoration}
@@ -32,8 +31,8 @@ use Rattle.tbr_program.specs.Closing.{closed_text}
 -- that, and refused only with the refusal that this is, but where memory is refused. But for `TooNarrow` a refusal
 -- leaves the program as it was, and else it goes on.
 pub record Runs {D A M R : Type 0} (meaning : A → M)
-    (make : Progress D M (List M) → Result (Progress D M (List M)) RunError) (old : Progress D A (Vec A))
-    (result : Result R RunError) (new : Progress D A (Vec A)) : Type 0 where
+    (make : Progress D M (List M) → Result (Progress D M (List M)) RunError) (old : Progress D A (List A))
+    (result : Result R RunError) (new : Progress D A (List A)) : Type 0 where
   pub ok : OnOk result (make (progress_meant meaning old) ≡ Ok (progress_meant meaning new))
   pub goes_on : OnOk result (GoesOn new)
   pub refused : IfErr result (λ e. e ≢ OutOfMemory → make (progress_meant meaning old) ≡ Err e)

@@ -1,7 +1,6 @@
 -- Where a script is after its first command.
 use Rattle.std.specs.Prelude.{◌≡◌, ◌<◌, ℕ, true, Option, None, Some, List, [], ◌∷◌, ◌++◌, map}
 use Rattle.std.specs.List.{AllZip}
-use Rattle.std.specs.Global.{Vec}
 use Rattle.tbr_tagged.specs.declared.CellAlign.{CellAlign}
 use Rattle.text_block_renderer.specs.Renderer.{Renderer}
 use Rattle.text_block_renderer.specs.Meant.{meant}
@@ -75,19 +74,19 @@ IsSpanned (Cell span align) = 0 < span
 
 module _ {D A M : Type 0} (meaning : A → M) where
   -- a cell that waits, with its span
-  abbrev pub cell_meant : Renderer D A (Vec A) × ℕ → Renderer D M (List M) × ℕ
+  abbrev pub cell_meant : Renderer D A (List A) × ℕ → Renderer D M (List M) × ℕ
   cell_meant cell = (meant meaning cell.0, cell.1)
 
   -- what is pending on a renderer
-  abbrev pub pending_meant : Pending D A (Vec A) → Pending D M (List M)
+  abbrev pub pending_meant : Pending D A (List A) → Pending D M (List M)
   pending_meant p = record { begun = p.begun; cells = map cell_meant p.cells; aligns = p.aligns }
 
   -- a level that is open
-  abbrev pub opened_meant : Opened D A (Vec A) → Opened D M (List M)
+  abbrev pub opened_meant : Opened D A (List A) → Opened D M (List M)
   opened_meant o = record { by = o.by; below = pending_meant o.below }
 
   -- where a script is
-  abbrev pub progress_meant : Progress D A (Vec A) → Progress D M (List M)
+  abbrev pub progress_meant : Progress D A (List A) → Progress D M (List M)
   progress_meant p = record {
     stack = stack_meant meaning p.stack;
     pending = pending_meant p.pending;

@@ -3,7 +3,7 @@ ghost use Rattle.std.specs.Prelude.{◌≡◌, None, Err, map, IfOk, string_byte
 ghost use Rattle.tbr_tagged.specs.View.{chars_of};
 ghost use Rattle.tbr_tagged.specs.declared.Error.TheVariants as E;
 ghost use Rattle.tbr_decor.specs.Decoration.{decoration_of};
-ghost use Rattle.text_block_renderer.specs.Tags.{tag_meant};
+ghost use Rattle.text_block_renderer.specs.Tags.{vector_meant};
 ghost use Rattle.text_block_renderer.specs.Meant.{map_line, meant};
 ghost use Rattle.text_block_renderer.specs.Line.{line_seen};
 ghost use Rattle.tbr_tagged.specs.Outcome.{done, refused};
@@ -42,7 +42,7 @@ pub fn close_lines<D: TextDecorator, W: CharWidth>(
     requires { renderer.failure ≡ None }
     ensures lines { let links = map chars_of targets.items in
         IfOk result (λ lines. closed W.columns (decoration_of D.TextDecorator) links (meant D.meaning renderer)
-        ≡ done (map (map_line (tag_meant D.meaning)) (map line_seen lines))) }
+        ≡ done (map (map_line (vector_meant D.meaning)) (map line_seen lines))) }
     ensures too_narrow { let links = map chars_of targets.items in
         result ≡ Err E.TooNarrow →
         closed W.columns (decoration_of D.TextDecorator) links (meant D.meaning renderer) ≡ refused E.TooNarrow }

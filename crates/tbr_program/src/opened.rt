@@ -33,10 +33,10 @@ struct Opened<D: TextDecorator, W: CharWidth> {
 }
 
 impl<D: TextDecorator, W: CharWidth> Model for Opened<D, W> {
-    ghost use Rattle.std.specs.Global.{Vec};
+    ghost use Rattle.std.specs.Prelude.{List};
     ghost use Rattle.tbr_program.specs.Progress.{Opened};
 
-    ghost Value = { Opened D D.Annotation (Vec D.Annotation) };
+    ghost Value = { Opened D D.Annotation (List D.Annotation) };
 
     ghost view = { λ o. record { by = o.by; below = o.below } };
 }
@@ -50,10 +50,9 @@ pub struct OpenLevels<D: TextDecorator, W: CharWidth> {
 
 impl<D: TextDecorator, W: CharWidth> Model for OpenLevels<D, W> {
     ghost use Rattle.std.specs.Prelude.{List, reverse};
-    ghost use Rattle.std.specs.Global.{Vec};
     ghost use Rattle.tbr_program.specs.Progress.{Opened, IsSpanned};
 
-    ghost Value = { List (Opened D D.Annotation (Vec D.Annotation)) };
+    ghost Value = { List (Opened D D.Annotation (List D.Annotation)) };
 
     ghost use Rattle.std.specs.List.{AllByRecursion as Each};
 

@@ -24,15 +24,14 @@ pub struct Pending<D: TextDecorator, W: CharWidth> {
 }
 
 impl<D: TextDecorator, W: CharWidth> Model for Pending<D, W> {
-    ghost use Rattle.std.specs.Global.{Vec};
+    ghost use Rattle.std.specs.Prelude.{◌≡◌, ◌<◌, List, length};
     ghost use Rattle.tbr_program.specs.Progress.{Pending};
 
-    ghost Value = { Pending D D.Annotation (Vec D.Annotation) };
+    ghost Value = { Pending D D.Annotation (List D.Annotation) };
 
     ghost view = { λ p. record { begun = p.begun; cells = p.cells.items; aligns = p.aligns.items } };
 
     ghost use Rattle.std.specs.List.{AllByRecursion as Each};
-    ghost use Rattle.std.specs.Prelude.{◌≡◌, ◌<◌, length};
 
     ghost invariant = { λ p. Each (λ cell. 0 < cell.1) p.cells.items
         × (length p.aligns.items ≡ length p.cells.items) };

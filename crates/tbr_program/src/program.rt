@@ -6,7 +6,7 @@ ghost use Rattle.tbr_tagged.specs.declared.Error.TheVariants as Refusal;
 ghost use Rattle.tbr_decor.specs.Decoration.{decoration_of};
 ghost use Rattle.tbr_decor.specs.Prefix.{asked_prefix};
 ghost use Rattle.text_block_renderer.specs.Renderer.{new_renderer};
-ghost use Rattle.text_block_renderer.specs.Tags.{tag_meant};
+ghost use Rattle.text_block_renderer.specs.Tags.{vector_meant};
 ghost use Rattle.text_block_renderer.specs.Meant.{map_line, meant};
 ghost use Rattle.text_block_renderer.specs.Line.{line_seen};
 ghost use Rattle.tbr_script.specs.declared.error.RunError.TheVariants as E;
@@ -46,10 +46,10 @@ pub struct Program<D: TextDecorator, W: CharWidth> {
 }
 
 impl<D: TextDecorator, W: CharWidth> Model for Program<D, W> {
-    ghost use Rattle.std.specs.Global.{Vec};
+    ghost use Rattle.std.specs.Prelude.{List};
     ghost use Rattle.tbr_program.specs.Progress.{Progress};
 
-    ghost Value = { Progress D D.Annotation (Vec D.Annotation) };
+    ghost Value = { Progress D D.Annotation (List D.Annotation) };
 
     ghost view = { λ p. record { stack = p.renderers; pending = p.pending; opened = p.opened } };
 }
@@ -290,7 +290,7 @@ impl<D: TextDecorator, W: CharWidth> Program<D, W> {
         requires cells { self.pending.cells ≡ [] }
         ensures lines { IfOk result (λ lines. OfTop (λ r.
             closed W.columns (decoration_of D.TextDecorator) self.stack.links (meant D.meaning r)
-            ≡ done (map (map_line (tag_meant D.meaning)) (map line_seen lines))) self.stack) }
+            ≡ done (map (map_line (vector_meant D.meaning)) (map line_seen lines))) self.stack) }
         ensures too_narrow { result ≡ Err Refusal.TooNarrow → OfTop (λ r.
             closed W.columns (decoration_of D.TextDecorator) self.stack.links (meant D.meaning r)
             ≡ refused Refusal.TooNarrow) self.stack }

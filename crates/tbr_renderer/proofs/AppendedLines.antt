@@ -1,7 +1,6 @@
 -- Lines of other renderers, one after another.
 use Rattle.std.proofs.Common.{◌≡◌, inr, ℕ, arith, suc, ◌<◌, Option, None, Some, Result, Err, List, [], ◌∷◌, ◌++◌, map, fold, length, refl, ap, sym, ◌∙◌, subst}
 use Rattle.std.specs.Prelude.{chars, ◌==◌, true}
-use Rattle.std.specs.Global.{Vec}
 use Rattle.std.specs.Iterator.{Yields}
 use Rattle.std.specs.Result.{IsErrAnd}
 use Rattle.std.proofs.iter.Next.{Yields-more}
@@ -54,28 +53,28 @@ length-map : {X Y : Type 0} (f : X → Y) (xs : List X) → length (map f xs) �
 length-map f [] = refl
 length-map f (x ∷ xs) = ap suc (length-map f xs)
 
-module _ {D A M : Type 0} (f : A → M) (columns : ℕ → Option ℕ) (first : Renderer D A (Vec A)) where
+module _ {D A M : Type 0} (f : A → M) (columns : ℕ → Option ℕ) (first : Renderer D A (List A)) where
   -- the lines as a contract sees them, by what their annotations mean
-  abbrev pub seen : List (RenderLine (Vec A)) → List (Line (List M))
+  abbrev pub seen : List (RenderLine (List A)) → List (Line (List M))
   seen lines = map (map_line (tag_meant f)) (map line_seen lines)
 
-  seen-last : (lines : List (RenderLine (Vec A))) (line : RenderLine (Vec A)) → seen (lines ++ line ∷ []) ≡ seen lines ++ map_line (tag_meant f) (line_seen line) ∷ []
+  seen-last : (lines : List (RenderLine (List A))) (line : RenderLine (List A)) → seen (lines ++ line ∷ []) ≡ seen lines ++ map_line (tag_meant f) (line_seen line) ∷ []
   seen-last lines line = ap (map (map_line (tag_meant f))) (map-append line_seen lines (line ∷ [])) ∙ map-append (map_line (tag_meant f)) (map line_seen lines) (line_seen line ∷ [])
 
-  seen-append : (lines more : List (RenderLine (Vec A))) → seen (lines ++ more) ≡ seen lines ++ seen more
+  seen-append : (lines more : List (RenderLine (List A))) → seen (lines ++ more) ≡ seen lines ++ seen more
   seen-append lines more = ap (map (map_line (tag_meant f))) (map-append line_seen lines more) ∙ map-append (map_line (tag_meant f)) (map line_seen lines) (map line_seen more)
 
-  pub length-seen : (lines : List (RenderLine (Vec A))) → length (seen lines) ≡ length lines
+  pub length-seen : (lines : List (RenderLine (List A))) → length (seen lines) ≡ length lines
   length-seen lines = length-map (map_line (tag_meant f)) (map line_seen lines) ∙ length-map line_seen lines
 
   -- ---- texts that were put one by one
 
-  pub record HasPut (texts : List (List (Item (List M)))) (now : Renderer D A (Vec A)) : Type 0 where
+  pub record HasPut (texts : List (List (Item (List M)))) (now : Renderer D A (List A)) : Type 0 where
     pub unfailed : now.failure ≡ None
     pub settings : KeepsSettings (meant f first) (meant f now)
     pub lines : meant f now ≡ fold (with_line columns) (meant f first) texts
 
-  put_more : (texts : List (List (Item (List M)))) (text : List (Item (List M))) (now next : Renderer D A (Vec A)) → HasPut texts now → meant f next ≡ with_line columns (meant f now) text → KeepsSettings (meant f now) (meant f next) →
+  put_more : (texts : List (List (Item (List M)))) (text : List (Item (List M))) (now next : Renderer D A (List A)) → HasPut texts now → meant f next ≡ with_line columns (meant f now) text → KeepsSettings (meant f now) (meant f next) →
       HasPut (texts ++ text ∷ []) next
   put_more texts text now next h is kept = record {
     unfailed = ap (λ (r : Renderer D M (List M)). r.failure) is ∙ h.unfailed;
@@ -84,28 +83,28 @@ module _ {D A M : Type 0} (f : A → M) (columns : ℕ → Option ℕ) (first : 
   }
 
   -- what text is under
-  pub under : (now : Renderer D A (Vec A)) → KeepsSettings (meant f first) (meant f now) → map f now.annotations ≡ map f first.annotations
+  pub under : (now : Renderer D A (List A)) → KeepsSettings (meant f first) (meant f now) → map f now.annotations ≡ map f first.annotations
   under now kept = ap (λ (s : Settings D M). s.annotations) kept
 
   -- ---- a cell
 
-  abbrev pub HasCell : List (RenderLine (Vec A)) → Renderer D A (Vec A) → Type 0
+  abbrev pub HasCell : List (RenderLine (List A)) → Renderer D A (List A) → Type 0
   HasCell lines now = HasPut (map (as_text (map f first.annotations)) (seen lines)) now
 
   -- ---- lines after prefixes
 
   module _ {S X : Type 0} (can : S → Type 0) (gives : S → Option X → S → Type 0) (read : X → List ℕ) (it : S) where
-    pub record HasPrefixed (lines : List (RenderLine (Vec A))) (left : S) (now : Renderer D A (Vec A)) : Type 0 where
+    pub record HasPrefixed (lines : List (RenderLine (List A))) (left : S) (now : Renderer D A (List A)) : Type 0 where
       pub can_go_on : can left
       pub given : List X
       pub yields : Yields gives it given left
       pub as_many : length given ≡ length lines
       pub put : HasPut (prefixed (map f first.annotations) (texts_of read given) (seen lines)) now
 
-    same_length : (given : List X) (lines : List (RenderLine (Vec A))) → length given ≡ length lines → length (texts_of read given) ≡ length (seen lines)
+    same_length : (given : List X) (lines : List (RenderLine (List A))) → length given ≡ length lines → length (texts_of read given) ≡ length (seen lines)
     same_length given lines same = length-map (λ x. chars (read x)) given ∙ same ∙ sym (length-seen lines)
 
-    pub prefixed_goes_on : (lines : List (RenderLine (Vec A))) (line : RenderLine (Vec A)) (prefix : X) (text : List (Item (List M))) (left rest : S) (now next : Renderer D A (Vec A)) → (h : HasPrefixed lines left now) →
+    pub prefixed_goes_on : (lines : List (RenderLine (List A))) (line : RenderLine (List A)) (prefix : X) (text : List (Item (List M))) (left rest : S) (now next : Renderer D A (List A)) → (h : HasPrefixed lines left now) →
         can rest → gives left (Some prefix) rest → text ≡ text_items (chars (read prefix)) (map f now.annotations) ++ as_text (map f now.annotations) (map_line (tag_meant f) (line_seen line)) →
         meant f next ≡ with_line columns (meant f now) text → KeepsSettings (meant f now) (meant f next) → HasPrefixed (lines ++ line ∷ []) rest next
     prefixed_goes_on lines line prefix text left rest now next h able came is put kept =
@@ -125,13 +124,13 @@ module _ {D A M : Type 0} (f : A → M) (columns : ℕ → Option ℕ) (first : 
           put = subst (λ (ts : List (List (Item (List M)))). HasPut ts next) all (put_more (prefixed tag (texts_of read h.given) (seen lines)) text now next h.put put kept);
         }
 
-    abbrev pub Prefixes : List (RenderLine (Vec A)) → Renderer D A (Vec A) → Type 0
+    abbrev pub Prefixes : List (RenderLine (List A)) → Renderer D A (List A) → Type 0
     Prefixes lines now =
         (given : List X) × GivesFirst gives (length lines) it given
         × (meant f now ≡ fold (with_line columns) (meant f first) (prefixed (map f first.annotations) (texts_of read given) (seen lines)))
 
     -- the prefixes ran out before a line
-    pub ran_out : (lines : List (RenderLine (Vec A))) (line : RenderLine (Vec A)) (more : List (RenderLine (Vec A))) (left end : S) (now : Renderer D A (Vec A)) → HasPrefixed lines left now → gives left None end → Prefixes (lines ++ line ∷ more) now
+    pub ran_out : (lines : List (RenderLine (List A))) (line : RenderLine (List A)) (more : List (RenderLine (List A))) (left end : S) (now : Renderer D A (List A)) → HasPrefixed lines left now → gives left None end → Prefixes (lines ++ line ∷ more) now
     ran_out lines line more left end now h none =
         let tag = map f first.annotations in
         let fewer = length_after lines line more in (
@@ -141,7 +140,7 @@ module _ {D A M : Type 0} (f : A → M) (columns : ℕ → Option ℕ) (first : 
               (sym (ap (prefixed tag (texts_of read h.given)) (seen-append lines (line ∷ more)) ∙ prefixed-front tag (texts_of read h.given) (seen lines) (seen (line ∷ more)) (same_length h.given lines h.as_many))),
         )
       where
-        length_after : (xs : List (RenderLine (Vec A))) (x : RenderLine (Vec A)) (ys : List (RenderLine (Vec A))) → length xs < length (xs ++ x ∷ ys)
+        length_after : (xs : List (RenderLine (List A))) (x : RenderLine (List A)) (ys : List (RenderLine (List A))) → length xs < length (xs ++ x ∷ ys)
         length_after [] x ys = omega (arith)
         length_after (z ∷ xs) x ys = let h = length_after xs x ys in omega (arith, h)
 
@@ -157,11 +156,11 @@ pub each_at : {S : Type 0} (P : S → Type 0) (before : List S) (one : S) (after
 each_at P [] one after h = h.0
 each_at P (s ∷ before) one after h = each_at P before one after h.1
 
-module _ {D A M : Type 0} (f : A → M) (columns : ℕ → Option ℕ) (first : Renderer D A (Vec A)) where
-  abbrev pub hands : Renderer D A (Vec A) → Outcome (List (Line (List M)))
+module _ {D A M : Type 0} (f : A → M) (columns : ℕ → Option ℕ) (first : Renderer D A (List A)) where
+  abbrev pub hands : Renderer D A (List A) → Outcome (List (Line (List M)))
   hands col = handed_out columns (meant f col)
 
-  pub record HasCells (cols : List (Renderer D A (Vec A))) (now : Renderer D A (Vec A)) : Type 0 where
+  pub record HasCells (cols : List (Renderer D A (List A))) (now : Renderer D A (List A)) : Type 0 where
     pub cells : List (List (Line (List M)))
     pub hand : gathered hands cols ≡ done cells
     pub unfailed : now.failure ≡ None
@@ -171,7 +170,7 @@ module _ {D A M : Type 0} (f : A → M) (columns : ℕ → Option ℕ) (first : 
   pub no_cells : first.failure ≡ None → HasCells [] first
   no_cells live = record { cells = []; hand = refl; unfailed = live; settings = refl; is = refl }
 
-  pub cells_go_on : (cols : List (Renderer D A (Vec A))) (col : Renderer D A (Vec A)) (lines : List (Line (List M))) (now divided next : Renderer D A (Vec A)) → (h : HasCells cols now) → hands col ≡ done lines →
+  pub cells_go_on : (cols : List (Renderer D A (List A))) (col : Renderer D A (List A)) (lines : List (Line (List M))) (now divided next : Renderer D A (List A)) → (h : HasCells cols now) → hands col ≡ done lines →
       meant f divided ≡ with_divider columns slash (meant f now) → meant f next ≡ with_cell columns (meant f divided) lines → KeepsSettings (meant f now) (meant f divided) → KeepsSettings (meant f divided) (meant f next) → next.failure ≡ None →
       HasCells (cols ++ col ∷ []) next
   cells_go_on cols col lines now divided next h given divides puts kept still live = record {

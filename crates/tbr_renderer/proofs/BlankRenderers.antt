@@ -1,6 +1,5 @@
 -- Renderers with nothing in them.
 use Rattle.std.proofs.Common.{◌≡◌, ℕ, ◌&&◌, not, Bool, true, is_none, Option, None, Some, List, [], ◌∷◌, map, refl, ap, sym, ◌∙◌}
-use Rattle.std.specs.Global.{Vec}
 use Rattle.std.specs.Option.{option_map}
 use Rattle.std.proofs.lemmas.Bool.{and_parts}
 use Rattle.tbr_model.specs.Run.{Item}
@@ -28,7 +27,7 @@ none_of_not (x ∷ xs) h = cc
 
 -- ---- what a block answers
 
-module _ {D A : Type 0} (columns : ℕ → Option ℕ) (r : Renderer D A (Vec A)) (b : Block (Vec A)) (fresh : IsFresh columns (block_width r) (may_overflow r) b) where
+module _ {D A : Type 0} (columns : ℕ → Option ℕ) (r : Renderer D A (List A)) (b : Block (List A)) (fresh : IsFresh columns (block_width r) (may_overflow r) b) where
   -- a fresh block by what a contract sees of it
   block_seen_is : block_in r (open_seen b) ≡ b
   block_seen_is i = record {
@@ -45,16 +44,16 @@ module _ {D A : Type 0} (columns : ℕ → Option ℕ) (r : Renderer D A (Vec A)
   pub block_asked : (blank : Bool) → block_seen (Some b) ≡ r.block → blank ≡ is_none b.failure && (not (any_line columns b) && has_no_character columns b) → blank ≡ block_is_blank columns r r.block
   block_asked blank seen asked =
       asked ∙ ap (λ (o : Option Error). is_none o && (not (any_line columns b) && has_no_character columns b)) fresh.unfailed
-      ∙ ap (λ (s : Block (Vec A)). not (any_line columns s) && has_no_character columns s) (sym block_seen_is) ∙ ap (block_is_blank columns r) seen
+      ∙ ap (λ (s : Block (List A)). not (any_line columns s) && has_no_character columns s) (sym block_seen_is) ∙ ap (block_is_blank columns r) seen
 
 -- ---- what its annotations mean doesn't matter
 
-module _ {D A M : Type 0} (f : A → M) (columns : ℕ → Option ℕ) (r : Renderer D A (Vec A)) where
-  some-map : (ls : List (Line (Vec A))) → is_some_list (map (map_line (tag_meant f)) ls) ≡ is_some_list ls
+module _ {D A M : Type 0} (f : A → M) (columns : ℕ → Option ℕ) (r : Renderer D A (List A)) where
+  some-map : (ls : List (Line (List A))) → is_some_list (map (map_line (tag_meant f)) ls) ≡ is_some_list ls
   some-map [] = refl
   some-map (l ∷ ls) = refl
 
-  block-map : (o : Option (Open (Vec A))) → block_is_blank columns (meant f r) (option_map (map_open (tag_meant f)) o) ≡ block_is_blank columns r o
+  block-map : (o : Option (Open (List A))) → block_is_blank columns (meant f r) (option_map (map_open (tag_meant f)) o) ≡ block_is_blank columns r o
   block-map None = refl
   block-map (Some b) =
       let s = block_in r b in

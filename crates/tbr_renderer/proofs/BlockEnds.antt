@@ -1,13 +1,12 @@
 -- Lines of a block that join those of a renderer.
 use Rattle.std.proofs.Common.{◌≡◌, ℕ, ◌-◌, Bool, true, Option, None, Some, List, [], ◌∷◌, ◌++◌, map, fold, drop, refl, ap, sym, ◌∙◌, subst, append_assoc, append-nil}
-use Rattle.std.specs.Global.{Vec}
 use Rattle.std.proofs.lemmas.List.{map-append}
 use Rattle.std.proofs.lemmas.Grind.{fold-append}
 use Rattle.std.specs.Option.{option_map}
 use Rattle.tbr_model.specs.Run.{Item, items_width}
 use Rattle.tbr_model.specs.Mapped.{map_item, map_lines}
 use Rattle.tbr_model.proofs.maps.Words.{items_width-map}
-use Rattle.tbr_tagged.specs.Copies.{equal_lists}
+use Rattle.tbr_annotations.specs.Annotations.{equal_annotations}
 use Rattle.tbr_tagged.specs.Elements.{Element, marker_element, items_of, text_items}
 use Rattle.tbr_tagged.specs.Padding.{spaces}
 use Rattle.tbr_wrap.specs.Block.{Block, Settings, all_lines, left, loose, flushed, without_loose, after_flush, after_taking}
@@ -28,29 +27,29 @@ use Rattle.tbr_renderer.proofs.MappedBlocks.{lines_meant, names_meant, fits_mean
 use Rattle.tbr_renderer.proofs.OutcomeParts.{fitting, not_fitting}
 
 -- The lines of a block that a renderer has: given ones, and the block has the others left.
-pub record HasLines {D A M : Type 0} (f : A → M) (columns : ℕ → Option ℕ) (first old : Block (Vec A)) (r q : Renderer D A (Vec A)) : Type 0 where
+pub record HasLines {D A M : Type 0} (f : A → M) (columns : ℕ → Option ℕ) (first old : Block (List A)) (r q : Renderer D A (List A)) : Type 0 where
   pub unfailed : q.failure ≡ None
   pub live : old.failure ≡ None
   pub padding : old.padding ≡ first.padding
   pub width : old.width ≡ first.width
-  pub given : List (List (Item (Vec A)))
+  pub given : List (List (Item (List A)))
   pub parts : left columns first ≡ given ++ left columns old
   pub meaning : meant f q ≡ fold (with_line columns) (meant f r) (map (line_meant columns f first) given)
   pub settings : KeepsSettings (meant f r) (meant f q)
 
-module _ {D A M : Type 0} (eq : A → A → Bool) (f : A → M) (agree : (v w : Vec A) → equal_lists eq v w ≡ true → tag_meant f v ≡ tag_meant f w) (columns : ℕ → Option ℕ) where
-  pub one_line_more : (first old new : Block (Vec A)) (r q s : Renderer D A (Vec A)) (line : List (Element (Vec A))) → HasLines f columns first old r q → HandsOne columns (equal_lists eq) old line new →
+module _ {D A M : Type 0} (eq : A → A → Bool) (f : A → M) (agree : (v w : List A) → equal_annotations eq v w ≡ true → tag_meant f v ≡ tag_meant f w) (columns : ℕ → Option ℕ) where
+  pub one_line_more : (first old new : Block (List A)) (r q s : Renderer D A (List A)) (line : List (Element (List A))) → HasLines f columns first old r q → HandsOne columns (equal_annotations eq) old line new →
       meant f s ≡ with_line columns (meant f q) (items_meant f (items_of line)) → HasLines f columns first new r s
   one_line_more first old new r q s line h one added =
       let same : items_meant f (items_of line) ≡ line_meant columns f first one.text =
-      means_same_items (tag_meant f) (equal_lists eq) agree (items_of line) (one.text ++ padding_of columns old.padding old.width one.text) one.shows.items
-      ∙ ap (λ (o : Option (Vec A)). items_meant f (one.text ++ padding_of columns o old.width one.text)) h.padding ∙ ap (λ (n : ℕ). items_meant f (one.text ++ padding_of columns first.padding n one.text)) h.width in
+      means_same_items (tag_meant f) (equal_annotations eq) agree (items_of line) (one.text ++ padding_of columns old.padding old.width one.text) one.shows.items
+      ∙ ap (λ (o : Option (List A)). items_meant f (one.text ++ padding_of columns o old.width one.text)) h.padding ∙ ap (λ (n : ℕ). items_meant f (one.text ++ padding_of columns first.padding n one.text)) h.width in
       let last : left columns new ≡ one.rest = ap (left columns) one.leaves ∙ left_after old columns ∙ ap (drop 1) one.left_is in
       record {
         unfailed = ap (λ (m : Renderer D M (List M)). m.failure) added ∙ h.unfailed;
-        live = ap (λ (b : Block (Vec A)). b.failure) one.leaves ∙ (handed_keeps old).0 ∙ h.live;
-        padding = ap (λ (b : Block (Vec A)). b.padding) one.leaves ∙ ap (λ (k : Settings (Vec A)). k.padding) (handed_keeps old).1 ∙ h.padding;
-        width = ap (λ (b : Block (Vec A)). b.width) one.leaves ∙ ap (λ (k : Settings (Vec A)). k.width) (handed_keeps old).1 ∙ h.width;
+        live = ap (λ (b : Block (List A)). b.failure) one.leaves ∙ (handed_keeps old).0 ∙ h.live;
+        padding = ap (λ (b : Block (List A)). b.padding) one.leaves ∙ ap (λ (k : Settings (List A)). k.padding) (handed_keeps old).1 ∙ h.padding;
+        width = ap (λ (b : Block (List A)). b.width) one.leaves ∙ ap (λ (k : Settings (List A)). k.width) (handed_keeps old).1 ∙ h.width;
         given = h.given ++ one.text ∷ [];
         settings = ap settings_of added ∙ h.settings;
         parts = h.parts ∙ ap (λ ls. h.given ++ ls) one.left_is ∙ ap (λ ls. h.given ++ one.text ∷ ls) (sym last) ∙ sym (append_assoc h.given (one.text ∷ []) (left columns new));
@@ -60,7 +59,7 @@ module _ {D A M : Type 0} (eq : A → A → Bool) (f : A → M) (agree : (v w : 
       }
 
 -- no line is left
-pub no_more_lines : {D A M : Type 0} (f : A → M) (columns : ℕ → Option ℕ) (first old : Block (Vec A)) (r q : Renderer D A (Vec A)) → HasLines f columns first old r q → left columns old ≡ [] →
+pub no_more_lines : {D A M : Type 0} (f : A → M) (columns : ℕ → Option ℕ) (first old : Block (List A)) (r q : Renderer D A (List A)) → HasLines f columns first old r q → left columns old ≡ [] →
     meant f q ≡ fold (with_line columns) (meant f r) (map (line_meant columns f first) (left columns first))
 no_more_lines f columns first old r q h none =
     h.meaning ∙ ap (λ ls. fold (with_line columns) (meant f r) (map (line_meant columns f first) ls)) (sym (append-nil h.given) ∙ ap (λ ls. h.given ++ ls) (sym none) ∙ sym h.parts)
@@ -68,17 +67,17 @@ no_more_lines f columns first old r q h none =
 -- ---- the end of a run
 
 module _ {A M : Type 0} (f : A → M) (columns : ℕ → Option ℕ) where
-  padding-map : (o : Option (Vec A)) (width : ℕ) (is : List (Item (Vec A))) → items_meant f (padding_of columns o width is) ≡ padding_of columns (option_map (tag_meant f) o) width (items_meant f is)
+  padding-map : (o : Option (List A)) (width : ℕ) (is : List (Item (List A))) → items_meant f (padding_of columns o width is) ≡ padding_of columns (option_map (tag_meant f) o) width (items_meant f is)
   padding-map None width is = refl
   padding-map (Some v) width is = text_items-map (tag_meant f) (spaces (width - items_width columns is)) v ∙ ap (λ n. text_items (spaces (width - n)) (tag_meant f v)) (sym (items_width-map (tag_meant f) columns is))
 
-  lines-map : (b : Block (Vec A)) (o : Option (Vec A)) (width : ℕ) (texts : List (List (Item (Vec A)))) → b.padding ≡ o → b.width ≡ width →
+  lines-map : (b : Block (List A)) (o : Option (List A)) (width : ℕ) (texts : List (List (Item (List A)))) → b.padding ≡ o → b.width ≡ width →
       map (line_meant columns f b) texts ≡ map (λ is. is ++ padding_of columns (option_map (tag_meant f) o) width is) (map_lines (tag_meant f) texts)
   lines-map b o width [] padding wide = refl
   lines-map b o width (t ∷ ts) padding wide =
       let first : line_meant columns f b t ≡ items_meant f t ++ padding_of columns (option_map (tag_meant f) o) width (items_meant f t) =
       map-append (map_item (tag_meant f)) t (padding_of columns b.padding b.width t) ∙ ap (λ is. items_meant f t ++ is) (padding-map b.padding b.width t)
-      ∙ ap (λ (p : Option (Vec A)). items_meant f t ++ padding_of columns (option_map (tag_meant f) p) b.width (items_meant f t)) padding
+      ∙ ap (λ (p : Option (List A)). items_meant f t ++ padding_of columns (option_map (tag_meant f) p) b.width (items_meant f t)) padding
       ∙ ap (λ (n : ℕ). items_meant f t ++ padding_of columns (option_map (tag_meant f) o) n (items_meant f t)) wide in
       let rest = lines-map b o width ts padding wide in
       cc
@@ -93,38 +92,38 @@ markers_named {T} es names e = ap names_of e ∙ names_of_markers T names
 pub are_markers : {T : Type 0} (es : List (Element T)) (names : List (List ℕ)) → es ≡ map marker_element names → AreMarkers es
 are_markers {T} es names e = ap (map (λ n. let x : Element T = marker_element n in x)) (markers_named es names e) ∙ sym e
 
-module _ {D A M : Type 0} (f : A → M) (columns : ℕ → Option ℕ) (r : Renderer D A (Vec A)) (b : Block (Vec A)) (seen : block_seen (Some b) ≡ r.block) (fresh : IsFresh columns (block_width r) (may_overflow r) b) where
+module _ {D A M : Type 0} (f : A → M) (columns : ℕ → Option ℕ) (r : Renderer D A (List A)) (b : Block (List A)) (seen : block_seen (Some b) ≡ r.block) (fresh : IsFresh columns (block_width r) (may_overflow r) b) where
   -- what a block that was flushed, and that handed its markers out, has left
-  module _ (after taken_from : Block (Vec A)) (e : after_flush columns b ≡ done after) (taken : after_taking columns after ≡ done taken_from) where
+  module _ (after taken_from : Block (List A)) (e : after_flush columns b ≡ done after) (taken : after_taking columns after ≡ done taken_from) where
     after_is : taken_from ≡ without_loose columns (flushed columns b)
     after_is = taking_leaves columns after taken_from taken ∙ ap (without_loose columns) (flush_leaves columns b after e)
 
     all_left : left columns taken_from ≡ all_lines columns b
     all_left =
         ap (left columns) after_is ∙ left_taken columns (flushed columns b) ∙ left_flushed columns b
-        ∙ ap (λ (ls : List (List (Item (Vec A)))). ls ++ drop b.handed (all_lines columns b)) fresh.ended ∙ ap (λ n. drop n (all_lines columns b)) fresh.handed
+        ∙ ap (λ (ls : List (List (Item (List A)))). ls ++ drop b.handed (all_lines columns b)) fresh.ended ∙ ap (λ n. drop n (all_lines columns b)) fresh.handed
 
     -- a flush where a block is open
-    pub block_flushed : (waiting : List (List ℕ)) (s0 s1 s2 : Renderer D A (Vec A)) → s0 ≡ record r { block = None } →
+    pub block_flushed : (waiting : List (List ℕ)) (s0 s1 s2 : Renderer D A (List A)) → s0 ≡ record r { block = None } →
         meant f s1 ≡ fold (with_line columns) (meant f s0) (map (line_meant columns f taken_from) (left columns taken_from)) → waiting ≡ loose columns after → s2 ≡ record s1 { waiting = s1.waiting ++ waiting } → flush.after_flush columns (meant f r) ≡ done (meant f s2)
     block_flushed waiting s0 s1 s2 emptied lines names_are waits =
         let opened : Open (List M) = block_meant f b in
         let fits : fits_at_end columns (meant f r) opened ≡ true = fits_meant f columns r b fresh ∙ flush_allowed columns b after e in
-        let padding : taken_from.padding ≡ b.padding = ap (λ (s : Block (Vec A)). s.padding) after_is in
-        let wide : taken_from.width ≡ block_width r = ap (λ (s : Block (Vec A)). s.width) after_is ∙ fresh.width_is in
+        let padding : taken_from.padding ≡ b.padding = ap (λ (s : Block (List A)). s.padding) after_is in
+        let wide : taken_from.width ≡ block_width r = ap (λ (s : Block (List A)). s.width) after_is ∙ fresh.width_is in
         let here : map (line_meant columns f taken_from) (left columns taken_from) ≡ block_lines columns (meant f r) opened (lines_at_end columns (meant f r) opened) =
         ap (map (line_meant columns f taken_from)) all_left ∙ lines-map f columns taken_from b.padding (block_width r) (all_lines columns b) padding wide
         ∙ ap (block_lines columns (meant f r) opened) (sym (lines_meant f columns r b fresh)) in
         let after_lines : meant f s1 ≡ fold (with_line columns) (record (meant f r) { block = None }) (block_lines columns (meant f r) opened (lines_at_end columns (meant f r) opened)) =
-        lines ∙ ap (λ (q : Renderer D A (Vec A)). fold (with_line columns) (meant f q) (map (line_meant columns f taken_from) (left columns taken_from))) emptied ∙ ap (fold (with_line columns) (record (meant f r) { block = None })) here in
+        lines ∙ ap (λ (q : Renderer D A (List A)). fold (with_line columns) (meant f q) (map (line_meant columns f taken_from) (left columns taken_from))) emptied ∙ ap (fold (with_line columns) (record (meant f r) { block = None })) here in
         let is : meant f s2 ≡ flush.flushed columns (meant f r) (block_lines columns (meant f r) opened (lines_at_end columns (meant f r) opened)) (names_at_end columns (meant f r) opened) =
         ap (meant f) waits ∙ ap (λ ns. record (meant f s1) { waiting = s1.waiting ++ ns }) (names_are ∙ waiting_loose columns b after e ∙ sym (names_meant f columns r b fresh))
         ∙ ap (λ (m : Renderer D M (List M)). record m { waiting = m.waiting ++ names_at_end columns (meant f r) opened }) after_lines in
         let ended : after_block columns (meant f r) (Some opened) ≡ done (meant f s2) = fitting (fits_at_end columns (meant f r) opened) _ fits ∙ ap (λ m. done m) (sym is) in
-        subst (λ (o : Option (Open (Vec A))). after_block columns (meant f r) (option_map (map_open (tag_meant f)) o) ≡ done (meant f s2)) seen ended
+        subst (λ (o : Option (Open (List A))). after_block columns (meant f r) (option_map (map_open (tag_meant f)) o) ≡ done (meant f s2)) seen ended
 
   -- and where it is refused
   pub block_refused : after_flush columns b ≡ refused E.TooNarrow → flush.after_flush columns (meant f r) ≡ refused E.TooNarrow
   block_refused e =
-      subst (λ (o : Option (Open (Vec A))). after_block columns (meant f r) (option_map (map_open (tag_meant f)) o) ≡ refused E.TooNarrow) seen
+      subst (λ (o : Option (Open (List A))). after_block columns (meant f r) (option_map (map_open (tag_meant f)) o) ≡ refused E.TooNarrow) seen
       (not_fitting (fits_at_end columns (meant f r) (block_meant f b)) _ (fits_meant f columns r b fresh ∙ flush_narrow columns b fresh.unfailed e))

@@ -1,6 +1,5 @@
 -- Decorated text.
 use Rattle.std.proofs.Common.{◌≡◌, ℕ, Bool, Option, List, map, ap, sym, ◌∙◌}
-use Rattle.std.specs.Global.{Vec}
 use Rattle.tbr_decor.specs.Decoration.{Decoration}
 use Rattle.tbr_renderer.specs.declared.options.RenderOptions.{RenderOptions}
 use Rattle.tbr_renderer.specs.Renderer.{Renderer, new_renderer}
@@ -14,11 +13,11 @@ pub text_as : {D A : Type 0} (columns : ℕ → Option ℕ) (preformatted : D �
 text_as {D} {A} columns preformatted cs ds q r e f = ap (λ (p : Renderer D A (List A)). after_text columns preformatted ds p) (sym e) ∙ ap (λ (es : List ℕ). after_text columns preformatted es q) (sym f)
 
 -- a renderer for a block inside, from a new one
-pub sub_made : {D A M : Type 0} (f : A → M) (decoration : Decoration D M) (r made sub : Renderer D A (Vec A)) (width : ℕ) (options : RenderOptions) (d : D) (tag : Vec A) →
+pub sub_made : {D A M : Type 0} (f : A → M) (decoration : Decoration D M) (r made sub : Renderer D A (List A)) (width : ℕ) (options : RenderOptions) (d : D) (tag : List A) →
     made ≡ new_renderer width options d → meant f sub ≡ record (meant f made) { annotations = tag_meant f tag } → options ≡ r.options → d ≡ decoration.subblock r.decorator → tag_meant f tag ≡ map f r.annotations →
     meant f sub ≡ sub_renderer decoration width (meant f r)
 sub_made {D} {A} {M} f decoration r made sub width options d tag new is same made_by copied =
-    is ∙ ap (λ (q : Renderer D A (Vec A)). record (meant f q) { annotations = tag_meant f tag }) new
+    is ∙ ap (λ (q : Renderer D A (List A)). record (meant f q) { annotations = tag_meant f tag }) new
     ∙ ap (λ xs. record (new_renderer width options d) { annotations = xs }) copied
     ∙ ap (λ o. record (new_renderer width o d) { annotations = map f r.annotations }) same
     ∙ ap (λ e. record (new_renderer width r.options e) { annotations = map f r.annotations }) made_by

@@ -21,7 +21,7 @@ markers_append {T} es fs h k =
     ap (map (λ n. let e : Element T = marker_element n in e)) (names_append es fs) ∙ map-append (λ n. let e : Element T = marker_element n in e) (names_of es) (names_of fs)
     ∙ ap (λ xs. xs ++ map (λ n. let e : Element T = marker_element n in e) (names_of fs)) h ∙ ap (λ xs. es ++ xs) k
 
-module _ {D W A : Type 0} (columns : ℕ → Option ℕ) (r : Inside D W A) (more : List (TaggedLineElement (Vec A))) (waiting : Vec (TaggedLineElement (Vec A))) (is : waiting.items ≡ r.waiting.items ++ more) where
+module _ {D W A : Type 0} (columns : ℕ → Option ℕ) (r : Inside D W A) (more : List (TaggedLineElement (List A))) (waiting : Vec (TaggedLineElement (List A))) (is : waiting.items ≡ r.waiting.items ++ more) where
   elements : map element_of waiting.items ≡ map element_of r.waiting.items ++ map element_of more
   elements = ap (map element_of) is ∙ map-append element_of r.waiting.items more
 
@@ -35,7 +35,7 @@ module _ {D W A : Type 0} (columns : ℕ → Option ℕ) (r : Inside D W A) (mor
     };
   }
 
-  pub waiting_seen : (s : Renderer D A (Vec A)) → renderer_of r ≡ s → renderer_of (record r { waiting = waiting }) ≡ record s { waiting = s.waiting ++ names_of (map element_of more) }
+  pub waiting_seen : (s : Renderer D A (List A)) → renderer_of r ≡ s → renderer_of (record r { waiting = waiting }) ≡ record s { waiting = s.waiting ++ names_of (map element_of more) }
   waiting_seen s view =
       ap (λ ns. record (renderer_of r) { waiting = ns }) (ap names_of elements ∙ names_append (map element_of r.waiting.items) (map element_of more))
-      ∙ ap (λ (q : Renderer D A (Vec A)). record q { waiting = q.waiting ++ names_of (map element_of more) }) view
+      ∙ ap (λ (q : Renderer D A (List A)). record q { waiting = q.waiting ++ names_of (map element_of more) }) view

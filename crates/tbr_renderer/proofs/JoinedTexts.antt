@@ -1,6 +1,5 @@
 -- Text that joins the run of a block.
 use Rattle.std.proofs.Common.{◌≡◌, ℕ, ◌<◌, arith, ◌&&◌, not, Bool, true, false, is_none, Option, None, Some, unwrap_or, List, [], ◌∷◌, ◌++◌, refl, ap, sym, ◌∙◌, subst}
-use Rattle.std.specs.Global.{Vec}
 use Rattle.std.specs.Option.{option_map}
 use Rattle.std.proofs.lemmas.List.{map-append}
 use Rattle.tbr_model.specs.declared.white_space.WhiteSpace.{WhiteSpace}
@@ -52,14 +51,14 @@ fresh_grown {T} columns width overflows old new es is sound fresh = record {
 }
 
 -- what the block means then
-grown_means : {A M : Type 0} (f : A → M) (columns : ℕ → Option ℕ) (old new : Block (Vec A)) (es : List (Event (Vec A))) (more : List (Event (List M))) → new ≡ grown old es → map_events (tag_meant f) es ≡ more →
+grown_means : {A M : Type 0} (f : A → M) (columns : ℕ → Option ℕ) (old new : Block (List A)) (es : List (Event (List A))) (more : List (Event (List M))) → new ≡ grown old es → map_events (tag_meant f) es ≡ more →
     block_meant f new ≡ with_more (block_meant f old) more
 grown_means {A} {M} f columns old new es more is mean =
     ap (block_meant f) is
     ∙ ap (λ (fs : List (Event (List M))). record (block_meant f old) { events = fs })
     (map-append (map_event (tag_meant f)) old.events es ∙ ap (λ fs. map_events (tag_meant f) old.events ++ fs) mean)
 
-module _ {D A M : Type 0} (f : A → M) (columns : ℕ → Option ℕ) (q : Renderer D A (Vec A)) (old : Block (Vec A)) (fresh : IsFresh columns (block_width q) (may_overflow q) old) (cs : List ℕ) (v w : Vec A) (mode : WhiteSpace) (preformatted : D → Bool → M)
+module _ {D A M : Type 0} (f : A → M) (columns : ℕ → Option ℕ) (q : Renderer D A (List A)) (old : Block (List A)) (fresh : IsFresh columns (block_width q) (may_overflow q) old) (cs : List ℕ) (v w : List A) (mode : WhiteSpace) (preformatted : D → Bool → M)
     (main : tag_meant f v ≡ text_annotations preformatted false (meant f q)) (continued : tag_meant f w ≡ text_annotations preformatted true (meant f q)) (is_mode : mode ≡ last_mode q.modes) where
   abbrev r : Renderer D M (List M)
   r = meant f q
@@ -72,7 +71,7 @@ module _ {D A M : Type 0} (f : A → M) (columns : ℕ → Option ℕ) (q : Rend
   events_mean : map_events (tag_meant f) (text_events cs v w mode) ≡ called (entries_under preformatted r cs)
   events_mean = called-map f columns q (text_entries cs v w mode) (entries_under preformatted r cs) text_means
 
-  module _ (new : Block (Vec A)) (e : after_text columns cs v w mode old ≡ done new) where
+  module _ (new : Block (List A)) (e : after_text columns cs v w mode old ≡ done new) where
     pub fresh_written : IsFresh columns (block_width q) (may_overflow q) new
     fresh_written = fresh_grown columns (block_width q) (may_overflow q) old new (text_events cs v w mode) (text_leaves columns old new cs v w mode e) (sound_text columns old fresh.sound new cs v w mode e) fresh
 
@@ -82,7 +81,7 @@ module _ {D A M : Type 0} (f : A → M) (columns : ℕ → Option ℕ) (q : Rend
     pub goes_on : fits_grown columns r (block_meant f old) (called (entries_under preformatted r cs)) ≡ true
     goes_on =
         fits_grown_meant f columns q old fresh (text_events cs v w mode) (called (entries_under preformatted r cs)) events_mean
-        ∙ subst (λ (b : Block (Vec A)). allows columns b (lines columns b) ≡ true) (text_leaves columns old new cs v w mode e) (sound_text columns old fresh.sound new cs v w mode e).allowed
+        ∙ subst (λ (b : Block (List A)). allows columns b (lines columns b) ≡ true) (text_leaves columns old new cs v w mode e) (sound_text columns old fresh.sound new cs v w mode e).allowed
 
   pub stops : after_text columns cs v w mode old ≡ refused E.TooNarrow → fits_grown columns r (block_meant f old) (called (entries_under preformatted r cs)) ≡ false
   stops e =
@@ -102,7 +101,7 @@ run_joined {D} {A} r es = run_of-append (open_block r).events es ∙ ap (λ (run
 
 -- ---- markers
 
-module _ {A M : Type 0} (f : A → M) (columns : ℕ → Option ℕ) (width : ℕ) (overflows : Bool) (old new : Block (Vec A)) (name : List ℕ) (e : after_marker name old ≡ done new) where
+module _ {A M : Type 0} (f : A → M) (columns : ℕ → Option ℕ) (width : ℕ) (overflows : Bool) (old new : Block (List A)) (name : List ℕ) (e : after_marker name old ≡ done new) where
   pub fresh_marked : IsFresh columns width overflows old → IsFresh columns width overflows new
   fresh_marked fresh = fresh_grown columns width overflows old new (entry (marker_entry name) ∷ []) (marker_leaves columns old new name e) (sound_marked columns old fresh.sound new name e) fresh
 
@@ -110,21 +109,21 @@ module _ {A M : Type 0} (f : A → M) (columns : ℕ → Option ℕ) (width : �
   marked = grown_means f columns old new (entry (marker_entry name) ∷ []) (entry (marker_entry name) ∷ []) (marker_leaves columns old new name e) refl
 
 -- a renderer to whose block more has come
-pub block_grown : {D A M : Type 0} (f : A → M) (r taken put : Renderer D A (Vec A)) (old new : Block (Vec A)) (es : List (Event (List M))) → taken ≡ record r { block = None } → block_meant f old ≡ open_block (meant f r) →
+pub block_grown : {D A M : Type 0} (f : A → M) (r taken put : Renderer D A (List A)) (old new : Block (List A)) (es : List (Event (List M))) → taken ≡ record r { block = None } → block_meant f old ≡ open_block (meant f r) →
     block_meant f new ≡ with_more (block_meant f old) es → put ≡ record taken { block = block_seen (Some new) } → meant f put ≡ with_events (meant f r) es
 block_grown {D} {A} {M} f r taken put old new es emptied before is put_is =
-    ap (meant f) put_is ∙ ap (λ (q : Renderer D A (Vec A)). meant f (record q { block = block_seen (Some new) })) emptied
+    ap (meant f) put_is ∙ ap (λ (q : Renderer D A (List A)). meant f (record q { block = block_seen (Some new) })) emptied
     ∙ ap (λ (b : Open (List M)). record (meant f r) { block = Some b }) (is ∙ ap (λ b. with_more b es) before)
 
 -- ---- the beginning of a line, and empty blocks
 
-module _ {D A M : Type 0} (f : A → M) (columns : ℕ → Option ℕ) (r : Renderer D A (Vec A)) (b : Block (Vec A)) (seen : block_seen (Some b) ≡ r.block) (fresh : IsFresh columns (block_width r) (may_overflow r) b) where
+module _ {D A M : Type 0} (f : A → M) (columns : ℕ → Option ℕ) (r : Renderer D A (List A)) (b : Block (List A)) (seen : block_seen (Some b) ≡ r.block) (fresh : IsFresh columns (block_width r) (may_overflow r) b) where
   pub line_start : (at : Bool) → at ≡ is_none b.failure && takes_no_columns columns b → at ≡ at_line_start columns (meant f r) (option_map (map_open (tag_meant f)) r.block)
-  line_start at asked = subst (λ (o : Option (Open (Vec A))). at ≡ at_line_start columns (meant f r) (option_map (map_open (tag_meant f)) o)) seen
+  line_start at asked = subst (λ (o : Option (Open (List A))). at ≡ at_line_start columns (meant f r) (option_map (map_open (tag_meant f)) o)) seen
       (asked ∙ ap (λ (o : Option Error). is_none o && takes_no_columns columns b) fresh.unfailed ∙ sym (line_start_meant f columns r b fresh))
 
   pub block_empty : (empty : Bool) → empty ≡ is_none b.failure && (not (any_line columns b) && takes_no_columns columns b) → empty ≡ block_is_empty columns (meant f r) (option_map (map_open (tag_meant f)) r.block)
-  block_empty empty asked = subst (λ (o : Option (Open (Vec A))). empty ≡ block_is_empty columns (meant f r) (option_map (map_open (tag_meant f)) o)) seen
+  block_empty empty asked = subst (λ (o : Option (Open (List A))). empty ≡ block_is_empty columns (meant f r) (option_map (map_open (tag_meant f)) o)) seen
       (asked ∙ ap (λ (o : Option Error). is_none o && (not (any_line columns b) && takes_no_columns columns b)) fresh.unfailed
       ∙ ap (λ any. not any && takes_no_columns columns b) (sym (any_line_meant f columns r b fresh))
       ∙ ap (λ none. not (any_line columns (block_in (meant f r) (block_meant f b))) && none) (sym (line_start_meant f columns r b fresh)))

@@ -2,7 +2,6 @@
 use Rattle.std.proofs.Common.{◌≡◌, ◌≢◌, ◌≤◌, ℕ, Option, None, Some, Result, Ok, Err, List, refl, ap, ◌∙◌, sym, subst}
 use Rattle.std.specs.Prelude.{OnOk, OnErr, IfErr}
 use Rattle.std.specs.Result.{IsErrAnd}
-use Rattle.std.specs.Global.{Vec}
 use Rattle.tbr_tagged.specs.declared.Error.{Error}
 use Rattle.tbr_tagged.specs.declared.Error.TheVariants as E
 use Rattle.tbr_tagged.specs.Outcome.{Outcome, done, refused}
@@ -82,7 +81,7 @@ module _ {T S V R : Type 0} (calls : CallsOf T S V) where
     }
 
 module _ {D A M : Type 0} (f : A → M) (columns : ℕ → Option ℕ) (decoration : Decoration D M) where
-  pub kept_answers : {R : Type 0} (call : Call (List M)) (old mid new : Renderer D A (Vec A)) (result tried : Result R Error) →
+  pub kept_answers : {R : Type 0} (call : Call (List M)) (old mid new : Renderer D A (List A)) (result tried : Result R Error) →
       old.failure ≡ None → result ≡ tried → OnOk result (new ≡ mid) → IfErr result (λ e. (new.failure ≡ Some e) × (kept_of new ≡ kept_of mid)) →
       Tries (meant f) (made columns decoration call) old tried mid → (2 ≤ block_width old → tried ≢ Err E.TooNarrow) → OnErr tried (kept_of mid ≡ kept_of old) →
       Answers (calls_by columns decoration f) call old result new

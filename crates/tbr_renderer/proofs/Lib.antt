@@ -1,3 +1,4 @@
+pub mod WrittenLines
 pub mod KeptRefusals
 pub mod OutcomeParts
 pub mod Images

@@ -1,10 +1,9 @@
 -- A block's lines that come as they are.
 use Rattle.std.proofs.Common.{◌≡◌, ℕ, Bool, true, false, if◌then◌else◌, Option, None, Some, List, [], ◌∷◌, ◌++◌, map, fold, refl, ap, sym, ◌∙◌, append_assoc, append-nil}
-use Rattle.std.specs.Global.{Vec}
 use Rattle.std.specs.List.{AllZip}
 use Rattle.std.proofs.lemmas.List.{map-append}
 use Rattle.tbr_model.specs.Run.{Item}
-use Rattle.tbr_tagged.specs.Copies.{equal_lists}
+use Rattle.tbr_annotations.specs.Annotations.{equal_annotations}
 use Rattle.tbr_tagged.specs.Elements.{SameItems}
 use Rattle.tbr_wrap.specs.Block.{Block, left}
 use Rattle.tbr_wrap.specs.Wrapped.{padding_of}
@@ -34,19 +33,19 @@ module _ {D M : Type 0} (columns : ℕ → Option ℕ) where
       ∙ all_as_is (record r { lines = r.lines ++ text is ∷ [] }) unpadded waits texts
       ∙ ap (λ ls. record r { lines = ls }) (append_assoc r.lines (text is ∷ []) (text_lines texts))
 
-module _ {A M : Type 0} (eq : A → A → Bool) (f : A → M) (agree : (v w : Vec A) → equal_lists eq v w ≡ true → tag_meant f v ≡ tag_meant f w) (columns : ℕ → Option ℕ) where
+module _ {A M : Type 0} (eq : A → A → Bool) (f : A → M) (agree : (v w : List A) → equal_annotations eq v w ≡ true → tag_meant f v ≡ tag_meant f w) (columns : ℕ → Option ℕ) where
   -- lines in a block's text mean what the block's do
-  texts_mean : (b : Block (Vec A)) → b.padding ≡ None → (texts others : List (List (Item (Vec A)))) → AllZip (SameItems (equal_lists eq)) texts others → map (map_line (tag_meant f)) (text_lines texts) ≡ text_lines (map (line_meant columns f b) others)
+  texts_mean : (b : Block (List A)) → b.padding ≡ None → (texts others : List (List (Item (List A)))) → AllZip (SameItems (equal_annotations eq)) texts others → map (map_line (tag_meant f)) (text_lines texts) ≡ text_lines (map (line_meant columns f b) others)
   texts_mean b bare [] [] h = refl
   texts_mean b bare [] (js ∷ others) h = absurd h
   texts_mean b bare (is ∷ texts) [] h = absurd h
   texts_mean b bare (is ∷ texts) (js ∷ others) h =
       let one : items_meant f is ≡ line_meant columns f b js =
-      means_same_items (tag_meant f) (equal_lists eq) agree is js h.0 ∙ ap (items_meant f) (sym (append-nil js)) ∙ ap (λ (o : Option (Vec A)). items_meant f (js ++ padding_of columns o b.width js)) (sym bare) in
+      means_same_items (tag_meant f) (equal_annotations eq) agree is js h.0 ∙ ap (items_meant f) (sym (append-nil js)) ∙ ap (λ (o : Option (List A)). items_meant f (js ++ padding_of columns o b.width js)) (sym bare) in
       ap (λ ks. text ks ∷ map (map_line (tag_meant f)) (text_lines texts)) one ∙ ap (λ ls. text (line_meant columns f b js) ∷ ls) (texts_mean b bare texts others h.1)
 
   -- they are added as they are
-  pub added_as_is : {D : Type 0} (b : Block (Vec A)) (r s : Renderer D A (Vec A)) (texts : List (List (Item (Vec A)))) → AddsAsIs r b → AllZip (SameItems (equal_lists eq)) texts (left columns b) → s ≡ record r { lines = r.lines ++ text_lines texts } →
+  pub added_as_is : {D : Type 0} (b : Block (List A)) (r s : Renderer D A (List A)) (texts : List (List (Item (List A)))) → AddsAsIs r b → AllZip (SameItems (equal_annotations eq)) texts (left columns b) → s ≡ record r { lines = r.lines ++ text_lines texts } →
       meant f s ≡ fold (with_line columns) (meant f r) (map (line_meant columns f b) (left columns b))
   added_as_is {D} b r s texts h same is =
       ap (meant f) is

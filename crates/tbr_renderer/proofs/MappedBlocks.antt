@@ -1,6 +1,5 @@
 -- Blocks under other annotations.
 use Rattle.std.proofs.Common.{◌≡◌, ℕ, ◌<◌, ◌&&◌, ◌||◌, ◌==◌, not, nat_le, true, false, Option, None, Some, List, [], ◌∷◌, ◌++◌, map, refl, ap, sym, ◌∙◌}
-use Rattle.std.specs.Global.{Vec}
 use Rattle.std.specs.Option.{option_map}
 use Rattle.std.proofs.lemmas.List.{map-append}
 use Rattle.tbr_model.specs.Run.{Entry, Item, glyph, marker, items_width, has_character}
@@ -114,15 +113,15 @@ module _ {A B : Type 0} (f : A → B) (columns : ℕ → Option ℕ) where
 
 -- ---- the open block of a renderer
 
-module _ {D A M : Type 0} (f : A → M) (columns : ℕ → Option ℕ) (r : Renderer D A (Vec A)) where
-  pub called-map : (es : List (Entry (Vec A))) (fs : List (Entry (List M))) → map_run (tag_meant f) es ≡ fs → map_events (tag_meant f) (called es) ≡ called fs
+module _ {D A M : Type 0} (f : A → M) (columns : ℕ → Option ℕ) (r : Renderer D A (List A)) where
+  pub called-map : (es : List (Entry (List A))) (fs : List (Entry (List M))) → map_run (tag_meant f) es ≡ fs → map_events (tag_meant f) (called es) ≡ called fs
   called-map es fs e = ap (λ gs. call ∷ gs) (entries es) ∙ ap called e
     where
-      entries : (es : List (Entry (Vec A))) → map_events (tag_meant f) (map entry es) ≡ map entry (map_run (tag_meant f) es)
+      entries : (es : List (Entry (List A))) → map_events (tag_meant f) (map entry es) ≡ map entry (map_run (tag_meant f) es)
       entries [] = refl
       entries (e ∷ es) = ap (λ gs. entry (map_entry (tag_meant f) e) ∷ gs) (entries es)
 
-  module _ (b : Block (Vec A)) (fresh : IsFresh columns (block_width r) (may_overflow r) b) where
+  module _ (b : Block (List A)) (fresh : IsFresh columns (block_width r) (may_overflow r) b) where
     abbrev pub opened : Open (List M)
     opened = block_meant f b
 
@@ -157,7 +156,7 @@ module _ {D A M : Type 0} (f : A → M) (columns : ℕ → Option ℕ) (r : Rend
     any_line_meant = ap (any_line columns) (sym block_is) ∙ any_line-map (tag_meant f) columns b
 
     -- and so it is of a block that has grown
-    pub fits_grown_meant : (es : List (Event (Vec A))) (fs : List (Event (List M))) → map_events (tag_meant f) es ≡ fs → fits_grown columns (meant f r) opened fs ≡ allows columns (grown b es) (lines columns (grown b es))
+    pub fits_grown_meant : (es : List (Event (List A))) (fs : List (Event (List M))) → map_events (tag_meant f) es ≡ fs → fits_grown columns (meant f r) opened fs ≡ allows columns (grown b es) (lines columns (grown b es))
     fits_grown_meant es fs e =
         ap (λ gs. fits_grown columns (meant f r) opened gs) (sym e) ∙ ap (λ (s : Block (List M)). allows columns s (lines columns s)) (sym grows)
         ∙ ap (allows columns (map_block (tag_meant f) (grown b es))) (lines-map (tag_meant f) columns (grown b es)) ∙ fits-map (tag_meant f) columns (grown b es) (lines columns (grown b es))

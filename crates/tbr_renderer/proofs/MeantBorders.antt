@@ -1,6 +1,5 @@
 -- Borders under what their annotations mean.
 use Rattle.std.proofs.Common.{◌≡◌, ℕ, Option, true, List, [], ◌∷◌, ◌++◌, map, refl, ap, sym, ◌∙◌}
-use Rattle.std.specs.Global.{Vec}
 use Rattle.std.proofs.lemmas.List.{map-append}
 use Rattle.tbr_model.specs.Run.{Item}
 use Rattle.tbr_model.specs.Mapped.{map_items}
@@ -17,9 +16,9 @@ use Rattle.tbr_renderer.specs.Appended.{with_border, border_line}
 pub shown-map : {T U : Type 0} (f : T → U) (tag : T) (b : Border T) → map_items f (shown tag b) ≡ shown (f tag) (map_border f b)
 shown-map f tag b = sym (rows.shown-map f tag b)
 
-module _ {D A M : Type 0} (f : A → M) (columns : ℕ → Option ℕ) (r s : Renderer D A (Vec A)) (b : Border (Vec A)) where
+module _ {D A M : Type 0} (f : A → M) (columns : ℕ → Option ℕ) (r s : Renderer D A (List A)) (b : Border (List A)) where
   -- a border joins the lines as text that is filled
-  pub border_drawn : (is full : List (Item (Vec A))) → r.options.pad_block_width ≡ true → items_meant f is ≡ items_meant f (shown b.tag b) →
+  pub border_drawn : (is full : List (Item (List A))) → r.options.pad_block_width ≡ true → items_meant f is ≡ items_meant f (shown b.tag b) →
       items_meant f full ≡ items_meant f is ++ line_padding columns (meant f r) (items_meant f is) → s ≡ record r { lines = r.lines ++ text full ∷ [] } →
       meant f s ≡ with_border columns (meant f r) (map_border (tag_meant f) b)
   border_drawn is full pads same fills pushed =

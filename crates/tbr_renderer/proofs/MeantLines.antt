@@ -1,7 +1,5 @@
 -- What lines under lists of annotations mean.
 use Rattle.std.proofs.Common.{◌≡◌, arith, ℕ, ◌-◌, suc, length, slice_get, Bool, true, false, not, if◌then◌else◌, Option, None, Some, List, [], ◌∷◌, ◌++◌, map, refl, ap, sym, ◌∙◌}
-use Rattle.std.specs.Global.{Vec}
-use Rattle.std.specs.Vec.{vec_items}
 use Rattle.std.specs.List.{list_any}
 use Rattle.tbr_border.specs.Border.{Hole, has_holes}
 use Rattle.std.proofs.lemmas.List.{map-append}
@@ -25,14 +23,14 @@ use Rattle.tbr_renderer.specs.View.{names_of, AreMarkers, block_meant}
 
 -- ---- padding
 
-module _ {D A M : Type 0} (f : A → M) (columns : ℕ → Option ℕ) (r : Renderer D A (Vec A)) where
+module _ {D A M : Type 0} (f : A → M) (columns : ℕ → Option ℕ) (r : Renderer D A (List A)) where
   -- a line that is filled
-  pub filled : (v : Vec A) (width : ℕ) (is : List (Item (Vec A))) → r.options.pad_block_width ≡ true → vec_items v ≡ r.annotations → width ≡ r.width →
+  pub filled : (v : List A) (width : ℕ) (is : List (Item (List A))) → r.options.pad_block_width ≡ true → map f v ≡ map f r.annotations → width ≡ r.width →
       items_meant f (is ++ text_items (spaces (width - items_width columns is)) v) ≡ items_meant f is ++ line_padding columns (meant f r) (items_meant f is)
   filled v width is pads under wide =
       map-append (map_item (tag_meant f)) is (text_items (spaces (width - items_width columns is)) v)
       ∙ ap (λ js. items_meant f is ++ js) (text_items-map (tag_meant f) (spaces (width - items_width columns is)) v
-      ∙ ap (λ xs. text_items (spaces (width - items_width columns is)) (map f xs)) under
+      ∙ ap (text_items (spaces (width - items_width columns is))) under
       ∙ ap (λ w. text_items (spaces (w - items_width columns is)) (map f r.annotations)) wide
       ∙ ap (λ n. text_items (spaces (r.width - n)) (map f r.annotations)) (sym (items_width-map (tag_meant f) columns is))
       ∙ padded)
@@ -51,15 +49,15 @@ marker_items-map f [] = refl
 marker_items-map {T} {U} f (name ∷ names) = ap (λ (is : List (Item U)). marker name ∷ is) (marker_items-map f names)
 
 module _ {A M : Type 0} (f : A → M) where
-  marked : (es : List (Element (Vec A))) (names : List (List ℕ)) (line : List (Item (Vec A))) → AreMarkers es → names_of es ≡ names →
+  marked : (es : List (Element (List A))) (names : List (List ℕ)) (line : List (Item (List A))) → AreMarkers es → names_of es ≡ names →
       items_meant f (items_of es ++ line) ≡ marker_items names ++ items_meant f line
   marked es names line are is =
       map-append (map_item (tag_meant f)) (items_of es) line
-      ∙ ap (λ js. js ++ items_meant f line) (ap (λ xs. items_meant f (items_of xs)) (sym are) ∙ ap (items_meant f) (marker_elements (Vec A) (names_of es)) ∙ marker_items-map (tag_meant f) (names_of es) ∙ ap marker_items is)
+      ∙ ap (λ js. js ++ items_meant f line) (ap (λ xs. items_meant f (items_of xs)) (sym are) ∙ ap (items_meant f) (marker_elements (List A) (names_of es)) ∙ marker_items-map (tag_meant f) (names_of es) ∙ ap marker_items is)
 
 module _ {D A M : Type 0} (f : A → M) where
   -- a line that is filled
-  pub filled_added : (columns : ℕ → Option ℕ) (r b : Renderer D A (Vec A)) (full line : List (Item (Vec A))) → items_meant f full ≡ items_meant f line ++ line_padding columns (meant f r) (items_meant f line) →
+  pub filled_added : (columns : ℕ → Option ℕ) (r b : Renderer D A (List A)) (full line : List (Item (List A))) → items_meant f full ≡ items_meant f line ++ line_padding columns (meant f r) (items_meant f line) →
       b ≡ record r { lines = r.lines ++ text full ∷ [] } → meant f b ≡ with_filled columns (meant f r) (items_meant f line)
   filled_added columns r b full line fills pushed =
       ap (meant f) pushed ∙ ap (λ (ls : List (Line (List M))). record (meant f r) { lines = ls })
@@ -71,29 +69,29 @@ module _ {D A M : Type 0} (f : A → M) where
       ap (λ ms. record (with_filled columns r is) { waiting = ms }) none ∙ ap (λ ms. with_filled columns (record r { waiting = [] }) (marker_items ms ++ is)) (sym none)
 
   -- after the markers that waited
-  pub line_after : (columns : ℕ → Option ℕ) (r a b : Renderer D A (Vec A)) (es : List (Element (Vec A))) (whole line : List (Item (Vec A))) →
+  pub line_after : (columns : ℕ → Option ℕ) (r a b : Renderer D A (List A)) (es : List (Element (List A))) (whole line : List (Item (List A))) →
       AreMarkers es → names_of es ≡ r.waiting → a ≡ record r { waiting = [] } → items_meant f whole ≡ items_meant f (items_of es ++ line) →
       meant f b ≡ with_filled columns (meant f a) (items_meant f whole) → meant f b ≡ with_line columns (meant f r) (items_meant f line)
   line_after columns r a b es whole line are names emptied same added =
-      added ∙ ap (λ (q : Renderer D A (Vec A)). with_filled columns (meant f q) (items_meant f whole)) emptied
+      added ∙ ap (λ (q : Renderer D A (List A)). with_filled columns (meant f q) (items_meant f whole)) emptied
       ∙ ap (with_filled columns (record (meant f r) { waiting = [] })) (same ∙ marked f es r.waiting line are names)
 
 -- ---- content
 
 module _ {A M : Type 0} (f : A → M) where
-  content-map : (l : Line (Vec A)) → line_has_content (map_line (tag_meant f) l) ≡ line_has_content l
+  content-map : (l : Line (List A)) → line_has_content (map_line (tag_meant f) l) ≡ line_has_content l
   content-map (text is) = has_character-map (tag_meant f) (λ c. None) is
   content-map (border b) = holes b.holes
     where
-      holes : (hs : List (Hole (Vec A))) → not (has_holes (map (map_hole (tag_meant f)) hs)) ≡ not (has_holes hs)
+      holes : (hs : List (Hole (List A))) → not (has_holes (map (map_hole (tag_meant f)) hs)) ≡ not (has_holes hs)
       holes [] = refl
       holes (h ∷ hs) = refl
 
-  any_content-map : (ls : List (Line (Vec A))) → list_any line_has_content (map (map_line (tag_meant f)) ls) ≡ list_any line_has_content ls
+  any_content-map : (ls : List (Line (List A))) → list_any line_has_content (map (map_line (tag_meant f)) ls) ≡ list_any line_has_content ls
   any_content-map [] = refl
   any_content-map (l ∷ ls) = let first = content-map l in let rest = any_content-map ls in rw (first, rest) refl
 
-module _ {D A M : Type 0} (f : A → M) (columns : ℕ → Option ℕ) (r : Renderer D A (Vec A)) where
+module _ {D A M : Type 0} (f : A → M) (columns : ℕ → Option ℕ) (r : Renderer D A (List A)) where
   abbrev pub Begins : Bool → Renderer D M (List M) → Type 0
   Begins true s = s ≡ with_empty_line columns (meant f r)
   Begins false s = s ≡ record (meant f r) { block_ended = false }
@@ -111,8 +109,8 @@ module _ {D A M : Type 0} (f : A → M) (columns : ℕ → Option ℕ) (r : Rend
 
 -- ---- blocks that are opened
 
-module _ {D A M : Type 0} (f : A → M) (r : Renderer D A (Vec A)) where
-  pub opened_new : (columns : ℕ → Option ℕ) (v : Vec A) (pads : Bool) (b : Block (Vec A)) (width : ℕ) (overflows : Bool) → pads ≡ r.options.pad_block_width → tag_meant f v ≡ map f r.annotations → b ≡ block.new_block width overflows (if pads then Some v else None) →
+module _ {D A M : Type 0} (f : A → M) (r : Renderer D A (List A)) where
+  pub opened_new : (columns : ℕ → Option ℕ) (v : List A) (pads : Bool) (b : Block (List A)) (width : ℕ) (overflows : Bool) → pads ≡ r.options.pad_block_width → tag_meant f v ≡ map f r.annotations → b ≡ block.new_block width overflows (if pads then Some v else None) →
       block_meant f b ≡ new_block (meant f r)
   opened_new columns v true b width overflows pads under is = ap (block_meant f) is ∙ rw (← pads) (ap (λ (xs : List M). record { padding = Some xs; events = [] }) under)
   opened_new columns v false b width overflows pads under is = ap (block_meant f) is ∙ rw (← pads) refl

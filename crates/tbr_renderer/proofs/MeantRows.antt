@@ -2,15 +2,13 @@
 use Rattle.std.proofs.Common.{◌≡◌, ℕ, ◌+◌, zero, suc, ◌-◌, ◌<◌, ◌↔◌, IsTrue, Bool, true, if◌then◌else◌, is_some, is_none, Option, None, Some, unwrap_or, List, [], ◌∷◌, ◌++◌, map, fold, take, drop, length, get_or, refl, ap, sym, ◌∙◌, subst, arith}
 use Rattle.std.specs.Borrow.{Bor}
 use Rattle.std.specs.Option.{MatchOption, option_copied, option_map}
-use Rattle.std.specs.Global.{Vec}
-use Rattle.std.specs.Vec.{vec_items}
 use Rattle.std.specs.List.{AllZip, AllByRecursion as Each}
 use Rattle.std.specs.Cmp.Lexicographic.{pointwise}
 use Rattle.std.proofs.lemmas.List.{map-append, length-map, take-map, length-append, take_more, nil_from_length}
 use Rattle.tbr_model.specs.Run.{Item, items_width}
 use Rattle.tbr_model.specs.Mapped.{map_items}
 use Rattle.tbr_border.specs.Border.{Border}
-use Rattle.tbr_tagged.specs.Copies.{equal_lists}
+use Rattle.tbr_annotations.specs.Annotations.{equal_annotations}
 use Rattle.tbr_tagged.specs.Elements.{items_of}
 use Rattle.tbr_tagged.specs.Mapped.{MeansEqual}
 use Rattle.tbr_tagged.specs.Padding.{aligned_items}
@@ -56,8 +54,8 @@ module _ {A M : Type 0} (eq : A → A → Bool) (meaning : A → M) (by_meaning 
       let all = lists_told xs ys rest in
       rw (one, all) refl
 
-  pub tags_told : EqualIfMeant (tag_meant meaning) (equal_lists eq)
-  tags_told v w same = lists_told (vec_items v) (vec_items w) same
+  pub tags_told : EqualIfMeant (tag_meant meaning) (equal_annotations eq)
+  tags_told v w same = lists_told v w same
 
 -- ---- the border above
 
@@ -90,32 +88,32 @@ module _ {T U : Type 0} (f : T → U) where
 
 module _ {D A M : Type 0} (f : A → M) (columns : ℕ → Option ℕ) where
   -- after the lines
-  pub row_put : (r s0 s1 s2 s3 : Renderer D A (Vec A)) (above next : Option (Border (Vec A))) (texts : List (List (Item (List M)))) (overhang : List (Cell (Vec A))) (row : SeenRow (List M)) →
+  pub row_put : (r s0 s1 s2 s3 : Renderer D A (List A)) (above next : Option (Border (List A))) (texts : List (List (Item (List M)))) (overhang : List (Cell (List A))) (row : SeenRow (List M)) →
       s0 ≡ record r { lines = r.lines ++ border_lines above } → s1 ≡ record s0 { hanging = overhang } → meant f s2 ≡ fold (with_line columns) (meant f s1) texts →
       meant f s3 ≡ with_next columns (meant f s2) (option_map (map_border (tag_meant f)) next) →
       row ≡ record { above = option_map (map_border (tag_meant f)) above; lines = texts; next = option_map (map_border (tag_meant f)) next; overhang = map (map_cell (tag_meant f)) overhang } →
       meant f s3 ≡ with_row_after columns (meant f r) row
   row_put r s0 s1 s2 s3 above next texts overhang row put hung lines last is =
       let top : meant f s1 ≡ record (meant f r) { lines = (meant f r).lines ++ border_lines (option_map (map_border (tag_meant f)) above); hanging = map (map_cell (tag_meant f)) overhang } =
-      ap (meant f) hung ∙ ap (λ (q : Renderer D A (Vec A)). meant f (record q { hanging = overhang })) put
+      ap (meant f) hung ∙ ap (λ (q : Renderer D A (List A)). meant f (record q { hanging = overhang })) put
       ∙ ap (λ (ls : List (Line (List M))). record (meant f r) { lines = ls; hanging = map (map_cell (tag_meant f)) overhang })
       (map-append (map_line (tag_meant f)) r.lines (border_lines above) ∙ ap (λ ls. map (map_line (tag_meant f)) r.lines ++ ls) (border_lines-map (tag_meant f) above)) in
       last ∙ ap (λ (q : Renderer D M (List M)). with_next columns q (option_map (map_border (tag_meant f)) next)) (lines ∙ ap (λ (q : Renderer D M (List M)). fold (with_line columns) q texts) top)
       ∙ ap (with_row_after columns (meant f r)) (sym is)
 
   -- in the place of the border above
-  pub row_placed : (r s0 s1 s2 : Renderer D A (Vec A)) (row : SeenRow (List M)) → s0 ≡ record r { hanging = [] } → s1 ≡ record s0 { lines = before_border s0.lines } → meant f s2 ≡ with_row_after columns (meant f s1) row → meant f s2 ≡ with_row columns (meant f r) row
+  pub row_placed : (r s0 s1 s2 : Renderer D A (List A)) (row : SeenRow (List M)) → s0 ≡ record r { hanging = [] } → s1 ≡ record s0 { lines = before_border s0.lines } → meant f s2 ≡ with_row_after columns (meant f s1) row → meant f s2 ≡ with_row columns (meant f r) row
   row_placed r s0 s1 s2 row taken cut put =
       let before : meant f s1 ≡ record (meant f r) { lines = before_border (meant f r).lines; hanging = [] } =
-      ap (meant f) cut ∙ ap (λ (q : Renderer D A (Vec A)). meant f (record q { lines = before_border q.lines })) taken
+      ap (meant f) cut ∙ ap (λ (q : Renderer D A (List A)). meant f (record q { lines = before_border q.lines })) taken
       ∙ ap (λ (ls : List (Line (List M))). record (meant f r) { lines = ls; hanging = [] }) (sym (before_border-map (tag_meant f) r.lines)) in
       put ∙ ap (λ (q : Renderer D M (List M)). with_row_after columns q row) before
 
 -- a row that was laid out
-module _ {D A M : Type 0} (f : A → M) (eq : A → A → Bool) (means : MeansEqual (tag_meant f) (equal_lists eq)) (told : EqualIfMeant (tag_meant f) (equal_lists eq)) (columns : ℕ → Option ℕ) where
-  pub row_laid : (r s0 s1 s2 : Renderer D A (Vec A)) (row : Row (Vec A)) (hanging own : List (Cell (Vec A))) (above : Option (Border (Vec A))) (style : RowStyle) (tag : Vec A) (collapses : Bool) →
+module _ {D A M : Type 0} (f : A → M) (eq : A → A → Bool) (means : MeansEqual (tag_meant f) (equal_annotations eq)) (told : EqualIfMeant (tag_meant f) (equal_annotations eq)) (columns : ℕ → Option ℕ) where
+  pub row_laid : (r s0 s1 s2 : Renderer D A (List A)) (row : Row (List A)) (hanging own : List (Cell (List A))) (above : Option (Border (List A))) (style : RowStyle) (tag : List A) (collapses : Bool) →
       hanging ≡ r.hanging → s0 ≡ record r { hanging = [] } → above ≡ last_border s0.lines → s1 ≡ record s0 { lines = before_border s0.lines } → style ≡ style_in r collapses → tag_meant f tag ≡ map f r.annotations →
-      IsRow columns (equal_lists eq) style tag hanging own above row → meant f s2 ≡ with_row_after columns (meant f s1) (row_meant (tag_meant f) row) →
+      IsRow columns (equal_annotations eq) style tag hanging own above row → meant f s2 ≡ with_row_after columns (meant f s1) (row_meant (tag_meant f) row) →
       (x : SeenRow (List M)) × MeansRow columns (style_in r collapses) (map f r.annotations) (map (map_cell (tag_meant f)) r.hanging) (map (map_cell (tag_meant f)) own) (last_border (map (map_line (tag_meant f)) r.lines)) x
       × (meant f s2 ≡ with_row columns (meant f r) x)
   row_laid r s0 s1 s2 row hanging own above style tag collapses hung taken top cut style_is tag_is is put =
@@ -123,11 +121,11 @@ module _ {D A M : Type 0} (f : A → M) (eq : A → A → Bool) (means : MeansEq
       let seen : SeenRow (List M) = row_meant g row in
       let cells : List (Cell (List M)) = map (map_cell g) own in
       let border_is : option_map (map_border g) above ≡ last_border (map (map_line g) r.lines) =
-      ap (option_map (map_border g)) (top ∙ ap (λ (q : Renderer D A (Vec A)). last_border q.lines) taken) ∙ sym (last_border-map g r.lines) in
-      let laid = row_means g (equal_lists eq) means told columns style tag hanging own above row is in
+      ap (option_map (map_border g)) (top ∙ ap (λ (q : Renderer D A (List A)). last_border q.lines) taken) ∙ sym (last_border-map g r.lines) in
+      let laid = row_means g (equal_annotations eq) means told columns style tag hanging own above row is in
       let styled = subst (λ (t : RowStyle). MeansRow columns t (g tag) (map (map_cell g) hanging) cells (option_map (map_border g) above) seen) style_is laid in
       let tagged = subst (λ (a : List M). MeansRow columns (style_in r collapses) a (map (map_cell g) hanging) cells (option_map (map_border g) above) seen) tag_is styled in
-      let hanged = subst (λ (hs : List (Cell (Vec A))). MeansRow columns (style_in r collapses) (map f r.annotations) (map (map_cell g) hs) cells (option_map (map_border g) above) seen) hung tagged in
+      let hanged = subst (λ (hs : List (Cell (List A))). MeansRow columns (style_in r collapses) (map f r.annotations) (map (map_cell g) hs) cells (option_map (map_border g) above) seen) hung tagged in
       let topped = subst (λ (o : Option (Border (List M))). MeansRow columns (style_in r collapses) (map f r.annotations) (map (map_cell g) r.hanging) cells o seen) border_is hanged in
       (seen, topped, row_placed f columns r s0 s1 s2 seen taken cut put)
 
@@ -156,7 +154,7 @@ side_by_side-map f at [] h = tt
 side_by_side-map f at (c ∷ cs) h = (h.0, side_by_side-map f (c.place + c.width + 1) cs h.1)
 
 -- the cells are side by side, whatever their annotations mean
-pub stand_meant : {A M : Type 0} (f : A → M) (cells : List (Cell (Vec A))) → AreSideBySide 0 cells → AreSideBySide 0 (map (map_cell (tag_meant f)) cells)
+pub stand_meant : {A M : Type 0} (f : A → M) (cells : List (Cell (List A))) → AreSideBySide 0 cells → AreSideBySide 0 (map (map_cell (tag_meant f)) cells)
 stand_meant f cells h = side_by_side-map (tag_meant f) 0 cells h
 
 freed : {D A T : Type 0} (columns : ℕ → Option ℕ) (at : ℕ) (cols : List (Renderer D A T × ℕ)) (cells : List (Cell T)) → AllZip (LeavesFree columns) cols cells → AllZip IsAsFree (spots_from at (map (looks columns) cols)) (spots_from at (map look cells))
@@ -171,7 +169,7 @@ freed {D} {A} {T} columns at (d ∷ ds) (c ∷ cs) h =
     )
 
 -- the row of the cells fits where that of the renderers does
-pub still_fits : {D A M : Type 0} (f : A → M) (columns : ℕ → Option ℕ) (r s : Renderer D A (Vec A)) (cols : List (Renderer D A (Vec A) × ℕ)) (cells : List (Cell (Vec A))) → after_flush columns (meant f r) ≡ done (meant f s) → AreSideBySide 0 cells → AllZip (LeavesFree columns) cols cells →
+pub still_fits : {D A M : Type 0} (f : A → M) (columns : ℕ → Option ℕ) (r s : Renderer D A (List A)) (cols : List (Renderer D A (List A) × ℕ)) (cells : List (Cell (List A))) → after_flush columns (meant f r) ≡ done (meant f s) → AreSideBySide 0 cells → AllZip (LeavesFree columns) cols cells →
     row_fits r.hanging (spots_of columns cols) ≡ true → row_fits s.hanging (map spot_of cells) ≡ true
 still_fits f columns r s cols cells flushes stand free fits =
     let same : row_fits s.hanging (spots_of columns cols) ≡ row_fits r.hanging (spots_of columns cols) =
@@ -181,20 +179,20 @@ still_fits f columns r s cols cells flushes stand free fits =
 -- ---- cells that come one after another
 
 -- a line of a cell is filled, by what its annotations mean
-module _ {A M : Type 0} (f : A → M) (eq : A → A → Bool) (means : MeansEqual (tag_meant f) (equal_lists eq)) (told : EqualIfMeant (tag_meant f) (equal_lists eq)) (columns : ℕ → Option ℕ) (align : CellAlign) (width : ℕ) (tag : Vec A) where
-  line_fills : (l filled : RenderLine (Vec A)) → IsMergedText (equal_lists eq) l → FillsLine columns (equal_lists eq) align width tag l filled →
+module _ {A M : Type 0} (f : A → M) (eq : A → A → Bool) (means : MeansEqual (tag_meant f) (equal_annotations eq)) (told : EqualIfMeant (tag_meant f) (equal_annotations eq)) (columns : ℕ → Option ℕ) (align : CellAlign) (width : ℕ) (tag : List A) where
+  line_fills : (l filled : RenderLine (List A)) → IsMergedText (equal_annotations eq) l → FillsLine columns (equal_annotations eq) align width tag l filled →
       FillsCell columns align width (tag_meant f tag) (map_line (tag_meant f) (line_seen l)) (map_row_line (tag_meant f) filled)
   line_fills (Text es) (Text filled) merged h =
       let g = tag_meant f in
       let same : items_of (map (map_element g) es) ≡ map_items g (items_of es) = items-map g es in (
-        filled_means g (equal_lists eq) means columns align width tag (Text es) (Text filled) h ∙ ap (λ (is : List (Item (List M))). aligned_items align is (width - items_width columns is) (g tag)) same,
-        longest_means g (equal_lists eq) means told filled (h.1 merged),
+        filled_means g (equal_annotations eq) means columns align width tag (Text es) (Text filled) h ∙ ap (λ (is : List (Item (List M))). aligned_items align is (width - items_width columns is) (g tag)) same,
+        longest_means g (equal_annotations eq) means told filled (h.1 merged),
       )
-  line_fills (Rule b) (Rule filled) merged h = filled_means (tag_meant f) (equal_lists eq) means columns align width tag (Rule b) (Rule filled) h
+  line_fills (Rule b) (Rule filled) merged h = filled_means (tag_meant f) (equal_annotations eq) means columns align width tag (Rule b) (Rule filled) h
   line_fills (Text es) (Rule filled) merged h = absurd h
   line_fills (Rule b) (Text filled) merged h = absurd h
 
-  pub lines_fill : (ls filled : List (RenderLine (Vec A))) → Each (IsMergedText (equal_lists eq)) ls → AllZip (FillsLine columns (equal_lists eq) align width tag) ls filled →
+  pub lines_fill : (ls filled : List (RenderLine (List A))) → Each (IsMergedText (equal_annotations eq)) ls → AllZip (FillsLine columns (equal_annotations eq) align width tag) ls filled →
       AllZip (FillsCell columns align width (tag_meant f tag)) (map (map_line (tag_meant f)) (map line_seen ls)) (map (map_row_line (tag_meant f)) filled)
   lines_fill [] [] merged h = tt
   lines_fill [] (d ∷ ds) merged h = absurd h
@@ -218,7 +216,7 @@ zip_after R (z ∷ xs) (w ∷ ys) x y h r = (h.0, zip_after R xs ys x y h.1 r)
 
 module _ {D A M : Type 0} (f : A → M) (columns : ℕ → Option ℕ) (aligns : List CellAlign) (tag : List M) where
   -- the cells of some renderers, and the alignments that are left
-  pub record HasColumns (cols : List (Renderer D A (Vec A) × ℕ)) (own : List (Cell (Vec A))) (left : List CellAlign) : Type 0 where
+  pub record HasColumns (cols : List (Renderer D A (List A) × ℕ)) (own : List (Cell (List A))) (left : List CellAlign) : Type 0 where
     pub cells : List (GivenCell (List M))
     pub given : cells_meant columns f cols aligns ≡ done cells
     pub left_is : left ≡ drop (length cols) aligns
@@ -228,13 +226,13 @@ module _ {D A M : Type 0} (f : A → M) (columns : ℕ → Option ℕ) (aligns :
   pub no_columns : HasColumns [] [] aligns
   no_columns = record { cells = []; given = refl; left_is = refl; come = tt; free = tt }
 
-  pub columns_go_on : (cols : List (Renderer D A (Vec A) × ℕ)) (own next : List (Cell (Vec A))) (left rest : List CellAlign) (col : Renderer D A (Vec A)) (span : ℕ) (align : CellAlign) (seen : List (Line (List M))) (filled : List (RenderLine (Vec A))) → (h : HasColumns cols own left) →
+  pub columns_go_on : (cols : List (Renderer D A (List A) × ℕ)) (own next : List (Cell (List A))) (left rest : List CellAlign) (col : Renderer D A (List A)) (span : ℕ) (align : CellAlign) (seen : List (Line (List M))) (filled : List (RenderLine (List A))) → (h : HasColumns cols own left) →
       handed_out columns (meant f col) ≡ done seen → align ≡ next_align left → rest ≡ drop 1 left →
       AllZip (FillsCell columns align col.width tag) seen (map (map_row_line (tag_meant f)) filled) →
       next ≡ own ++ cell_after own col.width span filled ∷ [] → HasColumns (cols ++ (col, span) ∷ []) next rest
   columns_go_on cols own next left rest col span align seen filled h hands aligned_by rest_is fills is =
       let cell : GivenCell (List M) = record { width = col.width; span = span; align = align; lines = seen } in
-      let placed : Cell (Vec A) = cell_after own col.width span filled in
+      let placed : Cell (List A) = cell_after own col.width span filled in
       let g = map_cell (tag_meant f) in
       let more : map g next ≡ map g own ++ g placed ∷ [] = ap (map g) is ∙ map-append g own (placed ∷ []) in
       record {

@@ -18,7 +18,6 @@ use Rattle.tbr_kept_lines.specs.Line.{Line, text, border}
 use Rattle.tbr_renderer.specs.Renderer.{Renderer, Kept, kept_of, block_columns, open_run, with_events, entries_of, ignores}
 use Rattle.tbr_kept_lines.specs.LastBorder.{without_last}
 use Rattle.tbr_tagged.specs.Outcome.{Outcome, done, refused, if_live}
-use Rattle.std.specs.Global.{Vec}
 use Rattle.std.specs.Cmp.Lexicographic.{pointwise}
 use Rattle.tbr_renderer.specs.Meant.{meant}
 use Rattle.tbr_renderer.specs.Outcomes.{and_then, run, taking, told}
@@ -196,7 +195,7 @@ TakesNone calls given r = and_then (calls.after new_line (calls.state r)) (λ _.
 
 -- the calls of a renderer, by what its annotations mean
 abbrev pub calls_by : {D A M : Type 0} → (ℕ → Option ℕ) → Decoration D M → (A → M) →
-    CallsOf (List M) (Renderer D A (Vec A)) (Renderer D M (List M))
+    CallsOf (List M) (Renderer D A (List A)) (Renderer D M (List M))
 calls_by columns decoration meaning = record {
   state = meant meaning;
   after = after columns decoration;

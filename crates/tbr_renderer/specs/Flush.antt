@@ -1,6 +1,5 @@
 -- The end of the open run.
 use Rattle.std.specs.Prelude.{◌≡◌, ℕ, Bool, false, if◌then◌else◌, Option, None, Some, List, [], ◌++◌, map, fold}
-use Rattle.std.specs.Global.{Vec}
 use Rattle.tbr_model.specs.Rule.{Event}
 use Rattle.tbr_model.specs.Run.{Item}
 use Rattle.tbr_wrap.specs.Block.{Block, lines, all_lines, waiting_names, allows, grown}
@@ -41,11 +40,11 @@ block_lines columns r b texts = map (λ is. is ++ padding_of columns b.padding (
 
 -- a line of a block with its padding, by what it means
 abbrev pub line_meant : {A M : Type 0} →
-    (ℕ → Option ℕ) → (A → M) → Block (Vec A) → List (Item (Vec A)) → List (Item (List M))
+    (ℕ → Option ℕ) → (A → M) → Block (List A) → List (Item (List A)) → List (Item (List M))
 line_meant columns meaning b is = items_meant meaning (is ++ padding_of columns b.padding b.width is)
 
 -- A block's lines come as they are: neither padded, nor after markers that wait.
-pub record AddsAsIs {D A : Type 0} (r : Renderer D A (Vec A)) (b : Block (Vec A)) : Type 0 where
+pub record AddsAsIs {D A : Type 0} (r : Renderer D A (List A)) (b : Block (List A)) : Type 0 where
   pub padding : b.padding ≡ None
   pub unpadded : r.options.pad_block_width ≡ false
   pub waits : r.waiting ≡ []

@@ -1,7 +1,6 @@
 -- A renderer by what its annotations mean.
 use Rattle.std.specs.Prelude.{List, map}
 use Rattle.std.specs.Option.{option_map}
-use Rattle.std.specs.Global.{Vec}
 use Rattle.tbr_model.specs.Mapped.{map_items, map_events}
 use Rattle.tbr_rows.specs.Meant.{map_border, map_cell}
 use Rattle.tbr_footnotes.specs.Tags.{tag_meant}
@@ -20,7 +19,7 @@ abbrev pub map_open : {T U : Type 0} → (T → U) → Open T → Open U
 map_open f b = record { padding = option_map f b.padding; events = map_events f b.events }
 
 -- the same renderer, each annotation as what it means
-abbrev pub meant : {D A M : Type 0} → (A → M) → Renderer D A (Vec A) → Renderer D M (List M)
+abbrev pub meant : {D A M : Type 0} → (A → M) → Renderer D A (List A) → Renderer D M (List M)
 meant meaning r = record {
   width = r.width;
   options = r.options;

@@ -20,7 +20,6 @@ use Rattle.tbr_rows.specs.declared.RowStyle.{RowStyle}
 use Rattle.tbr_kept_lines.specs.LastBorder.{last_border, before_border}
 use Rattle.tbr_kept_lines.specs.Line.{Line, text, border}
 use Rattle.tbr_renderer.specs.Renderer.{Open, Renderer, with_line}
-use Rattle.std.specs.Global.{Vec}
 use Rattle.tbr_renderer.specs.Meant.{meant}
 use Rattle.tbr_renderer.specs.Flush.{block_in, after_flush}
 use Rattle.tbr_tagged.specs.Outcome.{Outcome, done, refused, if_live}
@@ -89,7 +88,7 @@ module _ {S T : Type 0} (columns_of : S → ℕ) (hand_out : S → Outcome (List
       and_then (cell_given col (next_align aligns)) (λ cell. changed (λ cells. cell ∷ cells) others)
 
 -- the same of renderers by what their annotations mean
-abbrev pub cells_meant : {D A M : Type 0} → (ℕ → Option ℕ) → (A → M) → List (Renderer D A (Vec A) × ℕ) →
+abbrev pub cells_meant : {D A M : Type 0} → (ℕ → Option ℕ) → (A → M) → List (Renderer D A (List A) × ℕ) →
     List CellAlign → Outcome (List (GivenCell (List M)))
 cells_meant columns meaning cols aligns =
     cells_given (λ r. r.width) (λ r. handed_out columns (meant meaning r)) cols aligns

@@ -1,7 +1,7 @@
 -- What the fields of a renderer mean.
 use Rattle.std.specs.Prelude.{◌≡◌, ◌<◌, ℕ, Bool, false, ⊤, Option, Some, None, List, [], ◌∷◌, map, chars}
 use Rattle.std.specs.Option.{option_map}
-use Rattle.std.specs.Global.{Box, Vec}
+use Rattle.std.specs.Global.{Box}
 use Rattle.tbr_tagged.specs.View.{element_of}
 use Rattle.tbr_footnotes.specs.Tags.{tag_meant}
 use Rattle.tbr_renderer.specs.Meant.{map_open}
@@ -32,7 +32,7 @@ abbrev pub block_seen : {T : Type 0} → Option (Block T) → Option (Open T)
 block_seen block = option_map open_seen block
 
 -- a block by what its tags mean
-abbrev pub block_meant : {A M : Type 0} → (A → M) → Block (Vec A) → Open (List M)
+abbrev pub block_meant : {A M : Type 0} → (A → M) → Block (List A) → Open (List M)
 block_meant meaning b = map_open (tag_meant meaning) (open_seen b)
 
 -- the names of markers
@@ -61,7 +61,7 @@ IsOpened columns width overflows None = ⊤
 IsOpened columns width overflows (Some b) = IsFresh columns width overflows b
 
 -- what a contract sees of the fields
-abbrev pub renderer_of : {D W A : Type 0} → Inside D W A → Renderer D A (Vec A)
+abbrev pub renderer_of : {D W A : Type 0} → Inside D W A → Renderer D A (List A)
 renderer_of r = record {
   width = r.width;
   options = r.options;
@@ -70,7 +70,7 @@ renderer_of r = record {
   block = block_seen (unboxed r.wrapping);
   waiting = names_of (map element_of r.waiting.items);
   block_ended = r.block_ended;
-  annotations = r.annotations.items;
+  annotations = r.annotations;
   modes = r.modes.items;
   strikeouts = r.strikeouts;
   preformatted = r.preformatted;

@@ -6,7 +6,7 @@ ghost use Rattle.tbr_renderer.specs.Renderer.{KeepsSettings, kept_of, new_render
 ghost use Rattle.tbr_kept_lines.specs.Line.{line_seen};
 ghost use Rattle.tbr_renderer.specs.View.{unboxed, block_seen, IsFresh, IsOpened, AreMarkers, names_of};
 ghost use Rattle.tbr_tagged.specs.View.{element_of};
-ghost use Rattle.tbr_tagged.specs.Copies.{equal_lists};
+ghost use Rattle.tbr_annotations.specs.Annotations.{equal_annotations};
 ghost use Rattle.tbr_tagged.specs.Elements.{items_of, SameItems, IsMerged};
 ghost use Rattle.tbr_border.specs.RenderLine.{IsMergedText};
 ghost use Rattle.tbr_renderer.specs.Meant.{meant};
@@ -17,6 +17,7 @@ use crate::renderer::Renderer;
 use std::alloc::Global;
 use std::marker::Model;
 use std::mem;
+use tbr_annotations::{Annotations, OpenAnnotations};
 use tbr_decor::TextDecorator;
 use tbr_kept_lines::KeptLines;
 use tbr_lines::{
@@ -46,27 +47,27 @@ pub struct SubRenderer<D: TextDecorator, W: CharWidth = UnicodeColumns> {
     width: usize,
     options: RenderOptions,
     decorator: D,
-    lines: KeptLines<Vec<D::Annotation>>,
+    lines: KeptLines<Annotations<D::Annotation>>,
     /// The open block. It is in a box, so that it is taken and put back for each text without a copy of its fields.
-    wrapping: Option<Box<WrappedBlock<Vec<D::Annotation>, W>>>,
+    wrapping: Option<Box<WrappedBlock<Annotations<D::Annotation>, W>>>,
     /// Markers that wait for a line of text.
-    waiting: Vec<TaggedLineElement<Vec<D::Annotation>>>,
+    waiting: Vec<TaggedLineElement<Annotations<D::Annotation>>>,
     /// Whether text that comes begins a block.
     block_ended: bool,
-    annotations: Vec<D::Annotation>,
+    annotations: OpenAnnotations<D::Annotation>,
     modes: Vec<WhiteSpace>,
     strikeouts: usize,
     preformatted: usize,
     failure: Option<Error>,
     /// The cells that overhang from the rows before.
-    hanging: Overhang<Vec<D::Annotation>>,
+    hanging: Overhang<Annotations<D::Annotation>>,
 }
 
 impl<D: TextDecorator, W: CharWidth> Model for SubRenderer<D, W> {
-    ghost use Rattle.std.specs.Global.{Vec};
+    ghost use Rattle.std.specs.Prelude.{List};
     ghost use Rattle.tbr_renderer.specs.Renderer.{Renderer};
 
-    ghost Value = { Renderer D D.Annotation (Vec D.Annotation) };
+    ghost Value = { Renderer D D.Annotation (List D.Annotation) };
 
     ghost use Rattle.tbr_renderer.specs.View.{renderer_of, HoldsRenderer};
 
@@ -97,7 +98,7 @@ impl<D: TextDecorator, W: CharWidth> SubRenderer<D, W> {
             wrapping: None,
             waiting: Vec::new(alloc),
             block_ended: false,
-            annotations: Vec::new(alloc),
+            annotations: OpenAnnotations::new(),
             modes: Vec::new(alloc),
             strikeouts: 0,
             preformatted: 0,
@@ -188,7 +189,7 @@ impl<D: TextDecorator, W: CharWidth> SubRenderer<D, W> {
     }
 
     /// Takes the open block.
-    fn take_block(&mut self) -> Option<Box<WrappedBlock<Vec<D::Annotation>, W>>>
+    fn take_block(&mut self) -> Option<Box<WrappedBlock<Annotations<D::Annotation>, W>>>
         requires { self.old.failure ≡ None }
         ensures block { block_seen (unboxed result) ≡ self.old.block }
         ensures opened { IsOpened W.columns (block_width self.old) (may_overflow self.old) (unboxed result) }
@@ -198,7 +199,7 @@ impl<D: TextDecorator, W: CharWidth> SubRenderer<D, W> {
     }
 
     /// Opens a block again.
-    fn put_block(&mut self, block: Box<WrappedBlock<Vec<D::Annotation>, W>>)
+    fn put_block(&mut self, block: Box<WrappedBlock<Annotations<D::Annotation>, W>>)
         requires { IsFresh W.columns (block_width self.old) (may_overflow self.old) block.value }
         ensures { self.new ≡ record self.old { block = block_seen (Some block.value) } }
     {
@@ -223,7 +224,7 @@ impl<D: TextDecorator, W: CharWidth> SubRenderer<D, W> {
     /// Adds markers to those that wait.
     fn add_waiting(
         &mut self,
-        mut markers: Vec<TaggedLineElement<Vec<D::Annotation>>>,
+        mut markers: Vec<TaggedLineElement<Annotations<D::Annotation>>>,
     ) -> Result<(), OutOfMemory>
         requires { AreMarkers (map element_of markers.items) }
         ensures waiting { OnOk result
@@ -235,7 +236,7 @@ impl<D: TextDecorator, W: CharWidth> SubRenderer<D, W> {
     }
 
     /// Takes the markers that wait.
-    fn take_waiting(&mut self) -> Vec<TaggedLineElement<Vec<D::Annotation>>>
+    fn take_waiting(&mut self) -> Vec<TaggedLineElement<Annotations<D::Annotation>>>
         requires { self.old.failure ≡ None }
         ensures names { names_of (map element_of result.items) ≡ self.old.waiting }
         ensures markers { AreMarkers (map element_of result.items) }
@@ -245,8 +246,8 @@ impl<D: TextDecorator, W: CharWidth> SubRenderer<D, W> {
     }
 
     /// Adds a line as it is. Where memory is refused the line is lost.
-    fn push_line(&mut self, line: RenderLine<Vec<D::Annotation>>) -> Result<(), OutOfMemory>
-        requires { IsMergedText (equal_lists D.Annotation.eq) line }
+    fn push_line(&mut self, line: RenderLine<Annotations<D::Annotation>>) -> Result<(), OutOfMemory>
+        requires { IsMergedText (equal_annotations D.Annotation.eq) line }
         ensures line { OnOk result (self.new ≡ record self.old { lines = self.old.lines ++ line_seen line ∷ [] }) }
         ensures settings { KeepsSettings (meant D.meaning self.old) (meant D.meaning self.new) }
     {
@@ -254,25 +255,26 @@ impl<D: TextDecorator, W: CharWidth> SubRenderer<D, W> {
     }
 
     /// Fills a line up to the renderer's width, where lines are padded.
-    fn fill(&self, line: &mut TaggedLine<Vec<D::Annotation>>) -> Result<(), OutOfMemory>
+    fn fill(&self, line: &mut TaggedLine<Annotations<D::Annotation>>) -> Result<(), OutOfMemory>
         ensures items { OnOk result (items_meant D.meaning (items_of line.new)
             ≡ items_meant D.meaning (items_of line.old) ++ line_padding W.columns (meant D.meaning self.now)
             (items_meant D.meaning (items_of line.old))) }
-        ensures merged { IsMerged (equal_lists D.Annotation.eq) line.old →
-            OnOk result (IsMerged (equal_lists D.Annotation.eq) line.new) }
+        ensures merged { IsMerged (equal_annotations D.Annotation.eq) line.old →
+            OnOk result (IsMerged (equal_annotations D.Annotation.eq) line.new) }
     {
         if !self.options.pad_block_width {
             return Ok(());
         }
-        line.pad_to::<W>(self.width, &self.annotations)
+        let tag = self.tag()?;
+        line.pad_to::<W>(self.width, &tag)
     }
 
     /// Adds a line of text after the markers that wait. It is filled, where lines are padded.
     ///
     /// Where memory is refused the line is lost, and markers may be.
-    fn add_line(&mut self, line: TaggedLine<Vec<D::Annotation>>) -> Result<(), OutOfMemory>
+    fn add_line(&mut self, line: TaggedLine<Annotations<D::Annotation>>) -> Result<(), OutOfMemory>
         requires unfailed { self.old.failure ≡ None }
-        requires merged { IsMerged (equal_lists D.Annotation.eq) line }
+        requires merged { IsMerged (equal_annotations D.Annotation.eq) line }
         ensures line { OnOk result (meant D.meaning self.new
             ≡ with_line W.columns (meant D.meaning self.old) (items_meant D.meaning (items_of line))) }
         ensures settings { KeepsSettings (meant D.meaning self.old) (meant D.meaning self.new) }
@@ -287,8 +289,11 @@ impl<D: TextDecorator, W: CharWidth> SubRenderer<D, W> {
 
     /// Adds a line of text, whatever markers wait. It is filled, where lines are padded. Where memory is refused the
     /// line is lost.
-    fn add_filled(&mut self, mut line: TaggedLine<Vec<D::Annotation>>) -> Result<(), OutOfMemory>
-        requires { IsMerged (equal_lists D.Annotation.eq) line }
+    fn add_filled(
+        &mut self,
+        mut line: TaggedLine<Annotations<D::Annotation>>,
+    ) -> Result<(), OutOfMemory>
+        requires { IsMerged (equal_annotations D.Annotation.eq) line }
         ensures line { OnOk result (meant D.meaning self.new
             ≡ with_filled W.columns (meant D.meaning self.old) (items_meant D.meaning (items_of line))) }
         ensures settings { KeepsSettings (meant D.meaning self.old) (meant D.meaning self.new) }

@@ -1,6 +1,5 @@
 -- What the calls on the top make of a stack.
 use Rattle.std.specs.Prelude.{◌≡◌, Option, Some, None, List, [], ◌∷◌, map}
-use Rattle.std.specs.Global.{Vec}
 use Rattle.tbr_tagged.specs.Outcome.{Outcome, refused}
 use Rattle.tbr_tagged.specs.declared.Error.{Error}
 use Rattle.tbr_tagged.specs.declared.Error.TheVariants.{OutOfMemory}
@@ -35,9 +34,9 @@ OfTop {R} P s = (top : R) × (top_of s ≡ Some top) × P top
 
 -- ---- a stack by what its annotations mean
 
-abbrev pub level_meant : {D A M : Type 0} → (A → M) → Level (Renderer D A (Vec A)) → Level (Renderer D M (List M))
+abbrev pub level_meant : {D A M : Type 0} → (A → M) → Level (Renderer D A (List A)) → Level (Renderer D M (List M))
 level_meant meaning level = record { renderer = meant meaning level.renderer; open_links = level.open_links }
 
-abbrev pub stack_meant : {D A M : Type 0} → (A → M) → Stack (Renderer D A (Vec A)) → Stack (Renderer D M (List M))
+abbrev pub stack_meant : {D A M : Type 0} → (A → M) → Stack (Renderer D A (List A)) → Stack (Renderer D M (List M))
 stack_meant meaning s =
     record { levels = map (level_meant meaning) s.levels; links = s.links; table_depth = s.table_depth }

@@ -1,6 +1,5 @@
 -- Where a script for people is, by where its program is and its levels.
 use Rattle.std.proofs.Common.{◌≡◌, ℕ, ◌-◌, ◌<◌, ◌==◌, true, false, Option, None, Some, List, [], ◌∷◌, ◌++◌, suc, slice_get, take, length, refl, ap, sym, subst, ◌∙◌, arith}
-use Rattle.std.specs.Global.{Vec}
 use Rattle.std.specs.Prelude.{IfSome, IfNone}
 use Rattle.std.proofs.lemmas.Bool.{eqb-true}
 use Rattle.std.proofs.lemmas.List.{map-append, take-map, length-map, length_push, get_or_push, take_at}
@@ -91,19 +90,19 @@ is_left old new (Some by) leaves none =
 -- ---- steps
 
 module _ {D A M : Type 0} (meaning : A → M) (columns : ℕ → Option ℕ) (decoration : Decoration D M) where
-  module _ (p q : Progress D A (Vec A)) (old new : List Level) where
-    pub commanded : (command : declared.Command) (here there : Progress D A (Vec A)) → here ≡ p → q ≡ there → may_not_append command (opener_of (innermost old)) ≡ false →
+  module _ (p q : Progress D A (List A)) (old new : List Level) where
+    pub commanded : (command : declared.Command) (here there : Progress D A (List A)) → here ≡ p → q ≡ there → may_not_append command (opener_of (innermost old)) ≡ false →
         CommandDoes columns decoration (progress_meant meaning here) (command_of command) (progress_meant meaning there) → openers new ≡ opened_by command (openers old) →
         Commands columns decoration (state_of meaning p old) command (state_of meaning q new)
     commanded command here there is_here is_there may does levels =
-        let Leads : Progress D A (Vec A) → Progress D A (Vec A) → Type 0 = λ x y. CommandDoes columns decoration (progress_meant meaning x) (command_of command) (progress_meant meaning y) in
+        let Leads : Progress D A (List A) → Progress D A (List A) → Type 0 = λ x y. CommandDoes columns decoration (progress_meant meaning x) (command_of command) (progress_meant meaning y) in
         record {
           may = ap (may_not_append command) (innermost_opener old) ∙ may;
           does = subst (λ x. Leads x q) is_here (subst (λ y. Leads here y) (sym is_there) does);
           levels = levels;
         }
 
-    pub block_opens : (block : Block) (texts : TextPair) (r top : Renderer D A (Vec A)) (apart : Progress D A (Vec A)) (n : ℕ) → top_of p.stack ≡ Some r → top_of p.stack ≡ Some top →
+    pub block_opens : (block : Block) (texts : TextPair) (r top : Renderer D A (List A)) (apart : Progress D A (List A)) (n : ℕ) → top_of p.stack ≡ Some r → top_of p.stack ≡ Some top →
         chars_of texts.first ≡ decoration.prefix_text r.decorator (prefix_of block) → chars_of texts.second ≡ other_prefix columns block (chars_of texts.first) →
         width_of_text columns (chars_of texts.first) < top.width → n ≡ top.width - width_of_text columns (chars_of texts.first) →
         DoesIf columns decoration (stands_apart block) (progress_meant meaning p) (ask (layout StartBlock)) (progress_meant meaning apart) →
@@ -115,7 +114,7 @@ module _ {D A M : Type 0} (meaning : A → M) (columns : ℕ → Option ℕ) (de
           top = meant meaning top;
           is_top = top_meant meaning p.stack top is_top;
           texts = texts;
-          first = subst (λ (x : Renderer D A (Vec A)). chars_of texts.first ≡ decoration.prefix_text x.decorator (prefix_of block)) same first;
+          first = subst (λ (x : Renderer D A (List A)). chars_of texts.first ≡ decoration.prefix_text x.decorator (prefix_of block)) same first;
           others = others;
           fits = fits;
           apart = progress_meant meaning apart;

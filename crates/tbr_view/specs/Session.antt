@@ -1,6 +1,5 @@
 -- What a script for people does, line after line.
 use Rattle.std.specs.Prelude.{◌≡◌, ◌⊎◌, ℕ, ◌-◌, ◌<◌, Bool, true, false, Option, None, Some, Ok, List, [], ◌∷◌, ◌++◌, map, take, length, string_bytes}
-use Rattle.std.specs.Global.{Vec}
 use Rattle.std.specs.List.{list_any}
 use Rattle.tbr_model.specs.Width.{width_of_text}
 use Rattle.tbr_tagged.specs.View.{chars_of}
@@ -60,7 +59,7 @@ pub record State (D M : Type 0) : Type 0 where
 abbrev pub openers : List Level → List Opener
 openers levels = map (λ level. level.by) levels
 
-abbrev pub state_of : {D A M : Type 0} → (A → M) → Progress D A (Vec A) → List Level → State D M
+abbrev pub state_of : {D A M : Type 0} → (A → M) → Progress D A (List A) → List Level → State D M
 state_of meaning program levels = record { program = progress_meant meaning program; levels = openers levels }
 
 -- after the first command

@@ -14,7 +14,7 @@ use Rattle.tbr_decor.specs.declared.annotation.RichAnnotation.{RichAnnotation}
 use Rattle.tbr_decor.specs.contracts.annotation.RichAnnotationPartialEq.TheImpl as annotation
 use Rattle.tbr_decor.specs.Decoration.{Decoration}
 use Rattle.tbr_decor.specs.Style.{style_of}
-use Rattle.text_block_renderer.specs.Tags.{tag_meant}
+use Rattle.text_block_renderer.specs.Tags.{vector_meant}
 use Rattle.text_block_renderer.specs.Meant.{map_line}
 use Rattle.text_block_renderer.specs.Line.{line_seen}
 use Rattle.tbr_script.specs.Script.{lines_of}
@@ -103,7 +103,7 @@ abbrev pub ShowsScript : {D A M : Type 0} → (A → A → Bool) → (List A →
     Decoration D M → State D M → List (List ℕ) → Format → List ℕ → Type 0
 ShowsScript {D} {A} eq rich meaning columns decoration start script format cs =
     (lines : List (RenderLine (Vec A)))
-    × LinesGive columns decoration start script (map (map_line (tag_meant meaning)) (map line_seen lines))
+    × LinesGive columns decoration start script (map (map_line (vector_meant meaning)) (map line_seen lines))
     × AreShown (ShowsLine eq rich columns format) lines cs
 
 -- the same under the decorator of this name, after this first command

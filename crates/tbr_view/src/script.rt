@@ -3,7 +3,7 @@ ghost use Rattle.std.specs.Prelude.{◌≡◌, ◌≢◌, ◌<◌, Some, map, If
 ghost use Rattle.tbr_tagged.specs.View.{chars_of};
 ghost use Rattle.tbr_decor.specs.Decoration.{decoration_of};
 ghost use Rattle.tbr_script.specs.Script.{lines_of};
-ghost use Rattle.text_block_renderer.specs.Tags.{tag_meant};
+ghost use Rattle.text_block_renderer.specs.Tags.{vector_meant};
 ghost use Rattle.text_block_renderer.specs.Meant.{map_line};
 ghost use Rattle.text_block_renderer.specs.Line.{line_seen};
 ghost use Rattle.tbr_view.specs.Script.{Begins, BeginsNot};
@@ -141,7 +141,7 @@ fn run<D: TextDecorator, W: CharWidth>(
     requires width { 0 < opening.width }
     requires wrap_width { opening.options.wrap_width ≢ Some 0 }
     ensures { IfOk result (λ r. LinesGive W.columns (decoration_of D.TextDecorator) (begun opening decorator)
-        (lines_of script.now) (map (map_line (tag_meant D.meaning)) (map line_seen r.0))) }
+        (lines_of script.now) (map (map_line (vector_meant D.meaning)) (map line_seen r.0))) }
 {
     let mut session: Session<D, W> = Session::new(alloc, opening, decorator)?;
     let mut rest = script;

@@ -5,7 +5,7 @@ ghost use Rattle.tbr_commands.specs.Command.{command_of, ask};
 ghost use Rattle.tbr_commands.specs.Command as asked;
 ghost use Rattle.tbr_commands.specs.Request.{layout as laid};
 ghost use Rattle.tbr_program.specs.Progress.{GoesOn, progress_meant};
-ghost use Rattle.text_block_renderer.specs.Tags.{tag_meant};
+ghost use Rattle.text_block_renderer.specs.Tags.{vector_meant};
 ghost use Rattle.text_block_renderer.specs.Meant.{map_line};
 ghost use Rattle.text_block_renderer.specs.Line.{line_seen};
 ghost use Rattle.tbr_statements.specs.Level.{innermost, opener_of, may_not_append, known_in, noted, takes_two};
@@ -330,7 +330,7 @@ impl<D: TextDecorator, W: CharWidth> Session<D, W> {
         requires { GoesOn self.program }
         ensures lines { IfOk result (λ r. model.EndsIn W.columns (decoration_of D.TextDecorator)
             (model.state_of D.meaning self.program self.levels.inside.items)
-            (map (map_line (tag_meant D.meaning)) (map line_seen r.0))) }
+            (map (map_line (vector_meant D.meaning)) (map line_seen r.0))) }
         ensures lost { IfOk result (λ r. model.TellsLoss (model.loses self.program) number
             self.levels.notes.spanning self.lost.items r.1.items) }
     {

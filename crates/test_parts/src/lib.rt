@@ -4,6 +4,8 @@
 #![tactic(auto)]
 
 #[cfg(test)]
+mod annotations;
+#[cfg(test)]
 mod blocks;
 #[cfg(test)]
 mod borders;

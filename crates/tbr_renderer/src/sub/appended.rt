@@ -2,7 +2,7 @@
 ghost use Rattle.std.specs.Prelude.{◌≡◌, ◌≢◌, ◌≤◌, ◌++◌, None, Err, List, length, map, fold, chars, string_bytes, string_len, OnOk, IfOk};
 ghost use Rattle.std.specs.List.{AllByRecursion as Each};
 ghost use Rattle.std.specs.Vec.Iter.{into_iter_items};
-ghost use Rattle.tbr_tagged.specs.Copies.{equal_lists};
+ghost use Rattle.tbr_annotations.specs.Annotations.{equal_annotations};
 ghost use Rattle.tbr_tagged.specs.Elements.{items_of, text_items, IsMerged};
 ghost use Rattle.tbr_border.specs.RenderLine.{IsMergedText};
 ghost use Rattle.tbr_tagged.specs.declared.Error.TheVariants as E;
@@ -19,6 +19,7 @@ use crate::sub::SubRenderer;
 use std::alloc::Global;
 use std::convert::AsStr;
 use std::vec::IntoIter;
+use tbr_annotations::Annotations;
 use tbr_decor::TextDecorator;
 use tbr_lines::{
     BorderSegHoriz, CharWidth, Error, OutOfMemory, RenderLine, TaggedLine, TaggedLineElement,
@@ -29,30 +30,33 @@ impl<D: TextDecorator, W: CharWidth> SubRenderer<D, W> {
     /// A line as text: a border's cells are under a copy of the annotations.
     fn as_text(
         &self,
-        line: RenderLine<Vec<D::Annotation>>,
-    ) -> Result<TaggedLine<Vec<D::Annotation>>, OutOfMemory>
-        requires { IsMergedText (equal_lists D.Annotation.eq) line }
+        line: RenderLine<Annotations<D::Annotation>>,
+    ) -> Result<TaggedLine<Annotations<D::Annotation>>, OutOfMemory>
+        requires { IsMergedText (equal_annotations D.Annotation.eq) line }
         ensures items { IfOk result (λ text. items_meant D.meaning (items_of text)
             ≡ as_text (map D.meaning self.now.annotations) (map_line (tag_meant D.meaning) (line_seen line))) }
-        ensures merged { IfOk result (λ text. IsMerged (equal_lists D.Annotation.eq) text) }
+        ensures merged { IfOk result (λ text. IsMerged (equal_annotations D.Annotation.eq) text) }
     {
         match line {
             RenderLine::Text(text) => Ok(text),
-            RenderLine::Line(border) => border.into_tagged_line_with(&self.tag()?),
+            RenderLine::Line(border) => {
+                let tag = self.tag()?;
+                border.into_tagged_line_with(&tag)
+            }
         }
     }
 
     /// Puts a prefix in front of a text, under a copy of the annotations. An empty one takes no memory.
     fn put_in_front(
         &self,
-        text: &mut TaggedLine<Vec<D::Annotation>>,
+        text: &mut TaggedLine<Annotations<D::Annotation>>,
         prefix: &str,
     ) -> Result<(), OutOfMemory>
         ensures items { OnOk result (items_meant D.meaning (items_of text.new)
             ≡ text_items (chars prefix.now) (map D.meaning self.now.annotations)
             ++ items_meant D.meaning (items_of text.old)) }
-        ensures merged { IsMerged (equal_lists D.Annotation.eq) text.old →
-            OnOk result (IsMerged (equal_lists D.Annotation.eq) text.new) }
+        ensures merged { IsMerged (equal_annotations D.Annotation.eq) text.old →
+            OnOk result (IsMerged (equal_annotations D.Annotation.eq) text.new) }
     {
         if prefix.is_empty() {
             return Ok(());
@@ -65,11 +69,11 @@ impl<D: TextDecorator, W: CharWidth> SubRenderer<D, W> {
     /// Adds each line after its prefix, as long as there are both.
     fn add_prefixed<P: AsStr + Drop, I: Iterator<Item = P>>(
         &mut self,
-        lines: Vec<RenderLine<Vec<D::Annotation>>>,
+        lines: Vec<RenderLine<Annotations<D::Annotation>>>,
         mut prefixes: I,
     ) -> Result<(), OutOfMemory>
         requires unfailed { self.old.failure ≡ None }
-        requires merged { Each (IsMergedText (equal_lists D.Annotation.eq)) lines.items }
+        requires merged { Each (IsMergedText (equal_annotations D.Annotation.eq)) lines.items }
         requires prefixes { I.can_next prefixes }
         ensures lines { OnOk result ((given : List P) × GivesFirst I.next_gives (length lines.items) prefixes given
             × (meant D.meaning self.new ≡ fold (with_line W.columns) (meant D.meaning self.old)
@@ -89,9 +93,12 @@ impl<D: TextDecorator, W: CharWidth> SubRenderer<D, W> {
     }
 
     /// Adds each line as text.
-    fn add_cell(&mut self, lines: Vec<RenderLine<Vec<D::Annotation>>>) -> Result<(), OutOfMemory>
+    fn add_cell(
+        &mut self,
+        lines: Vec<RenderLine<Annotations<D::Annotation>>>,
+    ) -> Result<(), OutOfMemory>
         requires unfailed { self.old.failure ≡ None }
-        requires merged { Each (IsMergedText (equal_lists D.Annotation.eq)) lines.items }
+        requires merged { Each (IsMergedText (equal_annotations D.Annotation.eq)) lines.items }
         ensures lines { OnOk result (meant D.meaning self.new ≡ with_cell W.columns (meant D.meaning self.old)
             (map (map_line (tag_meant D.meaning)) (map line_seen lines.items))) }
         ensures unfailed { OnOk result (self.new.failure ≡ None) }

@@ -11,6 +11,7 @@ ghost use Rattle.tbr_renderer.specs.Outcomes.{Tries};
 ghost use Rattle.tbr_renderer.specs.Steps.{with_empty_line, after_empty_line, block_started, after_block_start, at_line_start, after_break};
 
 use crate::sub::SubRenderer;
+use tbr_annotations::Annotations;
 use tbr_decor::TextDecorator;
 use tbr_lines::{CharWidth, EndedLines, Error, OutOfMemory, TaggedLine, WrappedBlock};
 
@@ -19,7 +20,10 @@ const MANY: usize = 4;
 
 impl<D: TextDecorator, W: CharWidth> SubRenderer<D, W> {
     /// Adds the lines that a block has ended. It refuses only where memory is refused.
-    fn add_lines_of(&mut self, block: WrappedBlock<Vec<D::Annotation>, W>) -> Result<(), Error>
+    fn add_lines_of(
+        &mut self,
+        block: WrappedBlock<Annotations<D::Annotation>, W>,
+    ) -> Result<(), Error>
         requires unfailed { self.old.failure ≡ None }
         requires block { block.failure ≡ None }
         requires ended { has_no_character W.columns block ≡ true }
@@ -37,7 +41,10 @@ impl<D: TextDecorator, W: CharWidth> SubRenderer<D, W> {
     }
 
     /// Adds lines that a block has ended as they are. Where memory is refused lines are lost.
-    fn push_ended(&mut self, ended: EndedLines<Vec<D::Annotation>>) -> Result<(), OutOfMemory>
+    fn push_ended(
+        &mut self,
+        ended: EndedLines<Annotations<D::Annotation>>,
+    ) -> Result<(), OutOfMemory>
         requires { is_some_list ended ≡ true }
         ensures lines { OnOk result (self.new ≡ record self.old { lines = self.old.lines ++ text_lines ended }) }
         ensures settings { KeepsSettings (meant D.meaning self.old) (meant D.meaning self.new) }
@@ -46,7 +53,7 @@ impl<D: TextDecorator, W: CharWidth> SubRenderer<D, W> {
     }
 
     /// Whether a block's lines come as they are: neither padded, nor after markers that wait.
-    fn adds_as_is(&self, block: &WrappedBlock<Vec<D::Annotation>, W>) -> bool
+    fn adds_as_is(&self, block: &WrappedBlock<Annotations<D::Annotation>, W>) -> bool
         ensures { result ≡ true → AddsAsIs self.now block.now }
     {
         !block.pads() && !self.options.pad_block_width && self.waiting.is_empty()
@@ -55,7 +62,7 @@ impl<D: TextDecorator, W: CharWidth> SubRenderer<D, W> {
     /// Adds the lines that a block has ended, one by one. It refuses only where memory is refused.
     fn add_each_line_of(
         &mut self,
-        mut block: WrappedBlock<Vec<D::Annotation>, W>,
+        mut block: WrappedBlock<Annotations<D::Annotation>, W>,
     ) -> Result<(), Error>
         requires unfailed { self.old.failure ≡ None }
         requires block { block.failure ≡ None }

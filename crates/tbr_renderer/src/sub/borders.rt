@@ -10,6 +10,7 @@ ghost use Rattle.tbr_renderer.specs.Appended.{with_border, border_of_cells, with
 ghost use Rattle.tbr_renderer.specs.Outcomes.{Tries};
 
 use crate::sub::SubRenderer;
+use tbr_annotations::Annotations;
 use tbr_decor::TextDecorator;
 use tbr_lines::{BorderHoriz, BorderSegHoriz, CharWidth, Error, OutOfMemory, RenderLine};
 
@@ -17,7 +18,7 @@ impl<D: TextDecorator, W: CharWidth> SubRenderer<D, W> {
     /// Adds a border, as text where lines are padded. Where memory is refused it is lost.
     pub(crate) fn add_border(
         &mut self,
-        border: BorderHoriz<Vec<D::Annotation>>,
+        border: BorderHoriz<Annotations<D::Annotation>>,
     ) -> Result<(), OutOfMemory>
         requires { self.old.failure ≡ None }
         ensures border { OnOk result (meant D.meaning self.new
@@ -38,7 +39,7 @@ impl<D: TextDecorator, W: CharWidth> SubRenderer<D, W> {
         &self,
         width: usize,
         cell: BorderSegHoriz,
-    ) -> Result<BorderHoriz<Vec<D::Annotation>>, OutOfMemory>
+    ) -> Result<BorderHoriz<Annotations<D::Annotation>>, OutOfMemory>
         ensures { IfOk result (λ border. map_border (tag_meant D.meaning) border
             ≡ border_of_cells (cell_of cell) width (meant D.meaning self.now)) }
     {

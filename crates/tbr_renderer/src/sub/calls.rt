@@ -22,6 +22,7 @@ use crate::sub::SubRenderer;
 use crate::sub::colours::Ground;
 use crate::sub::decorated::{End, Start};
 use std::convert::AsStr;
+use tbr_annotations::{Annotations, OpenAnnotations};
 use tbr_decor::{Colour, TextDecorator};
 use tbr_lines::{CellAlign, CharWidth, Error, WhiteSpace};
 
@@ -62,11 +63,11 @@ impl<D: TextDecorator, W: CharWidth> SubRenderer<D, W> {
     }
 
     /// Replaces the annotations of text that comes.
-    fn set_annotations(&mut self, annotations: Vec<D::Annotation>)
+    fn set_annotations(&mut self, annotations: Annotations<D::Annotation>)
         ensures { meant D.meaning self.new
             ≡ record (meant D.meaning self.old) { annotations = tag_meant D.meaning annotations } }
     {
-        self.annotations = annotations;
+        self.annotations = OpenAnnotations::of(annotations);
     }
 
     /// Begins a preformatted stretch.

@@ -91,15 +91,14 @@ impl<D: TextDecorator, W: CharWidth> SubRenderer<D, W> {
         ensures columns { block_width self.new ≡ block_width self.old }
         ensures err { OnErr result (self.new ≡ self.old) }
     {
-        self.annotations.push(annotation)?;
-        Ok(())
+        self.annotations.push(self.alloc, annotation)
     }
 
     /// Takes the last annotation, if there is one.
     pub(crate) fn pop_annotation(&mut self)
         ensures { meant D.meaning self.new ≡ without_annotation (meant D.meaning self.old) }
     {
-        let _ = self.annotations.pop();
+        self.annotations.pop();
     }
 
     /// Adds the annotation of what is opened to those of text that comes. The decorator's text is for the caller to

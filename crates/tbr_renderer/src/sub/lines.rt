@@ -1,7 +1,9 @@
 //! Lines that are handed out.
 ghost use Rattle.std.specs.Prelude.{◌≡◌, ◌≢◌, ◌≤◌, None, Some, Err, true, [], ◌++◌, map, IfOk, OnOk, List};
-ghost use Rattle.std.specs.List.{AllByRecursion as Each};
-ghost use Rattle.tbr_tagged.specs.Copies.{equal_lists};
+ghost use Rattle.std.specs.List.{AllZip, AllByRecursion as Each};
+ghost use Rattle.tbr_tagged.specs.Copies.{CopiesAreEqual, equal_lists};
+ghost use Rattle.tbr_annotations.specs.Annotations.{equal_annotations};
+ghost use Rattle.tbr_annotations.specs.Written.{WritesOut};
 ghost use Rattle.tbr_border.specs.RenderLine.{IsMergedText};
 ghost use Rattle.tbr_tagged.specs.declared.Error.{Error as Refusal};
 ghost use Rattle.tbr_tagged.specs.declared.Error.TheVariants as E;
@@ -9,7 +11,7 @@ ghost use Rattle.tbr_renderer.specs.Renderer.{block_width};
 ghost use Rattle.tbr_kept_lines.specs.Line.{line_seen};
 ghost use Rattle.tbr_kept_lines.specs.Text.{line_text, lines_text};
 ghost use Rattle.tbr_tagged.specs.View.{chars_of};
-ghost use Rattle.tbr_footnotes.specs.Tags.{tag_meant};
+ghost use Rattle.tbr_footnotes.specs.Tags.{tag_meant, vector_meant};
 ghost use Rattle.tbr_renderer.specs.Meant.{map_line, meant};
 ghost use Rattle.tbr_tagged.specs.Outcome.{done, refused};
 ghost use Rattle.tbr_renderer.specs.Outcomes.{changed};
@@ -19,6 +21,7 @@ use crate::sub::SubRenderer;
 use std::alloc::Global;
 use std::collections::LinkedList;
 use std::mem;
+use tbr_annotations::{Annotations, written_out};
 use tbr_decor::TextDecorator;
 use tbr_kept_lines::KeptLines;
 use tbr_lines::{CharWidth, Error, OutOfMemory, RenderLine};
@@ -30,7 +33,7 @@ impl<D: TextDecorator, W: CharWidth> SubRenderer<D, W> {
     /// It refuses as `new_line` does. The list takes memory for each line.
     pub fn into_lines(self) -> Result<LinkedList<RenderLine<Vec<D::Annotation>>>, Error>
         ensures lines { IfOk result (λ lines. handed_out W.columns (meant D.meaning self)
-            ≡ done (map (map_line (tag_meant D.meaning)) (map line_seen lines))) }
+            ≡ done (map (map_line (vector_meant D.meaning)) (map line_seen lines))) }
         ensures merged { IfOk result (λ lines. Each (IsMergedText (equal_lists D.Annotation.eq)) lines) }
         ensures too_narrow { result ≡ Err E.TooNarrow →
             handed_out W.columns (meant D.meaning self) ≡ refused E.TooNarrow }
@@ -39,16 +42,16 @@ impl<D: TextDecorator, W: CharWidth> SubRenderer<D, W> {
     {
         let alloc = self.alloc;
         let lines = self.into_vec()?;
-        Ok(listed(alloc, lines)?)
+        Ok(all_written_out(alloc, lines)?)
     }
 
     /// Ends the open line, and hands out all lines, as they are kept.
     ///
     /// It refuses as `new_line` does.
-    pub(crate) fn into_vec(self) -> Result<Vec<RenderLine<Vec<D::Annotation>>>, Error>
+    pub(crate) fn into_vec(self) -> Result<Vec<RenderLine<Annotations<D::Annotation>>>, Error>
         ensures lines { IfOk result (λ lines. handed_out W.columns (meant D.meaning self)
             ≡ done (map (map_line (tag_meant D.meaning)) (map line_seen lines.items))) }
-        ensures merged { IfOk result (λ lines. Each (IsMergedText (equal_lists D.Annotation.eq)) lines.items) }
+        ensures merged { IfOk result (λ lines. Each (IsMergedText (equal_annotations D.Annotation.eq)) lines.items) }
         ensures too_narrow { result ≡ Err E.TooNarrow →
             handed_out W.columns (meant D.meaning self) ≡ refused E.TooNarrow }
         ensures two_columns { self.failure ≡ None → 2 ≤ block_width self → result ≢ Err E.TooNarrow }
@@ -60,7 +63,7 @@ impl<D: TextDecorator, W: CharWidth> SubRenderer<D, W> {
     /// Ends the open line, and hands out what is kept.
     ///
     /// It refuses as `new_line` does.
-    fn into_kept(mut self) -> Result<KeptLines<Vec<D::Annotation>>, Error>
+    fn into_kept(mut self) -> Result<KeptLines<Annotations<D::Annotation>>, Error>
         ensures lines { IfOk result (λ lines.
             handed_out W.columns (meant D.meaning self) ≡ done (map (map_line (tag_meant D.meaning)) lines)) }
         ensures too_narrow { result ≡ Err E.TooNarrow →
@@ -88,19 +91,25 @@ impl<D: TextDecorator, W: CharWidth> SubRenderer<D, W> {
     }
 
     /// Takes all lines.
-    fn take_lines(&mut self) -> KeptLines<Vec<D::Annotation>>
+    fn take_lines(&mut self) -> KeptLines<Annotations<D::Annotation>>
         ensures { result ≡ self.old.lines }
     {
         mem::replace(&mut self.lines, KeptLines::new(self.alloc))
     }
 }
 
-/// The same lines in a list.
-fn listed<T: Drop>(
+/// The same lines in a list, each list of annotations as a vector.
+fn all_written_out<A: Eq + Clone + Drop>(
     alloc: Global,
-    lines: Vec<RenderLine<T>>,
-) -> Result<LinkedList<RenderLine<T>>, OutOfMemory>
-    ensures { IfOk result (λ list. list ≡ lines.items) }
+    lines: Vec<RenderLine<Annotations<A>>>,
+) -> Result<LinkedList<RenderLine<Vec<A>>>, OutOfMemory>
+    requires { CopiesAreEqual A.is_clone A.eq }
+    ensures written { IfOk result (λ list. AllZip (WritesOut A.eq) lines.items list) }
+    ensures merged { IfOk result (λ list. Each (IsMergedText (equal_lists A.eq)) list) }
 {
-    Ok(lines.into_iter().collect(alloc)?)
+    let mut written = LinkedList::new(alloc);
+    for line in lines {
+        written.push_back(written_out(alloc, line)?)?;
+    }
+    Ok(written)
 }

@@ -1,7 +1,7 @@
 //! The targets of links, which are after a document.
 ghost use Rattle.std.specs.Prelude.{◌≡◌, ◌≢◌, None, Some, Err, map, IfOk, IfErr, OnOk, OnErr};
 ghost use Rattle.std.specs.List.{AllByRecursion as Each};
-ghost use Rattle.tbr_tagged.specs.Copies.{equal_lists};
+ghost use Rattle.tbr_annotations.specs.Annotations.{equal_annotations};
 ghost use Rattle.tbr_tagged.specs.Elements.{IsMerged};
 ghost use Rattle.tbr_tagged.specs.View.{chars_of};
 ghost use Rattle.tbr_tagged.specs.declared.Error.TheVariants as E;
@@ -17,6 +17,7 @@ ghost use Rattle.tbr_renderer.specs.Meant.{meant};
 ghost use Rattle.tbr_renderer.specs.Renderer.{KeepsSettings, kept_of};
 
 use crate::sub::SubRenderer;
+use tbr_annotations::Annotations;
 use tbr_decor::TextDecorator;
 use tbr_footnotes::FootnoteLines;
 use tbr_lines::{CharWidth, Error, OutOfMemory, TaggedLine};
@@ -105,10 +106,10 @@ impl<D: TextDecorator, W: CharWidth> SubRenderer<D, W> {
     fn footnote_lines(
         &self,
         link: TaggedLine<D::Annotation>,
-    ) -> Result<Vec<TaggedLine<Vec<D::Annotation>>>, OutOfMemory>
+    ) -> Result<Vec<TaggedLine<Annotations<D::Annotation>>>, OutOfMemory>
         ensures lines { IfOk result (λ lines. texts_meant D.meaning lines.items
             ≡ model.footnote_lines W.columns (meant D.meaning self.now) (map (decor.meant D.meaning) link)) }
-        ensures merged { IfOk result (λ lines. Each (IsMerged (equal_lists D.Annotation.eq)) lines.items) }
+        ensures merged { IfOk result (λ lines. Each (IsMerged (equal_annotations D.Annotation.eq)) lines.items) }
     {
         let mut lines = FootnoteLines::<D, W>::new(self.alloc, self.link_width());
         lines.push_line(link)?;

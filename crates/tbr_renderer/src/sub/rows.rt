@@ -3,7 +3,7 @@ ghost use Rattle.std.specs.Prelude.{◌≡◌, ◌≢◌, ◌≤◌, ◌==◌, �
 ghost use Rattle.std.specs.Option.{option_map};
 ghost use Rattle.std.specs.Cmp.Lexicographic.{pointwise};
 ghost use Rattle.std.specs.List.{AllZip, AllByRecursion as Each, list_any};
-ghost use Rattle.tbr_tagged.specs.Copies.{equal_lists};
+ghost use Rattle.tbr_annotations.specs.Annotations.{equal_annotations};
 ghost use Rattle.tbr_tagged.specs.Elements.{items_of, IsMerged};
 ghost use Rattle.tbr_tagged.specs.declared.Error.TheVariants as E;
 ghost use Rattle.tbr_rows.specs.Cells.{AreSideBySide, has_lines, row_fits, spot_of};
@@ -21,6 +21,7 @@ ghost use Rattle.tbr_renderer.specs.Rows.{GivenCell, ComesAs, cells_meant, after
 use crate::renderer::Renderer;
 use crate::sub::SubRenderer;
 use std::mem;
+use tbr_annotations::Annotations;
 use tbr_decor::TextDecorator;
 use tbr_lines::{BorderHoriz, CellAlign, CharWidth, Error, OutOfMemory, RenderLine, TaggedLine};
 use tbr_rows::{Columns, Overhang, Row, RowStyle};
@@ -103,7 +104,7 @@ impl<D: TextDecorator, W: CharWidth> SubRenderer<D, W> {
         &self,
         cols: Vec<(SubRenderer<D, W>, usize)>,
         aligns: &[CellAlign],
-    ) -> Result<Columns<Vec<D::Annotation>>, Error>
+    ) -> Result<Columns<Annotations<D::Annotation>>, Error>
         ensures cells { IfOk result (λ columns. (cells : List (GivenCell (List D.Meaning)))
             × (cells_meant W.columns D.meaning cols.items aligns.now ≡ done cells)
             × AllZip (ComesAs W.columns (map D.meaning self.now.annotations)) cells
@@ -130,7 +131,7 @@ impl<D: TextDecorator, W: CharWidth> SubRenderer<D, W> {
     /// Adds a row of these cells, under the last line if that is a border.
     fn add_row(
         &mut self,
-        columns: Columns<Vec<D::Annotation>>,
+        columns: Columns<Annotations<D::Annotation>>,
         collapses: bool,
     ) -> Result<(), OutOfMemory>
         requires unfailed { self.old.failure ≡ None }
@@ -154,7 +155,7 @@ impl<D: TextDecorator, W: CharWidth> SubRenderer<D, W> {
     }
 
     /// Takes the cells that overhang.
-    fn take_hanging(&mut self) -> Overhang<Vec<D::Annotation>>
+    fn take_hanging(&mut self) -> Overhang<Annotations<D::Annotation>>
         ensures cells { result ≡ self.old.hanging }
         ensures rest { self.new ≡ record self.old { hanging = [] } }
     {
@@ -162,7 +163,7 @@ impl<D: TextDecorator, W: CharWidth> SubRenderer<D, W> {
     }
 
     /// Takes the last line, if it is a border.
-    fn take_border(&mut self) -> Option<BorderHoriz<Vec<D::Annotation>>>
+    fn take_border(&mut self) -> Option<BorderHoriz<Annotations<D::Annotation>>>
         requires { self.old.failure ≡ None }
         ensures border { result ≡ last_border self.old.lines }
         ensures rest { self.new ≡ record self.old { lines = before_border self.old.lines } }
@@ -171,9 +172,9 @@ impl<D: TextDecorator, W: CharWidth> SubRenderer<D, W> {
     }
 
     /// Adds a row that is laid out. Where memory is refused it is lost.
-    fn put_row(&mut self, row: Row<Vec<D::Annotation>>) -> Result<(), OutOfMemory>
+    fn put_row(&mut self, row: Row<Annotations<D::Annotation>>) -> Result<(), OutOfMemory>
         requires unfailed { self.old.failure ≡ None }
-        requires merged { Each (IsMerged (equal_lists D.Annotation.eq)) row.lines.items }
+        requires merged { Each (IsMerged (equal_annotations D.Annotation.eq)) row.lines.items }
         ensures row { OnOk result (meant D.meaning self.new
             ≡ model.with_row_after W.columns (meant D.meaning self.old) (row_meant (tag_meant D.meaning) row)) }
         ensures settings { KeepsSettings (meant D.meaning self.old) (meant D.meaning self.new) }
@@ -187,7 +188,7 @@ impl<D: TextDecorator, W: CharWidth> SubRenderer<D, W> {
     /// Puts a border back, if there is one.
     fn put_back(
         &mut self,
-        border: Option<BorderHoriz<Vec<D::Annotation>>>,
+        border: Option<BorderHoriz<Annotations<D::Annotation>>>,
     ) -> Result<(), OutOfMemory>
         requires { self.old.failure ≡ None }
         ensures border { OnOk result
@@ -201,7 +202,7 @@ impl<D: TextDecorator, W: CharWidth> SubRenderer<D, W> {
     }
 
     /// Keeps the cells that overhang.
-    fn hang(&mut self, overhang: Overhang<Vec<D::Annotation>>)
+    fn hang(&mut self, overhang: Overhang<Annotations<D::Annotation>>)
         ensures { self.new ≡ record self.old { hanging = overhang } }
     {
         self.hanging = overhang;
@@ -210,10 +211,10 @@ impl<D: TextDecorator, W: CharWidth> SubRenderer<D, W> {
     /// Adds lines of text.
     pub(crate) fn add_texts(
         &mut self,
-        texts: Vec<TaggedLine<Vec<D::Annotation>>>,
+        texts: Vec<TaggedLine<Annotations<D::Annotation>>>,
     ) -> Result<(), OutOfMemory>
         requires unfailed { self.old.failure ≡ None }
-        requires merged { Each (IsMerged (equal_lists D.Annotation.eq)) texts.items }
+        requires merged { Each (IsMerged (equal_annotations D.Annotation.eq)) texts.items }
         ensures lines { OnOk result (meant D.meaning self.new ≡ fold (with_line W.columns) (meant D.meaning self.old)
             (map (λ text. items_meant D.meaning (items_of text)) texts.items)) }
         ensures unfailed { OnOk result (self.new.failure ≡ None) }
@@ -228,7 +229,7 @@ impl<D: TextDecorator, W: CharWidth> SubRenderer<D, W> {
     /// Adds a border, if there is one.
     fn add_next(
         &mut self,
-        border: Option<BorderHoriz<Vec<D::Annotation>>>,
+        border: Option<BorderHoriz<Annotations<D::Annotation>>>,
     ) -> Result<(), OutOfMemory>
         requires { self.old.failure ≡ None }
         ensures border { let next = option_map (map_border (tag_meant D.meaning)) border in

@@ -14,6 +14,7 @@ ghost use Rattle.tbr_model.specs.Run.{marker_entry};
 
 use crate::sub::SubRenderer;
 use std::alloc::Global;
+use tbr_annotations::Annotations;
 use tbr_decor::TextDecorator;
 use tbr_lines::{CharWidth, Error, OutOfMemory, TaggedLineElement, WhiteSpace, WrappedBlock};
 
@@ -41,15 +42,15 @@ impl<D: TextDecorator, W: CharWidth> SubRenderer<D, W> {
         }
     }
 
-    /// A copy of the annotations.
-    pub(crate) fn tag(&self) -> Result<Vec<D::Annotation>, OutOfMemory>
+    /// The annotations of text that comes.
+    pub(crate) fn tag(&self) -> Result<Annotations<D::Annotation>, OutOfMemory>
         ensures { IfOk result (λ tag. tag_meant D.meaning tag ≡ map D.meaning self.now.annotations) }
     {
-        Ok(self.annotations.clone()?)
+        self.annotations.list()
     }
 
     /// A block without text.
-    fn new_block(&self) -> Result<Box<WrappedBlock<Vec<D::Annotation>, W>>, OutOfMemory>
+    fn new_block(&self) -> Result<Box<WrappedBlock<Annotations<D::Annotation>, W>>, OutOfMemory>
         ensures fresh { IfOk result (λ b. IsFresh W.columns (block_width self.now) (may_overflow self.now) b.value) }
         ensures block { IfOk result (λ b.
             block_meant D.meaning b.value ≡ new_block (meant D.meaning self.now)) }
@@ -65,7 +66,9 @@ impl<D: TextDecorator, W: CharWidth> SubRenderer<D, W> {
     }
 
     /// Takes the open block, or a new one.
-    fn take_or_new_block(&mut self) -> Result<Box<WrappedBlock<Vec<D::Annotation>, W>>, OutOfMemory>
+    fn take_or_new_block(
+        &mut self,
+    ) -> Result<Box<WrappedBlock<Annotations<D::Annotation>, W>>, OutOfMemory>
         requires { self.old.failure ≡ None }
         ensures fresh { IfOk result (λ b. IsFresh W.columns (block_width self.old) (may_overflow self.old) b.value) }
         ensures block { IfOk result (λ b.
@@ -80,22 +83,21 @@ impl<D: TextDecorator, W: CharWidth> SubRenderer<D, W> {
     }
 
     /// The annotations, and one more.
-    fn tag_with(&self, annotation: D::Annotation) -> Result<Vec<D::Annotation>, OutOfMemory>
+    fn tag_with(&self, annotation: D::Annotation) -> Result<Annotations<D::Annotation>, OutOfMemory>
         ensures { IfOk result (λ tag. tag_meant D.meaning tag
             ≡ map D.meaning self.now.annotations ++ D.meaning annotation ∷ []) }
     {
-        let mut tag = self.tag()?;
-        tag.push(annotation)?;
-        Ok(tag)
+        let tag = self.tag()?;
+        tag.with(self.alloc, annotation)
     }
 
     /// Writes text into a block, in the mode that was pushed last, under these annotations.
     fn write_under(
         &self,
-        block: &mut WrappedBlock<Vec<D::Annotation>, W>,
+        block: &mut WrappedBlock<Annotations<D::Annotation>, W>,
         text: &str,
-        main: &Vec<D::Annotation>,
-        continued: &Vec<D::Annotation>,
+        main: &Annotations<D::Annotation>,
+        continued: &Annotations<D::Annotation>,
     ) -> Result<(), Error>
         requires fresh { IsFresh W.columns (block_width self.now) (may_overflow self.now) block.old }
         requires main { tag_meant D.meaning main.now
@@ -120,7 +122,7 @@ impl<D: TextDecorator, W: CharWidth> SubRenderer<D, W> {
     /// Writes text without strokes into a block.
     fn write_plain(
         &self,
-        block: &mut WrappedBlock<Vec<D::Annotation>, W>,
+        block: &mut WrappedBlock<Annotations<D::Annotation>, W>,
         text: &str,
     ) -> Result<(), Error>
         requires fresh { IsFresh W.columns (block_width self.now) (may_overflow self.now) block.old }
@@ -137,7 +139,8 @@ impl<D: TextDecorator, W: CharWidth> SubRenderer<D, W> {
         ensures two_columns { 2 ≤ block_width self.now → result ≢ Err E.TooNarrow }
     {
         if self.preformatted == 0 {
-            return self.write_under(block, text, &self.annotations, &self.annotations);
+            let tag = self.tag()?;
+            return self.write_under(block, text, &tag, &tag);
         }
         let first = self.tag_with(self.decorator.decorate_preformat_first(self.alloc)?)?;
         let continued = self.tag_with(self.decorator.decorate_preformat_cont(self.alloc)?)?;
@@ -147,7 +150,7 @@ impl<D: TextDecorator, W: CharWidth> SubRenderer<D, W> {
     /// Writes text into a block, with strokes inside strikeouts.
     fn write(
         &self,
-        block: &mut WrappedBlock<Vec<D::Annotation>, W>,
+        block: &mut WrappedBlock<Annotations<D::Annotation>, W>,
         text: &str,
     ) -> Result<(), Error>
         requires fresh { IsFresh W.columns (block_width self.now) (may_overflow self.now) block.old }

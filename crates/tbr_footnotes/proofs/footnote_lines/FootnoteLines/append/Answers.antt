@@ -1,12 +1,11 @@
 use Rattle.std.proofs.Common.{◌≡◌, ◌+◌, ◌∷◌, [], ◌∙◌, ap, unwrap_or, arith}
 use Rattle.tbr_model.specs.Width.{width_of_text}
-use Rattle.tbr_tagged.proofs.Copies.{list_copies_equal}
 use Rattle.tbr_footnotes.proofs.CutLines.{line_extended, holds_extended}
-use Rattle.tbr_footnotes.proofs.Tags.{tags_mean}
+use Rattle.tbr_footnotes.proofs.Tags.{tags_mean, copies_are_equal}
 use Rattle.tbr_footnotes.proofs.footnote_lines.FootnoteLines.append.Goals as goal
 
 pub push_char-requires : goal.push_char-requires
-push_char-requires g c = λ v w copy. list_copies_equal g.D.Annotation.Clone.is_clone g.D.Annotation.PartialEq.eq g.met.D.TextDecorator.copies_equal v.items w.items copy.0
+push_char-requires g c = copies_are_equal g.D.Annotation.PartialEq.eq g.D.TextDecorator.meaning g.met.D.TextDecorator.equal_by_meaning
 
 pub invariant_of-self-2 : goal.invariant_of-self-2
 invariant_of-self-2 g c =

@@ -14,7 +14,7 @@ returns-in-Some g c =
     let f = g.D.TextDecorator.meaning in let columns = g.W.CharWidth.columns in
     let cs = chars_of c.args.piece.s in let tag = f c.args.piece.tag ∷ [] in let old = cut_meant f c.args.self.now in
     let read : chars c.as_str.result.now ≡ cs = ap chars c.as_str.ensures.value in
-    let under : tag_meant f c.push.new.self ≡ tag = ap (map f) (c.in_ok-push.ensures.items ∙ ap (λ ts. ts ++ c.args.piece.tag ∷ []) c.new-tag.ensures.items) in
+    let under : tag_meant f c.in_ok-tag.tag ≡ tag = ap (map f) (c.in_ok-tag.ensures ∙ ap (λ ts. ts ++ c.args.piece.tag ∷ []) c.new.ensures) in
     let whole = subst (λ ds. map unbroken ds ≡ ds) read c.in-Some.ensures.unbroken in
     let fits = subst (λ ds. fits_after columns old.width old.held (width_of_text columns ds) ≡ true) read c.in-Some.ensures.fits in
     on_ok_weaker c.extend.result (λ h.

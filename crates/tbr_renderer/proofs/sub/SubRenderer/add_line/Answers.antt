@@ -1,9 +1,8 @@
-use Rattle.std.proofs.Common.{◌≡◌, [], ◌++◌, map, ap, sym, ◌∙◌}
+use Rattle.std.proofs.Common.{List, ◌≡◌, [], ◌++◌, map, ap, sym, ◌∙◌}
 use Rattle.std.proofs.lemmas.Bool.{eqb-true}
 use Rattle.std.proofs.lemmas.List.{nil_from_length}
 use Rattle.std.proofs.lemmas.Result.{on_ok_weaker}
-use Rattle.std.specs.Global.{Vec}
-use Rattle.tbr_tagged.specs.Copies.{equal_lists}
+use Rattle.tbr_annotations.specs.Annotations.{equal_annotations}
 use Rattle.tbr_tagged.specs.Elements.{items_of}
 use Rattle.tbr_tagged.specs.View.{element_of}
 use Rattle.tbr_footnotes.specs.Tags.{tag_meant, items_meant}
@@ -18,7 +17,7 @@ use Rattle.tbr_renderer.proofs.sub.SubRenderer.add_line.Goals as goal
 pub returns-then-is_empty-clause-line : goal.returns-then-is_empty-clause-line
 returns-then-is_empty-clause-line g c =
     let f = g.D.TextDecorator.meaning in
-    let R = Renderer g.row.D.Denot g.row.D-Annotation.Denot (Vec g.row.D-Annotation.Denot) in
+    let R = Renderer g.row.D.Denot g.row.D-Annotation.Denot (List g.row.D-Annotation.Denot) in
     let waiting = c.self.inside.waiting in
     let none : waiting.items ≡ [] = nil_from_length waiting.items (sym waiting.ok.0 ∙ eqb-true _ 0 (sym c.if-is_empty.ensures)) in
     let waits : c.args.self.now.waiting ≡ [] = sym (ap (λ (r : R). r.waiting) c.self.view_is) ∙ ap (λ ms. names_of (map element_of ms)) none in
@@ -33,5 +32,5 @@ returns-clause-line g c =
     let whole = items_of c.in_ok-whole.whole in
     on_ok_weaker c.add_filled-2.result
     (line_after f g.W.CharWidth.columns c.args.self.now c.take_waiting-waiting.new.self c.add_filled-2.new.self es whole (items_of c.args.line) taken.markers taken.names taken.rest
-    (means_same_items (tag_meant f) (equal_lists g.D.Annotation.PartialEq.eq) agree whole (items_of es ++ items_of c.args.line) c.in_ok-whole.ensures.items))
+    (means_same_items (tag_meant f) (equal_annotations g.D.Annotation.PartialEq.eq) agree whole (items_of es ++ items_of c.args.line) c.in_ok-whole.ensures.items))
     c.add_filled-2.ensures.line

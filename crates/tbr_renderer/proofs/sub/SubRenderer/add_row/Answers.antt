@@ -1,16 +1,14 @@
-use Rattle.std.proofs.Common.{map, ap, ◌∙◌}
-use Rattle.std.specs.Global.{Vec}
+use Rattle.std.proofs.Common.{List, map, ap, ◌∙◌}
 use Rattle.std.proofs.lemmas.Result.{on_ok_weaker}
-use Rattle.tbr_tagged.proofs.Copies.{list_copies_equal}
 use Rattle.tbr_rows.specs.Cells.{row_fits, spot_of}
 use Rattle.tbr_renderer.specs.Renderer.{Renderer}
 use Rattle.tbr_renderer.specs.Rows.{style_in}
-use Rattle.tbr_footnotes.proofs.Tags.{tags_mean}
+use Rattle.tbr_footnotes.proofs.Tags.{tags_mean, copies_are_equal}
 use Rattle.tbr_renderer.proofs.MeantRows.{tags_told, row_laid}
 use Rattle.tbr_renderer.proofs.sub.SubRenderer.add_row.Goals as goal
 
 pub lay_out-requires-clause-copies : goal.lay_out-requires-clause-copies
-lay_out-requires-clause-copies g c = λ v w copy. list_copies_equal g.D.Annotation.Clone.is_clone g.D.Annotation.PartialEq.eq g.met.D.TextDecorator.copies_equal v.items w.items copy.0
+lay_out-requires-clause-copies g c = copies_are_equal g.D.Annotation.PartialEq.eq g.D.TextDecorator.meaning g.met.D.TextDecorator.equal_by_meaning
 
 pub lay_out-requires-clause-fits : goal.lay_out-requires-clause-fits
 lay_out-requires-clause-fits g c = ap (λ hs. row_fits hs (map spot_of c.args.columns)) c.take_hanging-hanging.ensures.cells ∙ c.requires.fits
@@ -21,7 +19,7 @@ returns-clause-row g c =
     let eq = g.D.Annotation.PartialEq.eq in
     let agree = tags_mean eq f g.met.D.TextDecorator.equal_by_meaning in
     let told = tags_told eq f g.met.D.TextDecorator.equal_by_meaning in
-    let style = ap (λ (r : Renderer g.row.D.Denot g.row.D-Annotation.Denot (Vec g.row.D-Annotation.Denot)). style_in r c.args.collapses) c.self.view_is in
+    let style = ap (λ (r : Renderer g.row.D.Denot g.row.D-Annotation.Denot (List g.row.D-Annotation.Denot)). style_in r c.args.collapses) c.self.view_is in
     on_ok_weaker c.put_row.result
     (λ put. row_laid f eq agree told g.W.CharWidth.columns c.args.self.now c.take_hanging-hanging.new.self c.take_border-above.new.self c.put_row.new.self c.in_ok-row.row c.take_hanging-hanging.result c.args.columns c.take_border-above.result _ c.in_ok-tag.tag c.args.collapses
     c.take_hanging-hanging.ensures.cells c.take_hanging-hanging.ensures.rest c.take_border-above.ensures.border c.take_border-above.ensures.rest style c.in_ok-tag.ensures c.in_ok-row.ensures.row put)

@@ -1,7 +1,6 @@
 use Rattle.std.proofs.Common.{ℕ, unwrap_or, ◌++◌, ◌∷◌, [], refl, sym, subst, ap, ◌∙◌, map}
 use Rattle.std.specs.List.{AllZip, AllByRecursion as Each}
 use Rattle.std.specs.Vec.Iter.{into_iter_items}
-use Rattle.tbr_tagged.proofs.Copies.{list_copies_equal}
 use Rattle.tbr_tagged.specs.declared.Error.TheVariants.{TooNarrow}
 use Rattle.tbr_rows.specs.Filled.{cell_after}
 use Rattle.tbr_tagged.specs.declared.CellAlign.TheVariants.{Left}
@@ -13,7 +12,7 @@ use Rattle.tbr_renderer.specs.Rows.{LeavesFree, FillsCell, cells_meant}
 use Rattle.tbr_kept_lines.specs.Line.{line_seen}
 use Rattle.tbr_renderer.specs.Appended.{handed_out}
 use Rattle.tbr_renderer.proofs.GivenCells.{given_stops}
-use Rattle.tbr_footnotes.proofs.Tags.{tags_mean}
+use Rattle.tbr_footnotes.proofs.Tags.{tags_mean, copies_are_equal}
 use Rattle.tbr_kept_lines.proofs.ItemsLeft.{items_left, items_taken}
 use Rattle.tbr_renderer.proofs.AppendedLines.{each_at, passed_on}
 use Rattle.tbr_renderer.proofs.MeantRows.{HasColumns, tags_told, no_columns, columns_go_on, next_taken, lines_fill}
@@ -48,7 +47,7 @@ returns-in_err-lines-clause-two_columns g c = λ wide is.
     c.into_vec.ensures.two_columns here.0 here.1 e
 
 pub push-requires : goal.push-requires
-push-requires g c = λ v w copy. list_copies_equal g.D.Annotation.Clone.is_clone g.D.Annotation.PartialEq.eq g.met.D.TextDecorator.copies_equal v.items w.items copy.0
+push-requires g c = copies_are_equal g.D.Annotation.PartialEq.eq g.D.TextDecorator.meaning g.met.D.TextDecorator.equal_by_meaning
 
 pub loop-col-preserved : goal.loop-col-preserved
 loop-col-preserved g c =

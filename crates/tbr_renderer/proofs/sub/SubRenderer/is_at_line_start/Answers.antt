@@ -1,5 +1,4 @@
-use Rattle.std.proofs.Common.{ap, sym, ◌∙◌, subst}
-use Rattle.std.specs.Global.{Vec}
+use Rattle.std.proofs.Common.{List, ap, sym, ◌∙◌, subst}
 use Rattle.tbr_renderer.specs.Renderer.{Renderer, block_width, may_overflow}
 use Rattle.tbr_renderer.specs.View.{unboxed, block_seen, IsOpened}
 use Rattle.tbr_renderer.proofs.JoinedTexts.{line_start}
@@ -7,7 +6,7 @@ use Rattle.tbr_renderer.proofs.sub.SubRenderer.is_at_line_start.Goals as goal
 
 pub returns-in-Some : goal.returns-in-Some
 returns-in-Some g c =
-    let R = Renderer g.row.D.Denot g.row.D-Annotation.Denot (Vec g.row.D-Annotation.Denot) in
+    let R = Renderer g.row.D.Denot g.row.D-Annotation.Denot (List g.row.D-Annotation.Denot) in
     let columns = g.W.CharWidth.columns in
     let live = ap (λ (r : R). r.failure) c.self.view_is ∙ c.requires in
     let seen = ap (λ o. block_seen (unboxed o)) (sym c.in-Some.is) ∙ ap (λ (r : R). r.block) c.self.view_is in

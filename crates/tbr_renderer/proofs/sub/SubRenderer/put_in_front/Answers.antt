@@ -3,7 +3,7 @@ use Rattle.std.specs.Prelude.{chars}
 use Rattle.std.proofs.lemmas.List.{map-append}
 use Rattle.std.proofs.lemmas.Result.{on_ok_weaker}
 use Rattle.tbr_model.specs.Mapped.{map_item}
-use Rattle.tbr_tagged.specs.Copies.{equal_lists}
+use Rattle.tbr_annotations.specs.Annotations.{equal_annotations}
 use Rattle.tbr_tagged.specs.Elements.{items_of, text_items}
 use Rattle.tbr_tagged.specs.View.{chars_of}
 use Rattle.tbr_tagged.proofs.MappedTags.{means_same_items}
@@ -24,7 +24,7 @@ returns-clause-items g c =
     let tag = c.in_ok-tag.tag in
     let line = items_of c.args.text.now in
     on_ok_weaker c.insert_front.result
-    (λ same. means_same_items (tag_meant f) (equal_lists eq) agree (items_of c.insert_front.new.self) (text_items (chars_of s) tag ++ line) same
+    (λ same. means_same_items (tag_meant f) (equal_annotations eq) agree (items_of c.insert_front.new.self) (text_items (chars_of s) tag ++ line) same
     ∙ map-append (map_item (tag_meant f)) (text_items (chars_of s) tag) line
     ∙ ap (λ is. is ++ items_meant f line) (text_items-map (tag_meant f) (chars_of s) tag
     ∙ ap (text_items (chars_of s)) c.in_ok-tag.ensures ∙ ap (λ t. text_items (chars t) (map f c.args.self.now.annotations)) c.in_ok-s.ensures.bytes))

@@ -1,12 +1,11 @@
-use Rattle.std.proofs.Common.{◌≡◌, Some, Result, Err, map, refl, arith, ap, sym, ◌∙◌, subst}
+use Rattle.std.proofs.Common.{List, ◌≡◌, Some, Result, Err, map, refl, arith, ap, sym, ◌∙◌, subst}
 use Rattle.std.specs.Result.{IsErrAnd}
-use Rattle.std.specs.Global.{Vec}
 use Rattle.tbr_wrap.specs.Block.{Block, loose}
 use Rattle.tbr_tagged.specs.View.{element_of}
 use Rattle.tbr_tagged.specs.declared.Error.{Error}
 use Rattle.tbr_tagged.specs.declared.Error.TheVariants as E
 use Rattle.tbr_wrap.proofs.runs.BlockLaws.{flush_in_two, flush_leaves, none_open_taken}
-use Rattle.tbr_tagged.proofs.Copies.{list_copies_equal}
+use Rattle.tbr_footnotes.proofs.Tags.{copies_are_equal}
 use Rattle.tbr_renderer.specs.Renderer.{block_width, may_overflow}
 use Rattle.tbr_renderer.specs.View.{block_seen, names_of, IsFresh}
 use Rattle.tbr_renderer.specs.Meant.{meant}
@@ -16,7 +15,7 @@ use Rattle.tbr_renderer.proofs.BlockEnds.{markers_named, are_markers, block_flus
 use Rattle.tbr_renderer.proofs.sub.SubRenderer.try_flush.Goals as goal
 
 pub flush-requires : goal.flush-requires
-flush-requires g c = λ v w copy. list_copies_equal g.D.Annotation.Clone.is_clone g.D.Annotation.PartialEq.eq g.met.D.TextDecorator.copies_equal v.items w.items copy.0
+flush-requires g c = copies_are_equal g.D.Annotation.PartialEq.eq g.D.TextDecorator.meaning g.met.D.TextDecorator.equal_by_meaning
 
 pub returns-in_err-flush-clause-tries : goal.returns-in_err-flush-clause-tries
 returns-in_err-flush-clause-tries g c =
@@ -36,14 +35,14 @@ returns-in_err-flush-clause-two_columns g c = λ two is.
 pub returns-in_err-markers-clause-tries : goal.returns-in_err-markers-clause-tries
 returns-in_err-markers-clause-tries g c =
     let fresh = subst (λ b. IsFresh g.W.CharWidth.columns (block_width c.args.self.now) (may_overflow c.args.self.now) b) (sym c.into_inner-block.ensures) c.in-Some.ensures.opened in
-    let live = ap (λ (b : Block (Vec g.row.D-Annotation.Denot)). b.failure) (flush_leaves g.W.CharWidth.columns c.into_inner-block.result c.flush.new.self c.in_ok-flush.ensures.answers.ok) ∙ fresh.unfailed in
+    let live = ap (λ (b : Block (List g.row.D-Annotation.Denot)). b.failure) (flush_leaves g.W.CharWidth.columns c.into_inner-block.result c.flush.new.self c.in_ok-flush.ensures.answers.ok) ∙ fresh.unfailed in
     tries_err (meant g.D.TextDecorator.meaning) (after_flush g.W.CharWidth.columns) c.args.self.now c.take_block.new.self c.from_residual-in_err-markers.result c.in_err-markers.field-0.0 c.from_residual-in_err-markers.ensures.1
     (λ narrow. absurd (let e : c.take_trailing_fragments.result ≡ Err E.TooNarrow = c.in_err-markers.was ∙ ap Err narrow in let want = c.take_trailing_fragments.ensures.memory live in let no : E.TooNarrow ≡ E.OutOfMemory = rw e at want in cc))
 
 pub returns-in_err-markers-clause-two_columns : goal.returns-in_err-markers-clause-two_columns
 returns-in_err-markers-clause-two_columns g c = λ two is.
     let fresh = subst (λ b. IsFresh g.W.CharWidth.columns (block_width c.args.self.now) (may_overflow c.args.self.now) b) (sym c.into_inner-block.ensures) c.in-Some.ensures.opened in
-    let live = ap (λ (b : Block (Vec g.row.D-Annotation.Denot)). b.failure) (flush_leaves g.W.CharWidth.columns c.into_inner-block.result c.flush.new.self c.in_ok-flush.ensures.answers.ok) ∙ fresh.unfailed in
+    let live = ap (λ (b : Block (List g.row.D-Annotation.Denot)). b.failure) (flush_leaves g.W.CharWidth.columns c.into_inner-block.result c.flush.new.self c.in_ok-flush.ensures.answers.ok) ∙ fresh.unfailed in
     let e : c.take_trailing_fragments.result ≡ Err E.TooNarrow = c.in_err-markers.was ∙ ap Err (sym (subst (λ (r : Result (Unit {0}) Error). IsErrAnd r (λ x. x ≡ c.in_err-markers.field-0.0)) is c.from_residual-in_err-markers.ensures.1)) in
     let want = c.take_trailing_fragments.ensures.memory live in let no : E.TooNarrow ≡ E.OutOfMemory = rw e at want in cc
 

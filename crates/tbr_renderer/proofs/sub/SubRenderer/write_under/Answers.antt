@@ -1,12 +1,12 @@
 use Rattle.std.proofs.Common.{chars, refl, arith}
 use Rattle.std.proofs.lemmas.Result.{on_ok_weaker}
 use Rattle.tbr_wrap.proofs.runs.BlockLaws.{text_in_two}
-use Rattle.tbr_tagged.proofs.Copies.{list_copies_equal}
+use Rattle.tbr_footnotes.proofs.Tags.{copies_are_equal}
 use Rattle.tbr_renderer.proofs.JoinedTexts.{fresh_written, written, goes_on, stops}
 use Rattle.tbr_renderer.proofs.sub.SubRenderer.write_under.Goals as goal
 
 pub add_text-requires : goal.add_text-requires
-add_text-requires g c = λ v w copy. list_copies_equal g.D.Annotation.Clone.is_clone g.D.Annotation.PartialEq.eq g.met.D.TextDecorator.copies_equal v.items w.items copy.0
+add_text-requires g c = copies_are_equal g.D.Annotation.PartialEq.eq g.D.TextDecorator.meaning g.met.D.TextDecorator.equal_by_meaning
 
 pub returns-clause-fresh : goal.returns-clause-fresh
 returns-clause-fresh g c =

@@ -1,5 +1,4 @@
-use Rattle.std.proofs.Common.{ap, subst}
-use Rattle.std.specs.Global.{Vec}
+use Rattle.std.proofs.Common.{List, ap, subst}
 use Rattle.tbr_decor.specs.Decoration.{decoration_of}
 use Rattle.tbr_renderer.specs.Renderer.{Renderer}
 use Rattle.tbr_renderer.specs.Calls.{add_border, calls_by, Answers}
@@ -11,5 +10,5 @@ returns g c =
     record {
       answers = subst
           (λ width. Answers (calls_by g.W.CharWidth.columns (decoration_of g.D.TextDecorator) g.D.TextDecorator.meaning) (add_border width) c.args.self.now call.result call.new.self)
-          (ap (λ (r : Renderer g.row.D.Denot g.row.D-Annotation.Denot (Vec g.row.D-Annotation.Denot)). r.width) c.add_horizontal_border_width.view_is) call.ensures.answers;
+          (ap (λ (r : Renderer g.row.D.Denot g.row.D-Annotation.Denot (List g.row.D-Annotation.Denot)). r.width) c.add_horizontal_border_width.view_is) call.ensures.answers;
     }

@@ -1,5 +1,4 @@
 use Rattle.std.proofs.Common.{◌≡◌, ◌∙◌, ap, sym, length, List}
-use Rattle.std.specs.Global.{Vec}
 use Rattle.std.proofs.lemmas.Result.{on_ok_weaker}
 use Rattle.tbr_tagged.specs.Outcome.{done}
 use Rattle.tbr_tagged.proofs.Outcomes.{live_goes}
@@ -20,7 +19,7 @@ returns-clause-ok g c =
     let columns = g.W.CharWidth.columns in
     let old = c.args.self.now in
     on_ok_weaker c.keep.result (λ h. (h.0, h.1, h.2, h.3, live_goes old.failure _ c.in_ok-refusal.ensures ∙ h.4))
-    (kept_ok (λ (r : Renderer g.row.D.Denot g.row.D-Annotation.Denot (Vec g.row.D-Annotation.Denot)).
+    (kept_ok (λ (r : Renderer g.row.D.Denot g.row.D-Annotation.Denot (List g.row.D-Annotation.Denot)).
     (lines : List (Line (List g.D.TextDecorator.Meaning))) × (given : List g.row.P.Denot) × (handed_out columns (meant f c.args.other) ≡ done lines) × GivesFirst g.I.Iterator.next_gives (length lines) c.args.prefixes given
     × (after_lines columns (texts_of g.P.AsStr.text given) lines (meant f old) ≡ done (meant f r)))
     c.keep.result c.try_append_subrender-done.result c.try_append_subrender-done.new.self c.keep.new.self c.keep.ensures.result c.keep.ensures.ok c.try_append_subrender-done.ensures.ok)

@@ -1,0 +1,44 @@
+-- Equality from the last annotation down is equality from the first one up.
+use Rattle.std.proofs.Common.{◌≡◌, ◌++◌, ◌∷◌, [], ◌&&◌, Bool, true, false, List, refl, sym, ◌∙◌, ap}
+use Rattle.std.specs.Cmp.Lexicographic.{pointwise}
+use Rattle.tbr_annotations.specs.declared.chain.Chain.{Chain, End, Last'}
+use Rattle.tbr_annotations.specs.Chain.{annotations_of, equal_down}
+
+both : (s t : Bool) → s && t ≡ t && s
+both true true = refl
+both true false = refl
+both false true = refl
+both false false = refl
+
+first_of_three : (s t u : Bool) → s && (t && u) ≡ (s && t) && u
+first_of_three true t u = refl
+first_of_three false t u = refl
+
+module _ {A : Type 0} (eq : A → A → Bool) where
+  up_to_the_last : (xs ys : List A) (x y : A) →
+      pointwise eq (xs ++ x ∷ []) (ys ++ y ∷ []) ≡ pointwise eq xs ys && eq x y
+  up_to_the_last [] [] x y = both (eq x y) true
+  up_to_the_last [] (b ∷ []) x y = both (eq x b) false
+  up_to_the_last [] (b ∷ (c ∷ ys)) x y = both (eq x b) false
+  up_to_the_last (a ∷ []) [] x y = both (eq a y) false
+  up_to_the_last (a ∷ (c ∷ xs)) [] x y = both (eq a y) false
+  up_to_the_last (a ∷ xs) (b ∷ ys) x y =
+      ap (λ (rest : Bool). eq a b && rest) (up_to_the_last xs ys x y)
+      ∙ first_of_three (eq a b) (pointwise eq xs ys) (eq x y)
+
+  some_against_none : (xs : List A) (x : A) → pointwise eq (xs ++ x ∷ []) [] ≡ false
+  some_against_none [] x = refl
+  some_against_none (a ∷ xs) x = refl
+
+  none_against_some : (xs : List A) (x : A) → pointwise eq [] (xs ++ x ∷ []) ≡ false
+  none_against_some [] x = refl
+  none_against_some (a ∷ xs) x = refl
+
+  pub down_is_up : (a b : Chain A) → equal_down eq a b ≡ pointwise eq (annotations_of a) (annotations_of b)
+  down_is_up End End = refl
+  down_is_up End (Last' q y ys) = sym (none_against_some (annotations_of ys) y)
+  down_is_up (Last' p x xs) End = sym (some_against_none (annotations_of xs) x)
+  down_is_up (Last' p x xs) (Last' q y ys) =
+      ap (λ (rest : Bool). eq x y && rest) (down_is_up xs ys)
+      ∙ both (eq x y) (pointwise eq (annotations_of xs) (annotations_of ys))
+      ∙ sym (up_to_the_last (annotations_of xs) (annotations_of ys) x y)

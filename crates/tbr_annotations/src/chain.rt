@@ -1,0 +1,108 @@
+//! Annotations one on another, each with those below it.
+ghost use Rattle.std.specs.Prelude.{◌≡◌, ◌-◌, ◌++◌, ◌∷◌, [], length, take, reverse, IfOk};
+ghost use Rattle.std.specs.List.{AllZip};
+ghost use Rattle.tbr_annotations.specs.Chain.{annotations_of, equal_down};
+
+use std::alloc::{AllocError, Global};
+use std::rc::Rc;
+use tbr_tagged::OutOfMemory;
+
+/// No annotation, or the last one with those below it, which other chains may share.
+#[cycle(chain)]
+pub enum Chain<A> {
+    End,
+    Last(Rc<Node<A>>),
+}
+
+#[cycle(chain)]
+#[derive(Drop)]
+pub struct Node<A> {
+    pub annotation: A,
+    pub below: Chain<A>,
+}
+
+/// In a loop, so that a long chain needs no long stack.
+impl<A: Drop> Drop for Chain<A> {
+    fn drop(mut self) {
+        loop {
+            match self {
+                Chain::End => return,
+                Chain::Last(node) => match Rc::into_inner(node) {
+                    None => return,
+                    Some(Node { below, .. }) => self = below,
+                },
+            }
+        }
+    }
+}
+
+impl<A: Drop> Chain<A> {
+    /// The same chain, which both share. It takes no memory, and refuses only where as many as `usize` counts share it.
+    pub fn share(&self) -> Result<Chain<A>, AllocError>
+        ensures { IfOk result (λ chain. annotations_of chain ≡ annotations_of self.now) }
+    {
+        Ok(match self {
+            Chain::End => Chain::End,
+            Chain::Last(node) => Chain::Last(node.clone()?),
+        })
+    }
+
+    /// One annotation more.
+    pub fn push(self, alloc: Global, annotation: A) -> Result<Chain<A>, OutOfMemory>
+        ensures { IfOk result (λ chain. annotations_of chain ≡ annotations_of self ++ annotation ∷ []) }
+    {
+        let node = Node {
+            annotation,
+            below: self,
+        };
+        Ok(Chain::Last(Rc::new(alloc, node)?))
+    }
+}
+
+impl<A> Chain<A> {
+    /// What is below the last `count` annotations.
+    pub fn below(&self, count: usize) -> &Chain<A>
+        ensures { let held = annotations_of self.now in
+            annotations_of result.now ≡ take (length held - count) held }
+    {
+        let mut chain = self;
+        for _ in 0..count {
+            chain = match chain {
+                Chain::End => return chain,
+                Chain::Last(node) => &node.below,
+            };
+        }
+        chain
+    }
+
+    /// Copies of the annotations, the last one first.
+    pub fn copied_down(&self, alloc: Global, len: usize) -> Result<Vec<A>, OutOfMemory>
+    where
+        A: Clone,
+        ensures { IfOk result (λ copies. AllZip A.is_clone (annotations_of self.now) (reverse copies.items)) }
+    {
+        let mut copies = Vec::with_capacity(alloc, len)?;
+        let mut chain = self;
+        while let Chain::Last(node) = chain {
+            copies.push(node.annotation.clone()?)?;
+            chain = &node.below;
+        }
+        Ok(copies)
+    }
+}
+
+/// Whether two chains have equal annotations, from the last ones on.
+pub fn equal_chains<A: PartialEq>(a: &Chain<A>, b: &Chain<A>) -> bool
+    ensures { result ≡ equal_down A.eq a.now b.now }
+{
+    let mut a = a;
+    let mut b = b;
+    while let (Chain::Last(m), Chain::Last(n)) = (a, b) {
+        if m.annotation != n.annotation {
+            return false;
+        }
+        a = &m.below;
+        b = &n.below;
+    }
+    matches!((a, b), (Chain::End, Chain::End))
+}

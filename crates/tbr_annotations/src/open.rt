@@ -1,0 +1,86 @@
+//! The annotations that are open.
+ghost use Rattle.std.specs.Prelude.{◌≡◌, ◌-◌, ◌++◌, ◌∷◌, [], length, take, IfOk, OnOk, OnErr};
+
+use crate::annotations::Annotations;
+use std::alloc::Global;
+use std::fmt;
+use std::marker::Model;
+use tbr_tagged::OutOfMemory;
+
+/// The annotations of text that comes, to which one is added or from which the last one is taken. A contract sees the
+/// list.
+#[derive(Drop)]
+pub struct OpenAnnotations<A> {
+    list: Annotations<A>,
+    /// How many of the last ones are closed already: none, unless the others couldn't be shared once more.
+    closed: usize,
+}
+
+impl<A> Model for OpenAnnotations<A> {
+    ghost use Rattle.std.specs.Prelude.{List, ◌-◌, length, take};
+
+    ghost Value = { List A };
+
+    ghost view = { λ a. take (length a.list - a.closed) a.list };
+}
+
+impl<A> OpenAnnotations<A> {
+    /// No annotation. It takes no memory.
+    pub fn new() -> OpenAnnotations<A>
+        ensures { result ≡ [] }
+    {
+        OpenAnnotations::of(Annotations::new())
+    }
+
+    /// These annotations.
+    pub fn of(list: Annotations<A>) -> OpenAnnotations<A>
+        ensures { result ≡ list }
+    {
+        OpenAnnotations { list, closed: 0 }
+    }
+}
+
+impl<A: Drop> OpenAnnotations<A> {
+    /// The annotations. It takes no memory, and refuses only where as many lists as `usize` counts share them.
+    pub fn list(&self) -> Result<Annotations<A>, OutOfMemory>
+        ensures { IfOk result (λ list. list ≡ self.now) }
+    {
+        self.list.without_last(self.closed)
+    }
+
+    /// Adds an annotation. Where memory is refused nothing changes.
+    pub fn push(&mut self, alloc: Global, annotation: A) -> Result<(), OutOfMemory>
+        ensures ok { OnOk result (self.new ≡ self.old ++ annotation ∷ []) }
+        ensures err { OnErr result (self.new ≡ self.old) }
+    {
+        let list = self.list()?.with(alloc, annotation)?;
+        *self = OpenAnnotations::of(list);
+        Ok(())
+    }
+
+    /// Takes the last annotation, if there is one.
+    pub fn pop(&mut self)
+        ensures { self.new ≡ take (length self.old - 1) self.old }
+    {
+        if self.closed < self.list.len() {
+            self.closed += 1;
+        }
+        self.settle();
+    }
+
+    /// Forgets the annotations that are closed, where the others can be shared once more.
+    fn settle(&mut self)
+        ensures { self.new ≡ self.old }
+    {
+        if let Ok(list) = self.list() {
+            *self = OpenAnnotations::of(list);
+        }
+    }
+}
+
+/// The annotations, the last one first.
+impl<A: fmt::Debug> fmt::Debug for OpenAnnotations<A> {
+    fn fmt<F: fmt::Write>(&self, f: &mut fmt::Formatter<F>) -> fmt::Result {
+        fmt::Debug::fmt(&self.list, f)
+    }
+}

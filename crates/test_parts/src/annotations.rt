@@ -1,0 +1,96 @@
+//! Lists of annotations that share what they have in common.
+use crate::compared::counts;
+use std::alloc::Global;
+use std::process::Abort;
+use std::test::Fail;
+use tbr_annotations::{Annotations, OpenAnnotations, written_out};
+use tbr_lines::{
+    BorderHoriz, OutOfMemory, RenderLine, TaggedLine, TaggedLineElement, TaggedString,
+};
+use test_support::texts::Voice;
+
+/// The list has these annotations.
+fn expect(
+    rt: &impl Abort,
+    alloc: Global,
+    list: &Annotations<Voice>,
+    expected: &[Voice],
+) -> Result<(), OutOfMemory> {
+    let copies = list.to_vec(alloc)?;
+    assert!(rt; copies.as_slice() == expected);
+    counts(rt, list.len(), expected.len());
+    Ok(())
+}
+
+#[test]
+fn what_opens_and_closes_leaves_other_lists_as_they_are(rt: HostRuntime) -> Result<(), Fail> {
+    let alloc = rt.alloc();
+    let mut open = OpenAnnotations::new();
+    open.pop();
+    open.push(alloc, Voice::First)?;
+    let outer = open.list()?;
+    open.push(alloc, Voice::Second)?;
+    let inner = open.list()?;
+    open.pop();
+    open.push(alloc, Voice::Second)?;
+    assert!(rt; open.list()? == inner && outer != inner);
+    open.pop();
+    open.push(alloc, Voice::First)?;
+    expect(&rt, alloc, &open.list()?, &[Voice::First, Voice::First])?;
+    expect(&rt, alloc, &inner, &[Voice::First, Voice::Second])?;
+    expect(&rt, alloc, &outer, &[Voice::First])?;
+    Ok(())
+}
+
+#[test]
+fn a_long_list_is_dropped_in_little_stack(rt: HostRuntime) -> Result<(), Fail> {
+    let alloc = rt.alloc();
+    let mut open = OpenAnnotations::new();
+    for _ in 0..1_000_000 {
+        open.push(alloc, Voice::First)?;
+    }
+    counts(&rt, open.list()?.len(), 1_000_000);
+    Ok(())
+}
+
+/// The list of these two annotations.
+fn list_of(alloc: Global, first: Voice, second: Voice) -> Result<Annotations<Voice>, OutOfMemory> {
+    Annotations::new().with(alloc, first)?.with(alloc, second)
+}
+
+/// `ab`, a marker and `c`, under these tags.
+fn line_under<T: Eq + Drop>(alloc: Global, ab: T, c: T) -> Result<TaggedLine<T>, OutOfMemory> {
+    let mut line = TaggedLine::new(alloc);
+    let s = String::from_str(alloc, "ab")?;
+    line.push_str(TaggedString { s, tag: ab })?;
+    line.push(TaggedLineElement::FragmentStart(String::from_str(alloc, "m")?))?;
+    let s = String::from_str(alloc, "c")?;
+    line.push_str(TaggedString { s, tag: c })?;
+    Ok(line)
+}
+
+/// A line of text is written out, and a border.
+fn write_out(rt: &impl Abort, alloc: Global) -> Result<(), OutOfMemory> {
+    let one = list_of(alloc, Voice::First, Voice::Second)?;
+    let other = list_of(alloc, Voice::Second, Voice::Second)?;
+    let expected = line_under(alloc, one.to_vec(alloc)?, other.to_vec(alloc)?)?;
+    let border = BorderHoriz::new(alloc, 3, list_of(alloc, Voice::First, Voice::First)?)?;
+    match written_out(alloc, RenderLine::Text(line_under(alloc, one, other)?))? {
+        RenderLine::Text(line) => assert!(rt; line == expected),
+        RenderLine::Line(_) => assert!(rt; false),
+    }
+    let written = written_out(alloc, RenderLine::Line(border))?;
+    assert!(rt; written.to_text()?.as_str() == "───");
+    Ok(())
+}
+
+#[test]
+fn lines_are_written_out_with_vectors(rt: HostRuntime) -> Result<(), Fail> {
+    write_out(&rt, rt.alloc())?;
+    Ok(())
+}
+
+#[test]
+fn lines_that_are_written_out_in_little_memory(rt: HostRuntime) {
+    let _ = write_out(&rt, rt.alloc());
+}
