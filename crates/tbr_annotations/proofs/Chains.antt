@@ -36,9 +36,9 @@ module _ {A : Type 0} (eq : A → A → Bool) where
 
   pub down_is_up : (a b : Chain A) → equal_down eq a b ≡ pointwise eq (annotations_of a) (annotations_of b)
   down_is_up End End = refl
-  down_is_up End (Last' q y ys) = sym (none_against_some (annotations_of ys) y)
-  down_is_up (Last' p x xs) End = sym (some_against_none (annotations_of xs) x)
-  down_is_up (Last' p x xs) (Last' q y ys) =
+  down_is_up End (Last' q y n ys) = sym (none_against_some (annotations_of ys) y)
+  down_is_up (Last' p x m xs) End = sym (some_against_none (annotations_of xs) x)
+  down_is_up (Last' p x m xs) (Last' q y n ys) =
       ap (λ (rest : Bool). eq x y && rest) (down_is_up xs ys)
       ∙ both (eq x y) (pointwise eq (annotations_of xs) (annotations_of ys))
       ∙ sym (up_to_the_last (annotations_of xs) (annotations_of ys) x y)

@@ -5,7 +5,9 @@ use Rattle.tbr_model.specs.Mapped.{map_items}
 use Rattle.tbr_tagged.specs.Elements.{Element, items_of, SameItems}
 use Rattle.tbr_border.specs.declared.RenderLine.{RenderLine}
 use Rattle.tbr_border.specs.declared.RenderLine.TheVariants.{Text, Line}
+use Rattle.tbr_tagged.specs.Copies.{equal_lists}
 use Rattle.tbr_border.specs.Border.{MapsBorder}
+use Rattle.tbr_border.specs.RenderLine.{IsMergedText}
 use Rattle.tbr_annotations.specs.Annotations.{equal_annotations}
 
 -- a vector of equal annotations, in order
@@ -22,3 +24,7 @@ WritesOut eq (Text es) (Text fs) = WritesItems eq es fs
 WritesOut eq (Line b) (Line c) = MapsBorder (Holds eq) b c
 WritesOut eq (Text es) (Line c) = ⊥
 WritesOut eq (Line b) (Text fs) = ⊥
+
+-- the same line under vectors, its pieces the longest stretches under equal ones
+abbrev pub IsWrittenOut : {A : Type 0} → (A → A → Bool) → RenderLine (List A) → RenderLine (Vec A) → Type 0
+IsWrittenOut eq line out = WritesOut eq line out × IsMergedText (equal_lists eq) out

@@ -12,19 +12,18 @@ use tbr_tagged::OutOfMemory;
 /// lists of many annotations take little memory. A contract sees the list.
 #[derive(Drop)]
 pub struct Annotations<A> {
-    len: usize,
     chain: Chain<A>,
 }
 
 impl<A> Model for Annotations<A> {
-    ghost use Rattle.std.specs.Prelude.{◌≡◌, List, length};
-    ghost use Rattle.tbr_annotations.specs.Chain.{annotations_of};
+    ghost use Rattle.std.specs.Prelude.{List};
+    ghost use Rattle.tbr_annotations.specs.Chain.{annotations_of, CountsWell};
 
     ghost Value = { List A };
 
     ghost view = { λ a. annotations_of a.chain };
 
-    ghost invariant = { λ a. a.len ≡ length (annotations_of a.chain) };
+    ghost invariant = { λ a. CountsWell a.chain };
 }
 
 impl<A> Annotations<A> {
@@ -32,17 +31,14 @@ impl<A> Annotations<A> {
     pub fn new() -> Annotations<A>
         ensures { result ≡ [] }
     {
-        Annotations {
-            len: 0,
-            chain: Chain::End,
-        }
+        Annotations { chain: Chain::End }
     }
 
     /// How many annotations there are.
     pub fn len(&self) -> usize
         ensures { result ≡ length self.now }
     {
-        self.len
+        self.chain.len()
     }
 
     /// Copies of the annotations. It refuses only where memory is refused.
@@ -51,7 +47,7 @@ impl<A> Annotations<A> {
         A: Clone + Drop,
         ensures { IfOk result (λ copies. AllZip A.is_clone self.now copies.items) }
     {
-        let mut copies = self.chain.copied_down(alloc, self.len)?;
+        let mut copies = self.chain.copied_down(alloc)?;
         copies.reverse();
         Ok(copies)
     }
@@ -62,11 +58,8 @@ impl<A: Drop> Annotations<A> {
     pub fn with(&self, alloc: Global, annotation: A) -> Result<Annotations<A>, OutOfMemory>
         ensures { IfOk result (λ more. more ≡ self.now ++ annotation ∷ []) }
     {
-        let Some(len) = self.len.checked_add(1) else {
-            return Err(OutOfMemory);
-        };
         let chain = self.chain.share()?.push(alloc, annotation)?;
-        Ok(Annotations { len, chain })
+        Ok(Annotations { chain })
     }
 
     /// The same annotations but for the last `count`. It takes no memory, and refuses only where as many lists as
@@ -75,10 +68,7 @@ impl<A: Drop> Annotations<A> {
         ensures { IfOk result (λ fewer. fewer ≡ take (length self.now - count) self.now) }
     {
         let chain = self.chain.below(count).share()?;
-        Ok(Annotations {
-            len: self.len.saturating_sub(count),
-            chain,
-        })
+        Ok(Annotations { chain })
     }
 }
 
@@ -89,10 +79,8 @@ impl<A: Drop> Clone for Annotations<A> {
     ghost is_clone = { λ annotations copy. copy ≡ annotations };
 
     fn clone(&self) -> Result<Annotations<A>, AllocError> {
-        Ok(Annotations {
-            len: self.len,
-            chain: self.chain.share()?,
-        })
+        let chain = self.chain.share()?;
+        Ok(Annotations { chain })
     }
 }
 
@@ -108,7 +96,7 @@ impl<A: PartialEq> PartialEq for Annotations<A> {
 
     #[tactic(auto, using(crate::proofs::Chains::down_is_up))]
     fn eq(&self, other: &Annotations<A>) -> bool {
-        self.len == other.len && equal_chains(&self.chain, &other.chain)
+        self.len() == other.len() && equal_chains(&self.chain, &other.chain)
     }
 }
 

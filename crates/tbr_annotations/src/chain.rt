@@ -1,7 +1,7 @@
 //! Annotations one on another, each with those below it.
 ghost use Rattle.std.specs.Prelude.{◌≡◌, ◌-◌, ◌++◌, ◌∷◌, [], length, take, reverse, IfOk};
 ghost use Rattle.std.specs.List.{AllZip};
-ghost use Rattle.tbr_annotations.specs.Chain.{annotations_of, equal_down};
+ghost use Rattle.tbr_annotations.specs.Chain.{annotations_of, CountsWell, equal_down};
 
 use std::alloc::{AllocError, Global};
 use std::rc::Rc;
@@ -18,6 +18,8 @@ pub enum Chain<A> {
 #[derive(Drop)]
 pub struct Node<A> {
     pub annotation: A,
+    /// How many annotations there are, this one among them.
+    len: usize,
     pub below: Chain<A>,
 }
 
@@ -39,7 +41,8 @@ impl<A: Drop> Drop for Chain<A> {
 impl<A: Drop> Chain<A> {
     /// The same chain, which both share. It takes no memory, and refuses only where as many as `usize` counts share it.
     pub fn share(&self) -> Result<Chain<A>, AllocError>
-        ensures { IfOk result (λ chain. annotations_of chain ≡ annotations_of self.now) }
+        ensures annotations { IfOk result (λ chain. annotations_of chain ≡ annotations_of self.now) }
+        ensures counts { CountsWell self.now → IfOk result CountsWell }
     {
         Ok(match self {
             Chain::End => Chain::End,
@@ -49,10 +52,16 @@ impl<A: Drop> Chain<A> {
 
     /// One annotation more.
     pub fn push(self, alloc: Global, annotation: A) -> Result<Chain<A>, OutOfMemory>
-        ensures { IfOk result (λ chain. annotations_of chain ≡ annotations_of self ++ annotation ∷ []) }
+        requires { CountsWell self }
+        ensures annotations { IfOk result (λ chain. annotations_of chain ≡ annotations_of self ++ annotation ∷ []) }
+        ensures counts { IfOk result CountsWell }
     {
+        let Some(len) = self.len().checked_add(1) else {
+            return Err(OutOfMemory);
+        };
         let node = Node {
             annotation,
+            len,
             below: self,
         };
         Ok(Chain::Last(Rc::new(alloc, node)?))
@@ -60,10 +69,22 @@ impl<A: Drop> Chain<A> {
 }
 
 impl<A> Chain<A> {
+    /// How many annotations there are.
+    pub fn len(&self) -> usize
+        requires { CountsWell self.now }
+        ensures { result ≡ length (annotations_of self.now) }
+    {
+        match self {
+            Chain::End => 0,
+            Chain::Last(node) => node.len,
+        }
+    }
+
     /// What is below the last `count` annotations.
     pub fn below(&self, count: usize) -> &Chain<A>
-        ensures { let held = annotations_of self.now in
+        ensures annotations { let held = annotations_of self.now in
             annotations_of result.now ≡ take (length held - count) held }
+        ensures counts { CountsWell self.now → CountsWell result.now }
     {
         let mut chain = self;
         for _ in 0..count {
@@ -76,12 +97,13 @@ impl<A> Chain<A> {
     }
 
     /// Copies of the annotations, the last one first.
-    pub fn copied_down(&self, alloc: Global, len: usize) -> Result<Vec<A>, OutOfMemory>
+    pub fn copied_down(&self, alloc: Global) -> Result<Vec<A>, OutOfMemory>
     where
         A: Clone,
+        requires { CountsWell self.now }
         ensures { IfOk result (λ copies. AllZip A.is_clone (annotations_of self.now) (reverse copies.items)) }
     {
-        let mut copies = Vec::with_capacity(alloc, len)?;
+        let mut copies = Vec::with_capacity(alloc, self.len())?;
         let mut chain = self;
         while let Chain::Last(node) = chain {
             copies.push(node.annotation.clone()?)?;

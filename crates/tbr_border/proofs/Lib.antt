@@ -1,3 +1,4 @@
+pub mod StraightCells
 pub mod BorderText
 pub mod HolesInOrder
 pub mod JoinedCells

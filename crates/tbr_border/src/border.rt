@@ -568,12 +568,25 @@ fn push_cells<T: Eq + Clone + Drop>(
     line.push_str(TaggedString { s, tag })
 }
 
+/// Cells without a join, as most of a border's are.
+const STRAIGHT: [BorderSegHoriz; 8] = [BorderSegHoriz::Horiz; 8];
+
 /// Appends the characters of cells.
 fn draw(text: &mut String, cells: &[BorderSegHoriz]) -> Result<(), OutOfMemory>
     ensures { OnOk result (chars_of text.new ≡ chars_of text.old ++ map character (cells_of cells.now)) }
 {
-    for cell in cells {
-        text.push(cell.character())?;
+    let mut rest = cells;
+    while let Some((cell, others)) = rest.split_first() {
+        match rest.strip_prefix(&STRAIGHT) {
+            Some(after) => {
+                text.push_str("────────")?;
+                rest = after;
+            }
+            None => {
+                text.push(cell.character())?;
+                rest = others;
+            }
+        }
     }
     Ok(())
 }

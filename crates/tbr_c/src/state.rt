@@ -14,6 +14,7 @@ ghost use Rattle.tbr_c.specs.declared.state.State.TheVariants as S;
 ghost use Rattle.tbr_c_lines.specs.declared.fault.Fault.TheVariants as F;
 
 use std::alloc::Global;
+use std::collections::VecDeque;
 use tbr_c_lines::{Fault, LineSize, Lines, Rest, of_command};
 use tbr_commands::{Command, Decorator, Opening};
 use tbr_decor::{DecoratorPrefix, PlainDecorator, RichDecorator, TextDecorator, TrivialDecorator};
@@ -160,9 +161,15 @@ impl State {
         requires closed { MayFinish self }
     {
         match self {
-            State::Plain(program) => Ok(Lines::new(Rest::Bare(program.finish_lines()?))),
-            State::Trivial(program) => Ok(Lines::new(Rest::Bare(program.finish_lines()?))),
-            State::Rich(program) => Ok(Lines::new(Rest::Rich(program.finish_lines()?))),
+            State::Plain(program) => Ok(Lines::new(Rest::Bare(VecDeque::from_vec(
+                program.finish_lines()?,
+            )))),
+            State::Trivial(program) => Ok(Lines::new(Rest::Bare(VecDeque::from_vec(
+                program.finish_lines()?,
+            )))),
+            State::Rich(program) => Ok(Lines::new(Rest::Rich(VecDeque::from_vec(
+                program.finish_lines()?,
+            )))),
             State::Finished(_) | State::Refused(_) => unreachable!(),
         }
     }

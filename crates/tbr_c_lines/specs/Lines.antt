@@ -9,6 +9,7 @@ use Rattle.tbr_tagged.specs.View.{chars_of}
 use Rattle.tbr_decor.specs.declared.annotation.RichAnnotation.{RichAnnotation}
 use Rattle.tbr_decor.specs.declared.annotation.RichAnnotation.TheVariants.{Default}
 use Rattle.tbr_decor.specs.contracts.annotation.RichAnnotationPartialEq.TheImpl as rich
+use Rattle.tbr_annotations.specs.Written.{IsWrittenOut}
 use Rattle.tbr_c_lines.specs.Line.{Line, IsSeenAs}
 use Rattle.tbr_c_lines.specs.declared.lines.Rest.{Rest}
 use Rattle.tbr_c_lines.specs.declared.lines.Rest.TheVariants.{Bare, Rich, Text}
@@ -24,14 +25,14 @@ line_text line = item_characters (line_items line) ++ newline_character ∷ []
 
 -- the text of lines, each with a newline
 abbrev pub text_of : Rest → List ℕ
-text_of (Bare lines) = flat_map line_text lines
-text_of (Rich lines) = flat_map line_text lines
+text_of (Bare lines) = flat_map line_text lines.items
+text_of (Rich lines) = flat_map line_text lines.items
 text_of (Text text) = chars_of text
 
 -- whether none is left that can be taken
 abbrev pub NoneLeft : Rest → Type 0
-NoneLeft (Bare lines) = lines ≡ []
-NoneLeft (Rich lines) = lines ≡ []
+NoneLeft (Bare lines) = lines.items ≡ []
+NoneLeft (Rich lines) = lines.items ≡ []
 NoneLeft (Text text) = Unit {0}
 
 -- ---- taking one
@@ -47,14 +48,16 @@ equal_bare _ _ = true
 abbrev pub itself : RichAnnotation → RichAnnotation
 itself annotation = annotation
 
--- The first of some lines is seen as this one, and these are left.
-abbrev pub Takes : {A : Type 0} → (A → A → Bool) → (A → RichAnnotation) → List (RenderLine (Vec A)) → Line → List (RenderLine (Vec A)) → Type 0
+-- The first of some lines, written out, is seen as this one, and these are left.
+abbrev pub Takes : {A : Type 0} → (A → A → Bool) → (A → RichAnnotation) → List (RenderLine (List A)) → Line → List (RenderLine (List A)) → Type 0
 Takes {A} eq shown lines seen rest =
-    (line : RenderLine (Vec A)) × (lines ≡ line ∷ rest) × IsSeenAs eq shown line seen
+    (line : RenderLine (List A)) × (out : RenderLine (Vec A)) × (lines ≡ line ∷ rest) × IsWrittenOut eq line out
+    × IsSeenAs eq shown out seen
 
 abbrev pub TakesFirst : Rest → Line → Rest → Type 0
-TakesFirst (Bare lines) seen (Bare rest) = Takes equal_bare bare lines seen rest
-TakesFirst (Rich lines) seen (Rich rest) = Takes rich.ghosts.eq itself lines seen rest
+TakesFirst (Bare lines) seen (Bare rest) = Takes equal_bare bare lines.items seen rest.items
+TakesFirst (Rich lines) seen (Rich rest) =
+    Takes rich.ghosts.eq itself lines.items seen rest.items
 TakesFirst (Bare lines) seen other = ⊥
 TakesFirst (Rich lines) seen other = ⊥
 TakesFirst (Text text) seen other = ⊥

@@ -12,8 +12,9 @@ use crate::fault::Fault;
 use crate::line::{Line, LineSize};
 use crate::out::copy_out;
 use std::alloc::Global;
-use std::collections::LinkedList;
+use std::collections::VecDeque;
 use std::marker::Model;
+use tbr_annotations::{Annotations, written_out};
 use tbr_decor::RichAnnotation;
 use tbr_lines::{OutOfMemory, RenderLine};
 
@@ -39,13 +40,14 @@ impl Model for Lines {
     ghost invariant = { λ l. IfSome l.text (λ text. chars_of text ≡ text_of l.rest) };
 }
 
-/// Lines, by what decorators annotate them with, or their text alone.
+/// Lines, by what decorators annotate them with, or their text alone. They share annotations; a line is under its own
+/// where it is taken.
 #[derive(Drop)]
 pub enum Rest {
     /// Those of plain and trivial decorators.
-    Bare(LinkedList<RenderLine<Vec<()>>>),
+    Bare(VecDeque<RenderLine<Annotations<()>>>),
     /// Those of rich ones.
-    Rich(LinkedList<RenderLine<Vec<RichAnnotation>>>),
+    Rich(VecDeque<RenderLine<Annotations<RichAnnotation>>>),
     /// The text of all lines, each with a newline. None can be taken.
     Text(String),
 }
@@ -128,29 +130,33 @@ impl Rest {
 /// Takes the first of these lines, if there is one. Where memory is refused it is lost.
 fn first_of<A: Annotation>(
     alloc: Global,
-    lines: &mut LinkedList<RenderLine<Vec<A>>>,
+    lines: &mut VecDeque<RenderLine<Annotations<A>>>,
 ) -> Result<Option<Line>, OutOfMemory>
     ensures taken { IfOk result (λ found. IfSome found (λ line.
-        left.Takes A.eq A.shown lines.old line lines.new)) }
-    ensures none { result ≡ Ok None → (lines.old ≡ []) × (lines.new ≡ []) }
+        left.Takes A.eq A.shown lines.old.items line lines.new.items)) }
+    ensures none { result ≡ Ok None → (lines.old.items ≡ []) × (lines.new ≡ lines.old) }
 {
-    match lines.pop_front() {
-        Some(line) => Ok(Some(Line::new(alloc, line)?)),
-        None => Ok(None),
+    if lines.is_empty() {
+        return Ok(None);
     }
+    let Some(line) = lines.pop_front() else {
+        unreachable!();
+    };
+    let line = written_out(alloc, line)?;
+    Ok(Some(Line::new(alloc, line)?))
 }
 
 /// Copies the text of these lines, each with a newline, as `copy_out` does. A text that doesn't fit is `kept`.
-fn copy_kept<A>(
+fn copy_kept<T>(
     alloc: Global,
-    lines: &LinkedList<RenderLine<Vec<A>>>,
+    lines: &VecDeque<RenderLine<T>>,
     kept: &mut Option<String>,
     out: &mut [u8],
     needed: &mut usize,
 ) -> Result<(), Fault>
-    requires { IfSome kept.old (λ text. chars_of text ≡ flat_map left.line_text lines.now) }
-    ensures kept { IfSome kept.new (λ text. chars_of text ≡ flat_map left.line_text lines.now) }
-    ensures text { result ≢ Err F.OutOfMemory → (text : List ℕ) × (chars text ≡ flat_map left.line_text lines.now)
+    requires { IfSome kept.old (λ text. chars_of text ≡ flat_map left.line_text lines.now.items) }
+    ensures kept { IfSome kept.new (λ text. chars_of text ≡ flat_map left.line_text lines.now.items) }
+    ensures text { result ≢ Err F.OutOfMemory → (text : List ℕ) × (chars text ≡ flat_map left.line_text lines.now.items)
         × IsCopied text out.old out.new needed.new (status_of result) }
     ensures unwritten { IfErr result (λ _. out.new ≡ out.old) }
 {
@@ -166,8 +172,8 @@ fn copy_kept<A>(
 }
 
 /// The text of these lines, each with a newline.
-fn text_of<A>(alloc: Global, lines: &LinkedList<RenderLine<Vec<A>>>) -> Result<String, OutOfMemory>
-    ensures { IfOk result (λ text. chars_of text ≡ flat_map left.line_text lines.now) }
+fn text_of<T>(alloc: Global, lines: &VecDeque<RenderLine<T>>) -> Result<String, OutOfMemory>
+    ensures { IfOk result (λ text. chars_of text ≡ flat_map left.line_text lines.now.items) }
 {
     let mut text = String::new(alloc);
     for line in lines {

@@ -3,17 +3,16 @@ ghost use Rattle.std.specs.Prelude.{◌≡◌, None, Err, map, IfOk, string_byte
 ghost use Rattle.tbr_tagged.specs.View.{chars_of};
 ghost use Rattle.tbr_tagged.specs.declared.Error.TheVariants as E;
 ghost use Rattle.tbr_decor.specs.Decoration.{decoration_of};
-ghost use Rattle.text_block_renderer.specs.Tags.{vector_meant};
+ghost use Rattle.text_block_renderer.specs.Tags.{tag_meant};
 ghost use Rattle.text_block_renderer.specs.Meant.{map_line, meant};
 ghost use Rattle.text_block_renderer.specs.Line.{line_seen};
 ghost use Rattle.tbr_tagged.specs.Outcome.{done, refused};
 ghost use Rattle.text_block_renderer.specs.Appended.{handed_out};
 ghost use Rattle.tbr_program.specs.Closing.{closed, closed_text};
 
-use std::collections::LinkedList;
 use tbr_decor::TextDecorator;
 use tbr_lines::{CharWidth, Error, RenderLine};
-use text_block_renderer::{Renderer, SubRenderer};
+use text_block_renderer::{Annotations, Renderer, SubRenderer};
 
 /// The text of a renderer whose links have these targets: its lines, and after them the footnotes as a block of their
 /// own, if there are any. It asks for a renderer that hasn't failed, and refuses as that does. Where it refuses, the
@@ -34,20 +33,20 @@ pub fn close<D: TextDecorator, W: CharWidth>(
     with_footnotes(renderer, targets)?.into_string()
 }
 
-/// The same as lines. It refuses as [`close`] does.
+/// The same as lines, whose lists of annotations share what they have in common. It refuses as [`close`] does.
 pub fn close_lines<D: TextDecorator, W: CharWidth>(
     renderer: SubRenderer<D, W>,
     targets: Vec<String>,
-) -> Result<LinkedList<RenderLine<Vec<D::Annotation>>>, Error>
+) -> Result<Vec<RenderLine<Annotations<D::Annotation>>>, Error>
     requires { renderer.failure ≡ None }
     ensures lines { let links = map chars_of targets.items in
         IfOk result (λ lines. closed W.columns (decoration_of D.TextDecorator) links (meant D.meaning renderer)
-        ≡ done (map (map_line (vector_meant D.meaning)) (map line_seen lines))) }
+        ≡ done (map (map_line (tag_meant D.meaning)) (map line_seen lines.items))) }
     ensures too_narrow { let links = map chars_of targets.items in
         result ≡ Err E.TooNarrow →
         closed W.columns (decoration_of D.TextDecorator) links (meant D.meaning renderer) ≡ refused E.TooNarrow }
 {
-    with_footnotes(renderer, targets)?.into_lines()
+    with_footnotes(renderer, targets)?.into_shared_lines()
 }
 
 /// The renderer, and after its lines the footnotes.

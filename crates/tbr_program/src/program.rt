@@ -6,7 +6,7 @@ ghost use Rattle.tbr_tagged.specs.declared.Error.TheVariants as Refusal;
 ghost use Rattle.tbr_decor.specs.Decoration.{decoration_of};
 ghost use Rattle.tbr_decor.specs.Prefix.{asked_prefix};
 ghost use Rattle.text_block_renderer.specs.Renderer.{new_renderer};
-ghost use Rattle.text_block_renderer.specs.Tags.{vector_meant};
+ghost use Rattle.text_block_renderer.specs.Tags.{tag_meant};
 ghost use Rattle.text_block_renderer.specs.Meant.{map_line, meant};
 ghost use Rattle.text_block_renderer.specs.Line.{line_seen};
 ghost use Rattle.tbr_script.specs.declared.error.RunError.TheVariants as E;
@@ -26,7 +26,6 @@ use crate::opened::{OpenLevels, Opener};
 use crate::pending::Pending;
 use crate::prefixes::{append_after, prefix_of};
 use std::alloc::Global;
-use std::collections::LinkedList;
 use std::marker::Model;
 use std::mem;
 use tbr_commands::{Command, NewCell, Request};
@@ -34,7 +33,7 @@ use tbr_decor::{DecoratorPrefix, TextDecorator};
 use tbr_lines::{CharWidth, Error, RenderLine};
 use tbr_script::{RunError, TextPair};
 use tbr_stack::TextRenderer;
-use text_block_renderer::{RenderOptions, Renderer, SubRenderer};
+use text_block_renderer::{Annotations, RenderOptions, Renderer, SubRenderer};
 
 /// What a script has called so far after its first command.
 #[derive(Drop)]
@@ -283,14 +282,15 @@ impl<D: TextDecorator, W: CharWidth> Program<D, W> {
         Ok(close(renderer, targets)?)
     }
 
-    /// The lines of the text, where no level is open and no cell waits. It refuses as `finish` does then.
-    pub fn finish_lines(self) -> Result<LinkedList<RenderLine<Vec<D::Annotation>>>, Error>
+    /// The lines of the text, where no level is open and no cell waits. Their lists of annotations share what they have
+    /// in common. It refuses as `finish` does then.
+    pub fn finish_lines(self) -> Result<Vec<RenderLine<Annotations<D::Annotation>>>, Error>
         requires goes_on { GoesOn self }
         requires opened { self.opened ≡ [] }
         requires cells { self.pending.cells ≡ [] }
         ensures lines { IfOk result (λ lines. OfTop (λ r.
             closed W.columns (decoration_of D.TextDecorator) self.stack.links (meant D.meaning r)
-            ≡ done (map (map_line (vector_meant D.meaning)) (map line_seen lines))) self.stack) }
+            ≡ done (map (map_line (tag_meant D.meaning)) (map line_seen lines.items))) self.stack) }
         ensures too_narrow { result ≡ Err Refusal.TooNarrow → OfTop (λ r.
             closed W.columns (decoration_of D.TextDecorator) self.stack.links (meant D.meaning r)
             ≡ refused Refusal.TooNarrow) self.stack }

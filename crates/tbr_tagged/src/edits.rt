@@ -1,5 +1,5 @@
 //! Text in front of a line's elements and after them.
-ghost use Rattle.std.specs.Prelude.{◌≡◌, ◌<◌, ◌∷◌, [], string_len, IfOk, OnOk, OnErr};
+ghost use Rattle.std.specs.Prelude.{◌≡◌, ◌<◌, ◌∷◌, [], chars, string_len, IfOk, OnOk, OnErr};
 ghost use Rattle.std.specs.Option.{option_map};
 ghost use Rattle.tbr_tagged.specs.Copies.{CopiesAreEqual};
 ghost use Rattle.tbr_tagged.specs.Elements.{push_text, insert_text, SameElements};
@@ -63,6 +63,24 @@ pub fn put_in_front<T: Eq + Drop>(
     }
     elements.insert_front(TaggedLineElement::Str(ts))?;
     Ok(None)
+}
+
+/// Puts text in front, which extends the first piece where that is under an equal tag. Where memory is refused nothing
+/// changes.
+pub fn put_str_in_front<T: Eq + Drop>(
+    elements: &mut ElementList<T>,
+    text: &str,
+    tag: T,
+) -> Result<(), OutOfMemory>
+    ensures ok { OnOk result (elements_of (stored elements.new)
+        ≡ insert_text T.eq (elements_of (stored elements.old)) (chars text.now) tag) }
+    ensures err { OnErr result (elements_of (stored elements.new) ≡ elements_of (stored elements.old)) }
+{
+    if elements.begins_under(&tag) {
+        return elements.prepend_first(text);
+    }
+    let s = String::from_str(elements.allocator(), text)?;
+    elements.insert_front(TaggedLineElement::Str(TaggedString { s, tag }))
 }
 
 /// Undoes [`put_in_front`], which answered `text`.

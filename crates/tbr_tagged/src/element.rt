@@ -221,6 +221,17 @@ pub fn extend_front<T>(
     Ok(text)
 }
 
+/// Puts text in front of a piece's, where that is; a marker stays. Where memory is refused nothing changes.
+pub fn prepend<T>(element: &mut TaggedLineElement<T>, text: &str) -> Result<(), OutOfMemory>
+    ensures ok { OnOk result (element_of element.new ≡ text_before (chars text.now) (element_of element.old)) }
+    ensures err { OnErr result (element_of element.new ≡ element_of element.old) }
+{
+    if let TaggedLineElement::Str(piece) = element {
+        piece.s.insert_str(0, text)?;
+    }
+    Ok(())
+}
+
 /// Gives a piece another text; a marker stays.
 pub fn set_text<T>(element: &mut TaggedLineElement<T>, text: String)
     ensures { element_of element.new ≡ with_characters (element_of element.old) (chars_of text) }

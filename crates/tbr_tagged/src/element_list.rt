@@ -13,7 +13,8 @@ ghost use Rattle.tbr_tagged.specs.View.{chars_of, elements_of};
 ghost use Rattle.tbr_tagged.specs.Walks.{elements_left, elements_to_come};
 
 use crate::element::{
-    TaggedLineElement, extend, extend_by_char, extend_by_spaces, extend_front, is_under, set_text,
+    TaggedLineElement, extend, extend_by_char, extend_by_spaces, extend_front, is_under, prepend,
+    set_text,
 };
 use crate::elements;
 use crate::error::OutOfMemory;
@@ -192,6 +193,19 @@ impl<T> ElementList<T> {
         match self {
             ElementList::Alone(element) => extend_by_spaces(element, count),
             ElementList::Listed(list) => elements::extend_last_by_spaces(list, count),
+        }
+    }
+
+    /// Puts text in front of the first element's, where that is, if it is a piece. Where memory is refused nothing
+    /// changes.
+    pub fn prepend_first(&mut self, text: &str) -> Result<(), OutOfMemory>
+        ensures ok { OnOk result
+            (elements_of (stored self.new) ≡ model.extend_first (chars text.now) (elements_of (stored self.old))) }
+        ensures err { OnErr result (elements_of (stored self.new) ≡ elements_of (stored self.old)) }
+    {
+        match self {
+            ElementList::Alone(element) => prepend(element, text),
+            ElementList::Listed(list) => elements::prepend_first(list, text),
         }
     }
 

@@ -10,7 +10,7 @@ ghost use Rattle.tbr_tagged.specs.Sums.{GivesSum};
 ghost use Rattle.tbr_tagged.specs.View.{chars_of, elements_of};
 
 use crate::element::{
-    TaggedLineElement, extend, extend_by_char, extend_by_spaces, extend_front, set_text,
+    TaggedLineElement, extend, extend_by_char, extend_by_spaces, extend_front, prepend, set_text,
 };
 use crate::error::OutOfMemory;
 use crate::width::text_width;
@@ -107,6 +107,21 @@ pub fn extend_last_by_spaces<T>(
     }
     let end = elements.len() - 1;
     extend_by_spaces(&mut elements[end], count)
+}
+
+/// Puts text in front of the first element's, where that is, if it is a piece. Where memory is refused nothing changes.
+pub fn prepend_first<T>(
+    elements: &mut Vec<TaggedLineElement<T>>,
+    text: &str,
+) -> Result<(), OutOfMemory>
+    ensures ok { OnOk result
+        (elements_of elements.new.items ≡ model.extend_first (chars text.now) (elements_of elements.old.items)) }
+    ensures err { OnErr result (elements_of elements.new.items ≡ elements_of elements.old.items) }
+{
+    if elements.is_empty() {
+        return Ok(());
+    }
+    prepend(&mut elements[0], text)
 }
 
 /// Puts text in front of the first element's, if that is a piece. It answers the text that the piece had. Where memory

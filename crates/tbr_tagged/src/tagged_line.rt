@@ -1,5 +1,5 @@
 //! Lines of text under tags.
-ghost use Rattle.std.specs.Prelude.{◌≡◌, ℕ, ◌^◌, ◌≤◌, ◌<◌, ◌++◌, ◌∷◌, ◌⊎◌, [], true, max, not, Option, map, length, string_len, IfOk, OnOk, OnErr};
+ghost use Rattle.std.specs.Prelude.{◌≡◌, ℕ, ◌^◌, ◌≤◌, ◌<◌, ◌++◌, ◌∷◌, ◌⊎◌, [], true, max, not, Option, chars, map, length, string_len, IfOk, OnOk, OnErr};
 ghost use Rattle.tbr_tagged.specs.Copies.{CopiesAreEqual};
 ghost use Rattle.tbr_model.specs.Run.{glyph};
 ghost use Rattle.tbr_tagged.specs.Elements.{items_of, line_width, element_items, characters, piece, push_text, push_element, insert_text, text_items, SameItems, SameElements, IsMerged};
@@ -11,7 +11,7 @@ ghost use Rattle.tbr_tagged.specs.Sums.{GivesSum};
 ghost use Rattle.tbr_tagged.specs.View.{chars_of, element_of, elements_of};
 ghost use Rattle.tbr_tagged.specs.Walks.{elements_left, strings_left, characters_left, pieces_of, piece_of, item_characters};
 
-use crate::edits::{push_glyph, push_piece, put_in_front};
+use crate::edits::{push_glyph, push_piece, put_in_front, put_str_in_front};
 use crate::element::{TaggedLineElement, TaggedString};
 use crate::element_list::ElementList;
 use crate::error::OutOfMemory;
@@ -196,6 +196,21 @@ impl<T: Eq + Drop> TaggedLine<T> {
         ensures err { OnErr result (self.new ≡ self.old) }
     {
         put_in_front(&mut self.elements, ts)?;
+        Ok(())
+    }
+
+    /// Puts text in front, as [`insert_front`](TaggedLine::insert_front) does. Where it extends the first piece, it
+    /// mostly takes no memory.
+    ///
+    /// Where memory is refused the line stays as it was.
+    pub fn insert_front_str(&mut self, text: &str, tag: T) -> Result<(), OutOfMemory>
+        ensures ok { OnOk result (self.new ≡ insert_text T.eq self.old (chars text.now) tag) }
+        ensures items { OnOk result
+            (SameItems T.eq (items_of self.new) (text_items (chars text.now) tag ++ items_of self.old)) }
+        ensures merged { 0 < length text.now → IsMerged T.eq self.old → OnOk result (IsMerged T.eq self.new) }
+        ensures err { OnErr result (self.new ≡ self.old) }
+    {
+        put_str_in_front(&mut self.elements, text, tag)?;
         Ok(())
     }
 }

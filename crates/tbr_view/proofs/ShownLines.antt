@@ -4,8 +4,6 @@ use Rattle.std.specs.Prelude.{Option, false}
 use Rattle.std.proofs.lemmas.Bool.{false≢true}
 use Rattle.std.specs.Global.{Vec}
 use Rattle.std.specs.Option.{unwrap_or}
-use Rattle.tbr_tagged.specs.Elements.{Element}
-use Rattle.tbr_tagged.specs.Mapped.{MapsElements}
 use Rattle.tbr_border.specs.declared.RenderLine.{RenderLine}
 use Rattle.tbr_decor.specs.declared.annotation.RichAnnotation.{RichAnnotation}
 use Rattle.tbr_script.specs.Script.{lines_of}
@@ -15,7 +13,8 @@ use Rattle.tbr_view.specs.declared.script.Settings.{Settings}
 use Rattle.tbr_view.specs.declared.script.Format.{Format}
 use Rattle.tbr_view.specs.declared.script.Format.TheVariants.{Text, Bare, Ansi, Ndjson, Html}
 use Rattle.tbr_view.specs.Script.{Begins}
-use Rattle.tbr_view.specs.Shown.{AreShown, AreElements, ShowsLine, ShowsUnder, IsShown, opening_in, IsRich, elements_in, is_border, is_text}
+use Rattle.tbr_annotations.specs.Written.{IsWrittenOut}
+use Rattle.tbr_view.specs.Shown.{AreShown, ShowsAnnotated, ShowsLine, ShowsUnder, IsShown, opening_in, is_text}
 
 -- one line more
 pub one_more_shown : {L : Type 0} (Shows : L → List ℕ → Type 0) (lines : List L) (line : L) (cs more : List ℕ) → AreShown Shows lines cs → Shows line more →
@@ -26,13 +25,13 @@ one_more_shown Shows (l ∷ lines) line cs more h here =
 
 -- in another format than text
 module _ {A : Type 0} (eq : A → A → Bool) (rich : List A → List RichAnnotation) (columns : ℕ → Option ℕ) where
-  pub shown_in : (format : Format) (line : RenderLine (Vec A)) (es : List (Element (Vec A))) (shown : List (Element (Vec RichAnnotation))) (cs : List ℕ) → is_text format ≡ false →
-      AreElements eq line es → MapsElements (IsRich rich) es shown → cs ≡ elements_in columns format (is_border line) shown → ShowsLine eq rich columns format line cs
-  shown_in Text line es shown cs other are maps is = absurd (false≢true (sym other))
-  shown_in Bare line es shown cs other are maps is = (es, shown, are, maps, is)
-  shown_in Ansi line es shown cs other are maps is = (es, shown, are, maps, is)
-  shown_in Ndjson line es shown cs other are maps is = (es, shown, are, maps, is)
-  shown_in Html line es shown cs other are maps is = (es, shown, are, maps, is)
+  pub shown_in : (format : Format) (line : RenderLine (List A)) (out : RenderLine (Vec A)) (cs : List ℕ) → is_text format ≡ false →
+      IsWrittenOut eq line out → ShowsAnnotated eq rich columns format out cs → ShowsLine eq rich columns format line cs
+  shown_in Text line out cs other written shows = absurd (false≢true (sym other))
+  shown_in Bare line out cs other written shows = (out, written, shows)
+  shown_in Ansi line out cs other written shows = (out, written, shows)
+  shown_in Ndjson line out cs other written shows = (out, written, shows)
+  shown_in Html line out cs other written shows = (out, written, shows)
 
 -- under the decorator that is set, or that of the script
 pub shown_script : (columns : ℕ → Option ℕ) (script : List ℕ) (settings : Settings) (cs : List ℕ) (opening placed : Opening) (number : ℕ) (rest : List ℕ) (decorator : Decorator) →

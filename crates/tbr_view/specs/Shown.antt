@@ -12,9 +12,10 @@ use Rattle.tbr_border.specs.declared.RenderLine.{RenderLine}
 use Rattle.tbr_border.specs.declared.RenderLine.TheVariants.{Text as Words, Line as Rule}
 use Rattle.tbr_decor.specs.declared.annotation.RichAnnotation.{RichAnnotation}
 use Rattle.tbr_decor.specs.contracts.annotation.RichAnnotationPartialEq.TheImpl as annotation
+use Rattle.tbr_annotations.specs.Written.{IsWrittenOut}
 use Rattle.tbr_decor.specs.Decoration.{Decoration}
 use Rattle.tbr_decor.specs.Style.{style_of}
-use Rattle.text_block_renderer.specs.Tags.{vector_meant}
+use Rattle.text_block_renderer.specs.Tags.{tag_meant}
 use Rattle.text_block_renderer.specs.Meant.{map_line}
 use Rattle.text_block_renderer.specs.Line.{line_seen}
 use Rattle.tbr_script.specs.Script.{lines_of}
@@ -69,13 +70,19 @@ themselves annotations = annotations
 abbrev pub IsRich : {A : Type 0} → (List A → List RichAnnotation) → Vec A → Vec RichAnnotation → Type 0
 IsRich rich tag shown = shown.items ≡ rich tag.items
 
--- A line in a format, under annotations of this equality, of which this is shown.
-abbrev pub ShowsLine : {A : Type 0} → (A → A → Bool) → (List A → List RichAnnotation) → (ℕ → Option ℕ) → Format →
-    RenderLine (Vec A) → List ℕ → Type 0
-ShowsLine eq rich columns Text line cs = cs ≡ line_text line
-ShowsLine {A} eq rich columns format line cs =
+-- A line under vectors in a format that shows them, under annotations of this equality, of which this is shown.
+abbrev pub ShowsAnnotated : {A : Type 0} → (A → A → Bool) → (List A → List RichAnnotation) → (ℕ → Option ℕ) →
+    Format → RenderLine (Vec A) → List ℕ → Type 0
+ShowsAnnotated {A} eq rich columns format line cs =
     (es : List (Element (Vec A))) × (shown : List (Element (Vec RichAnnotation))) × AreElements eq line es
     × MapsElements (IsRich rich) es shown × (cs ≡ elements_in columns format (is_border line) shown)
+
+-- A line in a format: its text alone, or what is written out of it.
+abbrev pub ShowsLine : {A : Type 0} → (A → A → Bool) → (List A → List RichAnnotation) → (ℕ → Option ℕ) → Format →
+    RenderLine (List A) → List ℕ → Type 0
+ShowsLine eq rich columns Text line cs = cs ≡ line_text line
+ShowsLine {A} eq rich columns format line cs =
+    (out : RenderLine (Vec A)) × IsWrittenOut eq line out × ShowsAnnotated eq rich columns format out cs
 
 -- lines one after another
 abbrev pub AreShown : {L : Type 0} → (L → List ℕ → Type 0) → List L → List ℕ → Type 0
@@ -102,8 +109,8 @@ opening_in width opening = record opening { width = width_in width opening.width
 abbrev pub ShowsScript : {D A M : Type 0} → (A → A → Bool) → (List A → List RichAnnotation) → (A → M) → (ℕ → Option ℕ) →
     Decoration D M → State D M → List (List ℕ) → Format → List ℕ → Type 0
 ShowsScript {D} {A} eq rich meaning columns decoration start script format cs =
-    (lines : List (RenderLine (Vec A)))
-    × LinesGive columns decoration start script (map (map_line (vector_meant meaning)) (map line_seen lines))
+    (lines : List (RenderLine (List A)))
+    × LinesGive columns decoration start script (map (map_line (tag_meant meaning)) (map line_seen lines))
     × AreShown (ShowsLine eq rich columns format) lines cs
 
 -- the same under the decorator of this name, after this first command

@@ -3,7 +3,7 @@ ghost use Rattle.std.specs.Prelude.{◌≡◌, ◌≢◌, ◌<◌, Some, map, If
 ghost use Rattle.tbr_tagged.specs.View.{chars_of};
 ghost use Rattle.tbr_decor.specs.Decoration.{decoration_of};
 ghost use Rattle.tbr_script.specs.Script.{lines_of};
-ghost use Rattle.text_block_renderer.specs.Tags.{vector_meant};
+ghost use Rattle.text_block_renderer.specs.Tags.{tag_meant};
 ghost use Rattle.text_block_renderer.specs.Meant.{map_line};
 ghost use Rattle.text_block_renderer.specs.Line.{line_seen};
 ghost use Rattle.tbr_view.specs.Script.{Begins, BeginsNot};
@@ -13,12 +13,12 @@ ghost use Rattle.tbr_view.specs.Shown.{IsShown, opening_in};
 use crate::session::Session;
 use crate::show::show;
 use std::alloc::Global;
-use std::collections::LinkedList;
 use tbr_commands::{Decorator, Opening};
 use tbr_decor::{PlainDecorator, RichDecorator, TextDecorator, TrivialDecorator};
 use tbr_lines::{CharWidth, RenderLine};
 use tbr_script::split_line;
 use tbr_statements::{Problem, Refusal, advice, is_skipped};
+use text_block_renderer::Annotations;
 
 /// What is written.
 #[derive(Clone, Copy, Debug, PartialEq, Eq)]
@@ -137,11 +137,11 @@ fn run<D: TextDecorator, W: CharWidth>(
     decorator: D,
     number: usize,
     script: &[u8],
-) -> Result<(LinkedList<RenderLine<Vec<D::Annotation>>>, Vec<Problem>), Refusal>
+) -> Result<(Vec<RenderLine<Annotations<D::Annotation>>>, Vec<Problem>), Refusal>
     requires width { 0 < opening.width }
     requires wrap_width { opening.options.wrap_width ≢ Some 0 }
     ensures { IfOk result (λ r. LinesGive W.columns (decoration_of D.TextDecorator) (begun opening decorator)
-        (lines_of script.now) (map (map_line (vector_meant D.meaning)) (map line_seen r.0))) }
+        (lines_of script.now) (map (map_line (tag_meant D.meaning)) (map line_seen r.0.items))) }
 {
     let mut session: Session<D, W> = Session::new(alloc, opening, decorator)?;
     let mut rest = script;

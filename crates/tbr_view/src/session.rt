@@ -5,7 +5,7 @@ ghost use Rattle.tbr_commands.specs.Command.{command_of, ask};
 ghost use Rattle.tbr_commands.specs.Command as asked;
 ghost use Rattle.tbr_commands.specs.Request.{layout as laid};
 ghost use Rattle.tbr_program.specs.Progress.{GoesOn, progress_meant};
-ghost use Rattle.text_block_renderer.specs.Tags.{vector_meant};
+ghost use Rattle.text_block_renderer.specs.Tags.{tag_meant};
 ghost use Rattle.text_block_renderer.specs.Meant.{map_line};
 ghost use Rattle.text_block_renderer.specs.Line.{line_seen};
 ghost use Rattle.tbr_statements.specs.Level.{innermost, opener_of, may_not_append, known_in, noted, takes_two};
@@ -13,7 +13,6 @@ ghost use Rattle.tbr_view.specs.Session as model;
 ghost use Rattle.tbr_statements.specs.Statement.{IsSized};
 
 use std::alloc::{AllocError, Global};
-use std::collections::LinkedList;
 use tbr_commands::{Command, Layout, Opening, Request};
 use tbr_decor::TextDecorator;
 use tbr_lines::{CharWidth, RenderLine, text_width};
@@ -22,7 +21,7 @@ use tbr_script::{RunError, TextPair};
 use tbr_statements::{
     Block, Levels, Opener, Problem, Refusal, Statement, TooWide, advice, is_skipped,
 };
-use text_block_renderer::Renderer;
+use text_block_renderer::{Annotations, Renderer};
 
 /// A script of which some lines were done.
 #[derive(Drop)]
@@ -326,11 +325,11 @@ impl<D: TextDecorator, W: CharWidth> Session<D, W> {
     pub fn finish(
         mut self,
         number: usize,
-    ) -> Result<(LinkedList<RenderLine<Vec<D::Annotation>>>, Vec<Problem>), Refusal>
+    ) -> Result<(Vec<RenderLine<Annotations<D::Annotation>>>, Vec<Problem>), Refusal>
         requires { GoesOn self.program }
         ensures lines { IfOk result (λ r. model.EndsIn W.columns (decoration_of D.TextDecorator)
             (model.state_of D.meaning self.program self.levels.inside.items)
-            (map (map_line (vector_meant D.meaning)) (map line_seen r.0))) }
+            (map (map_line (tag_meant D.meaning)) (map line_seen r.0.items))) }
         ensures lost { IfOk result (λ r. model.TellsLoss (model.loses self.program) number
             self.levels.notes.spanning self.lost.items r.1.items) }
     {

@@ -9,10 +9,10 @@ ghost use Rattle.tbr_view.specs.Shown as model;
 
 use crate::script::Format;
 use std::alloc::Global;
-use std::collections::LinkedList;
 use tbr_decor::RichAnnotation;
 use tbr_lines::{CharWidth, OutOfMemory, RenderLine, TaggedLine};
 use tbr_show::{ansi, html, ndjson};
+use text_block_renderer::{Annotations, written_out};
 
 /// What lines may be annotated with, to be shown.
 pub trait Annotation: Eq + Clone + Drop {
@@ -53,11 +53,11 @@ impl Annotation for RichAnnotation {
 /// The lines in a format. It refuses where memory is refused, and where a line's columns pass `usize`.
 pub fn show<T: Annotation, W: CharWidth>(
     alloc: Global,
-    lines: LinkedList<RenderLine<Vec<T>>>,
+    lines: Vec<RenderLine<Annotations<T>>>,
     format: Format,
 ) -> Result<String, OutOfMemory>
     ensures { IfOk result (λ text.
-        model.AreShown (model.ShowsLine T.eq T.rich W.columns format) lines (chars_of text)) }
+        model.AreShown (model.ShowsLine T.eq T.rich W.columns format) lines.items (chars_of text)) }
 {
     let mut text = String::new(alloc);
     for line in lines {
@@ -66,11 +66,11 @@ pub fn show<T: Annotation, W: CharWidth>(
     Ok(text)
 }
 
-/// Appends a line in a format.
+/// Appends a line in a format. Where that shows annotations, those of this line alone are written out.
 fn push_line<T: Annotation, W: CharWidth>(
     alloc: Global,
     text: &mut String,
-    line: RenderLine<Vec<T>>,
+    line: RenderLine<Annotations<T>>,
     format: Format,
 ) -> Result<(), OutOfMemory>
     ensures { OnOk result ((cs : List ℕ) × model.ShowsLine T.eq T.rich W.columns format line cs
@@ -79,6 +79,20 @@ fn push_line<T: Annotation, W: CharWidth>(
     if is_text(format) {
         return push_characters(text, &line);
     }
+    let line = written_out(alloc, line)?;
+    push_annotated::<T, W>(alloc, text, line, format)
+}
+
+/// Appends a line under vectors in a format that shows them.
+fn push_annotated<T: Annotation, W: CharWidth>(
+    alloc: Global,
+    text: &mut String,
+    line: RenderLine<Vec<T>>,
+    format: Format,
+) -> Result<(), OutOfMemory>
+    ensures { OnOk result ((cs : List ℕ) × model.ShowsAnnotated T.eq T.rich W.columns format line cs
+        × (chars_of text.new ≡ chars_of text.old ++ cs)) }
+{
     let is_border = is_border(&line);
     let tagged = line.into_tagged_line()?;
     let rich = rich_line(alloc, tagged)?;

@@ -91,6 +91,6 @@ fn lines_are_written_out_with_vectors(rt: HostRuntime) -> Result<(), Fail> {
 }
 
 #[test]
-fn lines_that_are_written_out_in_little_memory(rt: HostRuntime) {
+fn lines_are_written_out_or_refused_memory(rt: HostRuntime) {
     let _ = write_out(&rt, rt.alloc());
 }

@@ -11,6 +11,8 @@ pub enum Edit<'a> {
     Character(char, Voice),
     /// A text joins the line at its front.
     Front(&'a str, Voice),
+    /// The same by its characters.
+    FrontStr(&'a str, Voice),
     Marker(&'a str),
     Pad(usize, Voice),
     Align(usize, CellAlign, Voice),
@@ -26,6 +28,7 @@ pub fn apply<W: CharWidth>(
         Edit::Text(text, tag) => line.push_str(piece(alloc, text, tag)?),
         Edit::Character(c, tag) => line.push_char(c, &tag),
         Edit::Front(text, tag) => line.insert_front(piece(alloc, text, tag)?),
+        Edit::FrontStr(text, tag) => line.insert_front_str(text, tag),
         Edit::Marker(name) => line.push(marker(alloc, name)?),
         Edit::Pad(width, tag) => line.pad_to::<W>(width, &tag),
         Edit::Align(width, align, tag) => line.pad_aligned::<W>(width, align, &tag),

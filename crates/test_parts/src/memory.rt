@@ -106,6 +106,8 @@ const EDITS: &[Edit<'static>] = &[
     Edit::Character('c', Voice::Second),
     Edit::Front("d", Voice::Second),
     Edit::Front("e", Voice::Second),
+    Edit::FrontStr("f", Voice::Second),
+    Edit::FrontStr("g", Voice::First),
     Edit::Pad(9, Voice::First),
     Edit::Align(13, CellAlign::Centre, Voice::Second),
 ];

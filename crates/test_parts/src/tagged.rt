@@ -2,7 +2,7 @@
 ghost use Rattle.std.specs.Iterator.{IsFinite};
 
 use crate::compared::{counts, shows};
-use crate::edits::Edit::{Align, Character, Front, Marker, Pad, Text};
+use crate::edits::Edit::{Align, Character, Front, FrontStr, Marker, Pad, Text};
 use crate::edits::{Edit, edited, line_after};
 use std::alloc::Global;
 use std::process::Abort;
@@ -41,8 +41,10 @@ fn text_extends_its_neighbour_under_an_equal_tag(rt: HostRuntime) {
             Front("x", Voice::First),
             Front("", Voice::First),
             Front("", Voice::Second),
+            FrontStr("y", Voice::Second),
+            FrontStr("z", Voice::First),
         ],
-        "1ab\n1ab\n1abc\n1abc|2d\n1xabc|2d\n1xabc|2d\n2|1xabc|2d\n",
+        "1ab\n1ab\n1abc\n1abc|2d\n1xabc|2d\n1xabc|2d\n2|1xabc|2d\n2y|1xabc|2d\n1z|2y|1xabc|2d\n",
     );
 }
 

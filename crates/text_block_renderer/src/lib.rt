@@ -2,6 +2,7 @@
 //! of the crates below: renderers and stacks, decorators, lines, borders and blocks. Their laws stay there.
 #![tactic(auto)]
 
+pub use tbr_annotations::{Annotations, written_out};
 pub use tbr_decor::{
     Colour, PlainDecorator, RichAnnotation, RichDecorator, TextDecorator, TrivialDecorator, text,
     usual,

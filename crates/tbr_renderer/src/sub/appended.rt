@@ -1,5 +1,5 @@
 //! Lines of other renderers.
-ghost use Rattle.std.specs.Prelude.{◌≡◌, ◌≢◌, ◌≤◌, ◌++◌, None, Err, List, length, map, fold, chars, string_bytes, string_len, OnOk, IfOk};
+ghost use Rattle.std.specs.Prelude.{◌≡◌, ◌≢◌, ◌≤◌, ◌++◌, None, Err, List, length, map, fold, chars, OnOk, IfOk};
 ghost use Rattle.std.specs.List.{AllByRecursion as Each};
 ghost use Rattle.std.specs.Vec.Iter.{into_iter_items};
 ghost use Rattle.tbr_annotations.specs.Annotations.{equal_annotations};
@@ -16,15 +16,11 @@ ghost use Rattle.tbr_renderer.specs.Flush.{after_flush};
 ghost use Rattle.tbr_renderer.specs.Appended.{GivesFirst, texts_of, as_text, prefixed, with_cell, with_cell_below, with_cells, after_lines, after_cells, handed_out};
 
 use crate::sub::SubRenderer;
-use std::alloc::Global;
 use std::convert::AsStr;
 use std::vec::IntoIter;
 use tbr_annotations::Annotations;
 use tbr_decor::TextDecorator;
-use tbr_lines::{
-    BorderSegHoriz, CharWidth, Error, OutOfMemory, RenderLine, TaggedLine, TaggedLineElement,
-    TaggedString,
-};
+use tbr_lines::{BorderSegHoriz, CharWidth, Error, OutOfMemory, RenderLine, TaggedLine};
 
 impl<D: TextDecorator, W: CharWidth> SubRenderer<D, W> {
     /// A line as text: a border's cells are under a copy of the annotations.
@@ -62,8 +58,7 @@ impl<D: TextDecorator, W: CharWidth> SubRenderer<D, W> {
             return Ok(());
         }
         let tag = self.tag()?;
-        let s = with_room(self.alloc, prefix, bytes_under(text, &tag))?;
-        text.insert_front(TaggedString { s, tag })
+        text.insert_front_str(prefix, tag)
     }
 
     /// Adds each line after its prefix, as long as there are both.
@@ -131,7 +126,7 @@ impl<D: TextDecorator, W: CharWidth> SubRenderer<D, W> {
         ensures settings { KeepsSettings (meant D.meaning self.old) (meant D.meaning self.new) }
     {
         self.try_flush()?;
-        let lines = other.into_vec()?;
+        let lines = other.into_shared_lines()?;
         self.add_prefixed(lines, prefixes)?;
         Ok(())
     }
@@ -172,7 +167,7 @@ impl<D: TextDecorator, W: CharWidth> SubRenderer<D, W> {
         let Some(first) = cols.next() else {
             return Ok(());
         };
-        let lines = first.into_vec()?;
+        let lines = first.into_shared_lines()?;
         self.add_cell(lines)?;
         self.add_cells_below(cols)
     }
@@ -192,27 +187,9 @@ impl<D: TextDecorator, W: CharWidth> SubRenderer<D, W> {
     {
         for col in cols {
             self.add_divider(BorderSegHoriz::HorizVert)?;
-            let lines = col.into_vec()?;
+            let lines = col.into_shared_lines()?;
             self.add_cell(lines)?;
         }
         Ok(())
-    }
-}
-
-/// A prefix, with room for so many bytes after it.
-fn with_room(alloc: Global, prefix: &str, room: usize) -> Result<String, OutOfMemory>
-    ensures bytes { IfOk result (λ s. string_bytes s ≡ prefix.now) }
-    ensures len { IfOk result (λ s. string_len s ≡ length prefix.now) }
-{
-    let mut s = String::with_capacity(alloc, prefix.len().saturating_add(room))?;
-    s.push_str(prefix)?;
-    Ok(s)
-}
-
-/// The bytes of a text's first piece, if that is under an equal tag: they come after what is put in front.
-fn bytes_under<T: Eq>(text: &TaggedLine<T>, tag: &T) -> usize {
-    match text.iter().next() {
-        Some(TaggedLineElement::Str(first)) if first.tag == *tag => first.s.len(),
-        _ => 0,
     }
 }

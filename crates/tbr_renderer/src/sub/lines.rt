@@ -30,7 +30,8 @@ impl<D: TextDecorator, W: CharWidth> SubRenderer<D, W> {
     /// Ends the open line, and hands out all lines. Their pieces are the longest stretches under equal annotations.
     /// There are none where nothing is in the renderer.
     ///
-    /// It refuses as `new_line` does. The list takes memory for each line.
+    /// It refuses as `new_line` does. The list takes memory for each line, and each piece for its annotations: where
+    /// many are open, [`into_shared_lines`](SubRenderer::into_shared_lines) takes little.
     pub fn into_lines(self) -> Result<LinkedList<RenderLine<Vec<D::Annotation>>>, Error>
         ensures lines { IfOk result (λ lines. handed_out W.columns (meant D.meaning self)
             ≡ done (map (map_line (vector_meant D.meaning)) (map line_seen lines))) }
@@ -41,14 +42,15 @@ impl<D: TextDecorator, W: CharWidth> SubRenderer<D, W> {
         ensures kept { (e : Refusal) → self.failure ≡ Some e → result ≡ Err e }
     {
         let alloc = self.alloc;
-        let lines = self.into_vec()?;
+        let lines = self.into_shared_lines()?;
         Ok(all_written_out(alloc, lines)?)
     }
 
-    /// Ends the open line, and hands out all lines, as they are kept.
+    /// Ends the open line, and hands out all lines under lists of annotations that share what they have in common. Their
+    /// pieces are the longest stretches under equal ones. `written_out` gives such a line vectors.
     ///
     /// It refuses as `new_line` does.
-    pub(crate) fn into_vec(self) -> Result<Vec<RenderLine<Annotations<D::Annotation>>>, Error>
+    pub fn into_shared_lines(self) -> Result<Vec<RenderLine<Annotations<D::Annotation>>>, Error>
         ensures lines { IfOk result (λ lines. handed_out W.columns (meant D.meaning self)
             ≡ done (map (map_line (tag_meant D.meaning)) (map line_seen lines.items))) }
         ensures merged { IfOk result (λ lines. Each (IsMergedText (equal_annotations D.Annotation.eq)) lines.items) }

@@ -121,7 +121,7 @@ impl<D: TextDecorator, W: CharWidth> SubRenderer<D, W> {
         let mut columns = Columns::new(self.alloc);
         for (col, span) in cols {
             let width = col.width();
-            let lines = col.into_vec()?;
+            let lines = col.into_shared_lines()?;
             let align = aligns.next().copied().unwrap_or(CellAlign::Left);
             columns.push::<W>(width, span, align, lines, &tag)?;
         }

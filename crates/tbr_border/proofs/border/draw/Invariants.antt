@@ -1,7 +1,11 @@
-use Rattle.std.proofs.Common.{◌≡◌, ◌++◌, map, take, chars}
+use Rattle.std.proofs.Common.{◌≡◌, ◌++◌, map, length, chars}
 use Rattle.std.specs.String.{string_bytes}
 use Rattle.tbr_border.specs.Cell.{cell_of, character}
 use Rattle.tbr_border.proofs.border.draw.Given as goal
 
 abbrev pub invariant-loop-cell : goal.invariant-loop-cell
-invariant-loop-cell l = chars (string_bytes l.text) ≡ chars (string_bytes l.fn.text) ++ map character (map cell_of (take l.cell-index l.cells))
+invariant-loop-cell l =
+    chars (string_bytes l.text) ++ map character (map cell_of l.rest) ≡ chars (string_bytes l.fn.text) ++ map character (map cell_of l.fn.cells)
+
+abbrev pub decreases-loop-cell : goal.decreases-loop-cell
+decreases-loop-cell l = length l.rest

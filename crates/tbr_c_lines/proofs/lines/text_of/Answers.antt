@@ -1,5 +1,5 @@
 use Rattle.std.proofs.Common.{[], ◌∷◌, ◌++◌, map, flat_map, chars, ap, sym, ◌∙◌, append-nil}
-use Rattle.std.proofs.lemmas.Iterator.Consumers.{YieldsList-from_rest, YieldsList-end}
+use Rattle.std.proofs.lemmas.Iterator.Consumers.{YieldsList-from_deque, YieldsList-end}
 use Rattle.std.proofs.lemmas.List.{map_push}
 use Rattle.std.proofs.lemmas.List.Concat.{flat_map-append}
 use Rattle.std.proofs.lemmas.Str.{chars-nil}
@@ -20,6 +20,6 @@ loop-line-preserved g c =
 pub returns : goal.returns
 returns g c =
     let given = c.into_iter-line-iterator.ensures.into_iter_gives in
-    let list = YieldsList-from_rest c.args.lines.now given.0 in
+    let list = YieldsList-from_deque c.args.lines.now.items given.0 in
     let end = YieldsList-end list c.loop-line.yielded c.loop-line.line-iterator c.loop-line.yielded_by c.next.result c.next.new.self c.in-None.is c.next.ensures.steps in
     c.loop-line.invariant ∙ ap (flat_map left.line_text) end.0

@@ -1,7 +1,7 @@
 use Rattle.std.proofs.Common.{map, sym, ◌∙◌}
 use Rattle.tbr_tagged.specs.View.{chars_of}
 use Rattle.tbr_decor.specs.Decoration.{decoration_of}
-use Rattle.text_block_renderer.specs.Tags.{vector_meant}
+use Rattle.text_block_renderer.specs.Tags.{tag_meant}
 use Rattle.text_block_renderer.specs.Meant.{map_line, meant}
 use Rattle.text_block_renderer.specs.Line.{line_seen}
 use Rattle.text_block_renderer.specs.Appended.{handed_out}
@@ -13,8 +13,8 @@ pub returns-clause-lines : goal.returns-clause-lines
 returns-clause-lines g c =
     let f = g.D.TextDecorator.meaning in
     let columns = g.W.CharWidth.columns in
-    if_ok_given (λ lines. map (map_line (vector_meant f)) (map line_seen lines)) (handed_out columns (meant f c.in_ok-with_footnotes.field-0))
-    (closed columns (decoration_of g.D.TextDecorator) (map chars_of c.args.targets.items) (meant f c.args.renderer)) c.into_lines.result c.in_ok-with_footnotes.ensures.noted c.into_lines.ensures.lines
+    if_ok_given (λ lines. map (map_line (tag_meant f)) (map line_seen lines.items)) (handed_out columns (meant f c.in_ok-with_footnotes.field-0))
+    (closed columns (decoration_of g.D.TextDecorator) (map chars_of c.args.targets.items) (meant f c.args.renderer)) c.into_shared_lines.result c.in_ok-with_footnotes.ensures.noted c.into_shared_lines.ensures.lines
 
 pub returns-clause-too_narrow : goal.returns-clause-too_narrow
-returns-clause-too_narrow g c = λ narrow. sym c.in_ok-with_footnotes.ensures.noted ∙ c.into_lines.ensures.too_narrow narrow
+returns-clause-too_narrow g c = λ narrow. sym c.in_ok-with_footnotes.ensures.noted ∙ c.into_shared_lines.ensures.too_narrow narrow

@@ -1,18 +1,17 @@
-use Rattle.std.proofs.Common.{ap, sym}
+use Rattle.std.proofs.Common.{sym}
 use Rattle.std.proofs.lemmas.Result.{on_ok_weaker}
-use Rattle.tbr_tagged.proofs.Copies.{list_copies_equal}
-use Rattle.tbr_view.specs.Shown.{elements_in}
 use Rattle.tbr_view.proofs.ShownLines.{shown_in}
 use Rattle.tbr_view.proofs.show.push_line.Goals as goal
 
-pub into_tagged_line-requires : goal.into_tagged_line-requires
-into_tagged_line-requires g c = λ v w copy. list_copies_equal g.T.Clone.is_clone g.T.PartialEq.eq g.met.T.Annotation.copies_equal v.items w.items copy.0
+pub written_out-requires : goal.written_out-requires
+written_out-requires g c = g.met.T.Annotation.copies_equal
 
 pub returns : goal.returns
-returns g c =
-    let columns = g.W.CharWidth.columns in
-    let format = c.args.format in
-    let rich = c.in_ok-rich.rich in
-    let shown = shown_in g.T.PartialEq.eq g.T.Annotation.rich columns format c.args.line c.in_ok-tagged.tagged rich _ (sym c.if-is_text.ensures)
-    (c.in_ok-tagged.ensures.text, c.in_ok-tagged.ensures.items) c.in_ok-rich.ensures (ap (λ b. elements_in columns format b rich) c.is_border-is_border.ensures) in
-    on_ok_weaker c.push_elements.result (λ h. (_, shown, h)) c.push_elements.ensures
+returns g c = on_ok_weaker c.push_annotated.result
+    (λ h. (
+      h.0,
+      shown_in g.T.PartialEq.eq g.T.Annotation.rich g.W.CharWidth.columns c.args.format c.args.line c.in_ok-line.line h.0 (sym c.if-is_text.ensures)
+          (c.in_ok-line.ensures.written, c.in_ok-line.ensures.merged) h.1,
+      h.2,
+    ))
+    c.push_annotated.ensures

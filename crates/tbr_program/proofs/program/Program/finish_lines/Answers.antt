@@ -1,6 +1,6 @@
 use Rattle.std.proofs.Common.{◌≡◌, Some, map, sym, ap, ◌∙◌, subst}
 use Rattle.tbr_decor.specs.Decoration.{decoration_of}
-use Rattle.text_block_renderer.specs.Tags.{vector_meant}
+use Rattle.text_block_renderer.specs.Tags.{tag_meant}
 use Rattle.text_block_renderer.specs.Meant.{map_line, meant}
 use Rattle.text_block_renderer.specs.Line.{line_seen}
 use Rattle.tbr_stack.specs.Stack.{top_of}
@@ -23,7 +23,7 @@ returns-clause-lines g c =
     let top = subst (λ s. top_of s ≡ Some r) stack c.into_inner-renderer.ensures.renderer in
     let links = c.into_inner-renderer.ensures.links ∙ ap (λ s. s.links) stack in
     if_ok_then c.close_lines.result (λ lines h.
-    (r, top, subst (λ targets. closed g.W.CharWidth.columns (decoration_of g.D.TextDecorator) targets (meant g.D.TextDecorator.meaning r) ≡ done (map (map_line (vector_meant g.D.TextDecorator.meaning)) (map line_seen lines))) links h)) c.close_lines.ensures.lines
+    (r, top, subst (λ targets. closed g.W.CharWidth.columns (decoration_of g.D.TextDecorator) targets (meant g.D.TextDecorator.meaning r) ≡ done (map (map_line (tag_meant g.D.TextDecorator.meaning)) (map line_seen lines.items))) links h)) c.close_lines.ensures.lines
 
 pub returns-clause-too_narrow : goal.returns-clause-too_narrow
 returns-clause-too_narrow g c = λ narrow.

@@ -15,9 +15,9 @@ pub returns-in_err-lines-clause-too_narrow : goal.returns-in_err-lines-clause-to
 returns-in_err-lines-clause-too_narrow g c = λ is.
     let give = hands g.D.TextDecorator.meaning g.W.CharWidth.columns c.args.self.now in
     let others = into_iter_items c.next.new.self in
-    let e = passed_on c.from_residual.result c.into_vec.result c.in_err-lines.field-0.0 TooNarrow is c.from_residual.ensures.1 c.in_err-lines.was in
+    let e = passed_on c.from_residual.result c.into_shared_lines.result c.in_err-lines.field-0.0 TooNarrow is c.from_residual.ensures.1 c.in_err-lines.was in
     let whole : c.args.cols.items ≡ c.in-Some.first ∷ others = sym c.into_iter-cols.ensures.rest ∙ c.in-Some.ensures.items in
-    ap (gathered give) whole ∙ ap (λ o. and_then o (λ lines. changed (λ cells. lines ∷ cells) (gathered give others))) (c.into_vec.ensures.too_narrow e)
+    ap (gathered give) whole ∙ ap (λ o. and_then o (λ lines. changed (λ cells. lines ∷ cells) (gathered give others))) (c.into_shared_lines.ensures.too_narrow e)
 
 pub returns-clause-too_narrow : goal.returns-clause-too_narrow
 returns-clause-too_narrow g c = λ is.

@@ -18,18 +18,18 @@ pub returns-in_err-lines-clause-too_narrow : goal.returns-in_err-lines-clause-to
 returns-in_err-lines-clause-too_narrow g c = λ is.
     let f = g.D.TextDecorator.meaning in
     let columns = g.W.CharWidth.columns in
-    let e = passed_on c.from_residual-in_err-lines.result c.into_vec.result c.in_err-lines.field-0.0 TooNarrow is c.from_residual-in_err-lines.ensures.1 c.in_err-lines.was in
+    let e = passed_on c.from_residual-in_err-lines.result c.into_shared_lines.result c.in_err-lines.field-0.0 TooNarrow is c.from_residual-in_err-lines.ensures.1 c.in_err-lines.was in
     let whole = items_left c.args.cols c.into_iter-col-iterator.result c.loop-col.col-iterator c.next.new.self c.loop-col.yielded c.in-Some.col c.into_iter-col-iterator.ensures.into_iter_gives c.loop-col.yielded_by c.in-Some.ensures.steps.0 in
     let give = hands f columns c.args.self.now in
     ap (gathered give) whole
-    ∙ gathered_stops give c.loop-col.yielded c.loop-col.invariant.cells c.in-Some.col (into_iter_items c.next.new.self) TooNarrow c.loop-col.invariant.hand (c.into_vec.ensures.too_narrow e)
+    ∙ gathered_stops give c.loop-col.yielded c.loop-col.invariant.cells c.in-Some.col (into_iter_items c.next.new.self) TooNarrow c.loop-col.invariant.hand (c.into_shared_lines.ensures.too_narrow e)
 
 pub returns-in_err-lines-clause-two_columns : goal.returns-in_err-lines-clause-two_columns
 returns-in_err-lines-clause-two_columns g c = λ wide is.
-    let e = passed_on c.from_residual-in_err-lines.result c.into_vec.result c.in_err-lines.field-0.0 TooNarrow is c.from_residual-in_err-lines.ensures.1 c.in_err-lines.was in
+    let e = passed_on c.from_residual-in_err-lines.result c.into_shared_lines.result c.in_err-lines.field-0.0 TooNarrow is c.from_residual-in_err-lines.ensures.1 c.in_err-lines.was in
     let whole = items_left c.args.cols c.into_iter-col-iterator.result c.loop-col.col-iterator c.next.new.self c.loop-col.yielded c.in-Some.col c.into_iter-col-iterator.ensures.into_iter_gives c.loop-col.yielded_by c.in-Some.ensures.steps.0 in
     let here = each_at _ c.loop-col.yielded c.in-Some.col (into_iter_items c.next.new.self) (subst (Each _) whole wide) in
-    c.into_vec.ensures.two_columns here.0 here.1 e
+    c.into_shared_lines.ensures.two_columns here.0 here.1 e
 
 pub loop-col-preserved : goal.loop-col-preserved
 loop-col-preserved g c =

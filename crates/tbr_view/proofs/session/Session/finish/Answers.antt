@@ -1,6 +1,6 @@
 use Rattle.std.proofs.Common.{◌≡◌, map, ap, subst}
 use Rattle.tbr_decor.specs.Decoration.{decoration_of}
-use Rattle.text_block_renderer.specs.Tags.{vector_meant}
+use Rattle.text_block_renderer.specs.Tags.{tag_meant}
 use Rattle.text_block_renderer.specs.Meant.{map_line, meant}
 use Rattle.text_block_renderer.specs.Top.{OfTop}
 use Rattle.text_block_renderer.specs.Line.{line_seen}
@@ -14,7 +14,7 @@ use Rattle.tbr_view.proofs.session.Session.finish.Goals as goal
 pub returns-in-Ok-clause-lines : goal.returns-in-Ok-clause-lines
 returns-in-Ok-clause-lines g c =
     let meaning = g.D.TextDecorator.meaning in
-    let lines = map (map_line (vector_meant meaning)) (map line_seen c.in-Ok.lines) in
+    let lines = map (map_line (tag_meant meaning)) (map line_seen c.in-Ok.lines.items) in
     let ends_with = closed g.W.CharWidth.columns (decoration_of g.D.TextDecorator) in
     let stack = let p = c.args.self.program in p.stack in
     let ends = subst (λ p. OfTop (λ r. ends_with p.stack.links (meant meaning r) ≡ done lines) p.stack) c.in_ok-end.ensures.program c.in-Ok.ensures.lines in

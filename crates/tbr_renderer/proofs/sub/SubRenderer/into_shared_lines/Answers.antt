@@ -5,7 +5,7 @@ use Rattle.tbr_footnotes.specs.Tags.{tag_meant}
 use Rattle.tbr_kept_lines.specs.Line.{line_seen}
 use Rattle.tbr_renderer.proofs.SameLines.{same_meant}
 use Rattle.tbr_footnotes.proofs.Tags.{tags_mean, copies_are_equal}
-use Rattle.tbr_renderer.proofs.sub.SubRenderer.into_vec.Goals as goal
+use Rattle.tbr_renderer.proofs.sub.SubRenderer.into_shared_lines.Goals as goal
 
 pub into_vec-requires : goal.into_vec-requires
 into_vec-requires g c = copies_are_equal g.D.Annotation.PartialEq.eq g.D.TextDecorator.meaning g.met.D.TextDecorator.equal_by_meaning

@@ -1,0 +1,16 @@
+use Rattle.std.proofs.Common.{map, ◌<◌, length}
+use Rattle.std.specs.Str.{chars}
+use Rattle.tbr_tagged.specs.Stored.{stored}
+use Rattle.tbr_tagged.specs.View.{element_of}
+use Rattle.tbr_tagged.proofs.TextAfter.{chars_some}
+use Rattle.tbr_tagged.proofs.TextInFront.{items_inserted, merged_inserted}
+use Rattle.tbr_tagged.proofs.tagged_line.TaggedLine.insert_front_str.Goals as goal
+
+pub returns-clause-items : goal.returns-clause-items
+returns-clause-items g c =
+    rw (c.in_ok-put_str_in_front.ensures.ok, ← c.self.view_is) (items_inserted g.T.PartialEq.eq g.met.T.Eq.laws (map element_of (stored c.self.inside.elements)) (chars c.args.text.now) c.args.tag)
+
+pub returns-clause-merged : goal.returns-clause-merged
+returns-clause-merged g c = λ some merged.
+    rw c.in_ok-put_str_in_front.ensures.ok (merged_inserted g.T.PartialEq.eq g.met.T.Eq.laws (map element_of (stored c.self.inside.elements)) (chars c.args.text.now) c.args.tag
+    (chars_some c.args.text.now c.utf8.text some) (rw (← c.self.view_is) at merged))

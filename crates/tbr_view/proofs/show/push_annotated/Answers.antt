@@ -1,0 +1,15 @@
+use Rattle.std.proofs.Common.{ap, ◌∙◌}
+use Rattle.std.proofs.lemmas.Result.{on_ok_weaker}
+use Rattle.tbr_tagged.proofs.Copies.{list_copies_equal}
+use Rattle.tbr_view.specs.Shown.{elements_in}
+use Rattle.tbr_view.proofs.show.push_annotated.Goals as goal
+
+pub into_tagged_line-requires : goal.into_tagged_line-requires
+into_tagged_line-requires g c = λ v w copy. list_copies_equal g.T.Clone.is_clone g.T.PartialEq.eq g.met.T.Annotation.copies_equal v.items w.items copy.0
+
+pub returns : goal.returns
+returns g c =
+    let rich = c.in_ok-rich.rich in
+    let border = ap (λ b. elements_in g.W.CharWidth.columns c.args.format b rich) c.is_border-is_border.ensures in
+    on_ok_weaker c.push_elements.result
+    (λ h. (_, (c.in_ok-tagged.tagged, rich, (c.in_ok-tagged.ensures.text, c.in_ok-tagged.ensures.items), c.in_ok-rich.ensures, border), h)) c.push_elements.ensures
