@@ -1,4 +1,3 @@
-pub mod Colours
 pub mod OptionWords
 pub mod OpeningWords
 pub mod Commands

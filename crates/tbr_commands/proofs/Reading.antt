@@ -1,16 +1,13 @@
 -- What is read of a line is the command, or the first command, that it is.
-use Rattle.std.proofs.Common.{◌≡◌, ◌⊎◌, inl, inr, ℕ, ◌<◌, ◌==◌, true, false, Option, None, Some, List, [], ◌∷◌, ◌++◌, codes, fold, refl, sym, ap, ◌∙◌, subst, arith, append_assoc}
-use Rattle.std.specs.Char.{digit_value}
+use Rattle.std.proofs.Common.{◌≡◌, ◌⊎◌, inl, inr, ℕ, ◌<◌, ◌==◌, true, false, Option, None, Some, List, [], ◌∷◌, ◌++◌, codes, fold, refl, sym, ap, ◌∙◌, subst, arith, ◌≢◌, length, get_or, suc, lit≤, rules}
 use Rattle.std.specs.List.{AllZip, AllByRecursion as Each}
 use Rattle.std.specs.Option.{option_map, option_and_then}
 use Rattle.std.specs.Str.{IsUtf8, bytes_eq, is_utf8}
-use Rattle.std.specs.Str.Parse.{AllDigits}
 use Rattle.std.proofs.lemmas.Bool.{eqb-true}
 use Rattle.std.proofs.lemmas.Bool.Decides.{nat_tests}
 use Rattle.std.proofs.lemmas.Slice.Eq.{bytes_eq-Decides}
 use Rattle.std.proofs.lemmas.Str.{IsUtf8-from_is_utf8, is_utf8-from_IsUtf8}
-use Rattle.tbr_model.specs.Hard.{onto_first}
-use Rattle.tbr_model.specs.declared.white_space.WhiteSpace.TheVariants.{Normal, Pre, PreWrap}
+use Rattle.tbr_model.specs.declared.white_space.WhiteSpace.TheVariants.{Normal}
 use Rattle.tbr_tagged.specs.declared.CellAlign.{CellAlign}
 use Rattle.tbr_tagged.specs.declared.CellAlign.TheVariants.{Left, Right, Centre}
 use Rattle.tbr_decor.specs.Ground as ground
@@ -18,30 +15,28 @@ use Rattle.tbr_decor.specs.declared.colour.Colour.{Colour}
 use Rattle.tbr_renderer.specs.Options.{default_options}
 use Rattle.tbr_renderer.specs.declared.RenderOptions.{RenderOptions}
 use Rattle.tbr_renderer.specs.declared.ImageRenderMode.TheVariants.{IgnoreEmpty, ShowAlways, Replace, Filename}
-use Rattle.tbr_script.specs.Script.{words_of, IsText, AreSplitTexts}
+use Rattle.tbr_script.specs.Script.{words_of, IsByte}
 use Rattle.tbr_script.specs.Read.{byte_read, number_read, size_read, text_read, texts_read}
+use Rattle.tbr_script.proofs.Texts.{not_a_digit}
 use Rattle.tbr_script.proofs.Reading.{some_once, no_some, test, if_so, if_not, mapped, followed, number_written, written_number, size_written, written_size, byte_written, written_byte, text_written, written_text, texts_written, written_texts}
 use Rattle.tbr_commands.specs.declared.options.Setting.{Setting}
 use Rattle.tbr_commands.specs.declared.options.Setting.TheVariants.{Wrap, Overflow, Pad, NoBorders, NoWrapLinks, Footnotes, NoStrike, Images}
 use Rattle.tbr_commands.specs.declared.opening.Decorator.{Decorator}
 use Rattle.tbr_commands.specs.declared.opening.Decorator.TheVariants.{Plain, Trivial, Rich}
 use Rattle.tbr_commands.specs.declared.opening.Opening.{Opening}
-use Rattle.tbr_commands.specs.declared.request.layout.Layout.TheVariants.{StartBlock, EndBlock, StartTable, NewLine, HardNewLine, EmptyLine}
+use Rattle.tbr_commands.specs.declared.request.layout.Layout.TheVariants.{StartBlock}
 use Rattle.tbr_commands.specs.declared.request.beginning.Beginning.TheVariants as beginning
 use Rattle.tbr_commands.specs.declared.request.kind.Kind.TheVariants as kind
 use Rattle.tbr_commands.specs.Options.{IsSetting, with_setting}
 use Rattle.tbr_commands.specs.Opening.{name_of, AsksFor, IsOpening}
 use Rattle.tbr_commands.specs.Request.{Request, layout, begin, end, text, fragment, image, colour, border}
-use Rattle.tbr_commands.specs.Command.{Command, ask, link, end_link, sub, append, cell, end_cell, row, vertical_row}
-use Rattle.tbr_commands.specs.Syntax.{IsAlone, HasArgument, IsColour, IsAlignment, IsNewCell, IsWritten, IsCommand}
-use Rattle.tbr_commands.specs.Read.{first_of, looked_up, after_word, argument_after, names, colour_of, alignment_of, cell_of, argument_read, command_read, settings, setting_read, settings_read, decorator_read, asked_for, opening_words, opening_read}
+use Rattle.tbr_commands.specs.Command.{Command, ask, link, sub, append, cell, row, IsSized}
+use Rattle.tbr_commands.specs.Syntax.{IsAlone, HasArgument, IsColour, IsAlignment, IsNewCell, IsWritten, IsCommand, mode_name, IsRequest}
+use Rattle.tbr_commands.specs.Read.{first_of, looked_up, after_word, names, colour_of, alignment_of, cell_of, argument_read, command_read, settings, setting_read, settings_read, decorator_read, asked_for, opening_words, opening_read, split_at_space, endings, name_read, colour_read, modes, request_readers, level_readers, read_by, parts_read}
 
 -- ---- choices
 
 module _ {X : Type 0} where
-  first : (o other : Option X) (x : X) → o ≡ Some x → first_of o other ≡ Some x
-  first o other x is = ap (λ p. first_of p other) is
-
   either : (o other : Option X) (x : X) → first_of o other ≡ Some x → (o ≡ Some x) ⊎ (other ≡ Some x)
   either None other x is = inr is
   either (Some y) other x is = inl is
@@ -59,13 +54,6 @@ module _ {X : Type 0} where
 
 -- ---- words and arguments
 
-same_byte : (b : ℕ) → (b == b) ≡ true
-same_byte b = grind (arith, nat_tests)
-
-is_after : (word rest : List ℕ) → after_word word (word ++ rest) ≡ Some rest
-is_after [] rest = refl
-is_after (w ∷ ws) rest = if_so (w == w) _ None (same_byte w) ∙ is_after ws rest
-
 after_is : (word bs rest : List ℕ) → after_word word bs ≡ Some rest → bs ≡ word ++ rest
 after_is [] bs rest e = sym (some_once bs rest e)
 after_is (w ∷ ws) [] rest e = absurd (no_some rest e)
@@ -74,82 +62,51 @@ after_is (w ∷ ws) (b ∷ bs) rest e =
     (λ so. ap (λ x. x ∷ bs) (eqb-true b w so) ∙ ap (λ xs. w ∷ xs) (after_is ws bs rest (sym (if_so (b == w) _ None so) ∙ e)))
     (λ so. absurd (no_some rest (sym (if_not (b == w) _ None so) ∙ e)))
 
-argument_is : {X : Type 0} (word : List ℕ) (read : List ℕ → Option X) (line : List ℕ) (x : X) → argument_after word read line ≡ Some x → (argument : List ℕ) × (line ≡ word ++ (codes " " ++ argument)) × (read argument ≡ Some x)
-argument_is word read line x e =
-    let (argument, is, reads) = followed read (after_word (word ++ 32 ∷ []) line) x e in
-    (argument, after_is (word ++ 32 ∷ []) line argument is ∙ append_assoc word (32 ∷ []) argument, reads)
+-- ---- the first space
 
--- ---- words of a line
+pub no_space : (b : ℕ) → b ≢ 32 → (b == 32) ≡ false
+no_space b other = grind (arith, nat_tests, other)
 
-some_words : (bs : List ℕ) → words_of bs ≡ [] → ⊥
-some_words [] e = cc e
-some_words (b ∷ bs) e =
-    test (b == 32) (λ so. let no = sym (if_so (b == 32) ([] ∷ words_of bs) (onto_first b (words_of bs)) so) ∙ e in cc no)
-    (λ so. go (words_of bs) (sym (if_not (b == 32) ([] ∷ words_of bs) (onto_first b (words_of bs)) so) ∙ e))
-  where
-    go : (ws : List (List ℕ)) → onto_first b ws ≡ [] → ⊥
-    go [] is = cc is
-    go (w ∷ ws) is = cc is
+pub split : (word rest : List ℕ) → ((i : ℕ) → i < length word → get_or word i 0 ≢ 32) → split_at_space (word ++ 32 ∷ rest) ≡ Some (word, rest)
+split [] rest none = refl
+split (b ∷ bs) rest none =
+    if_not (b == 32) _ _ (no_space b (none 0 (omega arith))) ∙ ap (option_map (λ (p : List ℕ × List ℕ). (b ∷ p.0, p.1))) (split bs rest (λ i lt. none (suc i) (omega arith)))
 
--- words with a space between two
-abbrev spaced : List (List ℕ) → List ℕ
-spaced [] = []
-spaced (w ∷ []) = w
-spaced (w ∷ v ∷ ws) = w ++ 32 ∷ spaced (v ∷ ws)
-
-spaced_words : (bs : List ℕ) → spaced (words_of bs) ≡ bs
-spaced_words [] = refl
-spaced_words (b ∷ bs) =
+-- what is split is what was put together
+parts_are : (bs : List ℕ) (parts : List ℕ × List ℕ) → split_at_space bs ≡ Some parts → bs ≡ parts.0 ++ (codes " " ++ parts.1)
+parts_are [] parts e = absurd (no_some parts e)
+parts_are (b ∷ bs) parts e =
     test (b == 32)
-    (λ so. ap spaced (if_so (b == 32) ([] ∷ words_of bs) (onto_first b (words_of bs)) so) ∙ empty_first (words_of bs) (some_words bs) ∙ ap (λ xs. 32 ∷ xs) (spaced_words bs) ∙ ap (λ x. x ∷ bs) (sym (eqb-true b 32 so)))
-    (λ so. ap spaced (if_not (b == 32) ([] ∷ words_of bs) (onto_first b (words_of bs)) so) ∙ onto (words_of bs) (some_words bs) ∙ ap (λ xs. b ∷ xs) (spaced_words bs))
-  where
-    empty_first : (ws : List (List ℕ)) → (ws ≡ [] → ⊥) → spaced ([] ∷ ws) ≡ 32 ∷ spaced ws
-    empty_first [] some = absurd (some refl)
-    empty_first (w ∷ ws) some = refl
-
-    onto : (ws : List (List ℕ)) → (ws ≡ [] → ⊥) → spaced (onto_first b ws) ≡ b ∷ spaced ws
-    onto [] some = absurd (some refl)
-    onto (w ∷ []) some = refl
-    onto (w ∷ v ∷ ws) some = refl
-
-no_space : (d : ℕ) → digit_value d < 10 → (d == 32) ≡ false
-no_space d digit = let other : d ≡ 32 → ⊥ = λ same. omega (arith, digit, ap digit_value same) in grind (arith, nat_tests, other)
-
--- digits are one word
-digits_alone : (ds : List ℕ) → AllDigits 10 ds → words_of ds ≡ ds ∷ []
-digits_alone [] all = refl
-digits_alone (d ∷ ds) all =
-    if_not (d == 32) ([] ∷ words_of ds) (onto_first d (words_of ds)) (no_space d all.0) ∙ ap (onto_first d) (digits_alone ds all.1)
-
-digits_first : (ds rest : List ℕ) → AllDigits 10 ds → words_of (ds ++ 32 ∷ rest) ≡ ds ∷ words_of rest
-digits_first [] rest all = refl
-digits_first (d ∷ ds) rest all =
-    if_not (d == 32) ([] ∷ words_of (ds ++ 32 ∷ rest)) (onto_first d (words_of (ds ++ 32 ∷ rest))) (no_space d all.0) ∙ ap (onto_first d) (digits_first ds rest all.1)
+    (λ so.
+    let it = some_once ([], bs) parts (sym (if_so (b == 32) _ _ so) ∙ e) in
+    subst (λ (p : List ℕ × List ℕ). b ∷ bs ≡ p.0 ++ 32 ∷ p.1) (sym it) (ap (λ x. x ∷ bs) (eqb-true b 32 so)))
+    (λ so.
+    let (rest, later, whole) = mapped (λ (p : List ℕ × List ℕ). (b ∷ p.0, p.1)) (split_at_space bs) parts (sym (if_not (b == 32) _ _ so) ∙ e) in
+    subst (λ (p : List ℕ × List ℕ). b ∷ bs ≡ p.0 ++ 32 ∷ p.1) (sym whole) (ap (λ xs. b ∷ xs) (parts_are bs rest later)))
 
 -- ---- colours
 
-colour_written : (writing : List ℕ) (c : Colour) → IsColour writing c → colour_of (words_of writing) ≡ Some c
+split_digits : (digits rest : List ℕ) → IsByte digits → split_at_space (digits ++ 32 ∷ rest) ≡ Some (digits, rest)
+split_digits digits rest is = split digits rest (not_a_digit 10 32 digits (lit≤ tt) is.0.1)
+
+colour_written : (writing : List ℕ) (c : Colour) → IsColour writing c → colour_read writing ≡ Some c
 colour_written writing c (red, green, blue, is, r, g, b) =
-    ap (λ w. colour_of (words_of w)) is
-    ∙ ap colour_of (digits_first red (green ++ 32 ∷ blue) r.0.0.1 ∙ ap (λ ws. red ∷ ws) (digits_first green blue g.0.0.1 ∙ ap (λ ws. green ∷ ws) (digits_alone blue b.0.0.1)))
+    ap colour_read is
+    ∙ ap (option_and_then (λ (p : List ℕ × List ℕ). option_and_then (λ (q : List ℕ × List ℕ). colour_of p.0 q.0 q.1) (split_at_space p.1))) (split_digits red (green ++ 32 ∷ blue) r.0)
+    ∙ ap (option_and_then (λ (q : List ℕ × List ℕ). colour_of red q.0 q.1)) (split_digits green blue g.0)
     ∙ ap (option_and_then (λ x. option_and_then (λ y. option_map (λ z. record { r = x; g = y; b = z }) (byte_read blue)) (byte_read green))) (byte_written red c.r r)
     ∙ ap (option_and_then (λ y. option_map (λ z. record { r = c.r; g = y; b = z }) (byte_read blue))) (byte_written green c.g g)
     ∙ ap (option_map (λ z. record { r = c.r; g = c.g; b = z })) (byte_written blue c.b b)
 
-written_colour : (writing : List ℕ) (c : Colour) → colour_of (words_of writing) ≡ Some c → IsColour writing c
-written_colour writing c e = go (words_of writing) (spaced_words writing) e
-  where
-    go : (ws : List (List ℕ)) → spaced ws ≡ writing → colour_of ws ≡ Some c → IsColour writing c
-    go [] is reads = absurd (no_some c reads)
-    go (red ∷ []) is reads = absurd (no_some c reads)
-    go (red ∷ green ∷ []) is reads = absurd (no_some c reads)
-    go (red ∷ green ∷ blue ∷ []) is reads =
-        let (x, r, rest) = followed _ (byte_read red) c reads in
-        let (y, g, last) = followed _ (byte_read green) c rest in
-        let (z, b, whole) = mapped _ (byte_read blue) c last in
-        subst (IsColour writing) (sym whole) (red, green, blue, sym is, written_byte red x r, written_byte green y g, written_byte blue z b)
-    go (red ∷ green ∷ blue ∷ other ∷ ws) is reads = absurd (no_some c reads)
+written_colour : (writing : List ℕ) (c : Colour) → colour_read writing ≡ Some c → IsColour writing c
+written_colour writing c e =
+    let (one, splits, others) = followed _ (split_at_space writing) c e in
+    let (two, splits_too, parts) = followed _ (split_at_space one.1) c others in
+    let (x, r, rest) = followed _ (byte_read one.0) c parts in
+    let (y, g, last) = followed _ (byte_read two.0) c rest in
+    let (z, b, whole) = mapped _ (byte_read two.1) c last in
+    let is = parts_are writing one splits ∙ ap (λ xs. one.0 ++ 32 ∷ xs) (parts_are one.1 two splits_too) in
+    subst (IsColour writing) (sym whole) (one.0, two.0, two.1, is, written_byte one.0 x r, written_byte two.0 y g, written_byte two.1 z b)
 
 -- ---- cells
 
@@ -187,121 +144,72 @@ written_cell line writing command is e = go (words_of writing) refl e
 
 -- what comes of a line that is UTF-8
 abbrev read_line : List ℕ → Option Command
-read_line line = first_of (looked_up names line) (argument_read line)
+read_line line = parts_read line (split_at_space line)
 
 alone_written : (line : List ℕ) (request : Request) → IsAlone line request → read_line line ≡ Some (ask request)
 alone_written line (layout StartBlock) is = ap read_line is
-alone_written line (layout EndBlock) is = ap read_line is
-alone_written line (layout StartTable) is = ap read_line is
-alone_written line (layout NewLine) is = ap read_line is
-alone_written line (layout HardNewLine) is = ap read_line is
-alone_written line (layout EmptyLine) is = ap read_line is
+alone_written line (layout other) is = ap read_line is
 alone_written line (begin (beginning.Mode Normal)) is = ap read_line is
-alone_written line (begin (beginning.Mode Pre)) is = ap read_line is
-alone_written line (begin (beginning.Mode PreWrap)) is = ap read_line is
-alone_written line (begin beginning.Preformat) is = ap read_line is
-alone_written line (begin beginning.Emphasis) is = ap read_line is
-alone_written line (begin beginning.Strong) is = ap read_line is
-alone_written line (begin beginning.Strikeout) is = ap read_line is
-alone_written line (begin beginning.Code) is = ap read_line is
-alone_written line (begin beginning.Superscript) is = ap read_line is
+alone_written line (begin (beginning.Mode other)) is = ap read_line is
+alone_written line (begin other) is = ap read_line is
 alone_written line (end kind.Mode) is = ap read_line is
-alone_written line (end kind.Preformat) is = ap read_line is
-alone_written line (end kind.Emphasis) is = ap read_line is
-alone_written line (end kind.Strong) is = ap read_line is
-alone_written line (end kind.Strikeout) is = ap read_line is
-alone_written line (end kind.Code) is = ap read_line is
-alone_written line (end kind.Superscript) is = ap read_line is
-alone_written line (end kind.Colour) is = ap read_line is
-alone_written line (end kind.Background) is = ap read_line is
+alone_written line (end other) is = ap read_line is
 alone_written line (border None) is = ap read_line is
-alone_written line (border (Some n)) is = absurd is
-alone_written line (text t) is = absurd is
-alone_written line (fragment t) is = absurd is
-alone_written line (image s t) is = absurd is
-alone_written line (colour g c) is = absurd is
+alone_written line other is = absurd is
+
+-- one that a word asks a renderer for
+asked_first : (o : Option Request) (request : Request) → o ≡ Some request → first_of (option_map ask o) None ≡ Some (ask request)
+asked_first o request is = ap (λ p. first_of (option_map ask p) None) is
 
 argument_written : (line : List ℕ) (request : Request) → HasArgument line request → read_line line ≡ Some (ask request)
-argument_written line (text t) (w, is, k) = ap read_line is ∙ first (option_map (λ x. ask (text x)) (text_read w)) _ (ask (text t)) (ap (option_map (λ x. ask (text x))) (text_written w t k))
-argument_written line (fragment t) (w, is, k) = ap read_line is ∙ first (option_map (λ x. ask (fragment x)) (text_read w)) _ (ask (fragment t)) (ap (option_map (λ x. ask (fragment x))) (text_written w t k))
-argument_written line (image s t) (w, is, k) = ap read_line is ∙ first (option_map (λ p. ask (image p.0 p.1)) (texts_read w)) _ (ask (image s t)) (ap (option_map (λ p. ask (image p.0 p.1))) (texts_written w s t k))
-argument_written line (colour ground.text c) (w, is, k) = ap read_line is ∙ first (option_map (λ x. ask (colour ground.text x)) (colour_of (words_of w))) _ (ask (colour ground.text c)) (ap (option_map (λ x. ask (colour ground.text x))) (colour_written w c k))
-argument_written line (colour ground.background c) (w, is, k) = ap read_line is ∙ first (option_map (λ x. ask (colour ground.background x)) (colour_of (words_of w))) _ (ask (colour ground.background c)) (ap (option_map (λ x. ask (colour ground.background x))) (colour_written w c k))
-argument_written line (border (Some n)) (w, is, k) = ap read_line is ∙ first (option_map (λ x. ask (border (Some x))) (number_read w)) _ (ask (border (Some n))) (ap (option_map (λ x. ask (border (Some x)))) (number_written w n k))
-argument_written line (border None) k = absurd k
-argument_written line (layout what) k = absurd k
-argument_written line (begin what) k = absurd k
-argument_written line (end what) k = absurd k
+argument_written line (text t) (w, is, k) = ap read_line is ∙ asked_first _ (text t) (ap (option_map text) (text_written w t k))
+argument_written line (fragment t) (w, is, k) = ap read_line is ∙ asked_first _ (fragment t) (ap (option_map fragment) (text_written w t k))
+argument_written line (image s t) (w, is, k) = ap read_line is ∙ asked_first _ (image s t) (ap (option_map (λ p. image p.0 p.1)) (texts_written w s t k))
+argument_written line (colour ground.text c) (w, is, k) = ap read_line is ∙ asked_first _ (colour ground.text c) (ap (option_map (colour ground.text)) (colour_written w c k))
+argument_written line (colour ground.background c) (w, is, k) = ap read_line is ∙ asked_first _ (colour ground.background c) (ap (option_map (colour ground.background)) (colour_written w c k))
+argument_written line (border (Some n)) (w, is, k) = ap read_line is ∙ asked_first _ (border (Some n)) (ap (option_map (λ m. border (Some m))) (number_written w n k))
+argument_written line other k = absurd k
 
 command_written : (line : List ℕ) (command : Command) → IsWritten line command → read_line line ≡ Some command
 command_written line (ask request) (inl k) = alone_written line request k
 command_written line (ask request) (inr k) = argument_written line request k
-command_written line (link t) (w, is, k) = ap read_line is ∙ first (option_map link (text_read w)) _ (link t) (ap (option_map link) (text_written w t k))
-command_written line end_link is = ap read_line is
-command_written line (sub n) (w, is, k) = ap read_line is ∙ first (option_map sub (size_read w)) _ (sub n) (ap (option_map sub) (size_written w n k))
-command_written line (append s t) (w, is, k) = ap read_line is ∙ first (option_map (λ p. append p.0 p.1) (texts_read w)) _ (append s t) (ap (option_map (λ p. append p.0 p.1)) (texts_written w s t k))
+command_written line (link t) (w, is, k) = ap read_line is ∙ ap (option_map link) (text_written w t k)
+command_written line (sub n) (w, is, k) = ap read_line is ∙ ap (option_map sub) (size_written w n k)
+command_written line (append s t) (w, is, k) = ap read_line is ∙ ap (option_map (λ p. append p.0 p.1)) (texts_written w s t k)
 command_written line (cell width span align) (w, is, k) = ap read_line is ∙ cell_written w width span align k
-command_written line end_cell is = ap read_line is
 command_written line (row false) is = ap read_line is
-command_written line (row true) is = ap read_line is
-command_written line vertical_row is = ap read_line is
+command_written line other is = ap read_line is
 
-all_named : Each (λ (entry : List ℕ × Command). IsWritten entry.0 entry.1) names
-all_named = (
-  inl refl,
+-- a name alone is that of its command
+written_name : (name : List ℕ) (command : Command) → name_read name ≡ Some command → IsWritten name command
+written_name name command e =
+    elim (either (looked_up endings name) (looked_up names name) command e) [
+      | inl ends ↦ found IsWritten endings (search rules) name command ends
+      | inr other ↦ found IsWritten names (search rules) name command other
+    ]
+
+-- what was made of what was read
+from_made : {X Y : Type 0} (make : X → Y) (o : Option X) (P : Y → Type 0) → ((x : X) → o ≡ Some x → P (make x)) → (y : Y) → option_map make o ≡ Some y → P y
+from_made make o P is y e = let (x, reads, whole) = mapped make o y e in subst P (sym whole) (is x reads)
+
+-- what readers read of an argument is written by its word
+abbrev Reads : {X : Type 0} → (List ℕ → X → Type 0) → List ℕ → (List ℕ → Option X) → Type 0
+Reads {X = X} P word read = (w : List ℕ) (x : X) → read w ≡ Some x → P (word ++ (codes " " ++ w)) x
+
+requests_read : Each (λ (entry : List ℕ × (List ℕ → Option Request)). Reads IsRequest entry.0 entry.1) request_readers
+requests_read = (
+  λ w. from_made text (text_read w) _ (λ t e. inr (w, refl, written_text w t e)),
   (
-    inl refl,
+    λ w. from_made fragment (text_read w) _ (λ t e. inr (w, refl, written_text w t e)),
     (
-      inl refl,
+      λ w. from_made (λ (p : List ℕ × List ℕ). image p.0 p.1) (texts_read w) _ (λ p e. inr (w, refl, written_texts w p.0 p.1 e)),
       (
-        inl refl,
+        λ w. from_made (colour ground.text) (colour_read w) _ (λ c e. inr (w, refl, written_colour w c e)),
         (
-          inl refl,
+          λ w. from_made (colour ground.background) (colour_read w) _ (λ c e. inr (w, refl, written_colour w c e)),
           (
-            inl refl,
-            (
-              inl refl,
-              (
-                inl refl,
-                (
-                  inl refl,
-                  (
-                    inl refl,
-                    (
-                      inl refl,
-                      (
-                        inl refl,
-                        (
-                          inl refl,
-                          (
-                            inl refl,
-                            (
-                              inl refl,
-                              (
-                                inl refl,
-                                (
-                                  inl refl,
-                                  (
-                                    inl refl,
-                                    (
-                                      inl refl,
-                                      (
-                                        inl refl,
-                                        (inl refl, (inl refl, (inl refl, (inl refl, (inl refl, (refl, (refl, (refl, (refl, (refl, tt)))))))))),
-                                      ),
-                                    ),
-                                  ),
-                                ),
-                              ),
-                            ),
-                          ),
-                        ),
-                      ),
-                    ),
-                  ),
-                ),
-              ),
-            ),
+            λ w. from_made (λ n. border (Some n)) (number_read w) _ (λ n e. inr (w, refl, written_number w n e)),
+            (λ w. from_made (λ m. begin (beginning.Mode m)) (looked_up modes w) _ (λ m e. inl (ap (λ x. codes "ws " ++ x) (found (λ x n. x ≡ mode_name n) modes (refl, (refl, (refl, tt))) w m e))), tt),
           ),
         ),
       ),
@@ -309,66 +217,59 @@ all_named = (
   ),
 )
 
-module _ (line : List ℕ) where
-  by_text : (make : List ℕ → Command) (word : List ℕ) (command : Command) → ((w t : List ℕ) → line ≡ word ++ (codes " " ++ w) → IsText w t → IsWritten line (make t)) → argument_after word (λ w. option_map make (text_read w)) line ≡ Some command → IsWritten line command
-  by_text make word command is_so e =
-      let (w, is, reads) = argument_is word _ line command e in
-      let (t, read, whole) = mapped make (text_read w) command reads in
-      subst (IsWritten line) (sym whole) (is_so w t is (written_text w t read))
+levels_read : Each (λ (entry : List ℕ × (List ℕ → Option Command)). Reads IsWritten entry.0 entry.1) level_readers
+levels_read = (
+  λ w. from_made link (text_read w) _ (λ t e. (w, refl, written_text w t e)),
+  (
+    λ w. from_made sub (size_read w) _ (λ n e. (w, refl, written_size w n e)),
+    (
+      λ w. from_made (λ (p : List ℕ × List ℕ). append p.0 p.1) (texts_read w) _ (λ p e. (w, refl, written_texts w p.0 p.1 e)),
+      (
+        λ w c e. written_cell (codes "cell " ++ w) w c refl e,
+        (λ w. found (λ x c. IsWritten (codes "row " ++ x) c) ((codes "collapse", row true) ∷ []) (refl, tt) w, tt),
+      ),
+    ),
+  ),
+)
 
-  by_texts : (make : List ℕ → List ℕ → Command) (word : List ℕ) (command : Command) → ((w s t : List ℕ) → line ≡ word ++ (codes " " ++ w) → AreSplitTexts w s t → IsWritten line (make s t)) → argument_after word (λ w. option_map (λ p. make p.0 p.1) (texts_read w)) line ≡ Some command → IsWritten line command
-  by_texts make word command is_so e =
-      let (w, is, reads) = argument_is word _ line command e in
-      let (p, read, whole) = mapped (λ (q : List ℕ × List ℕ). make q.0 q.1) (texts_read w) command reads in
-      subst (IsWritten line) (sym whole) (is_so w p.0 p.1 is (written_texts w p.0 p.1 read))
+-- by a word of these
+by_reader : {X : Type 0} (P : List ℕ → X → Type 0) (readers : List (List ℕ × (List ℕ → Option X))) → Each (λ (entry : List ℕ × (List ℕ → Option X)). Reads P entry.0 entry.1) readers → (word w : List ℕ) (x : X) → read_by readers word w ≡ Some x → P (word ++ (codes " " ++ w)) x
+by_reader P readers each word w x e =
+    let (read, is, reads) = followed (λ read. read w) (looked_up readers word) x e in
+    found (Reads P) readers each word read is w x reads
 
-  by_colour : (make : Colour → Command) (word : List ℕ) (command : Command) → ((w : List ℕ) (c : Colour) → line ≡ word ++ (codes " " ++ w) → IsColour w c → IsWritten line (make c)) → argument_after word (λ w. option_map make (colour_of (words_of w))) line ≡ Some command → IsWritten line command
-  by_colour make word command is_so e =
-      let (w, is, reads) = argument_is word _ line command e in
-      let (c, read, whole) = mapped make (colour_of (words_of w)) command reads in
-      subst (IsWritten line) (sym whole) (is_so w c is (written_colour w c read))
+written_argument : (word w : List ℕ) (command : Command) → argument_read word w ≡ Some command → IsWritten (word ++ (codes " " ++ w)) command
+written_argument word w command e =
+    elim (either (option_map ask (read_by request_readers word w)) (read_by level_readers word w) command e) [
+      | inl asks ↦ from_made ask (read_by request_readers word w) (IsWritten (word ++ (codes " " ++ w))) (λ r. by_reader IsRequest request_readers requests_read word w r) command asks
+      | inr other ↦ by_reader IsWritten level_readers levels_read word w command other
+    ]
 
-  by_number : (command : Command) → argument_after (codes "border") (λ w. option_map (λ n. ask (border (Some n))) (number_read w)) line ≡ Some command → IsWritten line command
-  by_number command e =
-      let (w, is, reads) = argument_is (codes "border") _ line command e in
-      let (n, read, whole) = mapped (λ m. ask (border (Some m))) (number_read w) command reads in
-      subst (IsWritten line) (sym whole) (inr (w, is, written_number w n read))
+written_command : (line : List ℕ) (command : Command) → read_line line ≡ Some command → IsWritten line command
+written_command line command e = go (split_at_space line) refl e
+  where
+    go : (o : Option (List ℕ × List ℕ)) → split_at_space line ≡ o → parts_read line o ≡ Some command → IsWritten line command
+    go None is reads = written_name line command reads
+    go (Some parts) is reads = subst (λ bs. IsWritten bs command) (sym (parts_are line parts is)) (written_argument parts.0 parts.1 command reads)
 
-  by_size : (command : Command) → argument_after (codes "sub") (λ w. option_map sub (size_read w)) line ≡ Some command → IsWritten line command
-  by_size command e =
-      let (w, is, reads) = argument_is (codes "sub") _ line command e in
-      let (n, read, whole) = mapped sub (size_read w) command reads in
-      subst (IsWritten line) (sym whole) (w, is, written_size w n read)
+module _ (line : List ℕ) (command : Command) where
+  pub command_is_read : IsCommand line command → command_read line ≡ Some command
+  command_is_read is = if_so (is_utf8 line) (read_line line) None (is_utf8-from_IsUtf8 line is.utf8) ∙ command_written line command is.writes
 
-  by_cell : (command : Command) → argument_after (codes "cell") (λ w. cell_of (words_of w)) line ≡ Some command → IsWritten line command
-  by_cell command e = let (w, is, reads) = argument_is (codes "cell") _ line command e in written_cell line w command is reads
-
-  -- one of the alternatives
-  or_else : (one other : Option Command) (command : Command) → (one ≡ Some command → IsWritten line command) → (other ≡ Some command → IsWritten line command) → first_of one other ≡ Some command → IsWritten line command
-  or_else one other command a b e = elim (either one other command e) [ inl x ↦ a x | inr y ↦ b y ]
-
-  written_command : (command : Command) → read_line line ≡ Some command → IsWritten line command
-  written_command command e =
-      or_else (looked_up names line) (argument_read line) command (found (λ w c. IsWritten w c) names all_named line command)
-      (or_else _ _ command (by_text (λ t. ask (text t)) (codes "text") command (λ w t is k. inr (w, is, k)))
-      (or_else _ _ command (by_text (λ t. ask (fragment t)) (codes "frag") command (λ w t is k. inr (w, is, k)))
-      (or_else _ _ command (by_text link (codes "link") command (λ w t is k. (w, is, k)))
-      (or_else _ _ command (by_texts (λ s t. ask (image s t)) (codes "image") command (λ w s t is k. inr (w, is, k)))
-      (or_else _ _ command (by_colour (λ c. ask (colour ground.text c)) (codes "colour") command (λ w c is k. inr (w, is, k)))
-      (or_else _ _ command (by_colour (λ c. ask (colour ground.background c)) (codes "bg") command (λ w c is k. inr (w, is, k)))
-      (or_else _ _ command (by_number command)
-      (or_else _ _ command (by_size command)
-      (or_else _ _ command (by_texts (λ s t. append s t) (codes "append") command (λ w s t is k. (w, is, k)))
-      (by_cell command)))))))))) e
-
-  pub command_is_read : (command : Command) → IsCommand line command → command_read line ≡ Some command
-  command_is_read command is = if_so (is_utf8 line) (read_line line) None (is_utf8-from_IsUtf8 line is.utf8) ∙ command_written line command is.writes
-
-  pub read_command : (command : Command) → command_read line ≡ Some command → IsCommand line command
-  read_command command e =
+  pub read_command : command_read line ≡ Some command → IsCommand line command
+  read_command e =
       test (is_utf8 line)
-      (λ so. record { utf8 = IsUtf8-from_is_utf8 line so; writes = written_command command (sym (if_so (is_utf8 line) (read_line line) None so) ∙ e) })
+      (λ so. record { utf8 = IsUtf8-from_is_utf8 line so; writes = written_command line command (sym (if_so (is_utf8 line) (read_line line) None so) ∙ e) })
       (λ so. absurd (no_some command (sym (if_not (is_utf8 line) (read_line line) None so) ∙ e)))
+
+-- widths and spans are at least 1
+pub sized : (line : List ℕ) (command : Command) → command_read line ≡ Some command → IsSized command
+sized line command e = go command (read_command line command e).writes
+  where
+    go : (asks : Command) → IsWritten line asks → IsSized asks
+    go (sub n) k = k.2.2
+    go (cell m n a) k = (k.2.4.2, k.2.5.2)
+    go other k = tt
 
 -- ---- first commands
 

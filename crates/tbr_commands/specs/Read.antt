@@ -1,8 +1,9 @@
 -- The command that a line is, read from how it is written.
-use Rattle.std.specs.Prelude.{ℕ, ◌==◌, true, false, if◌then◌else◌, Option, None, Some, List, [], ◌∷◌, ◌++◌, codes, fold}
+use Rattle.std.specs.Prelude.{ℕ, ◌==◌, true, false, if◌then◌else◌, Option, None, Some, List, [], ◌∷◌, codes, fold}
 use Rattle.std.specs.Option.{option_map, option_and_then}
 use Rattle.std.specs.Str.{bytes_eq, is_utf8}
 use Rattle.tbr_model.specs.Codes.{space_character}
+use Rattle.tbr_model.specs.declared.white_space.WhiteSpace.{WhiteSpace}
 use Rattle.tbr_model.specs.declared.white_space.WhiteSpace.TheVariants.{Normal, Pre, PreWrap}
 use Rattle.tbr_tagged.specs.declared.CellAlign.{CellAlign}
 use Rattle.tbr_tagged.specs.declared.CellAlign.TheVariants.{Left, Right, Centre}
@@ -21,9 +22,8 @@ use Rattle.tbr_commands.specs.declared.request.layout.Layout.TheVariants.{StartB
 use Rattle.tbr_commands.specs.declared.request.beginning.Beginning.TheVariants as beginning
 use Rattle.tbr_commands.specs.declared.request.kind.Kind.TheVariants as kind
 use Rattle.tbr_commands.specs.Options.{with_setting}
-use Rattle.tbr_commands.specs.Request.{layout, begin, end, text, fragment, image, colour, border}
+use Rattle.tbr_commands.specs.Request.{Request, layout, begin, end, text, fragment, image, colour, border}
 use Rattle.tbr_commands.specs.Command.{Command, ask, link, end_link, sub, append, cell, end_cell, row, vertical_row}
-use Rattle.tbr_commands.specs.Syntax.{layout_name, beginning_name, ending_name}
 
 -- the first that there is
 abbrev pub first_of : {X : Type 0} → Option X → Option X → Option X
@@ -35,47 +35,58 @@ abbrev pub looked_up : {X : Type 0} → List (List ℕ × X) → List ℕ → Op
 looked_up [] writing = None
 looked_up (entry ∷ entries) writing = if bytes_eq writing entry.0 then Some entry.1 else looked_up entries writing
 
--- what is after a word, and after a word and a space
+-- what is after a word
 abbrev pub after_word : List ℕ → List ℕ → Option (List ℕ)
 after_word [] bs = Some bs
 after_word (w ∷ ws) [] = None
 after_word (w ∷ ws) (b ∷ bs) = if b == w then after_word ws bs else None
 
-abbrev pub argument_after : {X : Type 0} → List ℕ → (List ℕ → Option X) → List ℕ → Option X
-argument_after word read line = option_and_then read (after_word (word ++ space_character ∷ []) line)
+-- what is before the first space and after it
+abbrev pub split_at_space : List ℕ → Option (List ℕ × List ℕ)
+split_at_space [] = None
+split_at_space (b ∷ bs) =
+    if b == space_character then Some ([], bs)
+    else option_map (λ parts. (b ∷ parts.0, parts.1)) (split_at_space bs)
 
--- ---- commands
+-- ---- commands that are a name alone
 
--- the commands that are a name alone
+-- those that begin with `end`, by their names
+abbrev pub endings : List (List ℕ × Command)
+endings =
+    (codes "endlink", end_link) ∷ (codes "endcell", end_cell) ∷ (codes "endblock", ask (layout EndBlock))
+    ∷ (codes "endws", ask (end kind.Mode)) ∷ (codes "endpre", ask (end kind.Preformat))
+    ∷ (codes "endem", ask (end kind.Emphasis)) ∷ (codes "endstrong", ask (end kind.Strong))
+    ∷ (codes "endstrike", ask (end kind.Strikeout)) ∷ (codes "endcode", ask (end kind.Code))
+    ∷ (codes "endsuper", ask (end kind.Superscript)) ∷ (codes "endcolour", ask (end kind.Colour))
+    ∷ (codes "endbg", ask (end kind.Background)) ∷ []
+
+-- the others, by their names
 abbrev pub names : List (List ℕ × Command)
 names =
-    (layout_name StartBlock, ask (layout StartBlock)) ∷ (layout_name EndBlock, ask (layout EndBlock))
-    ∷ (layout_name StartTable, ask (layout StartTable)) ∷ (layout_name NewLine, ask (layout NewLine))
-    ∷ (layout_name HardNewLine, ask (layout HardNewLine)) ∷ (layout_name EmptyLine, ask (layout EmptyLine))
-    ∷ (beginning_name (beginning.Mode Normal), ask (begin (beginning.Mode Normal)))
-    ∷ (beginning_name (beginning.Mode Pre), ask (begin (beginning.Mode Pre)))
-    ∷ (beginning_name (beginning.Mode PreWrap), ask (begin (beginning.Mode PreWrap)))
-    ∷ (beginning_name beginning.Preformat, ask (begin beginning.Preformat))
-    ∷ (beginning_name beginning.Emphasis, ask (begin beginning.Emphasis))
-    ∷ (beginning_name beginning.Strong, ask (begin beginning.Strong))
-    ∷ (beginning_name beginning.Strikeout, ask (begin beginning.Strikeout))
-    ∷ (beginning_name beginning.Code, ask (begin beginning.Code))
-    ∷ (beginning_name beginning.Superscript, ask (begin beginning.Superscript))
-    ∷ (ending_name kind.Mode, ask (end kind.Mode)) ∷ (ending_name kind.Preformat, ask (end kind.Preformat))
-    ∷ (ending_name kind.Emphasis, ask (end kind.Emphasis)) ∷ (ending_name kind.Strong, ask (end kind.Strong))
-    ∷ (ending_name kind.Strikeout, ask (end kind.Strikeout)) ∷ (ending_name kind.Code, ask (end kind.Code))
-    ∷ (ending_name kind.Superscript, ask (end kind.Superscript)) ∷ (ending_name kind.Colour, ask (end kind.Colour))
-    ∷ (ending_name kind.Background, ask (end kind.Background)) ∷ (codes "border", ask (border None))
-    ∷ (codes "endlink", end_link) ∷ (codes "endcell", end_cell) ∷ (codes "row", row false)
-    ∷ (codes "row collapse", row true) ∷ (codes "vrow", vertical_row) ∷ []
+    (codes "block", ask (layout StartBlock)) ∷ (codes "table", ask (layout StartTable))
+    ∷ (codes "line", ask (layout NewLine)) ∷ (codes "hardline", ask (layout HardNewLine))
+    ∷ (codes "empty", ask (layout EmptyLine)) ∷ (codes "pre", ask (begin beginning.Preformat))
+    ∷ (codes "em", ask (begin beginning.Emphasis)) ∷ (codes "strong", ask (begin beginning.Strong))
+    ∷ (codes "strike", ask (begin beginning.Strikeout)) ∷ (codes "code", ask (begin beginning.Code))
+    ∷ (codes "super", ask (begin beginning.Superscript)) ∷ (codes "border", ask (border None))
+    ∷ (codes "row", row false) ∷ (codes "vrow", vertical_row) ∷ []
 
--- a colour by its three parts
-abbrev pub colour_of : List (List ℕ) → Option Colour
-colour_of (red ∷ green ∷ blue ∷ []) =
+abbrev pub name_read : List ℕ → Option Command
+name_read name = first_of (looked_up endings name) (looked_up names name)
+
+-- ---- commands of a word and an argument
+
+-- a colour by its three parts, with a space between two
+abbrev pub colour_of : List ℕ → List ℕ → List ℕ → Option Colour
+colour_of red green blue =
     option_and_then (λ r.
     option_and_then (λ g. option_map (λ b. record { r = r; g = g; b = b }) (byte_read blue)) (byte_read green))
     (byte_read red)
-colour_of other = None
+
+abbrev pub colour_read : List ℕ → Option Colour
+colour_read writing =
+    option_and_then (λ first. option_and_then (λ second. colour_of first.0 second.0 second.1) (split_at_space first.1))
+    (split_at_space writing)
 
 -- an alignment by the words after a cell's span
 abbrev pub alignment_of : List (List ℕ) → Option CellAlign
@@ -92,25 +103,45 @@ cell_of (digits ∷ others ∷ words) =
     (size_read digits)
 cell_of other = None
 
--- a command of a word and an argument
-abbrev pub argument_read : List ℕ → Option Command
-argument_read line =
-    first_of (argument_after (codes "text") (λ w. option_map (λ t. ask (text t)) (text_read w)) line)
-    (first_of (argument_after (codes "frag") (λ w. option_map (λ t. ask (fragment t)) (text_read w)) line)
-    (first_of (argument_after (codes "link") (λ w. option_map link (text_read w)) line)
-    (first_of (argument_after (codes "image") (λ w. option_map (λ p. ask (image p.0 p.1)) (texts_read w)) line)
-    (first_of (argument_after (codes "colour")
-    (λ w. option_map (λ c. ask (colour ground.text c)) (colour_of (words_of w))) line)
-    (first_of (argument_after (codes "bg")
-    (λ w. option_map (λ c. ask (colour ground.background c)) (colour_of (words_of w))) line)
-    (first_of (argument_after (codes "border") (λ w. option_map (λ n. ask (border (Some n))) (number_read w)) line)
-    (first_of (argument_after (codes "sub") (λ w. option_map sub (size_read w)) line)
-    (first_of (argument_after (codes "append") (λ w. option_map (λ p. append p.0 p.1) (texts_read w)) line)
-    (argument_after (codes "cell") (λ w. cell_of (words_of w)) line)))))))))
+-- the modes of white space
+abbrev pub modes : List (List ℕ × WhiteSpace)
+modes = (codes "normal", Normal) ∷ (codes "pre", Pre) ∷ (codes "prewrap", PreWrap) ∷ []
 
--- the command that a line is, if it is one
+-- how the argument of a word is read, for what a renderer is asked
+abbrev pub request_readers : List (List ℕ × (List ℕ → Option Request))
+request_readers =
+    (codes "text", λ w. option_map text (text_read w)) ∷ (codes "frag", λ w. option_map fragment (text_read w))
+    ∷ (codes "image", λ w. option_map (λ p. image p.0 p.1) (texts_read w))
+    ∷ (codes "colour", λ w. option_map (colour ground.text) (colour_read w))
+    ∷ (codes "bg", λ w. option_map (colour ground.background) (colour_read w))
+    ∷ (codes "border", λ w. option_map (λ n. border (Some n)) (number_read w))
+    ∷ (codes "ws", λ w. option_map (λ mode. begin (beginning.Mode mode)) (looked_up modes w)) ∷ []
+
+-- and for the others
+abbrev pub level_readers : List (List ℕ × (List ℕ → Option Command))
+level_readers =
+    (codes "link", λ w. option_map link (text_read w)) ∷ (codes "sub", λ w. option_map sub (size_read w))
+    ∷ (codes "append", λ w. option_map (λ p. append p.0 p.1) (texts_read w))
+    ∷ (codes "cell", λ w. cell_of (words_of w))
+    ∷ (codes "row", λ w. looked_up ((codes "collapse", row true) ∷ []) w) ∷ []
+
+-- by a word and its argument
+abbrev pub read_by : {X : Type 0} → List (List ℕ × (List ℕ → Option X)) → List ℕ → List ℕ → Option X
+read_by readers word argument = option_and_then (λ read. read argument) (looked_up readers word)
+
+abbrev pub argument_read : List ℕ → List ℕ → Option Command
+argument_read word argument =
+    first_of (option_map ask (read_by request_readers word argument)) (read_by level_readers word argument)
+
+-- ---- the command that a line is, if it is one
+
+-- by its parts, if it has a space
+abbrev pub parts_read : List ℕ → Option (List ℕ × List ℕ) → Option Command
+parts_read line None = name_read line
+parts_read line (Some parts) = argument_read parts.0 parts.1
+
 abbrev pub command_read : List ℕ → Option Command
-command_read line = if is_utf8 line then first_of (looked_up names line) (argument_read line) else None
+command_read line = if is_utf8 line then parts_read line (split_at_space line) else None
 
 -- ---- the first command
 

@@ -1,12 +1,17 @@
 //! What a line of a script asks for.
-ghost use Rattle.std.specs.Prelude.{◌≢◌, IfOk, IfSome, IfNone, codes};
+ghost use Rattle.std.specs.Prelude.{◌≡◌, Some, IfOk, IfSome};
+ghost use Rattle.std.specs.Option.{option_map};
 ghost use Rattle.tbr_commands.specs.Command as asked;
-ghost use Rattle.tbr_commands.specs.Command.{command_of, IsSized};
+ghost use Rattle.tbr_commands.specs.Command.{command_of};
+ghost use Rattle.tbr_commands.specs.Read.{looked_up, endings, names, name_read, level_readers, read_by, argument_read, command_read};
 ghost use Rattle.tbr_commands.specs.Request as requests;
-ghost use Rattle.tbr_commands.specs.Syntax.{IsOfLevels, IsCommand};
 
 use crate::command::new_cell::NewCell;
 use crate::request::Request;
+use crate::request::beginning::Beginning;
+use crate::request::kind::Kind;
+use crate::request::layout::Layout;
+use crate::spaces::split_at_space;
 use memchr::memchr;
 use std::alloc::{AllocError, Global};
 use tbr_script::{TextPair, parse_size, unescape};
@@ -44,7 +49,7 @@ impl Command {
     /// The text that a line asks for, where it is written without a backslash: what comes after the word and a space.
     /// `None` of any other line. It takes no memory.
     pub fn plain_text(line: &[u8]) -> Option<&str>
-        ensures { IfSome result (λ text. IsCommand line.now (asked.ask (requests.text text.now))) }
+        ensures { IfSome result (λ text. command_read line.now ≡ Some (asked.ask (requests.text text.now))) }
     {
         let writing = line.strip_prefix(b"text ")?;
         match memchr(b'\\', writing) {
@@ -56,56 +61,96 @@ impl Command {
     /// What a line asks for, without its newline. `Ok(None)` where it is no command. It refuses only where memory is
     /// refused.
     pub fn parse(alloc: Global, line: &[u8]) -> Result<Option<Command>, AllocError>
-        ensures command { IfOk result (λ found.
-            IfSome found (λ command. IsCommand line.now (command_of command))) }
-        ensures sized { IfOk result (λ found. IfSome found (λ command. IsSized (command_of command))) }
-        ensures none { IfOk result (λ found.
-            IfNone found ((command : asked.Command) → IsCommand line.now command → ⊥)) }
+        ensures { IfOk result (λ found. option_map command_of found ≡ command_read line.now) }
     {
         let Ok(line) = str::from_utf8(line) else {
             return Ok(None);
         };
-        match Request::parse(alloc, line)? {
-            Some(request) => Ok(Some(Command::Ask(request))),
-            None => Command::of_levels(alloc, line),
+        match split_at_space(line) {
+            Some((word, argument)) => Command::with_argument(alloc, word, argument),
+            None => Ok(Command::named(line)),
         }
     }
 
-    /// The same of a line that opens or closes a link, a block or a cell, or takes the cells that wait.
-    fn of_levels(alloc: Global, line: &str) -> Result<Option<Command>, AllocError>
-        ensures found { IfOk result (λ found.
-            IfSome found (λ command. IsOfLevels line.now (command_of command))) }
-        ensures none { IfOk result (λ found.
-            IfNone found ((command : asked.Command) → IsOfLevels line.now command → ⊥)) }
+    /// The command that is a name alone.
+    fn named(name: &str) -> Option<Command>
+        ensures { option_map command_of result ≡ name_read name.now }
     {
-        if let Some(command) = Command::alone(line) {
-            return Ok(Some(command));
+        match Command::ending(name) {
+            Some(command) => Some(command),
+            None => Command::beginning(name),
         }
-        let Some((word, argument)) = line.split_once(' ') else {
-            return Ok(None);
-        };
+    }
+
+    /// The command that is a name alone, which begins with `end`.
+    fn ending(name: &str) -> Option<Command>
+        ensures { option_map command_of result ≡ looked_up endings name.now }
+    {
+        match name {
+            "endlink" => Some(Command::EndLink),
+            "endcell" => Some(Command::EndCell),
+            "endblock" => Some(Command::Ask(Request::Layout(Layout::EndBlock))),
+            "endws" => Some(Command::Ask(Request::End(Kind::Mode))),
+            "endpre" => Some(Command::Ask(Request::End(Kind::Preformat))),
+            "endem" => Some(Command::Ask(Request::End(Kind::Emphasis))),
+            "endstrong" => Some(Command::Ask(Request::End(Kind::Strong))),
+            "endstrike" => Some(Command::Ask(Request::End(Kind::Strikeout))),
+            "endcode" => Some(Command::Ask(Request::End(Kind::Code))),
+            "endsuper" => Some(Command::Ask(Request::End(Kind::Superscript))),
+            "endcolour" => Some(Command::Ask(Request::End(Kind::Colour))),
+            "endbg" => Some(Command::Ask(Request::End(Kind::Background))),
+            _ => None,
+        }
+    }
+
+    /// The command that is another name alone.
+    fn beginning(name: &str) -> Option<Command>
+        ensures { option_map command_of result ≡ looked_up names name.now }
+    {
+        match name {
+            "block" => Some(Command::Ask(Request::Layout(Layout::StartBlock))),
+            "table" => Some(Command::Ask(Request::Layout(Layout::StartTable))),
+            "line" => Some(Command::Ask(Request::Layout(Layout::NewLine))),
+            "hardline" => Some(Command::Ask(Request::Layout(Layout::HardNewLine))),
+            "empty" => Some(Command::Ask(Request::Layout(Layout::EmptyLine))),
+            "pre" => Some(Command::Ask(Request::Begin(Beginning::Preformat))),
+            "em" => Some(Command::Ask(Request::Begin(Beginning::Emphasis))),
+            "strong" => Some(Command::Ask(Request::Begin(Beginning::Strong))),
+            "strike" => Some(Command::Ask(Request::Begin(Beginning::Strikeout))),
+            "code" => Some(Command::Ask(Request::Begin(Beginning::Code))),
+            "super" => Some(Command::Ask(Request::Begin(Beginning::Superscript))),
+            "border" => Some(Command::Ask(Request::Border(None))),
+            "row" => Some(Command::Row { collapse: false }),
+            "vrow" => Some(Command::VerticalRow),
+            _ => None,
+        }
+    }
+
+    /// The command that a word and its argument are.
+    fn with_argument(
+        alloc: Global,
+        word: &str,
+        argument: &str,
+    ) -> Result<Option<Command>, AllocError>
+        ensures { IfOk result (λ found. option_map command_of found ≡ argument_read word.now argument.now) }
+    {
+        match Request::with_argument(alloc, word, argument)? {
+            Some(request) => Ok(Some(Command::Ask(request))),
+            None => Command::of_levels(alloc, word, argument),
+        }
+    }
+
+    /// The same of a link, a block, a cell or a row.
+    fn of_levels(alloc: Global, word: &str, argument: &str) -> Result<Option<Command>, AllocError>
+        ensures { IfOk result (λ found. option_map command_of found ≡ read_by level_readers word.now argument.now) }
+    {
         match word {
             "link" => Ok(unescape(alloc, argument)?.map(Command::Link)),
             "sub" => Ok(parse_size(argument).map(Command::Sub)),
             "append" => Ok(TextPair::parse(alloc, argument)?.map(Command::Append)),
             "cell" => Ok(NewCell::parse(argument).map(Command::Cell)),
+            "row" if argument == "collapse" => Ok(Some(Command::Row { collapse: true })),
             _ => Ok(None),
-        }
-    }
-
-    /// The same of such a line without an argument.
-    fn alone(line: &str) -> Option<Command>
-        ensures found { IfSome result (λ command. IsOfLevels line.now (command_of command)) }
-        ensures none { IfNone result ((line.now ≢ codes "endlink") × (line.now ≢ codes "endcell")
-            × (line.now ≢ codes "row") × (line.now ≢ codes "row collapse") × (line.now ≢ codes "vrow")) }
-    {
-        match line {
-            "endlink" => Some(Command::EndLink),
-            "endcell" => Some(Command::EndCell),
-            "row" => Some(Command::Row { collapse: false }),
-            "row collapse" => Some(Command::Row { collapse: true }),
-            "vrow" => Some(Command::VerticalRow),
-            _ => None,
         }
     }
 }

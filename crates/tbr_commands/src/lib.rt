@@ -15,3 +15,4 @@ mod command;
 mod opening;
 mod options;
 mod request;
+mod spaces;

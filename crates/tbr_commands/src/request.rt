@@ -1,13 +1,16 @@
 //! What a line of a script asks a renderer for.
-ghost use Rattle.std.specs.Prelude.{◌≡◌, ℕ, ◌<◌, true, None, Some, Err, OnOk, IsOk, IfOk, IfSome, IfNone};
+ghost use Rattle.std.specs.Prelude.{◌≡◌, ◌<◌, true, None, Some, Err, OnOk, IsOk, IfOk};
+ghost use Rattle.std.specs.Option.{option_map};
 ghost use Rattle.tbr_tagged.specs.declared.Error.TheVariants as E;
 ghost use Rattle.tbr_decor.specs.Decoration.{decoration_of};
 ghost use Rattle.tbr_renderer.specs.Calls.{Does, IsTooNarrow};
 ghost use Rattle.tbr_renderer.specs.Meant.{meant};
+ghost use Rattle.tbr_script.specs.Read.{number_read};
+ghost use Rattle.tbr_commands.specs.declared.request.beginning.Beginning.TheVariants as beginning;
 ghost use Rattle.tbr_commands.specs.declared.request.kind.Kind.TheVariants as kind;
+ghost use Rattle.tbr_commands.specs.Read.{looked_up, modes, read_by, request_readers};
 ghost use Rattle.tbr_commands.specs.Request as asked;
 ghost use Rattle.tbr_commands.specs.Request.{request_of, call_of, takes_no_memory};
-ghost use Rattle.tbr_commands.specs.Syntax.{IsAlone, HasArgument, AreColumns, IsRequest};
 ghost use Rattle.tbr_commands.specs.Begun.{begins, ends};
 
 use crate::request::beginning::Beginning;
@@ -16,7 +19,7 @@ use crate::request::kind::Kind;
 use crate::request::layout::Layout;
 use std::alloc::{AllocError, Global};
 use tbr_decor::{Colour, TextDecorator};
-use tbr_lines::{CharWidth, Error};
+use tbr_lines::{CharWidth, Error, WhiteSpace};
 use tbr_renderer::{Renderer, SubRenderer};
 use tbr_script::{TextPair, parse_number, unescape};
 
@@ -49,17 +52,24 @@ pub enum Request {
 }
 
 impl Request {
-    /// What a line asks the renderer for. `Ok(None)` where it asks it for nothing. It refuses only where memory is
-    /// refused.
-    pub fn parse(alloc: Global, line: &str) -> Result<Option<Request>, AllocError>
-        ensures request { IfOk result (λ found.
-            IfSome found (λ request. IsRequest line.now (request_of request))) }
-        ensures none { IfOk result (λ found.
-            IfNone found ((request : asked.Request) → IsRequest line.now request → ⊥)) }
+    /// What a word and its argument ask the renderer for. `Ok(None)` where they ask it for nothing. It refuses only
+    /// where memory is refused.
+    pub fn with_argument(
+        alloc: Global,
+        word: &str,
+        argument: &str,
+    ) -> Result<Option<Request>, AllocError>
+        ensures { IfOk result (λ found. option_map request_of found ≡ read_by request_readers word.now argument.now) }
     {
-        match with_argument(alloc, line)? {
-            Some(request) => Ok(Some(request)),
-            None => Ok(alone(line)),
+        match word {
+            "text" => Ok(unescape(alloc, argument)?.map(Request::Text)),
+            "frag" => Ok(unescape(alloc, argument)?.map(Request::Fragment)),
+            "image" => Ok(TextPair::parse(alloc, argument)?.map(Request::Image)),
+            "colour" => Ok(colour(argument).map(Request::Colour)),
+            "bg" => Ok(colour(argument).map(Request::Background)),
+            "border" => Ok(border(argument)),
+            "ws" => Ok(mode(argument)),
+            _ => Ok(None),
         }
     }
 
@@ -122,48 +132,23 @@ impl Request {
     }
 }
 
-/// What a line without an argument asks for.
-fn alone(line: &str) -> Option<Request>
-    ensures found { IfSome result (λ request. IsAlone line.now (request_of request)) }
-    ensures none { IfNone result ((request : asked.Request) → IsAlone line.now request → ⊥) }
-{
-    if line == "border" {
-        return Some(Request::Border(None));
-    }
-    if let Some(layout) = Layout::named(line) {
-        return Some(Request::Layout(layout));
-    }
-    if let Some(beginning) = Beginning::named(line) {
-        return Some(Request::Begin(beginning));
-    }
-    Kind::ended_by(line).map(Request::End)
-}
-
 /// The border of so many columns that a number asks for.
 fn border(digits: &str) -> Option<Request>
-    ensures found { IfSome result (λ request. (columns : ℕ)
-        × (request_of request ≡ asked.border (Some columns)) × AreColumns digits.now columns) }
-    ensures none { IfNone result ((columns : ℕ) → AreColumns digits.now columns → ⊥) }
+    ensures { option_map request_of result ≡ option_map (λ n. asked.border (Some n)) (number_read digits.now) }
 {
     Some(Request::Border(Some(parse_number(digits)?)))
 }
 
-/// What a line with an argument asks for.
-fn with_argument(alloc: Global, line: &str) -> Result<Option<Request>, AllocError>
-    ensures found { IfOk result (λ found. IfSome found (λ request. HasArgument line.now (request_of request))) }
-    ensures none { IfOk result (λ found.
-        IfNone found ((request : asked.Request) → HasArgument line.now request → ⊥)) }
+/// The mode of white space that a name asks for.
+fn mode(name: &str) -> Option<Request>
+    ensures { option_map request_of result
+        ≡ option_map (λ mode. asked.begin (beginning.Mode mode)) (looked_up modes name.now) }
 {
-    let Some((word, argument)) = line.split_once(' ') else {
-        return Ok(None);
+    let mode = match name {
+        "normal" => WhiteSpace::Normal,
+        "pre" => WhiteSpace::Pre,
+        "prewrap" => WhiteSpace::PreWrap,
+        _ => return None,
     };
-    match word {
-        "text" => Ok(unescape(alloc, argument)?.map(Request::Text)),
-        "frag" => Ok(unescape(alloc, argument)?.map(Request::Fragment)),
-        "image" => Ok(TextPair::parse(alloc, argument)?.map(Request::Image)),
-        "colour" => Ok(colour(argument).map(Request::Colour)),
-        "bg" => Ok(colour(argument).map(Request::Background)),
-        "border" => Ok(border(argument)),
-        _ => Ok(None),
-    }
+    Some(Request::Begin(Beginning::Mode(mode)))
 }

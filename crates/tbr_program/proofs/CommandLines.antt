@@ -4,9 +4,7 @@ use Rattle.std.proofs.lemmas.Bool.{false≢true, eqb-true}
 use Rattle.tbr_decor.specs.Decoration.{Decoration}
 use Rattle.tbr_script.specs.declared.error.RunError.TheVariants.{NotACommand}
 use Rattle.tbr_commands.specs.Command.{Command}
-use Rattle.tbr_commands.specs.Syntax.{IsCommand}
 use Rattle.tbr_commands.specs.Read.{command_read}
-use Rattle.tbr_commands.proofs.Reading.{command_is_read, read_command}
 use Rattle.tbr_program.specs.Commands.{Place, after_command, after_read, after_line}
 
 pub no_length : (n : ℕ) → true ≡ (suc n == 0) → ⊥
@@ -22,11 +20,10 @@ module _ {D M : Type 0} (columns : ℕ → Option ℕ) (decoration : Decoration 
   nothing_asked [] none = refl
   nothing_asked (b ∷ bs) none = absurd (no_length (length bs) none)
 
-  pub no_command : (line : List ℕ) → false ≡ (length line == 0) → ((command : Command) → IsCommand line command → ⊥) → after_line columns decoration number line p ≡ Err (NotACommand number)
+  pub no_command : (line : List ℕ) → false ≡ (length line == 0) → command_read line ≡ None → after_line columns decoration number line p ≡ Err (NotACommand number)
   no_command [] some none = absurd (false≢true some)
-  no_command (b ∷ bs) some none =
-      ap (λ read. after_read columns decoration number read p) (none_read (command_read (b ∷ bs)) (λ command is. none command (read_command (b ∷ bs) command is)))
+  no_command (b ∷ bs) some none = ap (λ read. after_read columns decoration number read p) none
 
-  pub commanded : (line : List ℕ) (command : Command) → false ≡ (length line == 0) → IsCommand line command → after_command columns decoration number command p ≡ after_line columns decoration number line p
+  pub commanded : (line : List ℕ) (command : Command) → false ≡ (length line == 0) → command_read line ≡ Some command → after_command columns decoration number command p ≡ after_line columns decoration number line p
   commanded [] command some is = absurd (false≢true some)
-  commanded (b ∷ bs) command some is = ap (λ read. after_read columns decoration number read p) (sym (command_is_read (b ∷ bs) command is))
+  commanded (b ∷ bs) command some is = ap (λ read. after_read columns decoration number read p) (sym is)

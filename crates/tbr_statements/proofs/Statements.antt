@@ -1,8 +1,9 @@
 -- Which statement a line is.
-use Rattle.std.proofs.Common.{◌≡◌, ◌≢◌, ℕ, List, codes, sym, subst}
-use Rattle.tbr_commands.specs.Command as asked
+use Rattle.std.proofs.Common.{◌≡◌, ◌≢◌, ℕ, None, List, codes, sym, ◌∙◌, subst}
+use Rattle.tbr_script.proofs.Reading.{no_some}
 use Rattle.tbr_commands.specs.Command.{command_of}
-use Rattle.tbr_commands.specs.Syntax.{IsCommand}
+use Rattle.tbr_commands.specs.Read.{command_read}
+use Rattle.tbr_commands.proofs.Reading.{command_is_read}
 use Rattle.tbr_statements.specs.declared.block.Block.{Block}
 use Rattle.tbr_statements.specs.declared.block.Block.TheVariants.{Quote, Item, Ordered, Heading}
 use Rattle.tbr_statements.specs.declared.statement.Statement.{Statement}
@@ -29,7 +30,7 @@ module _ (line : List ℕ) where
   no_block q i ends n (Close by) k = ends k.1.0 k.1.1
 
   -- and asks for nothing; `text` is the same line
-  pub no_statement : (text : List ℕ) → text ≡ line → ((c : asked.Command) → IsCommand line c → ⊥) → ((s : Statement) → IsOfBlocks text s → ⊥) → (s : Statement) → IsStatement line s → ⊥
-  no_statement text e commands blocks (Command command) k = commands (command_of command) k
-  no_statement text e commands blocks (Open block) k = blocks (Open block) (subst (λ (bs : List ℕ). IsOfBlocks bs (Open block)) (sym e) k.1)
-  no_statement text e commands blocks (Close by) k = blocks (Close by) (subst (λ (bs : List ℕ). IsOfBlocks bs (Close by)) (sym e) k.1)
+  pub no_statement : (text : List ℕ) → text ≡ line → command_read line ≡ None → ((s : Statement) → IsOfBlocks text s → ⊥) → (s : Statement) → IsStatement line s → ⊥
+  no_statement text e none blocks (Command command) k = no_some (command_of command) (sym none ∙ command_is_read line (command_of command) k)
+  no_statement text e none blocks (Open block) k = blocks (Open block) (subst (λ (bs : List ℕ). IsOfBlocks bs (Open block)) (sym e) k.1)
+  no_statement text e none blocks (Close by) k = blocks (Close by) (subst (λ (bs : List ℕ). IsOfBlocks bs (Close by)) (sym e) k.1)

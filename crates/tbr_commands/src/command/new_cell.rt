@@ -1,7 +1,9 @@
 //! Cells that a script opens.
-ghost use Rattle.std.specs.Prelude.{ℕ, IfSome, IfNone};
-ghost use Rattle.tbr_tagged.specs.declared.CellAlign.{CellAlign as Meant};
-ghost use Rattle.tbr_commands.specs.Syntax.{IsAlignment, IsNewCell};
+ghost use Rattle.std.specs.Prelude.{◌≡◌};
+ghost use Rattle.std.specs.Option.{option_map};
+ghost use Rattle.tbr_script.specs.Script.{words_of};
+ghost use Rattle.tbr_commands.specs.Command as asked;
+ghost use Rattle.tbr_commands.specs.Read.{alignment_of, cell_of};
 
 use tbr_lines::CellAlign;
 use tbr_script::{Words, parse_size};
@@ -21,22 +23,21 @@ impl NewCell {
     /// The cell that a width, a span and perhaps an alignment are, with exactly one space between two of them. `None`
     /// where they are no cell.
     pub fn parse(writing: &str) -> Option<NewCell>
-        ensures found { IfSome result (λ cell. IsNewCell writing.now cell.width cell.span cell.align) }
-        ensures none { IfNone result ((width span : ℕ) (align : Meant) →
-            IsNewCell writing.now width span align → ⊥) }
+        ensures { option_map (λ c. asked.cell c.width c.span c.align) result ≡ cell_of (words_of writing.now) }
     {
         let mut words = Words::of(writing);
-        let width = parse_size(words.next()?)?;
-        let span = parse_size(words.next()?)?;
-        let align = alignment(words)?;
-        Some(NewCell { width, span, align })
+        let (width, span) = (words.next()?, words.next()?);
+        Some(NewCell {
+            width: parse_size(width)?,
+            span: parse_size(span)?,
+            align: alignment(words)?,
+        })
     }
 }
 
 /// The alignment that the words after a span give: the left one, if there are none.
 fn alignment(mut words: Words<'_>) -> Option<CellAlign>
-    ensures found { IfSome result (λ align. IsAlignment words.entry align) }
-    ensures none { IfNone result ((align : Meant) → IsAlignment words.entry align → ⊥) }
+    ensures { result ≡ alignment_of words.entry }
 {
     let Some(name) = words.next() else {
         return Some(CellAlign::Left);

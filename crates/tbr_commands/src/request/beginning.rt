@@ -1,12 +1,10 @@
 //! Commands without an argument that begin something.
-ghost use Rattle.std.specs.Prelude.{◌≡◌, ◌≢◌, None, Err, OnOk, IfSome, IfNone};
+ghost use Rattle.std.specs.Prelude.{◌≡◌, None, Err, OnOk};
 ghost use Rattle.tbr_tagged.specs.declared.Error.TheVariants as E;
 ghost use Rattle.tbr_decor.specs.Decoration.{decoration_of};
 ghost use Rattle.tbr_renderer.specs.Calls.{Does, IsTooNarrow};
 ghost use Rattle.tbr_renderer.specs.Meant.{meant};
-ghost use Rattle.tbr_commands.specs.declared.request.beginning.Beginning.{Beginning as Meant};
 ghost use Rattle.tbr_commands.specs.Request.{begun_by};
-ghost use Rattle.tbr_commands.specs.Syntax.{beginning_name};
 ghost use Rattle.tbr_commands.specs.Begun.{kind_of};
 
 use crate::request::kind::Kind;
@@ -34,25 +32,6 @@ pub enum Beginning {
 }
 
 impl Beginning {
-    /// The command of this kind that a line is, if it is one.
-    pub fn named(line: &str) -> Option<Beginning>
-        ensures found { IfSome result (λ beginning. line.now ≡ beginning_name beginning) }
-        ensures none { IfNone result ((beginning : Meant) → line.now ≢ beginning_name beginning) }
-    {
-        match line {
-            "ws normal" => Some(Beginning::Mode(WhiteSpace::Normal)),
-            "ws pre" => Some(Beginning::Mode(WhiteSpace::Pre)),
-            "ws prewrap" => Some(Beginning::Mode(WhiteSpace::PreWrap)),
-            "pre" => Some(Beginning::Preformat),
-            "em" => Some(Beginning::Emphasis),
-            "strong" => Some(Beginning::Strong),
-            "strike" => Some(Beginning::Strikeout),
-            "code" => Some(Beginning::Code),
-            "super" => Some(Beginning::Superscript),
-            _ => None,
-        }
-    }
-
     /// What it begins.
     pub fn kind(self) -> Kind
         ensures { result ≡ kind_of self }

@@ -1,13 +1,11 @@
 //! What commands begin, and the commands that end it.
-ghost use Rattle.std.specs.Prelude.{◌≡◌, ◌≢◌, ◌<◌, true, None, Err, OnOk, IsOk, IfSome, IfNone};
+ghost use Rattle.std.specs.Prelude.{◌≡◌, ◌<◌, true, None, Err, OnOk, IsOk};
 ghost use Rattle.tbr_tagged.specs.declared.Error.TheVariants as E;
 ghost use Rattle.tbr_decor.specs.Decoration.{decoration_of};
 ghost use Rattle.tbr_renderer.specs.Calls.{Does, IsTooNarrow};
 ghost use Rattle.tbr_renderer.specs.Meant.{meant};
-ghost use Rattle.tbr_commands.specs.declared.request.kind.Kind.{Kind as Meant};
 ghost use Rattle.tbr_commands.specs.declared.request.kind.Kind.TheVariants as kind;
 ghost use Rattle.tbr_commands.specs.Request.{end_of, ends_freely};
-ghost use Rattle.tbr_commands.specs.Syntax.{ending_name};
 
 use tbr_decor::TextDecorator;
 use tbr_lines::{CharWidth, Error};
@@ -37,25 +35,6 @@ pub enum Kind {
 }
 
 impl Kind {
-    /// What a line ends, if it is a command that ends something.
-    pub fn ended_by(line: &str) -> Option<Kind>
-        ensures found { IfSome result (λ kind. line.now ≡ ending_name kind) }
-        ensures none { IfNone result ((kind : Meant) → line.now ≢ ending_name kind) }
-    {
-        match line {
-            "endws" => Some(Kind::Mode),
-            "endpre" => Some(Kind::Preformat),
-            "endem" => Some(Kind::Emphasis),
-            "endstrong" => Some(Kind::Strong),
-            "endstrike" => Some(Kind::Strikeout),
-            "endcode" => Some(Kind::Code),
-            "endsuper" => Some(Kind::Superscript),
-            "endcolour" => Some(Kind::Colour),
-            "endbg" => Some(Kind::Background),
-            _ => None,
-        }
-    }
-
     /// Asks a renderer to end it. The renderer must not have failed. A preformatted stretch must be open, and so must a
     /// strikeout with strokes.
     ///

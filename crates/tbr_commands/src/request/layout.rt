@@ -1,12 +1,10 @@
 //! Commands that end lines.
-ghost use Rattle.std.specs.Prelude.{◌≡◌, ◌≢◌, true, None, Err, OnOk, IsOk, IfSome, IfNone};
+ghost use Rattle.std.specs.Prelude.{◌≡◌, true, None, Err, OnOk, IsOk};
 ghost use Rattle.tbr_tagged.specs.declared.Error.TheVariants as E;
 ghost use Rattle.tbr_decor.specs.Decoration.{decoration_of};
 ghost use Rattle.tbr_renderer.specs.Calls.{Does, IsTooNarrow};
 ghost use Rattle.tbr_renderer.specs.Meant.{meant};
-ghost use Rattle.tbr_commands.specs.declared.request.layout.Layout.{Layout as Meant};
 ghost use Rattle.tbr_commands.specs.Request.{laid_out, lays_out_freely};
-ghost use Rattle.tbr_commands.specs.Syntax.{layout_name};
 
 use tbr_decor::TextDecorator;
 use tbr_lines::{CharWidth, Error};
@@ -30,22 +28,6 @@ pub enum Layout {
 }
 
 impl Layout {
-    /// The command of this kind that a line is, if it is one.
-    pub fn named(line: &str) -> Option<Layout>
-        ensures found { IfSome result (λ layout. line.now ≡ layout_name layout) }
-        ensures none { IfNone result ((layout : Meant) → line.now ≢ layout_name layout) }
-    {
-        match line {
-            "block" => Some(Layout::StartBlock),
-            "endblock" => Some(Layout::EndBlock),
-            "table" => Some(Layout::StartTable),
-            "line" => Some(Layout::NewLine),
-            "hardline" => Some(Layout::HardNewLine),
-            "empty" => Some(Layout::EmptyLine),
-            _ => None,
-        }
-    }
-
     /// Asks a renderer for it, which hasn't failed. It refuses as the renderer's call does, and the end of a block
     /// never.
     pub fn call<D: TextDecorator, W: CharWidth>(

@@ -1,26 +1,23 @@
-use Rattle.tbr_commands.proofs.Colours.{no_first, no_second, red_is, green_is, blue_is}
+use Rattle.std.proofs.Common.{rules}
+use Rattle.tbr_commands.proofs.Commands.{byte_is}
 use Rattle.tbr_commands.proofs.request.colour.colour.Goals as goal
 
-pub returns-in_err-red-clause-none : goal.returns-in_err-red-clause-none
-returns-in_err-red-clause-none c =
-    rw c.from_residual.ensures (no_first c.args.writing.now c.in_err-red.ensures.cases)
+pub returns-in_err-parse_byte : goal.returns-in_err-parse_byte
+returns-in_err-parse_byte c = let r = byte_is c.in_ok-red.red.now c.parse_byte.result c.parse_byte.ensures in search rules
 
-pub returns-in_err-green-clause-none : goal.returns-in_err-green-clause-none
-returns-in_err-green-clause-none c =
-    rw c.from_residual-in_err-green.ensures
-    (no_second c.args.writing.now (c.in_ok-red.red, c.in_ok-red.rest) c.in_ok-red.ensures.cases c.in_err-green.ensures.cases)
+pub returns-in_err-parse_byte-2 : goal.returns-in_err-parse_byte-2
+returns-in_err-parse_byte-2 c =
+    let r = byte_is c.in_ok-red.red.now c.parse_byte.result c.parse_byte.ensures in
+    let g = byte_is c.in_ok-green.green.now c.parse_byte-2.result c.parse_byte-2.ensures in search rules
 
-pub returns-in_err-parse_byte-clause-none : goal.returns-in_err-parse_byte-clause-none
-returns-in_err-parse_byte-clause-none c =
-    rw c.from_residual-in_err-parse_byte.ensures (λ colour is.
-    c.in_err-parse_byte.ensures (red_is c.args.writing.now (c.in_ok-red.red, c.in_ok-red.rest) c.in_ok-red.ensures.cases colour is))
+pub returns-in_err-parse_byte-3 : goal.returns-in_err-parse_byte-3
+returns-in_err-parse_byte-3 c =
+    let r = byte_is c.in_ok-red.red.now c.parse_byte.result c.parse_byte.ensures in
+    let g = byte_is c.in_ok-green.green.now c.parse_byte-2.result c.parse_byte-2.ensures in
+    let b = byte_is c.in_ok-green.blue.now c.parse_byte-3.result c.parse_byte-3.ensures in search rules
 
-pub returns-in_err-parse_byte-2-clause-none : goal.returns-in_err-parse_byte-2-clause-none
-returns-in_err-parse_byte-2-clause-none c =
-    rw c.from_residual-in_err-parse_byte-2.ensures (λ colour is.
-    c.in_err-parse_byte-2.ensures (green_is c.args.writing.now (c.in_ok-red.red, c.in_ok-red.rest) c.in_ok-red.ensures.cases (c.in_ok-green.green, c.in_ok-green.blue) c.in_ok-green.ensures.cases colour is))
-
-pub returns-in_err-parse_byte-3-clause-none : goal.returns-in_err-parse_byte-3-clause-none
-returns-in_err-parse_byte-3-clause-none c =
-    rw c.from_residual-in_err-parse_byte-3.ensures (λ colour is.
-    c.in_err-parse_byte-3.ensures (blue_is c.args.writing.now (c.in_ok-red.red, c.in_ok-red.rest) c.in_ok-red.ensures.cases (c.in_ok-green.green, c.in_ok-green.blue) c.in_ok-green.ensures.cases colour is))
+pub returns : goal.returns
+returns c =
+    let r = byte_is c.in_ok-red.red.now c.parse_byte.result c.parse_byte.ensures in
+    let g = byte_is c.in_ok-green.green.now c.parse_byte-2.result c.parse_byte-2.ensures in
+    let b = byte_is c.in_ok-green.blue.now c.parse_byte-3.result c.parse_byte-3.ensures in search rules

@@ -1,9 +1,9 @@
-use Rattle.std.proofs.Common.{refl}
+use Rattle.std.proofs.Common.{refl, sym, ap, ◌∙◌}
+use Rattle.std.specs.Option.{option_map}
 use Rattle.tbr_decor.specs.Decoration.{decoration_of}
 use Rattle.tbr_commands.specs.Command.{ask, command_of}
 use Rattle.tbr_commands.specs.Request.{text}
-use Rattle.tbr_commands.specs.Syntax.{IsCommand}
-use Rattle.tbr_script.proofs.Optional.{of_none, of_some}
+use Rattle.tbr_commands.proofs.Reading.{sized}
 use Rattle.tbr_program.specs.Progress.{progress_meant}
 use Rattle.tbr_program.specs.Commands.{after_command, after_line}
 use Rattle.tbr_program.proofs.CommandLines.{nothing_asked, no_command, commanded}
@@ -40,7 +40,7 @@ returns-in-None g c =
     let line = c.args.line.now in
     record {
       runs = runs_early meaning (after_line columns decoration c.args.number line) c.args.self.now _ _ refl
-          (no_command columns decoration c.args.number (progress_meant meaning c.args.self.now) line c.if-is_empty.ensures (of_none c.in_ok-command.field-0 c.in-None.is c.in_ok-command.ensures.none));
+          (no_command columns decoration c.args.number (progress_meant meaning c.args.self.now) line c.if-is_empty.ensures (sym c.in_ok-command.ensures ∙ ap (option_map command_of) c.in-None.is));
     }
 
 pub returns-in-Some-2 : goal.returns-in-Some-2
@@ -52,5 +52,8 @@ returns-in-Some-2 g c =
     let line = c.args.line.now in
     record {
       runs = runs_as meaning (after_command columns decoration c.args.number command) (after_line columns decoration c.args.number line) c.args.self.now c.run.new.self c.run.result
-          (commanded columns decoration c.args.number (progress_meant meaning c.args.self.now) line command c.if-is_empty.ensures (of_some (λ found. IsCommand line (command_of found)) c.in_ok-command.field-0 c.in-Some-2.command c.in-Some-2.is c.in_ok-command.ensures.command)) c.run.ensures.runs;
+          (commanded columns decoration c.args.number (progress_meant meaning c.args.self.now) line command c.if-is_empty.ensures (sym c.in_ok-command.ensures ∙ ap (option_map command_of) c.in-Some-2.is)) c.run.ensures.runs;
     }
+
+pub run-requires-clause-sized : goal.run-requires-clause-sized
+run-requires-clause-sized g c = sized c.args.line.now (command_of c.in-Some-2.command) (sym c.in_ok-command.ensures ∙ ap (option_map command_of) c.in-Some-2.is)
