@@ -1,4 +1,3 @@
-pub mod OptionWords
-pub mod OpeningWords
 pub mod Commands
+pub mod Openings
 pub mod Reading

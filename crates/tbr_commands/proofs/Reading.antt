@@ -17,8 +17,7 @@ use Rattle.tbr_renderer.specs.declared.RenderOptions.{RenderOptions}
 use Rattle.tbr_renderer.specs.declared.ImageRenderMode.TheVariants.{IgnoreEmpty, ShowAlways, Replace, Filename}
 use Rattle.tbr_script.specs.Script.{words_of, IsByte}
 use Rattle.tbr_script.specs.Read.{byte_read, number_read, size_read, text_read, texts_read}
-use Rattle.tbr_script.proofs.Texts.{not_a_digit}
-use Rattle.tbr_script.proofs.Reading.{some_once, no_some, test, if_so, if_not, mapped, followed, number_written, written_number, size_written, written_size, byte_written, written_byte, text_written, written_text, texts_written, written_texts}
+use Rattle.tbr_script.proofs.Reading.{not_a_digit, some_once, no_some, test, if_so, if_not, mapped, followed, number_written, written_number, size_written, written_size, byte_written, written_byte, text_written, written_text, texts_written, written_texts}
 use Rattle.tbr_commands.specs.declared.options.Setting.{Setting}
 use Rattle.tbr_commands.specs.declared.options.Setting.TheVariants.{Wrap, Overflow, Pad, NoBorders, NoWrapLinks, Footnotes, NoStrike, Images}
 use Rattle.tbr_commands.specs.declared.opening.Decorator.{Decorator}
@@ -32,7 +31,7 @@ use Rattle.tbr_commands.specs.Opening.{name_of, AsksFor, IsOpening}
 use Rattle.tbr_commands.specs.Request.{Request, layout, begin, end, text, fragment, image, colour, border}
 use Rattle.tbr_commands.specs.Command.{Command, ask, link, sub, append, cell, row, IsSized}
 use Rattle.tbr_commands.specs.Syntax.{IsAlone, HasArgument, IsColour, IsAlignment, IsNewCell, IsWritten, IsCommand, mode_name, IsRequest}
-use Rattle.tbr_commands.specs.Read.{first_of, looked_up, after_word, names, colour_of, alignment_of, cell_of, argument_read, command_read, settings, setting_read, settings_read, decorator_read, asked_for, opening_words, opening_read, split_at_space, endings, name_read, colour_read, modes, request_readers, level_readers, read_by, parts_read}
+use Rattle.tbr_commands.specs.Read.{first_of, looked_up, after_word, names, colour_of, alignment_of, cell_of, argument_read, command_read, settings, setting_read, settings_read, decorator_read, options_read, asked_for, opening_words, opening_read, split_at_space, endings, name_read, colour_read, modes, request_readers, level_readers, read_by, parts_read}
 
 -- ---- choices
 
@@ -54,7 +53,7 @@ module _ {X : Type 0} where
 
 -- ---- words and arguments
 
-after_is : (word bs rest : List ℕ) → after_word word bs ≡ Some rest → bs ≡ word ++ rest
+pub after_is : (word bs rest : List ℕ) → after_word word bs ≡ Some rest → bs ≡ word ++ rest
 after_is [] bs rest e = sym (some_once bs rest e)
 after_is (w ∷ ws) [] rest e = absurd (no_some rest e)
 after_is (w ∷ ws) (b ∷ bs) rest e =
@@ -143,7 +142,7 @@ written_cell line writing command is e = go (words_of writing) refl e
 -- ---- commands
 
 -- what comes of a line that is UTF-8
-abbrev read_line : List ℕ → Option Command
+abbrev pub read_line : List ℕ → Option Command
 read_line line = parts_read line (split_at_space line)
 
 alone_written : (line : List ℕ) (request : Request) → IsAlone line request → read_line line ≡ Some (ask request)
@@ -321,9 +320,9 @@ written_decorator name d e = found (λ w x. w ≡ name_of x) ((codes "plain", Pl
 asked_written : (words : List (List ℕ)) (o : Opening) → AsksFor words o → asked_for words ≡ Some o
 asked_written words o (digits, others, are, size, (settings_are, all, options)) =
     ap asked_for are
-    ∙ ap (option_and_then (λ w. option_and_then (λ d. option_map (λ ss. record { width = w; decorator = d; options = fold with_setting default_options ss }) (settings_read others)) (decorator_read (name_of o.decorator)))) (size_written digits o.width size)
-    ∙ ap (option_and_then (λ d. option_map (λ ss. record { width = o.width; decorator = d; options = fold with_setting default_options ss }) (settings_read others))) (decorator_written o.decorator)
-    ∙ ap (option_map (λ ss. record { width = o.width; decorator = o.decorator; options = fold with_setting default_options ss })) (settings_written others settings_are all)
+    ∙ ap (option_and_then (λ w. option_and_then (λ d. option_map (λ os. record { width = w; decorator = d; options = os }) (options_read others)) (decorator_read (name_of o.decorator)))) (size_written digits o.width size)
+    ∙ ap (option_and_then (λ d. option_map (λ os. record { width = o.width; decorator = d; options = os }) (options_read others))) (decorator_written o.decorator)
+    ∙ ap (λ ss. option_map (λ os. record { width = o.width; decorator = o.decorator; options = os }) (option_map (λ all. fold with_setting default_options all) ss)) (settings_written others settings_are all)
     ∙ ap (λ (os : RenderOptions). Some (record o { options = os })) (sym options)
 
 written_asked : (words : List (List ℕ)) (o : Opening) → asked_for words ≡ Some o → AsksFor words o
@@ -332,9 +331,10 @@ written_asked (digits ∷ []) o e = absurd (no_some o e)
 written_asked (digits ∷ name ∷ words) o e =
     let (w, size, rest) = followed _ (size_read digits) o e in
     let (d, decorator, last) = followed _ (decorator_read name) o rest in
-    let (ss, are, whole) = mapped _ (settings_read words) o last in
+    let (os, given, whole) = mapped _ (options_read words) o last in
+    let (ss, are, told) = mapped (λ ss. fold with_setting default_options ss) (settings_read words) os given in
     subst (AsksFor (digits ∷ name ∷ words)) (sym whole)
-    (digits, words, ap (λ n. digits ∷ n ∷ words) (written_decorator name d decorator), written_size digits w size, (ss, written_settings words ss are, refl))
+    (digits, words, ap (λ n. digits ∷ n ∷ words) (written_decorator name d decorator), written_size digits w size, (ss, written_settings words ss are, told))
 
 pub opening_is_read : (line : List ℕ) (o : Opening) → IsOpening line o → opening_read line ≡ Some o
 opening_is_read line o is =
@@ -352,3 +352,26 @@ read_opening line o e =
         test (bytes_eq w (codes "new"))
         (λ so. record { utf8 = utf8; words = ws; begins = are ∙ ap (λ x. x ∷ ws) ((bytes_eq-Decides w (codes "new")).0 so); asks = written_asked ws o (sym (if_so (bytes_eq w (codes "new")) (asked_for ws) None so) ∙ reads) })
         (λ so. absurd (no_some o (sym (if_not (bytes_eq w (codes "new")) (asked_for ws) None so) ∙ reads)))
+
+-- no wrap width is 0
+wrap_width_kept : (word : List ℕ) (setting : Setting) (options : RenderOptions) → IsSetting word setting → options.wrap_width ≢ Some 0 → (with_setting options setting).wrap_width ≢ Some 0
+wrap_width_kept word (Wrap columns) options k h e = let same : columns ≡ 0 = cc in omega (arith, same, k.2.2)
+wrap_width_kept word Overflow options k h e = h e
+wrap_width_kept word Pad options k h e = h e
+wrap_width_kept word NoBorders options k h e = h e
+wrap_width_kept word NoWrapLinks options k h e = h e
+wrap_width_kept word Footnotes options k h e = h e
+wrap_width_kept word NoStrike options k h e = h e
+wrap_width_kept word (Images mode) options k h e = h e
+
+wrap_width_told : (words : List (List ℕ)) (all : List Setting) (options : RenderOptions) → AllZip IsSetting words all → options.wrap_width ≢ Some 0 → (fold with_setting options all).wrap_width ≢ Some 0
+wrap_width_told [] [] options is h = h
+wrap_width_told [] (s ∷ ss) options is h = absurd is
+wrap_width_told (w ∷ ws) [] options is h = absurd is
+wrap_width_told (w ∷ ws) (s ∷ ss) options is h = wrap_width_told ws ss (with_setting options s) is.1 (wrap_width_kept w s options is.0 h)
+
+-- widths are at least 1
+pub opening_sized : (line : List ℕ) (opening : Opening) → IsOpening line opening → (0 < opening.width) × (opening.options.wrap_width ≢ Some 0)
+opening_sized line opening is =
+    let (digits, others, are, size, (all, told, given)) = is.asks in
+    (size.2, λ none. wrap_width_told others all default_options told (λ e. cc) (ap (λ (o : RenderOptions). o.wrap_width) (sym given) ∙ none))

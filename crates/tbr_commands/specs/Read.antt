@@ -10,6 +10,7 @@ use Rattle.tbr_tagged.specs.declared.CellAlign.TheVariants.{Left, Right, Centre}
 use Rattle.tbr_decor.specs.Ground as ground
 use Rattle.tbr_decor.specs.declared.colour.Colour.{Colour}
 use Rattle.tbr_renderer.specs.Options.{default_options}
+use Rattle.tbr_renderer.specs.declared.RenderOptions.{RenderOptions}
 use Rattle.tbr_renderer.specs.declared.ImageRenderMode.TheVariants.{IgnoreEmpty, ShowAlways, Filename}
 use Rattle.tbr_script.specs.Script.{words_of}
 use Rattle.tbr_script.specs.Read.{number_read, size_read, byte_read, text_read, texts_read}
@@ -153,11 +154,13 @@ settings =
     ∷ (codes "img=ignore", Images IgnoreEmpty) ∷ (codes "img=filename", Images Filename)
     ∷ (codes "img=always", Images ShowAlways) ∷ []
 
+-- a wrap width by its word
+abbrev pub wrap_read : List ℕ → Option Setting
+wrap_read word = option_and_then (λ digits. option_map Wrap (size_read digits)) (after_word (codes "wrap=") word)
+
 -- a setting by its word
 abbrev pub setting_read : List ℕ → Option Setting
-setting_read word =
-    first_of (looked_up settings word)
-    (option_and_then (λ digits. option_map Wrap (size_read digits)) (after_word (codes "wrap=") word))
+setting_read word = first_of (looked_up settings word) (wrap_read word)
 
 -- the settings of words
 abbrev pub settings_read : List (List ℕ) → Option (List Setting)
@@ -165,17 +168,22 @@ settings_read [] = Some []
 settings_read (word ∷ words) =
     option_and_then (λ setting. option_map (λ others. setting ∷ others) (settings_read words)) (setting_read word)
 
+-- the options that words give; of two of a kind the later counts
+abbrev pub options_read : List (List ℕ) → Option RenderOptions
+options_read words = option_map (λ all. fold with_setting default_options all) (settings_read words)
+
 abbrev pub decorator_read : List ℕ → Option Decorator
 decorator_read name = looked_up ((codes "plain", Plain) ∷ (codes "trivial", Trivial) ∷ (codes "rich", Rich) ∷ []) name
 
 -- a first command by the words after `new`
 abbrev pub asked_for : List (List ℕ) → Option Opening
 asked_for (digits ∷ name ∷ words) =
-    option_and_then (λ width. option_and_then (λ decorator. option_map (λ asked. record {
+    option_and_then (λ width.
+    option_and_then (λ decorator. option_map (λ options. record {
       width = width;
       decorator = decorator;
-      options = fold with_setting default_options asked;
-    }) (settings_read words)) (decorator_read name)) (size_read digits)
+      options = options;
+    }) (options_read words)) (decorator_read name)) (size_read digits)
 asked_for other = None
 
 abbrev pub opening_words : List (List ℕ) → Option Opening

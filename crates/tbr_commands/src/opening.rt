@@ -1,8 +1,8 @@
 //! The first command of a script.
 ghost use Rattle.std.specs.Prelude.{◌≡◌, ◌≢◌, ◌<◌, Some, IfSome, IfNone};
-ghost use Rattle.tbr_commands.specs.Opening.{name_of, AsksFor, IsOpening};
+ghost use Rattle.tbr_commands.specs.Opening.{IsOpening};
+ghost use Rattle.tbr_commands.specs.Read.{decorator_read, asked_for, opening_read};
 ghost use Rattle.tbr_commands.specs.declared.opening.Opening.{Opening as Meant};
-ghost use Rattle.tbr_commands.specs.declared.opening.Decorator.{Decorator as Name};
 
 use crate::options::parse_options;
 use tbr_renderer::RenderOptions;
@@ -33,8 +33,7 @@ pub struct Opening {
 impl Decorator {
     /// The decorator of a name, if there is one.
     fn named(name: &str) -> Option<Decorator>
-        ensures found { IfSome result (λ decorator. name.now ≡ name_of decorator) }
-        ensures none { IfNone result ((decorator : Name) → name.now ≢ name_of decorator) }
+        ensures { result ≡ decorator_read name.now }
     {
         match name {
             "plain" => Some(Decorator::Plain),
@@ -48,6 +47,7 @@ impl Decorator {
 impl Opening {
     /// The first command of a script that a line is, without its newline. `None` where it is none.
     pub fn parse(line: &[u8]) -> Option<Opening>
+        ensures read { result ≡ opening_read line.now }
         ensures found { IfSome result (λ opening. IsOpening line.now opening) }
         ensures width { IfSome result (λ opening. 0 < opening.width) }
         ensures wrap_width { IfSome result (λ opening. opening.options.wrap_width ≢ Some 0) }
@@ -65,18 +65,13 @@ impl Opening {
 
     /// The same of what comes after `new`.
     fn after_new(mut words: Words<'_>) -> Option<Opening>
-        ensures found { IfSome result (λ opening. AsksFor words.entry opening) }
-        ensures width { IfSome result (λ opening. 0 < opening.width) }
-        ensures wrap_width { IfSome result (λ opening. opening.options.wrap_width ≢ Some 0) }
-        ensures none { IfNone result ((opening : Meant) → AsksFor words.entry opening → ⊥) }
+        ensures { result ≡ asked_for words.entry }
     {
-        let width = parse_size(words.next()?)?;
-        let decorator = Decorator::named(words.next()?)?;
-        let options = parse_options(words)?;
+        let (digits, name) = (words.next()?, words.next()?);
         Some(Opening {
-            width,
-            decorator,
-            options,
+            width: parse_size(digits)?,
+            decorator: Decorator::named(name)?,
+            options: parse_options(words)?,
         })
     }
 }

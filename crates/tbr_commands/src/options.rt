@@ -1,9 +1,7 @@
 //! The options of a script's first command.
-ghost use Rattle.std.specs.Prelude.{◌≡◌, ◌≢◌, ℕ, Some, IfSome, IfNone};
-ghost use Rattle.tbr_commands.specs.Options.{IsSetting, IsWrap, with_setting, AreOptions};
-ghost use Rattle.tbr_commands.specs.declared.options.Setting.{Setting as Meant};
-ghost use Rattle.tbr_commands.specs.declared.options.Setting.TheVariants as setting;
-ghost use Rattle.tbr_renderer.specs.declared.RenderOptions.{RenderOptions as Options};
+ghost use Rattle.std.specs.Prelude.{◌≡◌};
+ghost use Rattle.tbr_commands.specs.Options.{with_setting};
+ghost use Rattle.tbr_commands.specs.Read.{wrap_read, setting_read, options_read};
 
 use tbr_renderer::{ImageRenderMode, RenderOptions};
 use tbr_script::{Words, parse_size};
@@ -32,8 +30,7 @@ pub enum Setting {
 impl Setting {
     /// The setting that a word is, if it is one.
     fn parse(word: &str) -> Option<Setting>
-        ensures found { IfSome result (λ setting. IsSetting word.now setting) }
-        ensures none { IfNone result ((setting : Meant) → IsSetting word.now setting → ⊥) }
+        ensures { result ≡ setting_read word.now }
     {
         match word {
             "overflow" => Some(Setting::Overflow),
@@ -68,18 +65,14 @@ impl Setting {
 
 /// The wrap width that a word is, if it is one.
 fn wrap(word: &str) -> Option<Setting>
-    ensures found { IfSome result (λ found.
-        (columns : ℕ) × (found ≡ setting.Wrap columns) × IsWrap word.now columns) }
-    ensures none { IfNone result ((columns : ℕ) → IsWrap word.now columns → ⊥) }
+    ensures { result ≡ wrap_read word.now }
 {
     Some(Setting::Wrap(parse_size(word.strip_prefix("wrap=")?)?))
 }
 
 /// The options that words give; of two of a kind the later counts. `None` where one of them is no option.
 pub fn parse_options(mut words: Words<'_>) -> Option<RenderOptions>
-    ensures found { IfSome result (λ options. AreOptions words.entry options) }
-    ensures wrap_width { IfSome result (λ options. options.wrap_width ≢ Some 0) }
-    ensures none { IfNone result ((options : Options) → AreOptions words.entry options → ⊥) }
+    ensures { result ≡ options_read words.entry }
 {
     let mut options = RenderOptions::default();
     while let Some(word) = words.next() {

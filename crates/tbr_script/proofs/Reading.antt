@@ -1,20 +1,18 @@
 -- What is read is what is written.
-use Rattle.std.proofs.Common.{◌≡◌, ◌≢◌, ℕ, zero, suc, ◌^◌, ◌<◌, ◌≤◌, ◌==◌, ◌&&◌, Bool, true, false, if◌then◌else◌, Option, None, Some, List, [], ◌∷◌, ◌++◌, length, take, drop, flat_map, encode_utf8, codes, refl, sym, ap, ◌∙◌, subst, inl, inr, arith, append_assoc, append-nil, get_or}
+use Rattle.std.proofs.Common.{◌≡◌, ◌≢◌, ℕ, zero, suc, ◌^◌, ◌<◌, ◌≤◌, ◌==◌, ◌&&◌, Bool, true, false, if◌then◌else◌, Option, None, Some, List, [], ◌∷◌, ◌++◌, length, take, drop, flat_map, encode_utf8, codes, refl, sym, ap, ◌∙◌, subst, inl, inr, arith, append_assoc, append-nil, get_or, lit≤}
 use Rattle.std.specs.Bool.{Decides}
 use Rattle.std.specs.Prelude.{nat_lt}
 use Rattle.std.specs.Char.{digit_value, IsScalar}
 use Rattle.std.specs.List.{AllByRecursion as Each}
-use Rattle.std.specs.Option.{option_map, option_and_then}
+use Rattle.std.specs.Option.{option_map, option_and_then, SomeIff}
 use Rattle.std.specs.Str.{bytes_eq, all_scalars}
 use Rattle.std.specs.Str.Parse.{AllDigits, IsNumeral, digits_value}
 use Rattle.std.proofs.lemmas.Bool.{false≢true, eqb-true}
 use Rattle.std.proofs.lemmas.Bool.Decides.{Decides-and, Decides-like, Decides-ltb, nat_tests}
-use Rattle.std.proofs.lemmas.List.{append_cancel_left, take-append-drop}
+use Rattle.std.proofs.lemmas.List.{take-append-drop}
 use Rattle.std.proofs.lemmas.Slice.Eq.{bytes_eq-Decides}
-use Rattle.tbr_script.specs.Script.{backslash, character_by_letter, bar, IsNumber, IsSize, IsByte, NamesCharacter, Piece, itself, escape, IsPiece, written, meant, IsText, AreSplitTexts}
-use Rattle.tbr_script.specs.Read.{when, all_digits, is_numeral, is_number, number_read, size_read, byte_read, names_character, TextPlace, in_text, in_escape, at_brace, in_braces, with_character, read_from, text_read, split_at_bar, texts_read}
-use Rattle.tbr_script.proofs.Texts.{plain, escaped}
-use Rattle.tbr_script.proofs.Bars.{same_front}
+use Rattle.tbr_script.specs.Script.{backslash, character_by_letter, bar, IsNumber, IsSize, IsByte, NamesCharacter, IsEscape, Piece, itself, escape, IsPiece, written, meant, IsText, AreSplitTexts}
+use Rattle.tbr_script.specs.Read.{when, all_digits, is_numeral, is_number, number_read, size_read, byte_read, names_character, character_read, TextPlace, in_text, in_escape, at_brace, in_braces, with_character, read_from, text_read, split_at_bar, texts_read}
 
 -- ---- options
 
@@ -78,6 +76,22 @@ name_decides ds =
     Decides-like (names_character ds) (λ h. (h.0, h.1.0, h.1.1)) (λ h. (h.0, (h.1, h.2)))
     (Decides-and (is_numeral 16 ds) _ (numeral_decides 16 ds) (Decides-and _ (all_scalars (digits_value 16 ds ∷ [])) six_at_most (scalar_decides (digits_value 16 ds))))
 
+-- what is so by a test is there by it
+by_test : {X P : Type 0} (b : Bool) (x : X) (r : Option X) → Decides b P → SomeIff r P x → r ≡ when b x
+by_test true x None d h = absurd (h (d.0 refl))
+by_test true x (Some y) d h = ap Some h.1
+by_test false x None d h = refl
+by_test false x (Some y) d h = absurd (false≢true (d.1 h.0))
+
+pub number_is : (ds : List ℕ) (r : Option ℕ) → SomeIff r (IsNumber ds) (digits_value 10 ds) → r ≡ number_read ds
+number_is ds r = by_test (is_number ds) (digits_value 10 ds) r (number_decides ds)
+
+pub byte_is : (ds : List ℕ) (r : Option ℕ) → SomeIff r (IsByte ds) (digits_value 10 ds) → r ≡ byte_read ds
+byte_is ds r = by_test _ (digits_value 10 ds) r (byte_decides ds)
+
+pub character_is : (ds : List ℕ) (r : Option ℕ) → SomeIff r (NamesCharacter ds) (digits_value 16 ds) → r ≡ character_read ds
+character_is ds r = by_test (names_character ds) (digits_value 16 ds) r (name_decides ds)
+
 pub number_written : (ds : List ℕ) (n : ℕ) → IsNumber ds × (n ≡ digits_value 10 ds) → number_read ds ≡ Some n
 number_written ds n (is, same) = when_so (is_number ds) (digits_value 10 ds) n ((number_decides ds).1 is) same
 
@@ -104,16 +118,37 @@ written_byte ds n e = let (so, same) = so_when _ (digits_value 10 ds) n e in ((b
 
 -- ---- texts
 
-eqb-of : (a b : ℕ) → a ≢ b → (a == b) ≡ false
+pub eqb-of : (a b : ℕ) → a ≢ b → (a == b) ≡ false
 eqb-of a b not = grind (arith, nat_tests, not)
 
--- an escape's digits, up to its brace
-to_brace : (before ds rest : List ℕ) → AllDigits 16 ds → read_from (in_braces before) (ds ++ 125 ∷ rest) ≡ read_from (in_braces (before ++ ds)) (125 ∷ rest)
-to_brace before [] rest all = ap (λ xs. read_from (in_braces xs) (125 ∷ rest)) (sym (append-nil before))
-to_brace before (d ∷ ds) rest all =
-    let no_brace : d ≢ 125 = λ same. omega (arith, all.0, ap digit_value same) in
-    if_not (d == 125) _ _ (eqb-of d 125 no_brace) ∙ to_brace (before ++ d ∷ []) ds rest all.1
+-- what is no digit is not among digits
+pub not_a_digit : (radix b : ℕ) (ds : List ℕ) → radix ≤ digit_value b → AllDigits radix ds → (i : ℕ) → i < length ds → get_or ds i 0 ≢ b
+not_a_digit radix b [] h a i lt e = absurd (omega arith)
+not_a_digit radix b (d ∷ ds) h a zero lt e = absurd (omega (arith, ap digit_value e, a.0))
+not_a_digit radix b (d ∷ ds) h a (suc i) lt e = not_a_digit radix b ds h a.1 i (omega arith) e
+
+-- digits in braces, up to the closing one
+pub to_brace : (before ds rest : List ℕ) → ((i : ℕ) → i < length ds → get_or ds i 0 ≢ 125) → read_from (in_braces before) (ds ++ 125 ∷ rest) ≡ read_from (in_braces (before ++ ds)) (125 ∷ rest)
+to_brace before [] rest none = ap (λ xs. read_from (in_braces xs) (125 ∷ rest)) (sym (append-nil before))
+to_brace before (d ∷ ds) rest none =
+    if_not (d == 125) _ _ (eqb-of d 125 (none 0 (omega arith))) ∙ to_brace (before ++ d ∷ []) ds rest (λ i lt. none (suc i) (omega arith))
     ∙ ap (λ xs. read_from (in_braces xs) (125 ∷ rest)) (append_assoc before (d ∷ []) ds)
+
+-- bytes that mean themselves
+plain : (xs ys text : List ℕ) → ((i : ℕ) → i < length xs → get_or xs i 0 ≢ 92) → IsText ys text → IsText (xs ++ ys) (xs ++ text)
+plain [] ys text n t = t
+plain (x ∷ xs) ys text n t =
+    let rest = plain xs ys text (λ i lt. n (suc i) (omega arith)) t in
+    record { pieces = itself x ∷ rest.pieces; each = (n 0 (omega arith), rest.each); writes = ap (λ zs. x ∷ zs) rest.writes; means = ap (λ zs. x ∷ zs) rest.means }
+
+-- an escape
+escaped : (form rest text : List ℕ) (c : ℕ) → IsEscape form c → IsText rest text → IsText (92 ∷ (form ++ rest)) (encode_utf8 c ++ text)
+escaped form rest text c k t = record {
+  pieces = escape form c ∷ t.pieces;
+  each = (k, t.each);
+  writes = ap (λ zs. 92 ∷ (form ++ zs)) t.writes;
+  means = ap (λ zs. encode_utf8 c ++ zs) t.means;
+}
 
 pieces_read : (ps : List Piece) → Each IsPiece ps → read_from in_text (flat_map written ps) ≡ Some (flat_map meant ps)
 pieces_read [] each = refl
@@ -130,10 +165,9 @@ pieces_read (escape form c ∷ ps) (inr (digits, form_is, names, is), each) =
     let rest = flat_map written ps in
     ap (λ f. read_from in_escape (f ++ rest)) form_is
     ∙ ap (read_from (in_braces [])) (append_assoc digits (125 ∷ []) rest)
-    ∙ to_brace [] digits rest names.0.1
-    ∙ if_so (names_character digits) _ None ((name_decides digits).1 names)
-    ∙ ap (with_character (digits_value 16 digits)) (pieces_read ps each)
-    ∙ ap (λ d. Some (encode_utf8 d ++ flat_map meant ps)) (sym is)
+    ∙ to_brace [] digits rest (not_a_digit 16 125 digits (lit≤ tt) names.0.1)
+    ∙ ap (option_and_then (λ d. with_character d (read_from in_text rest))) (when_so (names_character digits) (digits_value 16 digits) c ((name_decides digits).1 names) is)
+    ∙ ap (with_character c) (pieces_read ps each)
 
 pub text_written : (writing text : List ℕ) → IsText writing text → text_read writing ≡ Some text
 text_written writing text t = ap text_read (sym t.writes) ∙ pieces_read t.pieces t.each ∙ ap Some t.means
@@ -144,15 +178,14 @@ no_backslash b not zero lt same = false≢true (sym not ∙ ap (λ x. x == backs
 no_backslash b not (suc i) lt same = absurd (omega (arith, lt))
 
 -- digits that name a character, and their closing brace
-closed : (ds bs text : List ℕ) → ((rest : List ℕ) → read_from in_text bs ≡ Some rest → IsText bs rest) → (if names_character ds then with_character (digits_value 16 ds) (read_from in_text bs) else None) ≡ Some text → IsText (92 ∷ 117 ∷ 123 ∷ (ds ++ 125 ∷ bs)) text
+closed : (ds bs text : List ℕ) → ((rest : List ℕ) → read_from in_text bs ≡ Some rest → IsText bs rest) → option_and_then (λ c. with_character c (read_from in_text bs)) (character_read ds) ≡ Some text → IsText (92 ∷ 117 ∷ 123 ∷ (ds ++ 125 ∷ bs)) text
 closed ds bs text later e =
-    test (names_character ds)
-    (λ is.
-    let (rest, reads, whole) = mapped (λ bytes. encode_utf8 (digits_value 16 ds) ++ bytes) (read_from in_text bs) text (sym (if_so (names_character ds) _ None is) ∙ e) in
+    let (c, names, follows) = followed (λ d. with_character d (read_from in_text bs)) (character_read ds) text e in
+    let (rest, reads, whole) = mapped (λ bytes. encode_utf8 c ++ bytes) (read_from in_text bs) text follows in
+    let (so, is) = so_when (names_character ds) (digits_value 16 ds) c names in
     subst (IsText (92 ∷ 117 ∷ 123 ∷ (ds ++ 125 ∷ bs))) (sym whole)
-    (subst (λ xs. IsText (92 ∷ 117 ∷ 123 ∷ xs) (encode_utf8 (digits_value 16 ds) ++ rest)) (append_assoc ds (125 ∷ []) bs)
-    (escaped (codes "u{" ++ ds ++ codes "}") bs rest (digits_value 16 ds) (inr (ds, refl, (name_decides ds).0 is, refl)) (later rest reads))))
-    (λ is. absurd (no_some text (sym (if_not (names_character ds) _ None is) ∙ e)))
+    (subst (λ xs. IsText (92 ∷ 117 ∷ 123 ∷ xs) (encode_utf8 c ++ rest)) (append_assoc ds (125 ∷ []) bs)
+    (escaped (codes "u{" ++ ds ++ codes "}") bs rest c (inr (ds, refl, (name_decides ds).0 so, is)) (later rest reads)))
 
 -- what was read before a place
 abbrev before : TextPlace → List ℕ
@@ -209,7 +242,7 @@ earlier : (b : ℕ) (bs front : List ℕ) → ((xs ys : List ℕ) → bs ≡ xs 
 earlier b bs front first none [] ys w = absurd (false≢true (sym none ∙ found_bar (b ∷ bs) ys w))
 earlier b bs front first none (x ∷ xs) ys w = omega (arith, first xs ys (let same : bs ≡ xs ++ (bar ++ ys) = cc w in same))
 
-bar_split : (bs one other : List ℕ) → split_at_bar bs ≡ Some (one, other) → IsSplit bs one other
+pub bar_split : (bs one other : List ℕ) → split_at_bar bs ≡ Some (one, other) → IsSplit bs one other
 bar_split [] one other e = absurd (no_some (one, other) e)
 bar_split (b ∷ bs) one other e =
     test (bytes_eq (take 3 (b ∷ bs)) bar)
@@ -222,41 +255,21 @@ bar_split (b ∷ bs) one other e =
     let found : IsSplit (b ∷ bs) (b ∷ parts.0) parts.1 = record { splits = ap (λ xs. b ∷ xs) rest.splits; first = earlier b bs parts.0 rest.first is } in
     subst (λ (p : List ℕ × List ℕ). IsSplit (b ∷ bs) p.0 p.1) (sym whole) found)
 
-unmapped : {X Y : Type 0} (f : X → Y) (o : Option X) → option_map f o ≡ None → o ≡ None
-unmapped f None h = refl
-unmapped f (Some x) h = absurd (no_some (f x) (sym h))
-
-no_split : (bs xs ys : List ℕ) → split_at_bar bs ≡ None → bs ≡ xs ++ (bar ++ ys) → ⊥
-no_split [] [] ys e w = cc w
-no_split [] (x ∷ xs) ys e w = cc w
-no_split (b ∷ bs) [] ys e w = no_some ([], drop 3 (b ∷ bs)) (sym e ∙ if_so (bytes_eq (take 3 (b ∷ bs)) bar) _ _ (found_bar (b ∷ bs) ys w))
-no_split (b ∷ bs) (x ∷ xs) ys e w =
-    test (bytes_eq (take 3 (b ∷ bs)) bar)
-    (λ is. no_some ([], drop 3 (b ∷ bs)) (sym e ∙ if_so (bytes_eq (take 3 (b ∷ bs)) bar) _ _ is))
-    (λ is. no_split bs xs ys (unmapped (λ (p : List ℕ × List ℕ). (b ∷ p.0, p.1)) (split_at_bar bs) (sym (if_not (bytes_eq (take 3 (b ∷ bs)) bar) _ _ is) ∙ e)) (let same : bs ≡ xs ++ (bar ++ ys) = cc w in same))
-
--- two texts are split where they were written
-module _ (writing one other : List ℕ) (t : AreSplitTexts writing one other) (parts : List ℕ × List ℕ) (split : IsSplit writing parts.0 parts.1) where
-  same_sides : (t.before ≡ parts.0) × (t.after ≡ parts.1)
-  same_sides =
-      let above = t.first parts.0 parts.1 split.splits in
-      let below = split.first t.before t.after t.splits in
-      let same = same_front t.before parts.0 (bar ++ t.after) (bar ++ parts.1) (omega (arith, above, below)) (sym t.splits ∙ split.splits) in
-      (same.0, append_cancel_left bar t.after parts.1 same.1)
+-- where no bar is before it, a bar splits
+pub split_written : (one other : List ℕ) → ((xs ys : List ℕ) → one ++ (bar ++ other) ≡ xs ++ (bar ++ ys) → length one ≤ length xs) → split_at_bar (one ++ (bar ++ other)) ≡ Some (one, other)
+split_written [] other first = refl
+split_written (b ∷ bs) other first =
+    let rest = b ∷ (bs ++ (bar ++ other)) in
+    let no_bar : bytes_eq (take 3 rest) bar ≡ false = test (bytes_eq (take 3 rest) bar) (λ is. absurd (omega (arith, first [] (drop 3 rest) (is_bar rest is)))) (λ is. is) in
+    if_not (bytes_eq (take 3 rest) bar) _ _ no_bar
+    ∙ ap (option_map (λ (p : List ℕ × List ℕ). (b ∷ p.0, p.1))) (split_written bs other (λ xs ys w. omega (arith, first (b ∷ xs) ys (ap (λ zs. b ∷ zs) w))))
 
 pub texts_written : (writing one other : List ℕ) → AreSplitTexts writing one other → texts_read writing ≡ Some (one, other)
-texts_written writing one other t = go (split_at_bar writing) refl
-  where
-    both : List ℕ × List ℕ → Option (List ℕ × List ℕ)
-    both parts = option_and_then (λ x. option_map (λ y. (x, y)) (text_read parts.1)) (text_read parts.0)
-
-    go : (o : Option (List ℕ × List ℕ)) → split_at_bar writing ≡ o → texts_read writing ≡ Some (one, other)
-    go None e = absurd (no_split writing t.before t.after e t.splits)
-    go (Some parts) e =
-        let sides = same_sides writing one other t parts (bar_split writing parts.0 parts.1 e) in
-        let first = ap text_read (sym sides.0) ∙ text_written t.before one t.one_is in
-        let second = ap text_read (sym sides.1) ∙ text_written t.after other t.other_is in
-        ap (option_and_then both) e ∙ ap (option_and_then (λ x. option_map (λ y. (x, y)) (text_read parts.1))) first ∙ ap (option_map (λ y. (one, y))) second
+texts_written writing one other t =
+    ap texts_read t.splits
+    ∙ ap (option_and_then (λ (p : List ℕ × List ℕ). option_and_then (λ x. option_map (λ y. (x, y)) (text_read p.1)) (text_read p.0))) (split_written t.before t.after (λ xs ys w. t.first xs ys (t.splits ∙ w)))
+    ∙ ap (option_and_then (λ x. option_map (λ y. (x, y)) (text_read t.after))) (text_written t.before one t.one_is)
+    ∙ ap (option_map (λ y. (one, y))) (text_written t.after other t.other_is)
 
 pub written_texts : (writing one other : List ℕ) → texts_read writing ≡ Some (one, other) → AreSplitTexts writing one other
 written_texts writing one other e =

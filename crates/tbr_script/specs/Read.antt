@@ -37,6 +37,9 @@ byte_read ds = when (is_numeral 10 ds && nat_lt (digits_value 10 ds) (2 ^ 8)) (d
 abbrev pub names_character : List ℕ → Bool
 names_character ds = is_numeral 16 ds && (nat_lt (length ds) 7 && all_scalars (digits_value 16 ds ∷ []))
 
+abbrev pub character_read : List ℕ → Option ℕ
+character_read ds = when (names_character ds) (digits_value 16 ds)
+
 -- ---- texts
 
 -- Where a reader is: between bytes that mean themselves and escapes, after a backslash, after its `u`, or in braces,
@@ -75,7 +78,7 @@ read_from in_escape (b ∷ bs) =
 read_from at_brace (b ∷ bs) = if b == opening_brace then read_from (in_braces []) bs else None
 read_from (in_braces ds) (b ∷ bs) =
     if b == closing_brace
-    then (if names_character ds then with_character (digits_value 16 ds) (read_from in_text bs) else None)
+    then option_and_then (λ c. with_character c (read_from in_text bs)) (character_read ds)
     else read_from (in_braces (ds ++ b ∷ [])) bs
 
 abbrev pub text_read : List ℕ → Option (List ℕ)

@@ -1,7 +1,7 @@
 //! Texts of a script.
-ghost use Rattle.std.specs.Prelude.{◌≡◌, ◌≢◌, ◌++◌, ℕ, List, IfOk, IfSome, IfNone, codes, string_bytes};
-ghost use Rattle.std.specs.Str.Parse.{digits_value};
-ghost use Rattle.tbr_script.specs.Script.{IsEscape, IsText, NamesCharacter};
+ghost use Rattle.std.specs.Prelude.{◌≡◌, ◌≤◌, length, IfOk, IfSome, string_bytes};
+ghost use Rattle.std.specs.Option.{option_map, option_and_then};
+ghost use Rattle.tbr_script.specs.Read.{in_escape, at_brace, with_character, read_from, text_read};
 
 use crate::number::character;
 use std::alloc::{AllocError, Global};
@@ -9,10 +9,7 @@ use std::alloc::{AllocError, Global};
 /// The text with its escapes replaced. `Ok(None)` where a backslash begins no escape. It refuses only where memory is
 /// refused.
 pub fn unescape(alloc: Global, writing: &str) -> Result<Option<String>, AllocError>
-    ensures text { IfOk result (λ found.
-        IfSome found (λ text. IsText writing.now (string_bytes text))) }
-    ensures none { IfOk result (λ found.
-        IfNone found ((text : List ℕ) → IsText writing.now text → ⊥)) }
+    ensures { IfOk result (λ found. option_map string_bytes found ≡ text_read writing.now) }
 {
     let mut text = String::new(alloc);
     let mut rest = writing;
@@ -30,10 +27,9 @@ pub fn unescape(alloc: Global, writing: &str) -> Result<Option<String>, AllocErr
 
 /// The character of the escape that begins after a backslash, and what follows the escape.
 fn escape(after: &str) -> Option<(char, &str)>
-    ensures found { IfSome result (λ r.
-        (form : List ℕ) × IsEscape form r.0 × (after.now ≡ form ++ r.1.now)) }
-    ensures none { IfNone result ((form rest : List ℕ) (c : ℕ) →
-        IsEscape form c → after.now ≢ form ++ rest) }
+    ensures text { option_and_then (λ r. with_character r.0 (text_read r.1.now)) result
+        ≡ read_from in_escape after.now }
+    ensures shorter { IfSome result (λ r. length r.1.now ≤ length after.now) }
 {
     let mut rest = after.chars();
     match rest.next()? {
@@ -47,11 +43,9 @@ fn escape(after: &str) -> Option<(char, &str)>
 
 /// The character that digits in braces name, and what follows the braces.
 fn named(after: &str) -> Option<(char, &str)>
-    ensures found { IfSome result (λ r. (digits : List ℕ) × NamesCharacter digits
-        × (r.0 ≡ digits_value 16 digits)
-        × (after.now ≡ codes "{" ++ digits ++ codes "}" ++ r.1.now)) }
-    ensures none { IfNone result ((digits rest : List ℕ) → NamesCharacter digits →
-        after.now ≢ codes "{" ++ digits ++ codes "}" ++ rest) }
+    ensures text { option_and_then (λ r. with_character r.0 (text_read r.1.now)) result
+        ≡ read_from at_brace after.now }
+    ensures shorter { IfSome result (λ r. length r.1.now ≤ length after.now) }
 {
     let (digits, rest) = after.strip_prefix('{')?.split_once('}')?;
     Some((character(digits)?, rest))

@@ -1,12 +1,10 @@
 //! Numbers of a script.
-ghost use Rattle.std.specs.Prelude.{ℕ, IfSome, IfNone};
-ghost use Rattle.std.specs.Option.{SomeIff};
-ghost use Rattle.std.specs.Str.Parse.{digits_value};
-ghost use Rattle.tbr_script.specs.Script.{IsNumber, IsSize, IsByte, NamesCharacter};
+ghost use Rattle.std.specs.Prelude.{◌≡◌};
+ghost use Rattle.tbr_script.specs.Read.{number_read, size_read, byte_read, character_read};
 
 /// The value of decimal digits. `None` where there is no digit, where anything else is there, and past `usize`.
 pub fn parse_number(digits: &str) -> Option<usize>
-    ensures { SomeIff result (IsNumber digits.now) (digits_value 10 digits.now) }
+    ensures { result ≡ number_read digits.now }
 {
     // `parse` takes a plus in front, a script doesn't.
     if digits.starts_with('+') {
@@ -17,15 +15,14 @@ pub fn parse_number(digits: &str) -> Option<usize>
 
 /// The size that decimal digits are: the same of at least 1. `None` for 0 too.
 pub fn parse_size(digits: &str) -> Option<usize>
-    ensures found { IfSome result (λ size. IsSize digits.now size) }
-    ensures none { IfNone result ((size : ℕ) → IsSize digits.now size → ⊥) }
+    ensures { result ≡ size_read digits.now }
 {
     parse_number(digits).filter(|size| *size > 0)
 }
 
 /// The same up to 255. `None` past that.
 pub fn parse_byte(digits: &str) -> Option<u8>
-    ensures { SomeIff result (IsByte digits.now) (digits_value 10 digits.now) }
+    ensures { result ≡ byte_read digits.now }
 {
     if digits.starts_with('+') {
         return None;
@@ -35,7 +32,7 @@ pub fn parse_byte(digits: &str) -> Option<u8>
 
 /// The character that one to six hexadecimal digits name, if they name one.
 pub fn character(digits: &str) -> Option<char>
-    ensures { SomeIff result (NamesCharacter digits.now) (digits_value 16 digits.now) }
+    ensures { result ≡ character_read digits.now }
 {
     if digits.starts_with('+') || digits.len() > 6 {
         return None;

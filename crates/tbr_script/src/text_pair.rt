@@ -1,6 +1,7 @@
 //! Two texts of a script.
-ghost use Rattle.std.specs.Prelude.{ℕ, List, IfOk, IfSome, IfNone, string_bytes};
-ghost use Rattle.tbr_script.specs.Script.{AreSplitTexts};
+ghost use Rattle.std.specs.Prelude.{◌≡◌, IfOk, string_bytes};
+ghost use Rattle.std.specs.Option.{option_map};
+ghost use Rattle.tbr_script.specs.Read as read;
 
 use crate::escape::unescape;
 use std::alloc::{AllocError, Global};
@@ -18,12 +19,11 @@ impl TextPair {
     /// The two texts of an argument, split at the first ` | `, with their escapes replaced. `Ok(None)` where ` | ` is
     /// missing, or one of the two has a bad escape. It refuses only where memory is refused.
     pub fn parse(alloc: Global, writing: &str) -> Result<Option<TextPair>, AllocError>
-        ensures found { IfOk result (λ found. IfSome found (λ texts.
-            AreSplitTexts writing.now (string_bytes texts.first) (string_bytes texts.second))) }
-        ensures none { IfOk result (λ found.
-            IfNone found ((first second : List ℕ) → AreSplitTexts writing.now first second → ⊥)) }
+        ensures { IfOk result (λ found.
+            option_map (λ texts. (string_bytes texts.first, string_bytes texts.second)) found
+            ≡ read.texts_read writing.now) }
     {
-        let Some((first, second)) = writing.split_once(" | ") else {
+        let Some((first, second)) = split_at_bar(writing) else {
             return Ok(None);
         };
         let Some(first) = unescape(alloc, first)? else {
@@ -34,4 +34,11 @@ impl TextPair {
         };
         Ok(Some(TextPair { first, second }))
     }
+}
+
+/// What is before the first ` | ` of a text and after it. `None` where ` | ` is missing.
+fn split_at_bar(text: &str) -> Option<(&str, &str)>
+    ensures { option_map (λ parts. (parts.0.now, parts.1.now)) result ≡ read.split_at_bar text.now }
+{
+    text.split_once(" | ")
 }

@@ -1,5 +1,6 @@
 //! What a line of a script for people asks for.
-ghost use Rattle.std.specs.Prelude.{◌≡◌, ℤ, IfOk, IfSome, IfNone};
+ghost use Rattle.std.specs.Prelude.{◌≡◌, ℕ, ℤ, IfOk, IfSome, IfNone};
+ghost use Rattle.tbr_script.specs.Script.{IsSize};
 ghost use Rattle.tbr_statements.specs.Statement as model;
 ghost use Rattle.tbr_statements.specs.Statement.{IsStatement, IsOfBlocks, IsNumbered, IsItemNumber, IsSized};
 ghost use Rattle.tbr_statements.specs.declared.statement.Statement.{Statement as Meant};
@@ -75,7 +76,7 @@ fn numbered(line: &str) -> Option<Statement>
             Some(Statement::Open(Block::Ordered(number)))
         }
         "heading" => {
-            let level = parse_size(digits)?;
+            let level = heading_level(digits)?;
             Some(Statement::Open(Block::Heading(level)))
         }
         _ => None,
@@ -88,4 +89,12 @@ fn item_number(digits: &str) -> Option<i64>
     ensures none { IfNone result ((number : ℤ) → IsItemNumber digits.now number → ⊥) }
 {
     i64::try_from(parse_number(digits)?).ok()
+}
+
+/// The level of a heading by its digits.
+fn heading_level(digits: &str) -> Option<usize>
+    ensures found { IfSome result (λ level. IsSize digits.now level) }
+    ensures none { IfNone result ((level : ℕ) → IsSize digits.now level → ⊥) }
+{
+    parse_size(digits)
 }

@@ -1,22 +1,26 @@
-use Rattle.std.proofs.Common.{◌≡◌, ◌∷◌, codes, sym, ap, ◌∙◌, rules}
+use Rattle.std.proofs.Common.{◌≡◌, rules}
 use Rattle.std.proofs.lemmas.Option.{IfSome_then}
 use Rattle.tbr_script.specs.Script.{words_of}
-use Rattle.tbr_script.proofs.Optional.{if_none_weaker}
-use Rattle.tbr_commands.proofs.OpeningWords.{asked}
+use Rattle.tbr_script.proofs.Optional.{if_read, unless_read}
+use Rattle.tbr_commands.specs.Opening.{IsOpening}
+use Rattle.tbr_commands.specs.Read.{opening_words, opening_read}
+use Rattle.tbr_commands.proofs.Commands.{read_utf8, unread}
+use Rattle.tbr_commands.proofs.Reading.{opening_is_read, read_opening, opening_sized}
 use Rattle.tbr_commands.proofs.opening.Opening.parse.Goals as goal
 
-pub returns-clause-found : goal.returns-clause-found
-returns-clause-found c =
-    let new : c.in_ok-next.field-0.now ≡ codes "new" = search rules in
-    IfSome_then c.after_new.result c.after_new.ensures.found (λ opening asks. record {
-      utf8 = search rules;
-      words = c.next.new.self;
-      begins = ap words_of (sym c.in-Ok.ensures.cases.0) ∙ sym c.of-words.ensures ∙ c.in_ok-next.ensures ∙ ap (λ w. w ∷ c.next.new.self) new;
-      asks = asks;
-    })
+pub returns-in_default-clause-read : goal.returns-in_default-clause-read
+returns-in_default-clause-read c = unread (λ bs. opening_words (words_of bs)) c.args.line.now c.in_default.ensures.cases.0
 
-pub returns-clause-none : goal.returns-clause-none
-returns-clause-none c =
-    let new : c.in_ok-next.field-0.now ≡ codes "new" = search rules in
-    let begins = ap words_of (sym c.in-Ok.ensures.cases.0) ∙ sym c.of-words.ensures ∙ c.in_ok-next.ensures ∙ ap (λ w. w ∷ c.next.new.self) new in
-    if_none_weaker c.after_new.result (λ n opening h. n opening (asked c.args.line.now c.next.new.self opening begins h)) c.after_new.ensures.none
+pub returns : goal.returns
+returns c =
+    let line = c.args.line.now in
+    let reads = read_utf8 (λ bs. opening_words (words_of bs)) line c.in-Ok.line.now c.in-Ok.ensures.cases.0 c.in-Ok.ensures.cases.1 in
+    let is : c.after_new.result ≡ opening_read line = search rules in
+    let found = if_read (IsOpening line) c.after_new.result (opening_read line) is (read_opening line) in
+    record {
+      read = is;
+      found = found;
+      width = IfSome_then c.after_new.result found (λ opening k. (opening_sized line opening k).0);
+      wrap_width = IfSome_then c.after_new.result found (λ opening k. (opening_sized line opening k).1);
+      none = unless_read (IsOpening line) c.after_new.result (opening_read line) is (opening_is_read line);
+    }
