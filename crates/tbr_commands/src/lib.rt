@@ -9,6 +9,7 @@ pub use request::Request;
 pub use request::beginning::Beginning;
 pub use request::kind::Kind;
 pub use request::layout::Layout;
+pub use spaces::split_at_space;
 
 mod begun;
 mod command;

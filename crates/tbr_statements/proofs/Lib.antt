@@ -1,3 +1,2 @@
 mod NearWords
-mod Statements
 pub mod FirstWords

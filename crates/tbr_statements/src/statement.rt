@@ -1,13 +1,13 @@
 //! What a line of a script for people asks for.
-ghost use Rattle.std.specs.Prelude.{◌≡◌, ℕ, ℤ, IfOk, IfSome, IfNone};
-ghost use Rattle.tbr_script.specs.Script.{IsSize};
+ghost use Rattle.std.specs.Prelude.{◌≡◌, IfOk, IfSome};
+ghost use Rattle.std.specs.Option.{option_map};
 ghost use Rattle.tbr_statements.specs.Statement as model;
-ghost use Rattle.tbr_statements.specs.Statement.{IsStatement, IsOfBlocks, IsNumbered, IsItemNumber, IsSized};
-ghost use Rattle.tbr_statements.specs.declared.statement.Statement.{Statement as Meant};
+ghost use Rattle.tbr_statements.specs.Statement.{IsSized, statement_of};
+ghost use Rattle.tbr_statements.specs.Read.{item_number_read, numbered_read, block_read, statement_read};
 
 use crate::block::Block;
 use std::alloc::{AllocError, Global};
-use tbr_commands::Command;
+use tbr_commands::{Command, split_at_space};
 use tbr_script::{parse_number, parse_size};
 
 /// What a line after the first command asks for.
@@ -25,11 +25,8 @@ impl Statement {
     /// What a line asks for, without its newline. `Ok(None)` where it asks for nothing that is known. It refuses only
     /// where memory is refused.
     pub fn parse(alloc: Global, line: &[u8]) -> Result<Option<Statement>, AllocError>
-        ensures statement { IfOk result (λ found.
-            IfSome found (λ statement. IsStatement line.now statement)) }
+        ensures read { IfOk result (λ found. option_map statement_of found ≡ statement_read line.now) }
         ensures sized { IfOk result (λ found. IfSome found IsSized) }
-        ensures none { IfOk result (λ found.
-            IfNone found ((statement : Meant) → IsStatement line.now statement → ⊥)) }
     {
         if let Some(command) = Command::parse(alloc, line)? {
             return Ok(Some(Statement::Command(command)));
@@ -50,8 +47,7 @@ pub fn is_skipped(line: &[u8]) -> bool
 
 /// What a line asks for that opens or closes a block with a prefix.
 fn of_blocks(line: &str) -> Option<Statement>
-    ensures found { IfSome result (λ statement. IsOfBlocks line.now statement) }
-    ensures none { IfNone result ((statement : Meant) → IsOfBlocks line.now statement → ⊥) }
+    ensures { option_map statement_of result ≡ block_read line.now }
 {
     match line {
         "quote" => Some(Statement::Open(Block::Quote)),
@@ -66,17 +62,16 @@ fn of_blocks(line: &str) -> Option<Statement>
 
 /// The same of one with a number.
 fn numbered(line: &str) -> Option<Statement>
-    ensures found { IfSome result (λ statement. IsNumbered line.now statement) }
-    ensures none { IfNone result ((statement : Meant) → IsNumbered line.now statement → ⊥) }
+    ensures { option_map statement_of result ≡ numbered_read line.now }
 {
-    let (word, digits) = line.split_once(' ')?;
+    let (word, digits) = split_at_space(line)?;
     match word {
         "ordered" => {
             let number = item_number(digits)?;
             Some(Statement::Open(Block::Ordered(number)))
         }
         "heading" => {
-            let level = heading_level(digits)?;
+            let level = parse_size(digits)?;
             Some(Statement::Open(Block::Heading(level)))
         }
         _ => None,
@@ -85,16 +80,7 @@ fn numbered(line: &str) -> Option<Statement>
 
 /// The number of an item by its digits.
 fn item_number(digits: &str) -> Option<i64>
-    ensures found { IfSome result (λ number. IsItemNumber digits.now number) }
-    ensures none { IfNone result ((number : ℤ) → IsItemNumber digits.now number → ⊥) }
+    ensures { result ≡ item_number_read digits.now }
 {
     i64::try_from(parse_number(digits)?).ok()
-}
-
-/// The level of a heading by its digits.
-fn heading_level(digits: &str) -> Option<usize>
-    ensures found { IfSome result (λ level. IsSize digits.now level) }
-    ensures none { IfNone result ((level : ℕ) → IsSize digits.now level → ⊥) }
-{
-    parse_size(digits)
 }

@@ -30,7 +30,8 @@ use Rattle.tbr_statements.specs.declared.statement.Statement.{Statement}
 use Rattle.tbr_statements.specs.declared.statement.Statement.TheVariants as statement
 use Rattle.tbr_statements.specs.Problem.{IsOf}
 use Rattle.tbr_statements.specs.Block.{prefix_of, other_prefix, stands_apart, end_of}
-use Rattle.tbr_statements.specs.Statement.{IsStatement, is_skipped}
+use Rattle.tbr_statements.specs.Statement.{statement_of, is_skipped}
+use Rattle.tbr_statements.specs.Read.{statement_read}
 use Rattle.tbr_statements.specs.Level.{innermost, may_not_append}
 
 -- ---- lines that are lost
@@ -131,7 +132,8 @@ module _ {D M : Type 0} (columns : ℕ → Option ℕ) (decoration : Decoration 
   abbrev pub LineDoes : State D M → List ℕ → State D M → Type 0
   LineDoes s line t =
       ((is_skipped line ≡ true) × (t ≡ s))
-      ⊎ ((is_skipped line ≡ false) × ((statement : Statement) × IsStatement line statement × Does s statement t))
+      ⊎ ((is_skipped line ≡ false)
+      × ((asks : Statement) × (statement_read line ≡ Some (statement_of asks)) × Does s asks t))
 
   abbrev pub LinesDo : State D M → List (List ℕ) → State D M → Type 0
   LinesDo s [] t = t ≡ s
