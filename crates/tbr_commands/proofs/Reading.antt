@@ -1,5 +1,5 @@
 -- What is read of a line is the command, or the first command, that it is.
-use Rattle.std.proofs.Common.{◌≡◌, ◌⊎◌, inl, inr, ℕ, ◌<◌, ◌==◌, true, false, Option, None, Some, List, [], ◌∷◌, ◌++◌, codes, fold, refl, sym, ap, ◌∙◌, subst, arith, ◌≢◌, length, get_or, suc, lit≤, rules}
+use Rattle.std.proofs.Common.{◌≡◌, ◌⊎◌, inl, inr, ℕ, ◌<◌, ◌==◌, true, false, Option, None, Some, List, [], ◌∷◌, ◌++◌, codes, fold, refl, sym, ap, ◌∙◌, subst, arith, ◌≢◌, length, get_or, suc, lit≤, IfSome, rules}
 use Rattle.std.specs.List.{AllZip, AllByRecursion as Each}
 use Rattle.std.specs.Option.{option_map, option_and_then}
 use Rattle.std.specs.Str.{IsUtf8, bytes_eq, is_utf8}
@@ -371,7 +371,8 @@ wrap_width_told (w ∷ ws) [] options is h = absurd is
 wrap_width_told (w ∷ ws) (s ∷ ss) options is h = wrap_width_told ws ss (with_setting options s) is.1 (wrap_width_kept w s options is.0 h)
 
 -- widths are at least 1
-pub opening_sized : (line : List ℕ) (opening : Opening) → IsOpening line opening → (0 < opening.width) × (opening.options.wrap_width ≢ Some 0)
-opening_sized line opening is =
-    let (digits, others, are, size, (all, told, given)) = is.asks in
+pub opening_sized : (line : List ℕ) (found : Option Opening) → found ≡ opening_read line → IfSome found (λ o. 0 < o.width) × IfSome found (λ o. o.options.wrap_width ≢ Some 0)
+opening_sized line None e = (tt, tt)
+opening_sized line (Some o) e =
+    let (digits, others, are, size, (all, told, given)) = (read_opening line o (sym e)).asks in
     (size.2, λ none. wrap_width_told others all default_options told (λ e. cc) (ap (λ (o : RenderOptions). o.wrap_width) (sym given) ∙ none))

@@ -1,8 +1,6 @@
 //! The first command of a script.
-ghost use Rattle.std.specs.Prelude.{◌≡◌, ◌≢◌, ◌<◌, Some, IfSome, IfNone};
-ghost use Rattle.tbr_commands.specs.Opening.{IsOpening};
+ghost use Rattle.std.specs.Prelude.{◌≡◌, ◌≢◌, ◌<◌, Some, IfSome};
 ghost use Rattle.tbr_commands.specs.Read.{decorator_read, asked_for, opening_read};
-ghost use Rattle.tbr_commands.specs.declared.opening.Opening.{Opening as Meant};
 
 use crate::options::parse_options;
 use tbr_renderer::RenderOptions;
@@ -48,10 +46,8 @@ impl Opening {
     /// The first command of a script that a line is, without its newline. `None` where it is none.
     pub fn parse(line: &[u8]) -> Option<Opening>
         ensures read { result ≡ opening_read line.now }
-        ensures found { IfSome result (λ opening. IsOpening line.now opening) }
         ensures width { IfSome result (λ opening. 0 < opening.width) }
         ensures wrap_width { IfSome result (λ opening. opening.options.wrap_width ≢ Some 0) }
-        ensures none { IfNone result ((opening : Meant) → IsOpening line.now opening → ⊥) }
     {
         let Ok(line) = str::from_utf8(line) else {
             return None;

@@ -10,11 +10,6 @@ use Rattle.tbr_program.specs.Commands.{Place, after_command, after_read, after_l
 pub no_length : (n : ℕ) → true ≡ (suc n == 0) → ⊥
 no_length n e = let none : suc n ≡ 0 = eqb-true (suc n) 0 (sym e) in omega (arith, none)
 
--- there is none where none is it
-pub none_read : {X : Type 0} (o : Option X) → ((x : X) → o ≡ Some x → ⊥) → o ≡ None
-none_read None none = refl
-none_read (Some x) none = absurd (none x refl)
-
 module _ {D M : Type 0} (columns : ℕ → Option ℕ) (decoration : Decoration D M) (number : ℕ) (p : Place columns decoration) where
   pub nothing_asked : (line : List ℕ) → true ≡ (length line == 0) → after_line columns decoration number line p ≡ Ok p
   nothing_asked [] none = refl

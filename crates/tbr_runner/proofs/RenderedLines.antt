@@ -8,12 +8,11 @@ use Rattle.tbr_script.specs.Script.{lines_of}
 use Rattle.tbr_commands.specs.declared.opening.Decorator.{Decorator}
 use Rattle.tbr_commands.specs.declared.opening.Opening.{Opening}
 use Rattle.tbr_commands.specs.Command.{Command}
-use Rattle.tbr_commands.specs.Opening.{IsOpening}
 use Rattle.tbr_commands.specs.Syntax.{IsCommand}
 use Rattle.tbr_commands.specs.Read.{command_read, opening_read}
-use Rattle.tbr_commands.proofs.Reading.{read_command, opening_is_read, read_opening}
+use Rattle.tbr_commands.proofs.Reading.{read_command}
 use Rattle.tbr_program.specs.Commands.{Place, Made, after_command, after_read, after_line, ended}
-use Rattle.tbr_program.proofs.CommandLines.{no_length, none_read}
+use Rattle.tbr_program.proofs.CommandLines.{no_length}
 use Rattle.tbr_program.proofs.CommandParts.{IsLate}
 use Rattle.tbr_runner.specs.Scripts.{unless_refused, rendered_on, rendered_under, rendered_by, rendered_from, rendered}
 
@@ -67,16 +66,9 @@ module _ (columns : ℕ → Option ℕ) (number : ℕ) where
   nothing_begun [] none = refl
   nothing_begun (b ∷ bs) none = absurd (no_length (length bs) none)
 
-  pub no_opening : (rest line after : List ℕ) → false ≡ (length line == 0) → lines_of rest ≡ line ∷ lines_of after → ((opening : Opening) → IsOpening line opening → ⊥) → rendered_from columns number (lines_of rest) ≡ Err (NotACommand number)
-  no_opening rest [] after some are none = absurd (false≢true some)
-  no_opening rest (b ∷ bs) after some are none =
-      ap (rendered_from columns number) are
-      ∙ ap (λ o. rendered_by columns o number (lines_of after)) (none_read (opening_read (b ∷ bs)) (λ opening is. none opening (read_opening (b ∷ bs) opening is)))
-
-  pub line_opens : (rest line after : List ℕ) (opening : Opening) → false ≡ (length line == 0) → lines_of rest ≡ line ∷ lines_of after → IsOpening line opening → rendered_from columns number (lines_of rest) ≡ rendered_under columns opening.decorator opening (number + 1) (lines_of after)
-  line_opens rest [] after opening some are is = absurd (false≢true some)
-  line_opens rest (b ∷ bs) after opening some are is =
-      ap (rendered_from columns number) are ∙ ap (λ o. rendered_by columns o number (lines_of after)) (opening_is_read (b ∷ bs) opening is)
+  pub first_read : (rest line after : List ℕ) (found : Option Opening) → false ≡ (length line == 0) → lines_of rest ≡ line ∷ lines_of after → found ≡ opening_read line → rendered_from columns number (lines_of rest) ≡ rendered_by columns found number (lines_of after)
+  first_read rest [] after found some are is = absurd (false≢true some)
+  first_read rest (b ∷ bs) after found some are is = ap (rendered_from columns number) are ∙ ap (λ o. rendered_by columns o number (lines_of after)) (sym is)
 
 -- what lines give under the decorator that it names, the script gives, which is another list with the same bytes
 pub opened_under : (columns : ℕ → Option ℕ) (decorator : Decorator) (opening : Opening) (number : ℕ) (lines : List (List ℕ)) (given outcome : Result (List ℕ) RunError) (script same : List ℕ) → script ≡ same → opening.decorator ≡ decorator →

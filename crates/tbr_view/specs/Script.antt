@@ -1,8 +1,8 @@
 -- How a script begins.
-use Rattle.std.specs.Prelude.{◌≡◌, ℕ, ◌+◌, false, true, None, List, [], ◌∷◌, ◌++◌, length}
+use Rattle.std.specs.Prelude.{◌≡◌, ℕ, ◌+◌, false, true, None, Some, List, [], ◌∷◌, ◌++◌, length}
 use Rattle.std.specs.List.{AllByRecursion as Each}
 use Rattle.tbr_script.specs.Script.{lines_of}
-use Rattle.tbr_commands.specs.Opening.{IsOpening}
+use Rattle.tbr_commands.specs.Read.{opening_read}
 use Rattle.tbr_commands.specs.declared.opening.Opening.{Opening}
 use Rattle.tbr_statements.specs.Statement.{is_skipped}
 use Rattle.tbr_statements.specs.Level.{held}
@@ -21,13 +21,13 @@ pub record Begins (script : List ℕ) (opening : Opening) (number : ℕ) (rest :
   pub lines : lines_of script ≡ skipped ++ line ∷ lines_of rest
   pub each : AreSkipped skipped
   pub asks : is_skipped line ≡ false
-  pub opens : IsOpening line opening
+  pub opens : opening_read line ≡ Some opening
   pub counts : number ≡ held (length skipped + 2)
 
 -- no line, or a first one that asks for something and is no first command
 abbrev pub BeginNot : List (List ℕ) → Type 0
 BeginNot [] = Unit {0}
-BeginNot (line ∷ lines) = (is_skipped line ≡ false) × ((opening : Opening) → IsOpening line opening → ⊥)
+BeginNot (line ∷ lines) = (is_skipped line ≡ false) × (opening_read line ≡ None)
 
 -- The first line that asks for something is no first command, or there is none. The refusal tells that line, or the one
 -- after the last.

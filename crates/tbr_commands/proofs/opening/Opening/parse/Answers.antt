@@ -1,11 +1,8 @@
 use Rattle.std.proofs.Common.{◌≡◌, rules}
-use Rattle.std.proofs.lemmas.Option.{IfSome_then}
 use Rattle.tbr_script.specs.Script.{words_of}
-use Rattle.tbr_script.proofs.Optional.{if_read, unless_read}
-use Rattle.tbr_commands.specs.Opening.{IsOpening}
 use Rattle.tbr_commands.specs.Read.{opening_words, opening_read}
 use Rattle.tbr_commands.proofs.Commands.{read_utf8, unread}
-use Rattle.tbr_commands.proofs.Reading.{opening_is_read, read_opening, opening_sized}
+use Rattle.tbr_commands.proofs.Reading.{opening_sized}
 use Rattle.tbr_commands.proofs.opening.Opening.parse.Goals as goal
 
 pub returns-in_default-clause-read : goal.returns-in_default-clause-read
@@ -16,11 +13,5 @@ returns c =
     let line = c.args.line.now in
     let reads = read_utf8 (λ bs. opening_words (words_of bs)) line c.in-Ok.line.now c.in-Ok.ensures.cases.0 c.in-Ok.ensures.cases.1 in
     let is : c.after_new.result ≡ opening_read line = search rules in
-    let found = if_read (IsOpening line) c.after_new.result (opening_read line) is (read_opening line) in
-    record {
-      read = is;
-      found = found;
-      width = IfSome_then c.after_new.result found (λ opening k. (opening_sized line opening k).0);
-      wrap_width = IfSome_then c.after_new.result found (λ opening k. (opening_sized line opening k).1);
-      none = unless_read (IsOpening line) c.after_new.result (opening_read line) is (opening_is_read line);
-    }
+    let sized = opening_sized line c.after_new.result is in
+    record { read = is; width = sized.0; wrap_width = sized.1 }
