@@ -1,7 +1,6 @@
 pub mod Writes
 pub mod Lines
 pub mod FirstWord
-pub mod Optional
 pub mod Reading
 pub mod Texts
 pub mod Bars
