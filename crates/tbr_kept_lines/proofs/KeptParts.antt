@@ -1,10 +1,10 @@
 -- Lines that are kept by themselves or in texts of blocks.
-use Rattle.std.proofs.Common.{◌≡◌, ℕ, ◌+◌, ◌-◌, ◌≤◌, arith, not, None, if◌then◌else◌, Bool, true, false, ◌||◌, List, [], ◌∷◌, ◌++◌, map, length, refl, ap, sym, ◌∙◌, subst, append_assoc, append-nil, length-append, lt-ltb}
+use Rattle.std.proofs.Common.{◌≡◌, ℕ, zero, suc, ◌+◌, ◌-◌, ◌≤◌, ◌<◌, arith, take, get_or, not, None, if◌then◌else◌, Bool, true, false, ◌||◌, List, [], ◌∷◌, ◌++◌, map, length, refl, ap, sym, ◌∙◌, subst, append_assoc, append-nil, length-append, lt-ltb}
 use mir.Val.{bool_byte}
 use Rattle.std.specs.Prelude.{filter, nat_lt, drop, ◌==◌}
 use Rattle.std.specs.List.{AllZip, AllByRecursion as Each, list_any}
 use Rattle.std.proofs.lemmas.Bool.{eqb-true}
-use Rattle.std.proofs.lemmas.List.{map-append}
+use Rattle.std.proofs.lemmas.List.{map-append, take_more}
 use Rattle.std.proofs.lemmas.List.Elements.{filter-append}
 use Rattle.std.proofs.lemmas.List.Concat.{flat_map-append}
 use Rattle.tbr_model.specs.Run.{Item, has_character}
@@ -184,6 +184,25 @@ content_more eq line lines n merged content =
     ∙ sym (count_after line_has_content (map line_seen lines) (line_seen line))
     ∙ ap (λ ls. length (filter line_has_content ls)) (sym (map-append line_seen lines (line ∷ [])))
 
+pub each_get_or : {X : Type 0} (P : X → Type 0) (xs : List X) (i : ℕ) (d : X) → i < length xs → Each P xs → P (get_or xs i d)
+each_get_or P [] i d below h = absurd (omega (arith, below))
+each_get_or P (x ∷ xs) zero d below h = h.0
+each_get_or P (x ∷ xs) (suc i) d below h = each_get_or P xs i d (omega (arith, below)) h.1
+
+-- the count of the first lines, and of one more
+pub content_next : {T : Type 0} (eq : T → T → Bool) (lines : List (RenderLine T)) (i n byte : ℕ) (line : RenderLine T) → Each (IsMergedText eq) lines → i < length lines → line ≡ get_or lines i line →
+    n ≡ length (filter line_has_content (map line_seen (take i lines))) → byte ≡ bool_byte (line_holds line) → n + byte ≡ length (filter line_has_content (map line_seen (take (i + 1) lines)))
+content_next eq lines i n byte line merged below is count one =
+    ap (λ k. n + k) (one ∙ one_or_none (line_holds line))
+    ∙ content_more eq line (take i lines) n (subst (IsMergedText eq) (sym is) (each_get_or (IsMergedText eq) lines i line below merged)) count
+    ∙ ap (λ ls. length (filter line_has_content (map line_seen ls))) (ap (λ l. take i lines ++ l ∷ []) is ∙ sym (take_more lines i line below))
+
+-- the count of lines, and of more after them
+pub content_appended : {T : Type 0} (lines more : List (RenderLine T)) → length (filter line_has_content (map line_seen (lines ++ more))) ≡ length (filter line_has_content (map line_seen lines)) + length (filter line_has_content (map line_seen more))
+content_appended lines more =
+    ap (λ ls. length (filter line_has_content ls)) (map-append line_seen lines more) ∙ ap length (filter-append line_has_content (map line_seen lines) (map line_seen more))
+    ∙ length-append (filter line_has_content (map line_seen lines)) (filter line_has_content (map line_seen more))
+
 -- ---- a block's lines, one by one
 
 -- Lines of a block were pushed, and the others are left.
@@ -265,7 +284,7 @@ module _ {T : Type 0} (eq : T → T → Bool) (laws : IsEquivalence eq) where
       subst (λ ls. AllZip (SameSeen eq) (map line_seen all) ls) (sym (part_after ps p))
       (subst (λ ls. AllZip (SameSeen eq) ls ((parts_seen ps ++ map line_seen p.before.items) ++ text_lines p.ended)) (sym (ap (map line_seen) is ∙ map-append line_seen front more)) ends)
 
-each_append : {X : Type 0} (P : X → Type 0) (xs ys : List X) → Each P xs → Each P ys → Each P (xs ++ ys)
+pub each_append : {X : Type 0} (P : X → Type 0) (xs ys : List X) → Each P xs → Each P ys → Each P (xs ++ ys)
 each_append P [] ys h k = k
 each_append P (x ∷ xs) ys h k = (h.0, each_append P xs ys h.1 k)
 

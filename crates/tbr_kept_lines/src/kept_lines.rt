@@ -1,5 +1,5 @@
 //! Lines as a renderer keeps them.
-ghost use Rattle.std.specs.Prelude.{◌≡◌, ◌≢◌, ◌++◌, ◌∷◌, [], List, None, Some, true, not, map, IfOk, IfSome, OnOk};
+ghost use Rattle.std.specs.Prelude.{◌≡◌, ◌≢◌, ◌++◌, ◌∷◌, [], List, None, Some, true, not, map, filter, length, IfOk, IfSome, OnOk};
 ghost use Rattle.std.specs.List.{AllZip, AllByRecursion as Each, list_any};
 ghost use Rattle.tbr_tagged.specs.Copies.{CopiesAreEqual};
 ghost use Rattle.tbr_border.specs.RenderLine.{IsMergedText};
@@ -94,6 +94,21 @@ impl<T: Eq + Drop> KeptLines<T> {
         Ok(())
     }
 
+    /// Adds lines after the others, each of pieces that are the longest stretches under equal tags. Where memory is
+    /// refused they are lost.
+    pub fn extend(&mut self, mut lines: Vec<RenderLine<T>>) -> Result<(), OutOfMemory>
+        requires { Each (IsMergedText T.eq) lines.items }
+        ensures { OnOk result (self.new ≡ self.old ++ map line_seen lines.items) }
+    {
+        let more = count_content(&lines);
+        let Some(with_content) = self.with_content.checked_add(more) else {
+            return Err(OutOfMemory);
+        };
+        self.last.append(&mut lines)?;
+        self.with_content = with_content;
+        Ok(())
+    }
+
     /// Adds the lines that a block has ended, at least one, after the others. They stay in the block's text. Where memory
     /// is refused lines are lost.
     pub fn push_ended(&mut self, ended: EndedLines<T>) -> Result<(), OutOfMemory>
@@ -147,6 +162,18 @@ impl<T: Eq + Clone + Drop> KeptLines<T> {
         lines.append(&mut last)?;
         Ok(lines)
     }
+}
+
+/// How many lines have content.
+fn count_content<T: Eq>(lines: &[RenderLine<T>]) -> usize
+    requires { Each (IsMergedText T.eq) lines.now }
+    ensures { result ≡ length (filter line_has_content (map line_seen lines.now)) }
+{
+    let mut count = 0usize;
+    for line in lines {
+        count += usize::from(line.has_content());
+    }
+    count
 }
 
 /// Takes the last line, if it is a border.

@@ -1,12 +1,12 @@
 -- Lines of other renderers, one after another.
-use Rattle.std.proofs.Common.{◌≡◌, inr, ℕ, arith, suc, ◌<◌, Option, None, Some, Result, Err, List, [], ◌∷◌, ◌++◌, map, fold, length, refl, ap, sym, ◌∙◌, subst}
+use Rattle.std.proofs.Common.{◌≡◌, inl, inr, if◌then◌else◌, ℕ, arith, ◌+◌, ◌≤◌, ◌<◌, Bool, false, Option, None, Some, Result, Err, List, [], ◌∷◌, ◌++◌, map, fold, take, drop, get_or, set, length, refl, ap, sym, ◌∙◌, subst, append_assoc, append-nil, drop_of_length-le}
 use Rattle.std.specs.Prelude.{chars, ◌==◌, true}
 use Rattle.std.specs.Iterator.{Yields}
 use Rattle.std.specs.Result.{IsErrAnd}
 use Rattle.std.proofs.iter.Next.{Yields-more}
 use Rattle.std.proofs.lemmas.Bool.{eqb-true}
 use Rattle.std.proofs.lemmas.Str.{chars-nil}
-use Rattle.std.proofs.lemmas.List.{map-append}
+use Rattle.std.proofs.lemmas.List.{map-append, length-append, length-map, length-take-le, length-drop, get_or-drop, drop-set-lt, drop-drop, take_all, take-append-drop, take_more, take_more_set}
 use Rattle.std.proofs.lemmas.Grind.{fold-append}
 use Rattle.tbr_model.specs.Run.{Item}
 use Rattle.tbr_tagged.specs.declared.Error.{Error}
@@ -14,11 +14,15 @@ use Rattle.tbr_tagged.specs.Outcome.{Outcome, done}
 use Rattle.tbr_renderer.specs.Outcomes.{gathered}
 use Rattle.tbr_renderer.proofs.OutcomeParts.{gathered_last}
 use Rattle.tbr_border.specs.declared.RenderLine.{RenderLine}
+use Rattle.tbr_border.specs.RenderLine.{IsMergedText}
 use Rattle.tbr_tagged.specs.Elements.{text_items}
 use Rattle.tbr_footnotes.specs.Tags.{tag_meant}
 use Rattle.tbr_renderer.specs.Meant.{map_line, meant}
-use Rattle.tbr_kept_lines.specs.Line.{Line, line_seen}
+use Rattle.tbr_kept_lines.specs.Line.{Line, text, line_seen}
+use Rattle.tbr_kept_lines.proofs.KeptParts.{each_after, each_get_or}
 use Rattle.tbr_renderer.specs.Renderer.{Renderer, Settings, KeepsSettings, with_line}
+use Rattle.tbr_model.specs.Markers.{marker_items}
+use Rattle.tbr_wrap.specs.Wrapped.{padding_of}
 use Rattle.tbr_border.specs.Cell.{slash}
 use Rattle.tbr_renderer.specs.Appended.{GivesFirst, texts_of, as_text, prefixed, handed_out, with_divider, with_cell, with_cell_below}
 use Rattle.std.specs.List.{AllByRecursion as Each}
@@ -45,28 +49,18 @@ pub no_prefix : {T : Type 0} (prefix : List ℕ) (tag : T) (is : List (Item T)) 
 no_prefix [] tag is empty = ap (λ cs. text_items cs tag ++ is) (sym chars-nil)
 no_prefix (b ∷ prefix) tag is empty = let none = eqb-true (length (b ∷ prefix)) 0 empty in absurd (omega (arith, none))
 
-length-last : {X : Type 0} (xs : List X) (x : X) → length (xs ++ x ∷ []) ≡ suc (length xs)
-length-last [] x = refl
-length-last (y ∷ xs) x = ap suc (length-last xs x)
-
-length-map : {X Y : Type 0} (f : X → Y) (xs : List X) → length (map f xs) ≡ length xs
-length-map f [] = refl
-length-map f (x ∷ xs) = ap suc (length-map f xs)
-
-module _ {D A M : Type 0} (f : A → M) (columns : ℕ → Option ℕ) (first : Renderer D A (List A)) where
+module _ {A M : Type 0} (f : A → M) where
   -- the lines as a contract sees them, by what their annotations mean
   abbrev pub seen : List (RenderLine (List A)) → List (Line (List M))
   seen lines = map (map_line (tag_meant f)) (map line_seen lines)
-
-  seen-last : (lines : List (RenderLine (List A))) (line : RenderLine (List A)) → seen (lines ++ line ∷ []) ≡ seen lines ++ map_line (tag_meant f) (line_seen line) ∷ []
-  seen-last lines line = ap (map (map_line (tag_meant f))) (map-append line_seen lines (line ∷ [])) ∙ map-append (map_line (tag_meant f)) (map line_seen lines) (line_seen line ∷ [])
 
   seen-append : (lines more : List (RenderLine (List A))) → seen (lines ++ more) ≡ seen lines ++ seen more
   seen-append lines more = ap (map (map_line (tag_meant f))) (map-append line_seen lines more) ∙ map-append (map_line (tag_meant f)) (map line_seen lines) (map line_seen more)
 
   pub length-seen : (lines : List (RenderLine (List A))) → length (seen lines) ≡ length lines
-  length-seen lines = length-map (map_line (tag_meant f)) (map line_seen lines) ∙ length-map line_seen lines
+  length-seen lines = length-map (map line_seen lines) (map_line (tag_meant f)) ∙ length-map lines line_seen
 
+module _ {D A M : Type 0} (f : A → M) (columns : ℕ → Option ℕ) (first : Renderer D A (List A)) where
   -- ---- texts that were put one by one
 
   pub record HasPut (texts : List (List (Item (List M)))) (now : Renderer D A (List A)) : Type 0 where
@@ -74,12 +68,12 @@ module _ {D A M : Type 0} (f : A → M) (columns : ℕ → Option ℕ) (first : 
     pub settings : KeepsSettings (meant f first) (meant f now)
     pub lines : meant f now ≡ fold (with_line columns) (meant f first) texts
 
-  put_more : (texts : List (List (Item (List M)))) (text : List (Item (List M))) (now next : Renderer D A (List A)) → HasPut texts now → meant f next ≡ with_line columns (meant f now) text → KeepsSettings (meant f now) (meant f next) →
-      HasPut (texts ++ text ∷ []) next
-  put_more texts text now next h is kept = record {
+  put_more : (texts : List (List (Item (List M)))) (shown : List (Item (List M))) (now next : Renderer D A (List A)) → HasPut texts now → meant f next ≡ with_line columns (meant f now) shown → KeepsSettings (meant f now) (meant f next) →
+      HasPut (texts ++ shown ∷ []) next
+  put_more texts shown now next h is kept = record {
     unfailed = ap (λ (r : Renderer D M (List M)). r.failure) is ∙ h.unfailed;
     settings = kept ∙ h.settings;
-    lines = is ∙ ap (λ (r : Renderer D M (List M)). with_line columns r text) h.lines ∙ sym (fold-append (with_line columns) (meant f first) texts (text ∷ []));
+    lines = is ∙ ap (λ (r : Renderer D M (List M)). with_line columns r shown) h.lines ∙ sym (fold-append (with_line columns) (meant f first) texts (shown ∷ []));
   }
 
   -- what text is under
@@ -89,60 +83,121 @@ module _ {D A M : Type 0} (f : A → M) (columns : ℕ → Option ℕ) (first : 
   -- ---- a cell
 
   abbrev pub HasCell : List (RenderLine (List A)) → Renderer D A (List A) → Type 0
-  HasCell lines now = HasPut (map (as_text (map f first.annotations)) (seen lines)) now
+  HasCell lines now = HasPut (map (as_text (map f first.annotations)) (seen f lines)) now
 
-  -- ---- lines after prefixes
+-- ---- lines after prefixes, one by one
 
-  module _ {S X : Type 0} (can : S → Type 0) (gives : S → Option X → S → Type 0) (read : X → List ℕ) (it : S) where
-    pub record HasPrefixed (lines : List (RenderLine (List A))) (left : S) (now : Renderer D A (List A)) : Type 0 where
+module _ {A M : Type 0} (f : A → M) (eq : List A → List A → Bool) (tag : List M) where
+  module _ {S X : Type 0} (can : S → Type 0) (gives : S → Option X → S → Type 0) (read : X → List ℕ) (it : S) (all : List (RenderLine (List A))) where
+    -- So many lines have their prefixes, and the others are as they were.
+    pub record HasPrefixes (count : ℕ) (left : S) (now : List (RenderLine (List A))) : Type 0 where
       pub can_go_on : can left
       pub given : List X
       pub yields : Yields gives it given left
-      pub as_many : length given ≡ length lines
-      pub put : HasPut (prefixed (map f first.annotations) (texts_of read given) (seen lines)) now
+      pub as_many : length given ≡ count
+      pub within : count ≤ length all
+      pub put : seen f (take count now) ≡ map text (prefixed tag (texts_of read given) (seen f (take count all)))
+      pub merged : Each (IsMergedText eq) (take count now)
+      pub rest : drop count now ≡ drop count all
 
-    same_length : (given : List X) (lines : List (RenderLine (List A))) → length given ≡ length lines → length (texts_of read given) ≡ length (seen lines)
-    same_length given lines same = length-map (λ x. chars (read x)) given ∙ same ∙ sym (length-seen lines)
+    same_length : (given : List X) (count : ℕ) → length given ≡ count → count ≤ length all → length (texts_of read given) ≡ length (seen f (take count all))
+    same_length given count same within = omega (arith, length-map given (λ x. chars (read x)), same, length-seen f (take count all), length-take-le count all within)
 
-    pub prefixed_goes_on : (lines : List (RenderLine (List A))) (line : RenderLine (List A)) (prefix : X) (text : List (Item (List M))) (left rest : S) (now next : Renderer D A (List A)) → (h : HasPrefixed lines left now) →
-        can rest → gives left (Some prefix) rest → text ≡ text_items (chars (read prefix)) (map f now.annotations) ++ as_text (map f now.annotations) (map_line (tag_meant f) (line_seen line)) →
-        meant f next ≡ with_line columns (meant f now) text → KeepsSettings (meant f now) (meant f next) → HasPrefixed (lines ++ line ∷ []) rest next
-    prefixed_goes_on lines line prefix text left rest now next h able came is put kept =
-        let tag = map f first.annotations in
-        let seen_line = map_line (tag_meant f) (line_seen line) in
-        let here : text ≡ text_items (chars (read prefix)) tag ++ as_text tag seen_line =
-        is ∙ ap (λ t. text_items (chars (read prefix)) t ++ as_text t seen_line) (under now h.put.settings) in
-        let all : prefixed tag (texts_of read h.given) (seen lines) ++ text ∷ [] ≡ prefixed tag (texts_of read (h.given ++ prefix ∷ [])) (seen (lines ++ line ∷ [])) =
-        ap (λ t. prefixed tag (texts_of read h.given) (seen lines) ++ t ∷ []) here
-        ∙ sym (ap (λ ps. prefixed tag ps (seen (lines ++ line ∷ []))) (map-append (λ x. chars (read x)) h.given (prefix ∷ []))
-        ∙ ap (prefixed tag (texts_of read h.given ++ chars (read prefix) ∷ [])) (seen-last lines line)
-        ∙ prefixed-last tag (texts_of read h.given) (chars (read prefix)) (seen lines) seen_line (same_length h.given lines h.as_many)) in record {
+    pub one_prefix_more : (count : ℕ) (left next : S) (now : List (RenderLine (List A))) (d line : RenderLine (List A)) (prefix : X) → HasPrefixes count left now → count < length all → can next → gives left (Some prefix) next →
+        map_line (tag_meant f) (line_seen line) ≡ text (text_items (chars (read prefix)) tag ++ as_text tag (map_line (tag_meant f) (line_seen (get_or now count d)))) → IsMergedText eq line →
+        HasPrefixes (count + 1) next (set now count line)
+    one_prefix_more count left next now d line prefix h below able came is merged =
+        let here : count < length now = omega (arith, below, length-drop count now, length-drop count all, ap length h.rest) in
+        let old = get_or now count d in
+        let old_seen = map_line (tag_meant f) (line_seen old) in
+        let same : get_or all (count + 0) d ≡ get_or now (count + 0) d = sym (get_or-drop count all 0 d) ∙ ap (λ ls. get_or ls 0 d) (sym h.rest) ∙ get_or-drop count now 0 d in
+        let zero : count + 0 ≡ count = omega arith in
+        let whole : take (count + 1) all ≡ take count all ++ old ∷ [] = take_more all count d below ∙ ap (λ l. take count all ++ l ∷ []) (ap (λ j. get_or all j d) (sym zero) ∙ same ∙ ap (λ j. get_or now j d) zero) in
+        let put_whole = take_more_set now count line here in
+        let texts = prefixed tag (texts_of read h.given) (seen f (take count all)) in
+        let shown = text_items (chars (read prefix)) tag ++ as_text tag old_seen in
+        let all_put : texts ++ shown ∷ [] ≡ prefixed tag (texts_of read (h.given ++ prefix ∷ [])) (seen f (take (count + 1) all)) =
+        sym (ap (λ ls. prefixed tag (texts_of read (h.given ++ prefix ∷ [])) (seen f ls)) whole
+        ∙ ap (λ ps. prefixed tag ps (seen f (take count all ++ old ∷ []))) (map-append (λ x. chars (read x)) h.given (prefix ∷ []))
+        ∙ ap (prefixed tag (texts_of read h.given ++ chars (read prefix) ∷ [])) (seen-append f (take count all) (old ∷ []))
+        ∙ prefixed-last tag (texts_of read h.given) (chars (read prefix)) (seen f (take count all)) old_seen (same_length h.given count h.as_many h.within)) in record {
           can_go_on = able;
           given = h.given ++ prefix ∷ [];
-          yields = Yields-more gives it h.given left prefix rest h.yields came;
-          as_many = length-last h.given prefix ∙ ap suc h.as_many ∙ sym (length-last lines line);
-          put = subst (λ (ts : List (List (Item (List M)))). HasPut ts next) all (put_more (prefixed tag (texts_of read h.given) (seen lines)) text now next h.put put kept);
+          yields = Yields-more gives it h.given left prefix next h.yields came;
+          as_many = length-append h.given (prefix ∷ []) ∙ ap (λ n. n + 1) h.as_many;
+          within = omega (arith, below);
+          put = ap (seen f) put_whole ∙ seen-append f (take count now) (line ∷ []) ∙ ap (λ l. seen f (take count now) ++ l ∷ []) is ∙ ap (λ ls. ls ++ text shown ∷ []) h.put
+              ∙ sym (map-append text texts (shown ∷ [])) ∙ ap (map text) all_put;
+          merged = subst (Each (IsMergedText eq)) (sym put_whole) (each_after (IsMergedText eq) (take count now) line h.merged merged);
+          rest = drop-set-lt (count + 1) now count line (omega arith) ∙ sym (drop-drop 1 count now) ∙ ap (drop 1) h.rest ∙ drop-drop 1 count all;
         }
 
-    abbrev pub Prefixes : List (RenderLine (List A)) → Renderer D A (List A) → Type 0
-    Prefixes lines now =
-        (given : List X) × GivesFirst gives (length lines) it given
-        × (meant f now ≡ fold (with_line columns) (meant f first) (prefixed (map f first.annotations) (texts_of read given) (seen lines)))
+    abbrev pub Prefixes : ℕ → List (RenderLine (List A)) → Type 0
+    Prefixes count now =
+        (given : List X) × GivesFirst gives (length all) it given
+        × (seen f (take count now) ≡ map text (prefixed tag (texts_of read given) (seen f all)))
+
+    -- all have one
+    pub all_prefixed : (count : ℕ) (left : S) (now : List (RenderLine (List A))) → HasPrefixes count left now → length all ≤ count → Prefixes count now
+    all_prefixed count left now h over = (
+      h.given,
+      (left, h.yields, inl (omega (arith, h.as_many, h.within, over))),
+      h.put ∙ ap (λ ls. map text (prefixed tag (texts_of read h.given) (seen f ls))) (take_all count all over),
+    )
 
     -- the prefixes ran out before a line
-    pub ran_out : (lines : List (RenderLine (List A))) (line : RenderLine (List A)) (more : List (RenderLine (List A))) (left end : S) (now : Renderer D A (List A)) → HasPrefixed lines left now → gives left None end → Prefixes (lines ++ line ∷ more) now
-    ran_out lines line more left end now h none =
-        let tag = map f first.annotations in
-        let fewer = length_after lines line more in (
-          h.given,
-          (left, h.yields, inr (omega (arith, h.as_many, fewer), (end, none))),
-          h.put.lines ∙ ap (fold (with_line columns) (meant f first))
-              (sym (ap (prefixed tag (texts_of read h.given)) (seen-append lines (line ∷ more)) ∙ prefixed-front tag (texts_of read h.given) (seen lines) (seen (line ∷ more)) (same_length h.given lines h.as_many))),
-        )
-      where
-        length_after : (xs : List (RenderLine (List A))) (x : RenderLine (List A)) (ys : List (RenderLine (List A))) → length xs < length (xs ++ x ∷ ys)
-        length_after [] x ys = omega (arith)
-        length_after (z ∷ xs) x ys = let h = length_after xs x ys in omega (arith, h)
+    pub ran_out : (count : ℕ) (left end : S) (now : List (RenderLine (List A))) → HasPrefixes count left now → count < length all → gives left None end → Prefixes count now
+    ran_out count left end now h below none = (
+      h.given,
+      (left, h.yields, inr (omega (arith, h.as_many, below), (end, none))),
+      h.put ∙ ap (map text) (sym (ap (λ ls. prefixed tag (texts_of read h.given) (seen f ls)) (sym (take-append-drop count all)) ∙ ap (prefixed tag (texts_of read h.given)) (seen-append f (take count all) (drop count all))
+          ∙ prefixed-front tag (texts_of read h.given) (seen f (take count all)) (seen f (drop count all)) (same_length h.given count h.as_many h.within))),
+    )
+
+-- a line that is as it was
+pub left_merged : {A : Type 0} (eq : List A → List A → Bool) (all now : List (RenderLine (List A))) (i : ℕ) (d : RenderLine (List A)) → Each (IsMergedText eq) all → i < length all → drop i now ≡ drop i all → IsMergedText eq (get_or now i d)
+left_merged eq all now i d merged below rest =
+    let zero : i + 0 ≡ i = omega arith in
+    let same : get_or all i d ≡ get_or now i d =
+    ap (λ j. get_or all j d) (sym zero) ∙ sym (get_or-drop i all 0 d) ∙ ap (λ ls. get_or ls 0 d) (sym rest) ∙ get_or-drop i now 0 d ∙ ap (λ j. get_or now j d) zero in
+    subst (IsMergedText eq) same (each_get_or (IsMergedText eq) all i d below merged)
+
+-- ---- texts that are added at once
+
+as_texts : {T : Type 0} (tag : T) (texts : List (List (Item T))) → map (as_text tag) (map text texts) ≡ texts
+as_texts tag [] = refl
+as_texts tag (is ∷ texts) = ap (λ ts. is ∷ ts) (as_texts tag texts)
+
+module _ {D A : Type 0} (columns : ℕ → Option ℕ) where
+  -- as a cell
+  pub cell_of_texts : (r : Renderer D A (List A)) (texts : List (List (Item (List A)))) → with_cell columns r (map text texts) ≡ fold (with_line columns) r texts
+  cell_of_texts r texts = ap (fold (with_line columns) r) (as_texts r.annotations texts)
+
+  line_as_it_is : (r : Renderer D A (List A)) (is : List (Item (List A))) → r.waiting ≡ [] → r.options.pad_block_width ≡ false → with_line columns r is ≡ record r { lines = r.lines ++ text is ∷ [] }
+  line_as_it_is r is none plain =
+      ap (λ ms. record r { waiting = []; lines = r.lines ++ text ((marker_items ms ++ is) ++ padding_of columns (if r.options.pad_block_width then Some r.annotations else None) r.width (marker_items ms ++ is)) ∷ [] }) none
+      ∙ ap (λ (pads : Bool). record r { waiting = []; lines = r.lines ++ text (is ++ padding_of columns (if pads then Some r.annotations else None) r.width is) ∷ [] }) plain
+      ∙ ap (λ js. record r { waiting = []; lines = r.lines ++ text js ∷ [] }) (append-nil is) ∙ ap (λ ms. record r { waiting = ms; lines = r.lines ++ text is ∷ [] }) (sym none)
+
+  -- where no marker waits, and lines aren't padded
+  pub lines_as_they_are : (r : Renderer D A (List A)) (texts : List (List (Item (List A)))) → r.waiting ≡ [] → r.options.pad_block_width ≡ false → fold (with_line columns) r texts ≡ record r { lines = r.lines ++ map text texts }
+  lines_as_they_are r [] none plain = ap (λ ls. record r { lines = ls }) (sym (append-nil r.lines))
+  lines_as_they_are r (is ∷ texts) none plain =
+      let s : Renderer D A (List A) = record r { lines = r.lines ++ text is ∷ [] } in
+      ap (λ q. fold (with_line columns) q texts) (line_as_it_is r is none plain) ∙ lines_as_they_are s texts none plain ∙ ap (λ ls. record r { lines = ls }) (append_assoc r.lines (text is ∷ []) (map text texts))
+
+-- what is written over all of a vector is what it holds
+pub written_over : {X : Type 0} (items new : List X) (len : ℕ) → len ≡ length items → length new ≡ length items → take len (new ++ drop (length new) items) ≡ new
+written_over items new len whole same =
+    ap (λ ls. take len (new ++ ls)) (drop_of_length-le items {i = length new} (omega (arith, same))) ∙ ap (take len) (append-nil new) ∙ take_all len new (omega (arith, whole, same))
+
+-- lines that mean these texts are added as they are
+pub texts_at_once : {D A M : Type 0} (f : A → M) (columns : ℕ → Option ℕ) (r s : Renderer D A (List A)) (lines : List (RenderLine (List A))) (texts : List (List (Item (List M)))) → seen f lines ≡ map text texts →
+    r.waiting ≡ [] → r.options.pad_block_width ≡ false → s ≡ record r { lines = r.lines ++ map line_seen lines } → meant f s ≡ fold (with_line columns) (meant f r) texts
+texts_at_once {D} {A} {M} f columns r s lines texts shown none plain is =
+    ap (meant f) is
+    ∙ ap (λ (ls : List (Line (List M))). record (meant f r) { lines = ls }) (map-append (map_line (tag_meant f)) r.lines (map line_seen lines) ∙ ap (λ (ls : List (Line (List M))). map (map_line (tag_meant f)) r.lines ++ ls) shown)
+    ∙ sym (lines_as_they_are columns (meant f r) texts none plain)
 
 -- ---- what a renderer hands out
 

@@ -1,5 +1,6 @@
 //! A renderer of blocks of text.
 ghost use Rattle.std.specs.Prelude.{◌≡◌, ◌≢◌, ◌<◌, [], ◌∷◌, ◌++◌, None, Some, false, ◌-◌, map, IsTrue, ◌↔◌, is_err, max, IfOk, IfErr, OnOk, MatchResult};
+ghost use Rattle.std.specs.List.{AllByRecursion as Each};
 ghost use Rattle.tbr_tagged.specs.declared.Error.{Error as Refusal};
 ghost use Rattle.tbr_tagged.specs.declared.Error.TheVariants as E;
 ghost use Rattle.tbr_renderer.specs.Renderer.{KeepsSettings, kept_of, new_renderer, has_content, line_padding, with_filled, with_line, block_width, may_overflow};
@@ -252,6 +253,19 @@ impl<D: TextDecorator, W: CharWidth> SubRenderer<D, W> {
         ensures settings { KeepsSettings (meant D.meaning self.old) (meant D.meaning self.new) }
     {
         self.lines.push(line)
+    }
+
+    /// Adds lines as they are. Where memory is refused they are lost.
+    fn push_lines(
+        &mut self,
+        lines: Vec<RenderLine<Annotations<D::Annotation>>>,
+    ) -> Result<(), OutOfMemory>
+        requires { Each (IsMergedText (equal_annotations D.Annotation.eq)) lines.items }
+        ensures lines { OnOk result
+            (self.new ≡ record self.old { lines = self.old.lines ++ map line_seen lines.items }) }
+        ensures settings { KeepsSettings (meant D.meaning self.old) (meant D.meaning self.new) }
+    {
+        self.lines.extend(lines)
     }
 
     /// Fills a line up to the renderer's width, where lines are padded.

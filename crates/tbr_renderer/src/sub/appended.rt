@@ -1,12 +1,12 @@
 //! Lines of other renderers.
-ghost use Rattle.std.specs.Prelude.{◌≡◌, ◌≢◌, ◌≤◌, ◌++◌, None, Err, List, length, map, fold, chars, OnOk, IfOk};
+ghost use Rattle.std.specs.Prelude.{◌≡◌, ◌≢◌, ◌≤◌, ◌++◌, true, false, None, Some, Ok, Err, List, length, map, fold, take, chars, OnOk, IfOk};
 ghost use Rattle.std.specs.List.{AllByRecursion as Each};
 ghost use Rattle.std.specs.Vec.Iter.{into_iter_items};
 ghost use Rattle.tbr_annotations.specs.Annotations.{equal_annotations};
 ghost use Rattle.tbr_tagged.specs.Elements.{items_of, text_items, IsMerged};
 ghost use Rattle.tbr_border.specs.RenderLine.{IsMergedText};
 ghost use Rattle.tbr_tagged.specs.declared.Error.TheVariants as E;
-ghost use Rattle.tbr_kept_lines.specs.Line.{Line, line_seen};
+ghost use Rattle.tbr_kept_lines.specs.Line.{Line, text, line_seen};
 ghost use Rattle.tbr_renderer.specs.Renderer.{KeepsSettings, with_line, block_width};
 ghost use Rattle.tbr_footnotes.specs.Tags.{tag_meant, items_meant};
 ghost use Rattle.tbr_renderer.specs.Meant.{map_line, meant};
@@ -17,6 +17,7 @@ ghost use Rattle.tbr_renderer.specs.Appended.{GivesFirst, texts_of, as_text, pre
 
 use crate::sub::SubRenderer;
 use std::convert::AsStr;
+use std::mem;
 use std::vec::IntoIter;
 use tbr_annotations::Annotations;
 use tbr_decor::TextDecorator;
@@ -61,11 +62,86 @@ impl<D: TextDecorator, W: CharWidth> SubRenderer<D, W> {
         text.insert_front_str(prefix, tag)
     }
 
+    /// Puts a prefix in front of a line, under a copy of the annotations. A border becomes text. Where memory is
+    /// refused the line is lost.
+    fn prefix_line(
+        &self,
+        line: &mut RenderLine<Annotations<D::Annotation>>,
+        prefix: &str,
+    ) -> Result<(), OutOfMemory>
+        requires merged { IsMergedText (equal_annotations D.Annotation.eq) line.old }
+        ensures line { let tag = map D.meaning self.now.annotations in
+            OnOk result (map_line (tag_meant D.meaning) (line_seen line.new)
+            ≡ text (text_items (chars prefix.now) tag
+            ++ as_text tag (map_line (tag_meant D.meaning) (line_seen line.old)))) }
+        ensures merged { OnOk result (IsMergedText (equal_annotations D.Annotation.eq) line.new) }
+    {
+        if let RenderLine::Text(text) = line {
+            return self.put_in_front(text, prefix);
+        }
+        let border = mem::replace(line, RenderLine::Text(TaggedLine::new(self.alloc)));
+        let mut text = self.as_text(border)?;
+        self.put_in_front(&mut text, prefix)?;
+        *line = RenderLine::Text(text);
+        Ok(())
+    }
+
+    /// Puts the next prefix in front of a line, and answers whether there was one. Where there is none the line stays as
+    /// it is, and where memory is refused it is lost.
+    fn put_next<P: AsStr + Drop, I: Iterator<Item = P>>(
+        &self,
+        line: &mut RenderLine<Annotations<D::Annotation>>,
+        prefixes: &mut I,
+    ) -> Result<bool, OutOfMemory>
+        requires merged { IsMergedText (equal_annotations D.Annotation.eq) line.old }
+        requires prefixes { I.can_next prefixes.old }
+        ensures put { let tag = map D.meaning self.now.annotations in result ≡ Ok true → (prefix : P)
+            × I.next_gives prefixes.old (Some prefix) prefixes.new
+            × (map_line (tag_meant D.meaning) (line_seen line.new)
+            ≡ text (text_items (chars (P.text prefix)) tag
+            ++ as_text tag (map_line (tag_meant D.meaning) (line_seen line.old)))) }
+        ensures goes_on { result ≡ Ok true → I.can_next prefixes.new }
+        ensures merged { result ≡ Ok true → IsMergedText (equal_annotations D.Annotation.eq) line.new }
+        ensures none { result ≡ Ok false → I.next_gives prefixes.old None prefixes.new × (line.new ≡ line.old) }
+    {
+        let Some(prefix) = prefixes.next() else {
+            return Ok(false);
+        };
+        self.prefix_line(line, prefix.as_str())?;
+        Ok(true)
+    }
+
+    /// Puts a prefix in front of each line, as long as there are both, and answers how many there were.
+    fn put_prefixes<P: AsStr + Drop, I: Iterator<Item = P>>(
+        &self,
+        lines: &mut [RenderLine<Annotations<D::Annotation>>],
+        mut prefixes: I,
+    ) -> Result<usize, OutOfMemory>
+        requires merged { Each (IsMergedText (equal_annotations D.Annotation.eq)) lines.old }
+        requires prefixes { I.can_next prefixes }
+        ensures lines { IfOk result (λ count. (given : List P)
+            × GivesFirst I.next_gives (length lines.old) prefixes given
+            × (map (map_line (tag_meant D.meaning)) (map line_seen (take count lines.new))
+            ≡ map text (prefixed (map D.meaning self.now.annotations) (texts_of P.text given)
+            (map (map_line (tag_meant D.meaning)) (map line_seen lines.old))))) }
+        ensures merged { IfOk result (λ count.
+            Each (IsMergedText (equal_annotations D.Annotation.eq)) (take count lines.new)) }
+    {
+        let mut count = 0usize;
+        for line in lines.iter_mut() {
+            if !self.put_next(line, &mut prefixes)? {
+                return Ok(count);
+            }
+            count += 1;
+        }
+        Ok(count)
+    }
+
     /// Adds each line after its prefix, as long as there are both.
     fn add_prefixed<P: AsStr + Drop, I: Iterator<Item = P>>(
         &mut self,
-        lines: Vec<RenderLine<Annotations<D::Annotation>>>,
-        mut prefixes: I,
+        mut lines: Vec<RenderLine<Annotations<D::Annotation>>>,
+        prefixes: I,
     ) -> Result<(), OutOfMemory>
         requires unfailed { self.old.failure ≡ None }
         requires merged { Each (IsMergedText (equal_annotations D.Annotation.eq)) lines.items }
@@ -76,15 +152,12 @@ impl<D: TextDecorator, W: CharWidth> SubRenderer<D, W> {
             (map (map_line (tag_meant D.meaning)) (map line_seen lines.items))))) }
         ensures settings { KeepsSettings (meant D.meaning self.old) (meant D.meaning self.new) }
     {
-        for line in lines {
-            let Some(prefix) = prefixes.next() else {
-                return Ok(());
-            };
-            let mut text = self.as_text(line)?;
-            self.put_in_front(&mut text, prefix.as_str())?;
-            self.add_line(text)?;
+        let count = self.put_prefixes(&mut lines, prefixes)?;
+        lines.truncate(count);
+        if self.options.pad_block_width || !self.waiting.is_empty() {
+            return self.add_cell(lines);
         }
-        Ok(())
+        self.push_lines(lines)
     }
 
     /// Adds each line as text.

@@ -1,48 +1,49 @@
-use Rattle.std.proofs.Common.{◌∙◌, ◌++◌, [], ap, sym, subst, map, refl}
-use Rattle.std.specs.Prelude.{chars}
+use Rattle.std.proofs.Common.{List, ◌≡◌, [], false, take, length, map, ap, sym, ◌∙◌, subst}
 use Rattle.std.specs.List.{AllByRecursion as Each}
-use Rattle.std.specs.Vec.Iter.{into_iter_items}
+use Rattle.std.proofs.lemmas.Bool.{eqb-true}
+use Rattle.std.proofs.lemmas.List.{nil_from_length}
+use Rattle.std.proofs.lemmas.Result.{on_ok_weaker}
 use Rattle.tbr_annotations.specs.Annotations.{equal_annotations}
 use Rattle.tbr_border.specs.RenderLine.{IsMergedText}
-use Rattle.tbr_tagged.specs.Elements.{items_of, text_items}
-use Rattle.tbr_footnotes.specs.Tags.{items_meant}
-use Rattle.tbr_renderer.proofs.AppendedLines.{Prefixes, prefixed_goes_on, ran_out, each_at}
-use Rattle.tbr_kept_lines.proofs.ItemsLeft.{items_left}
+use Rattle.tbr_tagged.specs.View.{element_of}
+use Rattle.tbr_renderer.specs.Meant.{meant}
+use Rattle.tbr_renderer.specs.Renderer.{Renderer}
+use Rattle.tbr_renderer.specs.View.{names_of}
+use Rattle.tbr_renderer.specs.Appended.{texts_of, prefixed, with_cell}
+use Rattle.tbr_renderer.proofs.AppendedLines.{Prefixes, seen, cell_of_texts, texts_at_once, written_over}
 use Rattle.tbr_renderer.proofs.sub.SubRenderer.add_prefixed.Goals as goal
 
-pub returns-in_default-clause-lines : goal.returns-in_default-clause-lines
-returns-in_default-clause-lines g c =
+pub push_lines-requires : goal.push_lines-requires
+push_lines-requires g c =
+    let kept = c.truncate.ensures.items ∙ ap (take c.in_ok-count.count) (written_over c.args.lines.items c.put_prefixes.new.lines c.args.lines.len c.args.lines.ok.0 (c.put_prefixes.auto.lines ∙ ap length c.deref_mut.ensures.value)) in
+    subst (Each (IsMergedText (equal_annotations g.D.Annotation.PartialEq.eq))) (sym kept) c.in_ok-count.ensures.merged
+
+pub returns-then-self-clause-lines : goal.returns-then-self-clause-lines
+returns-then-self-clause-lines g c =
     let f = g.D.TextDecorator.meaning in
     let it = g.I.Iterator in
-    let all = c.into_iter-line-iterator.result in
-    let whole = sym c.into_iter-line-iterator.ensures.into_iter_gives.0 ∙ items_left all all c.loop-line.line-iterator c.next.new.self c.loop-line.yielded c.in-Some.line refl c.loop-line.yielded_by c.in-Some.ensures.steps.0 in
-    subst (λ lines. Prefixes f g.W.CharWidth.columns c.args.self.now it.can_next it.next_gives g.P.AsStr.text c.args.prefixes lines c.loop-line.self) (sym whole)
-    (ran_out f g.W.CharWidth.columns c.args.self.now it.can_next it.next_gives g.P.AsStr.text c.args.prefixes c.loop-line.yielded c.in-Some.line (into_iter_items c.next.new.self) c.loop-line.prefixes c.next-in-loop-line.new.self c.loop-line.self c.loop-line.invariant c.in_default.ensures.steps)
+    let tag = map f c.args.self.now.annotations in
+    let (given, gives, is) =
+    subst (λ all. Prefixes f (equal_annotations g.D.Annotation.PartialEq.eq) tag it.can_next it.next_gives g.P.AsStr.text c.args.prefixes all c.in_ok-count.count c.put_prefixes.new.lines) c.deref_mut.ensures.value c.in_ok-count.ensures.lines in
+    let texts = prefixed tag (texts_of g.P.AsStr.text given) (seen f c.args.lines.items) in
+    let kept = c.truncate.ensures.items ∙ ap (take c.in_ok-count.count) (written_over c.args.lines.items c.put_prefixes.new.lines c.args.lines.len c.args.lines.ok.0 (c.put_prefixes.auto.lines ∙ ap length c.deref_mut.ensures.value)) in
+    on_ok_weaker c.add_cell.result
+    (λ added. (given, gives, added ∙ ap (λ ls. with_cell g.W.CharWidth.columns (meant f c.args.self.now) ls) (ap (seen f) kept ∙ is) ∙ cell_of_texts g.W.CharWidth.columns (meant f c.args.self.now) texts))
+    c.add_cell.ensures.lines
 
-pub loop-line-preserved : goal.loop-line-preserved
-loop-line-preserved g c =
+pub returns-clause-lines : goal.returns-clause-lines
+returns-clause-lines g c =
     let f = g.D.TextDecorator.meaning in
+    let R = Renderer g.row.D.Denot g.row.D-Annotation.Denot (List g.row.D-Annotation.Denot) in
     let it = g.I.Iterator in
-    prefixed_goes_on f g.W.CharWidth.columns c.args.self.now it.can_next it.next_gives g.P.AsStr.text c.args.prefixes c.loop-line.yielded c.in-Some.line c.in-Some-next.prefix
-    (items_meant f (items_of c.put_in_front.new.text)) c.loop-line.prefixes c.next-in-loop-line.new.self c.loop-line.self c.add_line.new.self c.loop-line.invariant
-    c.in-Some-next.ensures.goes.keeps
-    c.in-Some-next.ensures.steps
-    (c.in_ok-put_in_front.ensures.items ∙ ap (λ bs. text_items (chars bs) (map f c.loop-line.self.annotations) ++ items_meant f (items_of c.in_ok-text.text)) c.as_str.ensures
-    ∙ ap (λ is. text_items (chars (g.P.AsStr.text c.in-Some-next.prefix)) (map f c.loop-line.self.annotations) ++ is) c.in_ok-text.ensures.items)
-    c.in_ok-add_line.ensures.line c.in_ok-add_line.ensures.settings
-
-pub loop-line-init : goal.loop-line-init
-loop-line-init g c = record {
-  can_go_on = c.requires.prefixes;
-  given = [];
-  yields = refl;
-  as_many = refl;
-  put = record { unfailed = c.requires.unfailed; settings = refl; lines = refl };
-}
-
-pub as_text-requires : goal.as_text-requires
-as_text-requires g c =
-    let IsMerged = IsMergedText (equal_annotations g.D.Annotation.PartialEq.eq) in
-    let all = c.into_iter-line-iterator.result in
-    let whole = sym c.into_iter-line-iterator.ensures.into_iter_gives.0 ∙ items_left all all c.loop-line.line-iterator c.next.new.self c.loop-line.yielded c.in-Some.line refl c.loop-line.yielded_by c.in-Some.ensures.steps.0 in
-    each_at IsMerged c.loop-line.yielded c.in-Some.line (into_iter_items c.next.new.self) (subst (Each IsMerged) whole c.requires.merged)
+    let tag = map f c.args.self.now.annotations in
+    let (given, gives, is) =
+    subst (λ all. Prefixes f (equal_annotations g.D.Annotation.PartialEq.eq) tag it.can_next it.next_gives g.P.AsStr.text c.args.prefixes all c.in_ok-count.count c.put_prefixes.new.lines) c.deref_mut.ensures.value c.in_ok-count.ensures.lines in
+    let texts = prefixed tag (texts_of g.P.AsStr.text given) (seen f c.args.lines.items) in
+    let kept = c.truncate.ensures.items ∙ ap (take c.in_ok-count.count) (written_over c.args.lines.items c.put_prefixes.new.lines c.args.lines.len c.args.lines.ok.0 (c.put_prefixes.auto.lines ∙ ap length c.deref_mut.ensures.value)) in
+    let waiting = c.self.inside.waiting in
+    let none : waiting.items ≡ [] = nil_from_length waiting.items (sym waiting.ok.0 ∙ eqb-true _ 0 (sym c.if-not-is_empty.ensures)) in
+    let waits : c.args.self.now.waiting ≡ [] = sym (ap (λ (r : R). r.waiting) c.self.view_is) ∙ ap (λ ms. names_of (map element_of ms)) none in
+    let plain : c.args.self.now.options.pad_block_width ≡ false = ap (λ (r : R). r.options.pad_block_width) (sym c.self.view_is) ∙ c.if-self.false in
+    on_ok_weaker c.push_lines.result (λ added. (given, gives, texts_at_once f g.W.CharWidth.columns c.args.self.now c.push_lines.new.self c.truncate.new.self.items texts (ap (seen f) kept ∙ is) waits plain added))
+    c.push_lines.ensures.lines

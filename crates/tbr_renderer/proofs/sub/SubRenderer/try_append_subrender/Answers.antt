@@ -21,7 +21,7 @@ returns-clause-ok g c =
       seen,
       given,
       c.in_ok-lines.ensures.lines,
-      subst (λ n. GivesFirst g.I.Iterator.next_gives n c.args.prefixes given) (sym (length-seen f columns flushed lines)) gives,
+      subst (λ n. GivesFirst g.I.Iterator.next_gives n c.args.prefixes given) (sym (length-seen f lines)) gives,
       ap (changed (λ m. fold (with_line columns) m (prefixed old.annotations (texts_of g.P.AsStr.text given) seen))) c.in_ok-try_flush.ensures.tries.ok
           ∙ ap (λ m. done m) (sym (is ∙ ap (λ (s : Settings g.row.D.Denot g.D.TextDecorator.Meaning). fold (with_line columns) (meant f flushed) (prefixed s.annotations (texts_of g.P.AsStr.text given) seen)) c.in_ok-try_flush.ensures.settings)),
     )
