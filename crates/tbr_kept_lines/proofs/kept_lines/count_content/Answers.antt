@@ -9,7 +9,7 @@ loop-line-preserved g c =
     let within = c.loop-line.invariant.within in
     record {
       counts = content_next g.T.PartialEq.eq c.args.lines.now c.loop-line.line-index c.loop-line.count c.from-count.result c.line-item.result c.requires c.loop-line-test.true c.line-item.is
-      c.loop-line.invariant.counts (one ∙ ap bool_byte c.has_content.ensures);
+          c.loop-line.invariant.counts (one ∙ ap bool_byte c.has_content.ensures);
       within = omega (arith, within, byte_below c.has_content.result, one);
     }
   where
