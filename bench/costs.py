@@ -6,7 +6,8 @@ import subprocess
 import sys
 
 TOP = os.path.dirname(os.path.dirname(os.path.realpath(__file__)))
-BLOCKRENDER = f"{TOP}/crates/blockrender/out/blockrender"
+BUILT = f"{TOP}/crates/blockrender/out/blockrender"
+BLOCKRENDER = os.environ.get("BENCH_PROGRAM", BUILT)
 # Instructions a byte of html2text 0.17.4's renderer under the same language, compiled in release.
 UPSTREAM = {
     "letter": 301, "one_run": 305, "one_word": 461, "wide": 224, "annotated": 362, "quoted": 366, "table": 433,
@@ -38,8 +39,9 @@ def known(names):
 
 
 def build():
-    """Proves and builds the programs and the library where they aren't built."""
-    subprocess.run([f"{TOP}/build"], check=True)
+    """Proves and builds the programs and the library where they aren't built and no other program is named."""
+    if BLOCKRENDER == BUILT:
+        subprocess.run([f"{TOP}/build"], check=True)
 
 
 def instructions(program, script, folder):
