@@ -21,9 +21,9 @@ use Rattle.tbr_tagged.specs.Outcome.{Outcome, done, refused}
 use Rattle.tbr_renderer.specs.Outcomes.{and_then, told_by}
 use Rattle.tbr_renderer.proofs.OutcomeParts.{one_done, done_first}
 use Rattle.tbr_renderer.proofs.SettingsStay.{Steady, lines_added}
-use Rattle.text_block_renderer.specs.EndedRuns.{EndedRun, flush_ends, call_ends, runs_ended}
+use Rattle.text_block_renderer.specs.Added.{Added, flush_ends, call_adds, calls_add}
 use Rattle.text_block_renderer.specs.Stretches.{Part, ended, laid, ruled, lines_laid, IsPart, ComesInParts}
-use Rattle.text_block_renderer.specs.Acts.{Act, call, row, rows_of, after_act, act_brought, ActsBring, Piece, part, put, cells_in, rows_in, border_lines_of, lines_of_piece, entries_of_piece, run_of_piece, act_ends, acts_end, IsPiece, StaysLine, ComesInPieces}
+use Rattle.text_block_renderer.specs.Acts.{Act, call, row, rows_of, after_act, act_brought, ActsBring, Piece, part, put, cells_in, rows_in, border_lines_of, lines_of_piece, entries_of_piece, added_of_piece, act_adds, acts_add, IsPiece, StaysLine, ComesInPieces}
 use Rattle.text_block_renderer.proofs.Moves.{any, Frame, frame, frame_of_lines, sound_alike, flushed_none, path_width, path_options, path_hanging}
 use Rattle.text_block_renderer.proofs.CallMoves.{calls_move}
 use Rattle.text_block_renderer.proofs.LineParts.{brings_parts}
@@ -152,14 +152,14 @@ module _ {D A : Type 0} (columns : ℕ → Option ℕ) where
     rows_one (row collapses cells) acts = refl
 
     -- What came in pieces, to a renderer that is the same but for what calls and rows may change.
-    pub record Along (xs : List (List (GivenCell (List A)))) (rs : List (EndedRun D A)) (r : Renderer D A (List A)) (es : List (Entry (List A))) (s : Renderer D A (List A)) : Type 0 where
+    pub record Along (xs : List (List (GivenCell (List A)))) (rs : List (Added D A)) (r : Renderer D A (List A)) (es : List (Entry (List A))) (s : Renderer D A (List A)) : Type 0 where
       pub width : s.width ≡ r.width
       pub options : s.options ≡ r.options
       pub came : ComesInPieces columns xs r es s
-      pub runs : flat_map (run_of_piece columns) came.pieces ≡ rs
+      pub added : flat_map (added_of_piece columns) came.pieces ≡ rs
       pub chain : Chain columns r.options.draw_borders r.hanging (rows_in came.pieces) s.hanging
 
-    along_on : (xs ys : List (List (GivenCell (List A)))) (rs ss : List (EndedRun D A)) (r q s : Renderer D A (List A)) (es fs : List (Entry (List A))) → Along xs rs r es q → Along ys ss q fs s → Along (xs ++ ys) (rs ++ ss) r (es ++ fs) s
+    along_on : (xs ys : List (List (GivenCell (List A)))) (rs ss : List (Added D A)) (r q s : Renderer D A (List A)) (es fs : List (Entry (List A))) → Along xs rs r es q → Along ys ss q fs s → Along (xs ++ ys) (rs ++ ss) r (es ++ fs) s
     unfolding come_on
     along_on xs ys rs ss r q s es fs h k =
         let chained : Chain columns r.options.draw_borders q.hanging (rows_in k.came.pieces) s.hanging =
@@ -168,27 +168,27 @@ module _ {D A : Type 0} (columns : ℕ → Option ℕ) where
           width = k.width ∙ h.width;
           options = k.options ∙ h.options;
           came = come_on xs ys r q s es fs h.width h.options h.came k.came;
-          runs = flat_map-append (run_of_piece columns) h.came.pieces k.came.pieces ∙ ap (λ ts. ts ++ flat_map (run_of_piece columns) k.came.pieces) h.runs ∙ ap (λ ts. rs ++ ts) k.runs;
+          added = flat_map-append (added_of_piece columns) h.came.pieces k.came.pieces ∙ ap (λ ts. ts ++ flat_map (added_of_piece columns) k.came.pieces) h.added ∙ ap (λ ts. rs ++ ts) k.added;
           chain = subst (λ rows. Chain columns r.options.draw_borders r.hanging rows s.hanging) (sym (rows_append h.came.pieces k.came.pieces))
               (chain_append columns r.options.draw_borders r.hanging (rows_in h.came.pieces) q.hanging (rows_in k.came.pieces) s.hanging h.chain chained);
         }
 
-    -- what a call alone ends
-    one_ends : (c : Call (List A)) (o : Outcome (Renderer D A (List A))) (r : Renderer D A (List A)) → call_ends decoration c r ++ told_by (λ t. []) o ≡ call_ends decoration c r
-    one_ends c (done s) r = append-nil (call_ends decoration c r)
-    one_ends c (refused e) r = append-nil (call_ends decoration c r)
+    -- what a call alone adds
+    one_adds : (c : Call (List A)) (o : Outcome (Renderer D A (List A))) (r : Renderer D A (List A)) → call_adds columns decoration c r ++ told_by (λ t. []) o ≡ call_adds columns decoration c r
+    one_adds c (done s) r = append-nil (call_adds columns decoration c r)
+    one_adds c (refused e) r = append-nil (call_adds columns decoration c r)
 
-    call_along : (c : Call (List A)) (r s : Renderer D A (List A)) (es : List (Entry (List A))) → IsSound columns r → Brings columns decoration (c ∷ []) r es s → Along [] (call_ends decoration c r) r es s
+    call_along : (c : Call (List A)) (r s : Renderer D A (List A)) (es : List (Entry (List A))) → IsSound columns r → Brings columns decoration (c ∷ []) r es s → Along [] (call_adds columns decoration c r) r es s
     unfolding as_pieces
     call_along c r s es sound h =
         let path = calls_move columns any decoration (c ∷ []) r s es tt h in
-        let (parts, borders, runs) = brings_parts columns decoration (c ∷ []) r s es sound h in
-        let none : runs_ended decoration columns (c ∷ []) r ≡ call_ends decoration c r = one_ends c (after columns decoration c r) r in
+        let (parts, borders, added) = brings_parts columns decoration (c ∷ []) r s es sound h in
+        let none : calls_add columns decoration (c ∷ []) r ≡ call_adds columns decoration c r = one_adds c (after columns decoration c r) r in
         record {
           width = path_width columns any r s es _ path;
           options = path_options columns any r s es _ path;
           came = as_pieces r s es parts;
-          runs = flat_map_map (run_of_piece columns) part parts.parts ∙ runs ∙ none;
+          added = flat_map_map (added_of_piece columns) part parts.parts ∙ added ∙ none;
           chain = subst (λ rows. Chain columns r.options.draw_borders r.hanging rows s.hanging) (sym (no_rows parts.parts)) (path_hanging columns any r s es _ path);
         }
 
@@ -201,27 +201,27 @@ module _ {D A : Type 0} (columns : ℕ → Option ℕ) where
           width = ap (λ (f : Frame A). f.width) same;
           options = ap (λ (f : Frame A). f.options) same;
           came = put_piece collapses cells m s none closed puts;
-          runs = refl;
+          added = refl;
           chain = (refl, refl, ap (λ (f : Frame A). f.hanging) same);
         }
 
-    act_along : (act : Act (List A)) (r s : Renderer D A (List A)) (es : List (Entry (List A))) → IsSound columns r → ActStep columns decoration act r es s → Along (rows_of (act ∷ [])) (act_ends columns decoration act r) r es s
+    act_along : (act : Act (List A)) (r s : Renderer D A (List A)) (es : List (Entry (List A))) → IsSound columns r → ActStep columns decoration act r es s → Along (rows_of (act ∷ [])) (act_adds columns decoration act r) r es s
     act_along (call c) r s es sound h = call_along c r s es sound (alone c r s es h.0 h.1)
     act_along (row collapses cells) r s es sound h =
         let (m, flushed, puts, is) = h in
         let first = call_along new_line r m [] sound (alone new_line r m [] flushed refl) in
         let closed = row_closed columns r s (m, flushed, puts.row, puts.is) in
         let second = row_along collapses cells m s (flushed_none columns r m (row_flushes columns r m flushed)) closed puts in
-        subst (λ (ss : List (EndedRun D A)). Along (cells ∷ []) ss r es s) (append-nil (flush_ends r))
+        subst (λ (ss : List (Added D A)). Along (cells ∷ []) ss r es s) (append-nil (flush_ends r))
         (subst (λ fs. Along (cells ∷ []) (flush_ends r ++ []) r fs s) (sym is) (along_on [] (cells ∷ []) (flush_ends r) [] r m s [] (laid_entries (joined puts.row.lines)) first second))
 
-    all_along : (acts : List (Act (List A))) (r s : Renderer D A (List A)) → IsSound columns r → after_acts columns decoration acts r ≡ done s → Along (rows_of acts) (acts_end columns decoration acts r) r (brought_by columns decoration acts r) s
+    all_along : (acts : List (Act (List A))) (r s : Renderer D A (List A)) → IsSound columns r → after_acts columns decoration acts r ≡ done s → Along (rows_of acts) (acts_add columns decoration acts r) r (brought_by columns decoration acts r) s
     all_along [] r s sound h =
         subst (λ (q : Renderer D A (List A)). Along [] [] r [] q) (sym (one_done r s h)) (record {
           width = refl;
           options = refl;
           came = record { pieces = []; are = tt; lines = subst (λ ls. AllZip StaysLine ls r.lines) (sym (append-nil r.lines)) (all_stay r.lines); entries = append-nil (open_run r.block); put_rows = refl };
-          runs = refl;
+          added = refl;
           chain = refl;
         })
     all_along (act ∷ acts) r s sound h =
@@ -230,14 +230,14 @@ module _ {D A : Type 0} (columns : ℕ → Option ℕ) where
         let rest = brought_by columns decoration acts m in
         let here = act_along act r m first sound (act_step columns decoration act r m does) in
         let still = sound_alike columns r m here.width here.options sound in
-        let ends = act_ends columns decoration act r in
-        let later = acts_end columns decoration acts m in
-        subst (λ xs. Along (rows_of (act ∷ acts)) xs r (brought_by columns decoration (act ∷ acts) r) s) (sym (told_then (act_ends columns decoration) (after_act columns decoration) act acts r m does))
-        (subst (λ fs. Along (rows_of (act ∷ acts)) (ends ++ later) r fs s) (sym (brought_then columns decoration act acts r m does))
-        (subst (λ xs. Along xs (ends ++ later) r (first ++ rest) s) (sym (rows_one act acts)) (along_on (rows_of (act ∷ [])) (rows_of acts) ends later r m s first rest here (all_along acts m s still others))))
+        let adds = act_adds columns decoration act r in
+        let later = acts_add columns decoration acts m in
+        subst (λ xs. Along (rows_of (act ∷ acts)) xs r (brought_by columns decoration (act ∷ acts) r) s) (sym (told_then (act_adds columns decoration) (after_act columns decoration) act acts r m does))
+        (subst (λ fs. Along (rows_of (act ∷ acts)) (adds ++ later) r fs s) (sym (brought_then columns decoration act acts r m does))
+        (subst (λ xs. Along xs (adds ++ later) r (first ++ rest) s) (sym (rows_one act acts)) (along_on (rows_of (act ∷ [])) (rows_of acts) adds later r m s first rest here (all_along acts m s still others))))
 
-    pub acts_along : (acts : List (Act (List A))) (r s : Renderer D A (List A)) (es : List (Entry (List A))) → IsSound columns r → ActsBring columns decoration acts r es s → Along (rows_of acts) (acts_end columns decoration acts r) r es s
-    acts_along acts r s es sound h = subst (λ fs. Along (rows_of acts) (acts_end columns decoration acts r) r fs s) (sym h.1) (all_along acts r s sound h.0)
+    pub acts_along : (acts : List (Act (List A))) (r s : Renderer D A (List A)) (es : List (Entry (List A))) → IsSound columns r → ActsBring columns decoration acts r es s → Along (rows_of acts) (acts_add columns decoration acts r) r es s
+    acts_along acts r s es sound h = subst (λ fs. Along (rows_of acts) (acts_add columns decoration acts r) r fs s) (sym h.1) (all_along acts r s sound h.0)
 
     pub act_sound : (act : Act (List A)) (r s : Renderer D A (List A)) (es : List (Entry (List A))) → IsSound columns r → ActStep columns decoration act r es s → (s.options ≡ r.options) × IsSound columns s
     act_sound act r s es sound h = let along = act_along act r s es sound h in (along.options, sound_alike columns r s along.width along.options sound)

@@ -15,8 +15,8 @@ use Rattle.tbr_renderer.proofs.FlushedBlocks.{FlushesBlock}
 use Rattle.tbr_renderer.proofs.CallParts.{FlushesThen}
 use Rattle.tbr_renderer.specs.Appended.{with_border, border_of_cells, as_text, prefixed, with_divider, with_cell, with_cell_below, with_cells}
 use Rattle.tbr_renderer.specs.Calls.{laid_entry, laid_entries}
-use Rattle.text_block_renderer.specs.EndedRuns.{flush_ends}
-use Rattle.text_block_renderer.proofs.Moves.{line, rule, Kind, MayLay, MayRule, Course, Path, onward, one, flushed_first, stays, flushed_none}
+use Rattle.text_block_renderer.specs.Added.{Added, text_laid, flush_ends}
+use Rattle.text_block_renderer.proofs.Moves.{line, rule, Kind, MayLay, MayRule, Course, onward, one, flushed_first, stays, flushed_none}
 
 -- ---- borders of rows
 
@@ -71,26 +71,26 @@ module _ {D A : Type 0} (columns : ℕ → Option ℕ) (kind : Kind) where
       let after = joins_lines (block_lines columns r b (lines_at_end columns r b)) r (record r { block = None }) (record { block = refl; width = refl; annotations = refl; options = refl }) in
       subst (λ (q : Renderer D A (List A)). Joins r q) (sym h.is) (record { block = after.block; width = after.width; annotations = after.annotations; options = after.options })
 
-  lines_put : (ts : List (List (Item (List A)))) (q : Renderer D A (List A)) → ((is : List (Item (List A))) → MayLay kind is) → q.block ≡ None → Path columns kind q (fold (with_line columns) q ts) (laid_entries (joined ts))
+  lines_put : (ts : List (List (Item (List A)))) (q : Renderer D A (List A)) → ((is : List (Item (List A))) → MayLay kind is) → q.block ≡ None → Course columns kind q (fold (with_line columns) q ts) (laid_entries (joined ts)) [] (map text_laid ts)
   lines_put [] q may none = stays columns kind q q refl
   lines_put (t ∷ ts) q may none =
       let r : Renderer D A (List A) = with_line columns q t in
-      subst (λ (es : List (Entry (List A))). Path columns kind q (fold (with_line columns) r ts) es) (sym (map-append laid_entry t (joined ts)))
+      subst (λ (es : List (Entry (List A))). Course columns kind q (fold (with_line columns) r ts) es [] (map text_laid (t ∷ ts))) (sym (map-append laid_entry t (joined ts)))
       (onward columns kind q r (fold (with_line columns) r ts) (laid_entries t) (laid_entries (joined ts)) (one columns kind (line t) q r (may t, none, refl)) (lines_put ts r may none))
 
   pub lines_appended : (prefixes : List (List ℕ)) (lines : List (Line (List A))) (r s : Renderer D A (List A)) → ((is : List (Item (List A))) → MayLay kind is) → FlushesThen columns (λ m. fold (with_line columns) m (prefixed r.annotations prefixes lines)) r s →
-      Course columns kind r s (laid_entries (joined (prefixed r.annotations prefixes lines))) [] (flush_ends r)
+      Course columns kind r s (laid_entries (joined (prefixed r.annotations prefixes lines))) [] (flush_ends r ++ map text_laid (prefixed r.annotations prefixes lines))
   lines_appended prefixes lines r s may h =
       let texts = prefixed r.annotations prefixes lines in
-      let put = subst (λ (q : Renderer D A (List A)). Path columns kind h.0 q (laid_entries (joined texts))) (sym h.2) (lines_put texts h.0 may (flushed_none columns r h.0 h.1)) in
+      let put = subst (λ (q : Renderer D A (List A)). Course columns kind h.0 q (laid_entries (joined texts)) [] (map text_laid texts)) (sym h.2) (lines_put texts h.0 may (flushed_none columns r h.0 h.1)) in
       flushed_first columns kind r h.0 s (laid_entries (joined texts)) h.1 put
 
   pub border_added : (width : ℕ) (r s : Renderer D A (List A)) → ((q : Renderer D A (List A)) → q.options ≡ r.options → MayRule kind q) → FlushesThen columns (λ m. with_border columns m (border_of_cells horizontal width r)) r s → Course columns kind r s [] (replicate width horizontal ∷ []) (flush_ends r)
   border_added width r s may h =
       let joins = joins_flushed r h.0 r.block refl h.1 in
-      flushed_first columns kind r h.0 s [] h.1
+      subst (λ (xs : List (Added D A)). Course columns kind r s [] (replicate width horizontal ∷ []) xs) (append-nil (flush_ends r)) (flushed_first columns kind r h.0 s [] h.1
       (one columns kind (rule (replicate width horizontal)) h.0 s
-      (may h.0 joins.options, joins.block, h.2 ∙ ap (λ tag. with_border columns h.0 (without_holes (replicate width horizontal) tag)) (sym joins.annotations)))
+      (may h.0 joins.options, joins.block, h.2 ∙ ap (λ tag. with_border columns h.0 (without_holes (replicate width horizontal) tag)) (sym joins.annotations))))
 
   module _ (r : Renderer D A (List A)) (may_lay : (is : List (Item (List A))) → MayLay kind is) (may_rule : (q : Renderer D A (List A)) → q.options ≡ r.options → MayRule kind q) where
     abbrev divider : Cell → List (List Cell)
@@ -116,12 +116,19 @@ module _ {D A : Type 0} (columns : ℕ → Option ℕ) (kind : Kind) where
           joins = record { block = h.block; width = h.width; annotations = h.annotations; options = h.options };
         }
 
-    cell_put : (lines : List (Line (List A))) (q : Renderer D A (List A)) → Joins r q → Path columns kind q (with_cell columns q lines) (laid_entries (joined (map (as_text r.annotations) lines)))
+    cell_put : (lines : List (Line (List A))) (q : Renderer D A (List A)) → Joins r q → Course columns kind q (with_cell columns q lines) (laid_entries (joined (map (as_text r.annotations) lines))) [] (map text_laid (map (as_text r.annotations) lines))
     cell_put lines q h =
-        subst (λ (tag : List A). Path columns kind q (with_cell columns q lines) (laid_entries (joined (map (as_text tag) lines)))) h.annotations
+        subst (λ (tag : List A). Course columns kind q (with_cell columns q lines) (laid_entries (joined (map (as_text tag) lines))) [] (map text_laid (map (as_text tag) lines))) h.annotations
         (lines_put (map (as_text q.annotations) lines) q may_lay h.block)
 
-    cells_below : (cells : List (List (Line (List A)))) (q : Renderer D A (List A)) → Joins r q → Course columns kind q (fold (with_cell_below columns) q cells) (laid_entries (joined (flat_map (map (as_text r.annotations)) cells))) (slashes cells) []
+    -- texts, and then others
+    texts_put : (q s : Renderer D A (List A)) (ts us : List (List (Item (List A)))) (bs : List (List Cell)) →
+        Course columns kind q s (laid_entries (joined ts) ++ laid_entries (joined us)) bs (map text_laid ts ++ map text_laid us) → Course columns kind q s (laid_entries (joined (ts ++ us))) bs (map text_laid (ts ++ us))
+    texts_put q s ts us bs h =
+        subst (λ (es : List (Entry (List A))). Course columns kind q s es bs (map text_laid (ts ++ us))) (sym (ap laid_entries (joined-append ts us) ∙ map-append laid_entry (joined ts) (joined us)))
+        (subst (λ (xs : List (Added D A)). Course columns kind q s (laid_entries (joined ts) ++ laid_entries (joined us)) bs xs) (sym (map-append (λ t. text_laid t) ts us)) h)
+
+    cells_below : (cells : List (List (Line (List A)))) (q : Renderer D A (List A)) → Joins r q → Course columns kind q (fold (with_cell_below columns) q cells) (laid_entries (joined (flat_map (map (as_text r.annotations)) cells))) (slashes cells) (map text_laid (flat_map (map (as_text r.annotations)) cells))
     cells_below [] q h = stays columns kind q q refl
     cells_below (lines ∷ cells) q h =
         let d = divided slash q h in
@@ -131,8 +138,7 @@ module _ {D A : Type 0} (columns : ℕ → Option ℕ) (kind : Kind) where
         let texts = map (as_text r.annotations) lines in
         let rest = flat_map (map (as_text r.annotations)) cells in
         let joins = joins_lines (map (as_text p.annotations) lines) r p d.joins in
-        subst (λ (es : List (Entry (List A))). Course columns kind q s es (slashes (lines ∷ cells)) []) (sym (ap laid_entries (joined-append texts rest) ∙ map-append laid_entry (joined texts) (joined rest)))
-        (onward columns kind q p s [] (laid_entries (joined texts) ++ laid_entries (joined rest)) d.path
+        texts_put q s texts rest (slashes (lines ∷ cells)) (onward columns kind q p s [] (laid_entries (joined texts) ++ laid_entries (joined rest)) d.path
         (onward columns kind p n s (laid_entries (joined texts)) (laid_entries (joined rest)) (cell_put lines p d.joins) (cells_below cells n joins)))
 
     joins_below : (cells : List (List (Line (List A)))) (q : Renderer D A (List A)) → Joins r q → Joins r (fold (with_cell_below columns) q cells)
@@ -145,7 +151,7 @@ module _ {D A : Type 0} (columns : ℕ → Option ℕ) (kind : Kind) where
     abbrev between : List (List (Line (List A))) → List (List Cell)
     between cells = slashes_between r.options.draw_borders r.width cells
 
-    cells_put : (cells : List (List (Line (List A)))) (q : Renderer D A (List A)) → Joins r q → Course columns kind q (with_cells columns q cells) (laid_entries (joined (flat_map (map (as_text r.annotations)) cells))) (between cells) []
+    cells_put : (cells : List (List (Line (List A)))) (q : Renderer D A (List A)) → Joins r q → Course columns kind q (with_cells columns q cells) (laid_entries (joined (flat_map (map (as_text r.annotations)) cells))) (between cells) (map text_laid (flat_map (map (as_text r.annotations)) cells))
         × Joins r (with_cells columns q cells)
     cells_put [] q h = (stays columns kind q q refl, h)
     cells_put (lines ∷ cells) q h =
@@ -154,18 +160,20 @@ module _ {D A : Type 0} (columns : ℕ → Option ℕ) (kind : Kind) where
         let texts = map (as_text r.annotations) lines in
         let rest = flat_map (map (as_text r.annotations)) cells in
         let joins = joins_lines (map (as_text q.annotations) lines) r q h in (
-          subst (λ (es : List (Entry (List A))). Course columns kind q s es (slashes cells) []) (sym (ap laid_entries (joined-append texts rest) ∙ map-append laid_entry (joined texts) (joined rest)))
-              (onward columns kind q n s (laid_entries (joined texts)) (laid_entries (joined rest)) (cell_put lines q h) (cells_below cells n joins)),
+          texts_put q s texts rest (slashes cells) (onward columns kind q n s (laid_entries (joined texts)) (laid_entries (joined rest)) (cell_put lines q h) (cells_below cells n joins)),
           joins_below cells n joins,
         )
 
     pub cells_appended : (cells : List (List (Line (List A)))) (s : Renderer D A (List A)) → FlushesThen columns (λ m. with_divider columns horizontal (with_cells columns m cells)) r s →
-        Course columns kind r s (laid_entries (joined (flat_map (map (as_text r.annotations)) cells))) (if r.options.draw_borders then row_borders r.width (length cells) else []) (flush_ends r)
+        Course columns kind r s (laid_entries (joined (flat_map (map (as_text r.annotations)) cells))) (if r.options.draw_borders then row_borders r.width (length cells) else []) (flush_ends r ++ map text_laid (flat_map (map (as_text r.annotations)) cells))
     cells_appended cells s h =
         let es = laid_entries (joined (flat_map (map (as_text r.annotations)) cells)) in
         let p : Renderer D A (List A) = with_cells columns h.0 cells in
         let (path, joins) = cells_put cells h.0 (joins_flushed r h.0 r.block refl h.1) in
         let d = divided horizontal p joins in
         let last = subst (λ (q : Renderer D A (List A)). Course columns kind p q [] (divider horizontal) []) (sym h.2) d.path in
-        subst (λ bs. Course columns kind r s es bs (flush_ends r)) (row_is r.options.draw_borders r.width cells)
-        (flushed_first columns kind r h.0 s es h.1 (subst (λ (fs : List (Entry (List A))). Course columns kind h.0 s fs (between cells ++ divider horizontal) []) (append-nil es) (onward columns kind h.0 p s es [] path last)))
+        let texts : List (Added D A) = map text_laid (flat_map (map (as_text r.annotations)) cells) in
+        subst (λ bs. Course columns kind r s es bs (flush_ends r ++ texts)) (row_is r.options.draw_borders r.width cells)
+        (flushed_first columns kind r h.0 s es h.1
+        (subst (λ (xs : List (Added D A)). Course columns kind h.0 s es (between cells ++ divider horizontal) xs) (append-nil texts)
+        (subst (λ (fs : List (Entry (List A))). Course columns kind h.0 s fs (between cells ++ divider horizontal) (texts ++ [])) (append-nil es) (onward columns kind h.0 p s es [] path last))))

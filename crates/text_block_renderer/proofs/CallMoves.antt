@@ -17,7 +17,7 @@ use Rattle.tbr_kept_lines.specs.LastBorder.{without_last}
 use Rattle.tbr_tagged.specs.Outcome.{done}
 use Rattle.tbr_tagged.proofs.Outcomes.{live_done}
 use Rattle.tbr_renderer.specs.Outcomes.{run, told_by}
-use Rattle.tbr_renderer.specs.Flush.{block_lines, lines_at_end}
+use Rattle.tbr_renderer.specs.Flush.{block_lines, lines_at_end, after_block}
 use Rattle.tbr_renderer.specs.Steps.{with_empty_line, block_started, text_brings, at_line_start}
 use Rattle.tbr_renderer.specs.Appended.{with_border, border_of_cells, prefixed, with_divider, with_cells}
 use Rattle.tbr_border.specs.Cell.{horizontal}
@@ -28,7 +28,7 @@ use Rattle.tbr_renderer.specs.Image.{shown_title}
 use Rattle.tbr_renderer.specs.Decorated.{struck_from, struck_until, asked_to_close, annotated, coloured, uncoloured}
 use Rattle.tbr_renderer.specs.Calls.{Call, add_empty_line, new_line, new_line_hard, start_block, start_table, end_block, add_inline_text, push_ws, pop_ws, push_preformat, pop_preformat, record_frag_start, begin, finish, start_strikeout, end_strikeout, add_image, push_colour, pop_colour, add_border, append_subrender, append_vert_row, made, after, Does, text_brought, image_brought, entries_brought, brought, Brings}
 use Rattle.text_block_renderer.specs.Drawn.{borders_added, AddsNoBorder}
-use Rattle.text_block_renderer.specs.EndedRuns.{EndedRun, flush_ends, text_ends, image_ends, call_ends, runs_ended}
+use Rattle.text_block_renderer.specs.Added.{Added, text_laid, flush_ends, empty_adds, start_lays, start_adds, text_adds, image_adds, call_adds, calls_add}
 use Rattle.text_block_renderer.specs.Stretches.{AppendsNothing}
 use Rattle.text_block_renderer.proofs.Moves.{flush, line, join, SameText, Kind, any, undrawn, own, Fits, MayLay, MayRule, Course, Path, onward, one, flushed_first, stays, turned, turned_by, path_width, path_options, flushed_none}
 use Rattle.text_block_renderer.proofs.AppendedMoves.{lines_appended, border_added, cells_appended}
@@ -69,16 +69,16 @@ module _ {D A : Type 0} where
 -- ---- calls
 
 module _ {D A : Type 0} (columns : ℕ → Option ℕ) (kind : Kind) where
-  empty_put : (r s : Renderer D A (List A)) → r.block ≡ None → s ≡ with_empty_line columns r → Path columns kind r s []
+  empty_put : (r s : Renderer D A (List A)) → r.block ≡ None → s ≡ with_empty_line columns r → Course columns kind r s [] [] (text_laid [] ∷ [])
   empty_put r s none h = onward columns kind r (with_line columns r []) s [] [] (one columns kind (line []) r (with_line columns r []) (may_lay_nothing (List A) kind, none, refl)) (turned columns kind (with_line columns r []) (with_empty_line columns r) s refl refl refl refl refl refl h)
 
-  empty_added : (r s : Renderer D A (List A)) → FlushesThen columns (with_empty_line columns) r s → Course columns kind r s [] [] (flush_ends r)
+  empty_added : (r s : Renderer D A (List A)) → FlushesThen columns (with_empty_line columns) r s → Course columns kind r s [] [] (empty_adds r)
   empty_added r s h = flushed_first columns kind r h.0 s [] h.1 (empty_put h.0 s (flushed_none columns r h.0 h.1) h.2)
 
-  begun : (r s : Renderer D A (List A)) → r.block ≡ None → s ≡ block_started columns r → Path columns kind r s []
+  begun : (r s : Renderer D A (List A)) → r.block ≡ None → s ≡ block_started columns r → Course columns kind r s [] [] (start_lays r)
   begun r s none h = go (has_content r) refl
     where
-      go : (b : Bool) → has_content r ≡ b → Path columns kind r s []
+      go : (b : Bool) → has_content r ≡ b → Course columns kind r s [] [] (if b then text_laid [] ∷ [] else [])
       go true e =
           let is : block_started columns r ≡ with_empty_line columns r = rw e refl in
           empty_put r s none (h ∙ is)
@@ -86,10 +86,16 @@ module _ {D A : Type 0} (columns : ℕ → Option ℕ) (kind : Kind) where
           let is : block_started columns r ≡ record r { block_ended = false } = rw e refl in
           turned columns kind r (record r { block_ended = false }) s refl refl refl refl refl refl (h ∙ is)
 
-  started : (r s : Renderer D A (List A)) → FlushesThen columns (block_started columns) r s → Course columns kind r s [] [] (flush_ends r)
-  started r s h = flushed_first columns kind r h.0 s [] h.1 (begun h.0 s (flushed_none columns r h.0 h.1) h.2)
+  flush_done : (r s : Renderer D A (List A)) (o : Option (Open (List A))) → FlushesBlock columns r o s → after_block columns r o ≡ done s
+  flush_done r s None h = ap (λ (q : Renderer D A (List A)). done q) (sym h)
+  flush_done r s (Some b) h = rw h.fits (ap (λ (q : Renderer D A (List A)). done q) (sym h.is))
 
-  broken : (r s : Renderer D A (List A)) (at : Bool) → BreaksLine columns at r s → Course columns kind r s [] [] (flush_ends r)
+  started : (r s : Renderer D A (List A)) → FlushesThen columns (block_started columns) r s → Course columns kind r s [] [] (start_adds columns r)
+  started r s h =
+      subst (λ o. Course columns kind r s [] [] (flush_ends r ++ told_by start_lays o)) (sym (flush_done r h.0 r.block h.1))
+      (flushed_first columns kind r h.0 s [] h.1 (begun h.0 s (flushed_none columns r h.0 h.1) h.2))
+
+  broken : (r s : Renderer D A (List A)) (at : Bool) → BreaksLine columns at r s → Course columns kind r s [] [] (if at then empty_adds r else flush_ends r)
   broken r s true h = empty_added r s h
   broken r s false h = one columns kind (flush r) r s (refl, h)
 
@@ -113,12 +119,12 @@ module _ {D A : Type 0} (columns : ℕ → Option ℕ) (kind : Kind) where
     text_joined cs r s h = subst (λ (es : List (Entry (List A))). Path columns kind r s es) (entries_run (entries_of columns preformatted r cs)) (one columns kind (join (text_brings columns preformatted cs r)) r s h)
 
     text_added : (ignored ended : Bool) (cs : List ℕ) (r s : Renderer D A (List A)) → AddsTextBy columns preformatted ignored ended cs r s →
-        Course columns kind r s (if ignored then [] else entries_of columns preformatted r cs) [] (if ignored then [] else if ended then flush_ends r else [])
+        Course columns kind r s (if ignored then [] else entries_of columns preformatted r cs) [] (if ignored then [] else if ended then start_adds columns r else [])
     text_added true ended cs r s h = stays columns kind r s h
     text_added false false cs r s h = text_joined cs r s h
     text_added false true cs r s h =
-        subst (λ (es : List (Entry (List A))). Course columns kind r s es [] (flush_ends r)) (entries_started cs r h.0 h.1)
-        (subst (λ (rs : List (EndedRun D A)). Course columns kind r s (entries_of columns preformatted h.0 cs) [] rs) (append-nil (flush_ends r))
+        subst (λ (es : List (Entry (List A))). Course columns kind r s es [] (start_adds columns r)) (entries_started cs r h.0 h.1)
+        (subst (λ (xs : List (Added D A)). Course columns kind r s (entries_of columns preformatted h.0 cs) [] xs) (append-nil (start_adds columns r))
         (onward columns kind r h.0 s [] (entries_of columns preformatted h.0 cs) (started r h.0 h.1) (text_joined cs h.0 s h.2)))
 
   -- ---- decorated text
@@ -140,37 +146,37 @@ module _ {D A : Type 0} (columns : ℕ → Option ℕ) (kind : Kind) where
     uncoloured_same g r true e = rw e (record { lines = refl; block = refl; waiting = refl; width = refl; options = refl; hanging = refl })
     uncoloured_same g r false e = rw e (record { lines = refl; block = refl; waiting = refl; width = refl; options = refl; hanging = refl })
 
-    added : (cs : List ℕ) (r s : Renderer D A (List A)) → AddsText columns decoration.preformatted cs r s → Course columns kind r s (text_brought columns decoration cs r) [] (text_ends cs r)
+    added : (cs : List ℕ) (r s : Renderer D A (List A)) → AddsText columns decoration.preformatted cs r s → Course columns kind r s (text_brought columns decoration cs r) [] (text_adds columns cs r)
     added cs r s h = text_added decoration.preformatted (ignores r cs) r.block_ended cs r s h
 
     opens : (opened : Start) (r s : Renderer D A (List A)) → AddsText columns decoration.preformatted (decoration.start_text r.decorator opened) (annotated decoration opened r) s →
-        Course columns kind r s (text_brought columns decoration (decoration.start_text r.decorator opened) (annotated decoration opened r)) [] (text_ends (decoration.start_text r.decorator opened) (annotated decoration opened r))
+        Course columns kind r s (text_brought columns decoration (decoration.start_text r.decorator opened) (annotated decoration opened r)) [] (text_adds columns (decoration.start_text r.decorator opened) (annotated decoration opened r))
     opens opened r s h =
         let q = annotated decoration opened r in
         let cs = decoration.start_text r.decorator opened in
         onward columns kind r q s [] (text_brought columns decoration cs q) (turned columns kind r q q refl refl refl refl refl refl refl) (added cs q s h)
 
     -- moves, and then a turn
-    turned_then : (r m s : Renderer D A (List A)) (es : List (Entry (List A))) {rs : List (EndedRun D A)} → Course columns kind r m es [] rs → Path columns kind m s [] → Course columns kind r s es [] rs
-    turned_then r m s es {rs} p q =
-        subst (λ (fs : List (Entry (List A))). Course columns kind r s fs [] rs) (append-nil es)
-        (subst (λ (ts : List (EndedRun D A)). Course columns kind r s (es ++ []) [] ts) (append-nil rs) (onward columns kind r m s es [] p q))
+    turned_then : (r m s : Renderer D A (List A)) (es : List (Entry (List A))) {xs : List (Added D A)} → Course columns kind r m es [] xs → Path columns kind m s [] → Course columns kind r s es [] xs
+    turned_then r m s es {xs} p q =
+        subst (λ (fs : List (Entry (List A))). Course columns kind r s fs [] xs) (append-nil es)
+        (subst (λ (ys : List (Added D A)). Course columns kind r s (es ++ []) [] ys) (append-nil xs) (onward columns kind r m s es [] p q))
 
     closes : (closed : End) (r s : Renderer D A (List A)) → Closes columns decoration closed r s →
-        Course columns kind r s (text_brought columns decoration (decoration.end_text r.decorator closed) (asked_to_close decoration closed r)) [] (text_ends (decoration.end_text r.decorator closed) (asked_to_close decoration closed r))
+        Course columns kind r s (text_brought columns decoration (decoration.end_text r.decorator closed) (asked_to_close decoration closed r)) [] (text_adds columns (decoration.end_text r.decorator closed) (asked_to_close decoration closed r))
     closes closed r s h =
         let q = asked_to_close decoration closed r in
         let cs = decoration.end_text r.decorator closed in
         let es = text_brought columns decoration cs q in
         onward columns kind r q s [] es (turned columns kind r q q refl refl refl refl refl refl refl) (turned_then q h.0 s es (added cs q h.0 h.1) (turned columns kind h.0 (without_annotation h.0) s refl refl refl refl refl refl h.2))
 
-    image_added : (source : List ℕ) (title : Option (List ℕ)) (r s : Renderer D A (List A)) → AddsImage columns decoration source title r s → Course columns kind r s (image_brought columns decoration source title r) [] (image_ends decoration source title r)
+    image_added : (source : List ℕ) (title : Option (List ℕ)) (r s : Renderer D A (List A)) → AddsImage columns decoration source title r s → Course columns kind r s (image_brought columns decoration source title r) [] (image_adds columns decoration source title r)
     image_added source None r s h = stays columns kind r s h
     image_added source (Some title) r s h =
         let image = start.image source title in
         turned_then r h.0 s (text_brought columns decoration (decoration.start_text r.decorator image) (annotated decoration image r)) (opens image r h.0 h.1) (turned columns kind h.0 (without_annotation h.0) s refl refl refl refl refl refl h.2)
 
-    made_moves : (c : Call (List A)) (r s : Renderer D A (List A)) → Fits kind r (c ∷ []) → made columns decoration c r ≡ done s → Course columns kind r s (entries_brought columns decoration c r) (borders_added r.width r.options c) (call_ends decoration c r)
+    made_moves : (c : Call (List A)) (r s : Renderer D A (List A)) → Fits kind r (c ∷ []) → made columns decoration c r ≡ done s → Course columns kind r s (entries_brought columns decoration c r) (borders_added r.width r.options c) (call_adds columns decoration c r)
     made_moves add_empty_line r s fits h = empty_added r s (flushed_then columns (with_empty_line columns) r s h)
     made_moves new_line r s fits h = one columns kind (flush r) r s (refl, flushes columns r s h)
     made_moves new_line_hard r s fits h = broken r s (at_line_start columns r r.block) (break_parts columns (at_line_start columns r r.block) r s h)
@@ -200,7 +206,7 @@ module _ {D A : Type 0} (columns : ℕ → Option ℕ) (kind : Kind) where
     made_moves (append_subrender prefixes lines) r s fits h = lines_appended columns kind prefixes lines r s (may_lay kind (append_subrender prefixes lines) r (λ no. no) fits) (flushed_then columns (λ m. fold (with_line columns) m (prefixed r.annotations prefixes lines)) r s h)
     made_moves (append_vert_row cells) r s fits h = cells_appended columns kind r (may_lay kind (append_vert_row cells) r (λ no. no) fits) (may_rule kind (append_vert_row cells) r (λ no. no) (λ no. no) fits) cells s (flushed_then columns (λ m. with_divider columns horizontal (with_cells columns m cells)) r s h)
 
-    call_moves : (c : Call (List A)) (r s : Renderer D A (List A)) → Fits kind r (c ∷ []) → Does columns decoration c r s → Course columns kind r s (entries_brought columns decoration c r) (borders_added r.width r.options c) (call_ends decoration c r)
+    call_moves : (c : Call (List A)) (r s : Renderer D A (List A)) → Fits kind r (c ∷ []) → Does columns decoration c r s → Course columns kind r s (entries_brought columns decoration c r) (borders_added r.width r.options c) (call_adds columns decoration c r)
     call_moves c r s fits h = made_moves c r s fits (live_done r.failure (made columns decoration c r) s h).1
 
     -- the borders of calls
@@ -210,7 +216,7 @@ module _ {D A : Type 0} (columns : ℕ → Option ℕ) (kind : Kind) where
     same_borders : (r m : Renderer D A (List A)) (calls : List (Call (List A))) → m.width ≡ r.width → m.options ≡ r.options → borders_of m calls ≡ borders_of r calls
     same_borders r m calls width options = ap (λ w. flat_map (borders_added w m.options) calls) width ∙ ap (λ (o : RenderOptions). flat_map (borders_added r.width o) calls) options
 
-    pub calls_move : (calls : List (Call (List A))) (r s : Renderer D A (List A)) (es : List (Entry (List A))) → Fits kind r calls → Brings columns decoration calls r es s → Course columns kind r s es (borders_of r calls) (runs_ended decoration columns calls r)
+    pub calls_move : (calls : List (Call (List A))) (r s : Renderer D A (List A)) (es : List (Entry (List A))) → Fits kind r calls → Brings columns decoration calls r es s → Course columns kind r s es (borders_of r calls) (calls_add columns decoration calls r)
     calls_move [] r s es fits h = subst (λ (fs : List (Entry (List A))). Path columns kind r s fs) (sym h.1) (stays columns kind r s (one_done r s h.0))
     calls_move (c ∷ cs) r s es fits h =
         let (m, does, steps) = done_first (after columns decoration c r) (run (after columns decoration) cs) s h.0 in
@@ -221,8 +227,8 @@ module _ {D A : Type 0} (columns : ℕ → Option ℕ) (kind : Kind) where
         let path = call_moves c r m (fits_first kind c cs r fits) does in
         let options = path_options columns kind r m first added path in
         let others = calls_move cs m s rest (fits_others kind c cs r m options fits) (steps, refl) in
-        let runs : call_ends decoration c r ++ runs_ended decoration columns cs m ≡ runs_ended decoration columns (c ∷ cs) r = ap (λ o. call_ends decoration c r ++ told_by (runs_ended decoration columns cs) o) (sym does) in
-        subst (λ (fs : List (Entry (List A))). Course columns kind r s fs (borders_of r (c ∷ cs)) (runs_ended decoration columns (c ∷ cs) r)) (sym is)
-        (subst (λ (rs : List (EndedRun D A)). Course columns kind r s (first ++ rest) (borders_of r (c ∷ cs)) rs) runs
-        (subst (λ bs. Course columns kind r s (first ++ rest) (added ++ bs) (call_ends decoration c r ++ runs_ended decoration columns cs m)) (same_borders r m cs (path_width columns kind r m first added path) options)
+        let adds : call_adds columns decoration c r ++ calls_add columns decoration cs m ≡ calls_add columns decoration (c ∷ cs) r = ap (λ o. call_adds columns decoration c r ++ told_by (calls_add columns decoration cs) o) (sym does) in
+        subst (λ (fs : List (Entry (List A))). Course columns kind r s fs (borders_of r (c ∷ cs)) (calls_add columns decoration (c ∷ cs) r)) (sym is)
+        (subst (λ (xs : List (Added D A)). Course columns kind r s (first ++ rest) (borders_of r (c ∷ cs)) xs) adds
+        (subst (λ bs. Course columns kind r s (first ++ rest) (added ++ bs) (call_adds columns decoration c r ++ calls_add columns decoration cs m)) (same_borders r m cs (path_width columns kind r m first added path) options)
         (onward columns kind r m s first rest path others)))

@@ -45,7 +45,7 @@ module _ {D A : Type 0} (columns : ℕ → Option ℕ) where
         let same : block_width s ≡ block_width r = ap (λ w. least w s.options.wrap_width) along.width ∙ ap (λ (o : RenderOptions). least r.width o.wrap_width) along.options in
         record {
           came = along.came;
-          runs = along.runs;
+          added = along.added;
           no_layout_is_ahead = each_gives (IsPiece columns r) (NoLayoutIsAhead columns) (no_layout r) along.came.pieces along.came.are;
           visible_characters_stand_once = each_gives (IsPiece columns r) (StandsOnce columns) (once r) along.came.pieces along.came.are;
           each_cell_shows_its_texts_once = λ one none fit before rows after cell are is_cell span.

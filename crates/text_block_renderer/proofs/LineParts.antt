@@ -13,12 +13,12 @@ use Rattle.tbr_renderer.proofs.FlushedBlocks.{EndsBlock, FlushesBlock}
 use Rattle.tbr_renderer.specs.Appended.{with_border}
 use Rattle.tbr_renderer.specs.Calls.{Call, laid_entries, Brings}
 use Rattle.text_block_renderer.specs.Drawn.{borders_added}
-use Rattle.text_block_renderer.specs.EndedRuns.{EndedRun, run_of_block, flush_ends, runs_ended}
-use Rattle.text_block_renderer.specs.Stretches.{Part, ended, laid, ruled, entries_of_part, borders_of_part, run_of_part, lines_of_part, IsPart, ComesInParts, AppendsNothing, IsOwnPart}
+use Rattle.text_block_renderer.specs.Added.{Added, text_laid, run_of_block, flush_ends, calls_add}
+use Rattle.text_block_renderer.specs.Stretches.{Part, ended, laid, ruled, entries_of_part, borders_of_part, added_of_part, lines_of_part, IsPart, ComesInParts, AppendsNothing, IsOwnPart}
 use Rattle.std.specs.Prelude.{⊤}
 use Rattle.std.specs.List.{AllByRecursion as Each}
 use Rattle.text_block_renderer.proofs.Moves as moves
-use Rattle.text_block_renderer.proofs.Moves.{Move, flush, line, rule, join, turn, brought_by, brought, ruled_by, ended_by, Kind, any, undrawn, own, Fits, MayLay, MayRule, Makes, MakesAll, Frame, no_block, flush_frame, sound_alike}
+use Rattle.text_block_renderer.proofs.Moves.{Move, flush, line, rule, join, turn, brought_by, brought, ruled_by, added_by, Kind, any, undrawn, own, Fits, MayLay, MayRule, Makes, MakesAll, Frame, no_block, flush_frame, sound_alike}
 use Rattle.text_block_renderer.proofs.CallMoves.{calls_move}
 use Rattle.tbr_renderer.proofs.JoinedTexts.{run_joined}
 use Rattle.text_block_renderer.proofs.RunStretches.{flush_adds}
@@ -49,18 +49,18 @@ ended_kind own q b texts = tt
 
 module _ {D A : Type 0} (columns : ℕ → Option ℕ) (kind : Kind) where
   -- What came in parts, to a renderer of which width and options are the same.
-  record CameInParts (r q : Renderer D A (List A)) (es : List (Entry (List A))) (bs : List (List Cell)) (rs : List (EndedRun D A)) : Type 0 where
+  record CameInParts (r q : Renderer D A (List A)) (es : List (Entry (List A))) (bs : List (List Cell)) (xs : List (Added D A)) : Type 0 where
     width : q.width ≡ r.width
     options : q.options ≡ r.options
     parts : ComesInParts columns r es q
     kinds : Each (IsOfKind kind) parts.parts
     borders : flat_map borders_of_part parts.parts ≡ bs
-    runs : flat_map run_of_part parts.parts ≡ rs
+    added : flat_map added_of_part parts.parts ≡ xs
 
   -- one part more
-  one_part : (r q s : Renderer D A (List A)) (es more : List (Entry (List A))) (bs : List (List Cell)) (rs : List (EndedRun D A)) (part : Part D A) → s.width ≡ q.width → s.options ≡ q.options → IsPart columns r part → IsOfKind kind part → s.lines ≡ q.lines ++ lines_of_part columns part →
-      open_run q.block ++ more ≡ entries_of_part part ++ open_run s.block → CameInParts r q es bs rs → CameInParts r s (es ++ more) (bs ++ borders_of_part part) (rs ++ run_of_part part)
-  one_part r q s es more bs rs part width options is of_kind lines run h = record {
+  one_part : (r q s : Renderer D A (List A)) (es more : List (Entry (List A))) (bs : List (List Cell)) (xs : List (Added D A)) (part : Part D A) → s.width ≡ q.width → s.options ≡ q.options → IsPart columns r part → IsOfKind kind part → s.lines ≡ q.lines ++ lines_of_part columns part →
+      open_run q.block ++ more ≡ entries_of_part part ++ open_run s.block → CameInParts r q es bs xs → CameInParts r s (es ++ more) (bs ++ borders_of_part part) (xs ++ added_of_part part)
+  one_part r q s es more bs xs part width options is of_kind lines run h = record {
     width = width ∙ h.width;
     options = options ∙ h.options;
     parts = record {
@@ -74,12 +74,12 @@ module _ {D A : Type 0} (columns : ℕ → Option ℕ) (kind : Kind) where
     };
     kinds = each_append (IsOfKind kind) h.parts.parts (part ∷ []) h.kinds (of_kind, tt);
     borders = flat_map_one borders_of_part h.parts.parts part ∙ ap (λ cs. cs ++ borders_of_part part) h.borders;
-    runs = flat_map_one run_of_part h.parts.parts part ∙ ap (λ ss. ss ++ run_of_part part) h.runs;
+    added = flat_map_one added_of_part h.parts.parts part ∙ ap (λ ys. ys ++ added_of_part part) h.added;
   }
 
   -- no part more
-  no_part : (r q s : Renderer D A (List A)) (es more : List (Entry (List A))) (bs : List (List Cell)) (rs : List (EndedRun D A)) → s.width ≡ q.width → s.options ≡ q.options → s.lines ≡ q.lines → open_run s.block ≡ open_run q.block ++ more → CameInParts r q es bs rs → CameInParts r s (es ++ more) (bs ++ []) (rs ++ [])
-  no_part r q s es more bs rs width options lines run h = record {
+  no_part : (r q s : Renderer D A (List A)) (es more : List (Entry (List A))) (bs : List (List Cell)) (xs : List (Added D A)) → s.width ≡ q.width → s.options ≡ q.options → s.lines ≡ q.lines → open_run s.block ≡ open_run q.block ++ more → CameInParts r q es bs xs → CameInParts r s (es ++ more) (bs ++ []) (xs ++ [])
+  no_part r q s es more bs xs width options lines run h = record {
     width = width ∙ h.width;
     options = options ∙ h.options;
     parts = record {
@@ -91,20 +91,20 @@ module _ {D A : Type 0} (columns : ℕ → Option ℕ) (kind : Kind) where
     };
     kinds = h.kinds;
     borders = h.borders ∙ sym (append-nil bs);
-    runs = h.runs ∙ sym (append-nil rs);
+    added = h.added ∙ sym (append-nil xs);
   }
 
-  none_more : (r q : Renderer D A (List A)) (es : List (Entry (List A))) (bs : List (List Cell)) (rs : List (EndedRun D A)) → CameInParts r q es bs rs → CameInParts r q (es ++ []) (bs ++ []) (rs ++ [])
-  none_more r q es bs rs k =
-      subst (λ ss. CameInParts r q (es ++ []) (bs ++ []) ss) (sym (append-nil rs)) (subst (λ cs. CameInParts r q (es ++ []) cs rs) (sym (append-nil bs)) (subst (λ fs. CameInParts r q fs bs rs) (sym (append-nil es)) k))
+  none_more : (r q : Renderer D A (List A)) (es : List (Entry (List A))) (bs : List (List Cell)) (xs : List (Added D A)) → CameInParts r q es bs xs → CameInParts r q (es ++ []) (bs ++ []) (xs ++ [])
+  none_more r q es bs xs k =
+      subst (λ ys. CameInParts r q (es ++ []) (bs ++ []) ys) (sym (append-nil xs)) (subst (λ cs. CameInParts r q (es ++ []) cs xs) (sym (append-nil bs)) (subst (λ fs. CameInParts r q fs bs xs) (sym (append-nil es)) k))
 
-  ended_part : (r q s : Renderer D A (List A)) (b : Open (List A)) (es : List (Entry (List A))) (bs : List (List Cell)) (rs : List (EndedRun D A)) → q.block ≡ Some b → EndsBlock columns q b s → IsSound columns r → CameInParts r q es bs rs → CameInParts r s (es ++ []) (bs ++ []) (rs ++ flush_ends q)
-  ended_part r q s b es bs rs open_block_is h sound k =
+  ended_part : (r q s : Renderer D A (List A)) (b : Open (List A)) (es : List (Entry (List A))) (bs : List (List Cell)) (xs : List (Added D A)) → q.block ≡ Some b → EndsBlock columns q b s → IsSound columns r → CameInParts r q es bs xs → CameInParts r s (es ++ []) (bs ++ []) (xs ++ flush_ends q)
+  ended_part r q s b es bs xs open_block_is h sound k =
       let texts : List (List (Item (List A))) = block_lines columns q b (lines_at_end columns q b) in
       let closed : Renderer D A (List A) = record q { block = None } in
       let same = flush_frame columns q s (Some b) h in
-      subst (λ (o : Option (Open (List A))). CameInParts r s (es ++ []) (bs ++ []) (rs ++ run_of_block q o)) (sym open_block_is)
-      (one_part r q s es [] bs rs (ended q b (lines_at_end columns q b))
+      subst (λ (o : Option (Open (List A))). CameInParts r s (es ++ []) (bs ++ []) (xs ++ run_of_block q o)) (sym open_block_is)
+      (one_part r q s es [] bs xs (ended q b (lines_at_end columns q b))
       (ap (λ (f : Frame A). f.width) same)
       (ap (λ (f : Frame A). f.options) same)
       (record { width = k.width; options = k.options; block = open_block_is; are_its = refl; names = names_at_end columns q b; ends = h.ends (sound_alike columns r q k.width k.options sound) })
@@ -113,48 +113,48 @@ module _ {D A : Type 0} (columns : ℕ → Option ℕ) (kind : Kind) where
       (append-nil (open_run q.block) ∙ ap open_run open_block_is ∙ sym (append-nil (run_of b.events)) ∙ ap (λ o. (run_of b.events) ++ open_run o) (sym (ap (λ (p : Renderer D A (List A)). p.block) h.is ∙ no_block columns texts closed refl)))
       k)
 
-  flush_parts : (r q s : Renderer D A (List A)) (o : Option (Open (List A))) (es : List (Entry (List A))) (bs : List (List Cell)) (rs : List (EndedRun D A)) → q.block ≡ o → FlushesBlock columns q o s → IsSound columns r → CameInParts r q es bs rs → CameInParts r s (es ++ []) (bs ++ []) (rs ++ flush_ends q)
-  flush_parts r q s None es bs rs e h sound k =
-      subst (λ (p : Renderer D A (List A)). CameInParts r p (es ++ []) (bs ++ []) (rs ++ flush_ends q)) (sym h)
-      (subst (λ (o : Option (Open (List A))). CameInParts r q (es ++ []) (bs ++ []) (rs ++ run_of_block q o)) (sym e) (none_more r q es bs rs k))
-  flush_parts r q s (Some b) es bs rs e h sound k = ended_part r q s b es bs rs e h sound k
+  flush_parts : (r q s : Renderer D A (List A)) (o : Option (Open (List A))) (es : List (Entry (List A))) (bs : List (List Cell)) (xs : List (Added D A)) → q.block ≡ o → FlushesBlock columns q o s → IsSound columns r → CameInParts r q es bs xs → CameInParts r s (es ++ []) (bs ++ []) (xs ++ flush_ends q)
+  flush_parts r q s None es bs xs e h sound k =
+      subst (λ (p : Renderer D A (List A)). CameInParts r p (es ++ []) (bs ++ []) (xs ++ flush_ends q)) (sym h)
+      (subst (λ (o : Option (Open (List A))). CameInParts r q (es ++ []) (bs ++ []) (xs ++ run_of_block q o)) (sym e) (none_more r q es bs xs k))
+  flush_parts r q s (Some b) es bs xs e h sound k = ended_part r q s b es bs xs e h sound k
 
   -- where no block is open, the open run is none
   none_open : (q : Renderer D A (List A)) (es : List (Entry (List A))) → q.block ≡ None → open_run q.block ++ es ≡ es ++ open_run q.block
   none_open q es none = ap (λ o. open_run o ++ es) none ∙ sym (append-nil es) ∙ ap (λ o. es ++ open_run o) (sym none)
 
-  put_parts : (r q s : Renderer D A (List A)) (is : List (Item (List A))) (es : List (Entry (List A))) (bs : List (List Cell)) (rs : List (EndedRun D A)) → MayLay kind is → q.block ≡ None → s ≡ with_line columns q is → CameInParts r q es bs rs → CameInParts r s (es ++ laid_entries is) (bs ++ []) (rs ++ [])
-  put_parts r q s is es bs rs may none h k =
-      subst (λ (p : Renderer D A (List A)). CameInParts r p (es ++ laid_entries is) (bs ++ []) (rs ++ [])) (sym h)
-      (one_part r q (with_line columns q is) es (laid_entries is) bs rs (laid q is) refl refl (record { width = k.width; options = k.options; block = none }) (laid_kind kind q is may) refl (none_open q (laid_entries is) none) k)
+  put_parts : (r q s : Renderer D A (List A)) (is : List (Item (List A))) (es : List (Entry (List A))) (bs : List (List Cell)) (xs : List (Added D A)) → MayLay kind is → q.block ≡ None → s ≡ with_line columns q is → CameInParts r q es bs xs → CameInParts r s (es ++ laid_entries is) (bs ++ []) (xs ++ text_laid is ∷ [])
+  put_parts r q s is es bs xs may none h k =
+      subst (λ (p : Renderer D A (List A)). CameInParts r p (es ++ laid_entries is) (bs ++ []) (xs ++ text_laid is ∷ [])) (sym h)
+      (one_part r q (with_line columns q is) es (laid_entries is) bs xs (laid q is) refl refl (record { width = k.width; options = k.options; block = none }) (laid_kind kind q is may) refl (none_open q (laid_entries is) none) k)
 
-  rule_parts : (r q s : Renderer D A (List A)) (cells : List Cell) (es : List (Entry (List A))) (bs : List (List Cell)) (rs : List (EndedRun D A)) → MayRule kind q → q.block ≡ None → s ≡ with_border columns q (without_holes cells q.annotations) → CameInParts r q es bs rs → CameInParts r s (es ++ []) (bs ++ cells ∷ []) (rs ++ [])
-  rule_parts r q s cells es bs rs may none h k =
-      subst (λ (p : Renderer D A (List A)). CameInParts r p (es ++ []) (bs ++ cells ∷ []) (rs ++ [])) (sym h)
-      (one_part r q (with_border columns q (without_holes cells q.annotations)) es [] bs rs (ruled q cells) refl refl (record { width = k.width; options = k.options; block = none }) (ruled_kind kind q cells may) refl (none_open q [] none) k)
+  rule_parts : (r q s : Renderer D A (List A)) (cells : List Cell) (es : List (Entry (List A))) (bs : List (List Cell)) (xs : List (Added D A)) → MayRule kind q → q.block ≡ None → s ≡ with_border columns q (without_holes cells q.annotations) → CameInParts r q es bs xs → CameInParts r s (es ++ []) (bs ++ cells ∷ []) (xs ++ [])
+  rule_parts r q s cells es bs xs may none h k =
+      subst (λ (p : Renderer D A (List A)). CameInParts r p (es ++ []) (bs ++ cells ∷ []) (xs ++ [])) (sym h)
+      (one_part r q (with_border columns q (without_holes cells q.annotations)) es [] bs xs (ruled q cells) refl refl (record { width = k.width; options = k.options; block = none }) (ruled_kind kind q cells may) refl (none_open q [] none) k)
 
-  join_parts : (r q s : Renderer D A (List A)) (es : List (Entry (List A))) (more : List (Event (List A))) (bs : List (List Cell)) (rs : List (EndedRun D A)) → s ≡ with_events q more → CameInParts r q es bs rs → CameInParts r s (es ++ run_of more) (bs ++ []) (rs ++ [])
-  join_parts r q s es more bs rs h k =
-      subst (λ (p : Renderer D A (List A)). CameInParts r p (es ++ run_of more) (bs ++ []) (rs ++ [])) (sym h)
-      (no_part r q (with_events q more) es (run_of more) bs rs refl refl refl (run_joined q more) k)
+  join_parts : (r q s : Renderer D A (List A)) (es : List (Entry (List A))) (more : List (Event (List A))) (bs : List (List Cell)) (xs : List (Added D A)) → s ≡ with_events q more → CameInParts r q es bs xs → CameInParts r s (es ++ run_of more) (bs ++ []) (xs ++ [])
+  join_parts r q s es more bs xs h k =
+      subst (λ (p : Renderer D A (List A)). CameInParts r p (es ++ run_of more) (bs ++ []) (xs ++ [])) (sym h)
+      (no_part r q (with_events q more) es (run_of more) bs xs refl refl refl (run_joined q more) k)
 
-  move_parts : (r : Renderer D A (List A)) (m : Move D A) (q s : Renderer D A (List A)) (es : List (Entry (List A))) (bs : List (List Cell)) (rs : List (EndedRun D A)) → Makes columns kind m q s → IsSound columns r → CameInParts r q es bs rs → CameInParts r s (es ++ brought_by m) (bs ++ ruled_by m) (rs ++ ended_by m)
-  move_parts r (flush p) q s es bs rs h sound k = subst (λ (t : Renderer D A (List A)). CameInParts r s (es ++ []) (bs ++ []) (rs ++ flush_ends t)) (sym h.0) (flush_parts r q s q.block es bs rs refl h.1 sound k)
-  move_parts r (line is) q s es bs rs h sound k = put_parts r q s is es bs rs h.0 h.1 h.2 k
-  move_parts r (rule cells) q s es bs rs h sound k = rule_parts r q s cells es bs rs h.0 h.1 h.2 k
-  move_parts r (join more) q s es bs rs h sound k = join_parts r q s es more bs rs h k
-  move_parts r turn q s es bs rs h sound k = no_part r q s es [] bs rs h.width h.options h.lines (ap open_run h.block ∙ sym (append-nil (open_run q.block))) k
+  move_parts : (r : Renderer D A (List A)) (m : Move D A) (q s : Renderer D A (List A)) (es : List (Entry (List A))) (bs : List (List Cell)) (xs : List (Added D A)) → Makes columns kind m q s → IsSound columns r → CameInParts r q es bs xs → CameInParts r s (es ++ brought_by m) (bs ++ ruled_by m) (xs ++ added_by m)
+  move_parts r (flush p) q s es bs xs h sound k = subst (λ (t : Renderer D A (List A)). CameInParts r s (es ++ []) (bs ++ []) (xs ++ flush_ends t)) (sym h.0) (flush_parts r q s q.block es bs xs refl h.1 sound k)
+  move_parts r (line is) q s es bs xs h sound k = put_parts r q s is es bs xs h.0 h.1 h.2 k
+  move_parts r (rule cells) q s es bs xs h sound k = rule_parts r q s cells es bs xs h.0 h.1 h.2 k
+  move_parts r (join more) q s es bs xs h sound k = join_parts r q s es more bs xs h k
+  move_parts r turn q s es bs xs h sound k = no_part r q s es [] bs xs h.width h.options h.lines (ap open_run h.block ∙ sym (append-nil (open_run q.block))) k
 
-  moves_parts : (r : Renderer D A (List A)) (ms : List (Move D A)) (q s : Renderer D A (List A)) (es : List (Entry (List A))) (bs : List (List Cell)) (rs : List (EndedRun D A)) → MakesAll columns kind ms q s → IsSound columns r → CameInParts r q es bs rs →
-      CameInParts r s (es ++ brought ms) (bs ++ moves.ruled ms) (rs ++ moves.ended ms)
-  moves_parts r [] q s es bs rs h sound k = subst (λ (p : Renderer D A (List A)). CameInParts r p (es ++ []) (bs ++ []) (rs ++ [])) (sym h) (none_more r q es bs rs k)
-  moves_parts r (m ∷ ms) q s es bs rs h sound k =
-      subst (λ fs. CameInParts r s fs (bs ++ moves.ruled (m ∷ ms)) (rs ++ moves.ended (m ∷ ms))) (append_assoc es (brought_by m) (brought ms))
-      (subst (λ cs. CameInParts r s ((es ++ brought_by m) ++ brought ms) cs (rs ++ moves.ended (m ∷ ms))) (append_assoc bs (ruled_by m) (moves.ruled ms))
-      (subst (λ ss. CameInParts r s ((es ++ brought_by m) ++ brought ms) ((bs ++ ruled_by m) ++ moves.ruled ms) ss) (append_assoc rs (ended_by m) (moves.ended ms))
-      (moves_parts r ms h.0 s (es ++ brought_by m) (bs ++ ruled_by m) (rs ++ ended_by m) h.2 sound (move_parts r m q h.0 es bs rs h.1 sound k))))
+  moves_parts : (r : Renderer D A (List A)) (ms : List (Move D A)) (q s : Renderer D A (List A)) (es : List (Entry (List A))) (bs : List (List Cell)) (xs : List (Added D A)) → MakesAll columns kind ms q s → IsSound columns r → CameInParts r q es bs xs →
+      CameInParts r s (es ++ brought ms) (bs ++ moves.ruled ms) (xs ++ moves.added ms)
+  moves_parts r [] q s es bs xs h sound k = subst (λ (p : Renderer D A (List A)). CameInParts r p (es ++ []) (bs ++ []) (xs ++ [])) (sym h) (none_more r q es bs xs k)
+  moves_parts r (m ∷ ms) q s es bs xs h sound k =
+      subst (λ fs. CameInParts r s fs (bs ++ moves.ruled (m ∷ ms)) (xs ++ moves.added (m ∷ ms))) (append_assoc es (brought_by m) (brought ms))
+      (subst (λ cs. CameInParts r s ((es ++ brought_by m) ++ brought ms) cs (xs ++ moves.added (m ∷ ms))) (append_assoc bs (ruled_by m) (moves.ruled ms))
+      (subst (λ ys. CameInParts r s ((es ++ brought_by m) ++ brought ms) ((bs ++ ruled_by m) ++ moves.ruled ms) ys) (append_assoc xs (added_by m) (moves.added ms))
+      (moves_parts r ms h.0 s (es ++ brought_by m) (bs ++ ruled_by m) (xs ++ added_by m) h.2 sound (move_parts r m q h.0 es bs xs h.1 sound k))))
 
-  came_in_parts : (decoration : Decoration D A) (calls : List (Call (List A))) (r s : Renderer D A (List A)) (es : List (Entry (List A))) → IsSound columns r → Fits kind r calls → Brings columns decoration calls r es s → CameInParts r s es (flat_map (borders_added r.width r.options) calls) (runs_ended decoration columns calls r)
+  came_in_parts : (decoration : Decoration D A) (calls : List (Call (List A))) (r s : Renderer D A (List A)) (es : List (Entry (List A))) → IsSound columns r → Fits kind r calls → Brings columns decoration calls r es s → CameInParts r s es (flat_map (borders_added r.width r.options) calls) (calls_add columns decoration calls r)
   came_in_parts decoration calls r s es sound fits h =
       let path = calls_move columns kind decoration calls r s es fits h in
       let none_yet : CameInParts r r [] [] [] = record {
@@ -163,16 +163,16 @@ module _ {D A : Type 0} (columns : ℕ → Option ℕ) (kind : Kind) where
         parts = record { parts = []; are = tt; lines = sym (append-nil r.lines); entries = append-nil (open_run r.block) };
         kinds = tt;
         borders = refl;
-        runs = refl;
+        added = refl;
       } in
-      subst (λ rs. CameInParts r s es (flat_map (borders_added r.width r.options) calls) rs) path.ends
-      (subst (λ bs. CameInParts r s es bs (moves.ended path.moves)) path.rules (subst (λ fs. CameInParts r s fs (moves.ruled path.moves) (moves.ended path.moves)) path.brings (moves_parts r path.moves r s [] [] [] path.makes sound none_yet)))
+      subst (λ xs. CameInParts r s es (flat_map (borders_added r.width r.options) calls) xs) path.adds
+      (subst (λ bs. CameInParts r s es bs (moves.added path.moves)) path.rules (subst (λ fs. CameInParts r s fs (moves.ruled path.moves) (moves.added path.moves)) path.brings (moves_parts r path.moves r s [] [] [] path.makes sound none_yet)))
 
 module _ {D A : Type 0} (columns : ℕ → Option ℕ) where
   pub brings_parts : (decoration : Decoration D A) (calls : List (Call (List A))) (r s : Renderer D A (List A)) (es : List (Entry (List A))) → IsSound columns r → Brings columns decoration calls r es s →
       (came : ComesInParts columns r es s) × (flat_map borders_of_part came.parts ≡ flat_map (borders_added r.width r.options) calls)
-      × (flat_map run_of_part came.parts ≡ runs_ended decoration columns calls r)
-  brings_parts decoration calls r s es sound h = let came = came_in_parts columns any decoration calls r s es sound tt h in (came.parts, came.borders, came.runs)
+      × (flat_map added_of_part came.parts ≡ calls_add columns decoration calls r)
+  brings_parts decoration calls r s es sound h = let came = came_in_parts columns any decoration calls r s es sound tt h in (came.parts, came.borders, came.added)
 
   pub brings_own_parts : (decoration : Decoration D A) (calls : List (Call (List A))) (r s : Renderer D A (List A)) (es : List (Entry (List A))) → IsSound columns r → Each AppendsNothing calls → Brings columns decoration calls r es s →
       (came : ComesInParts columns r es s) × Each IsOwnPart came.parts

@@ -14,7 +14,7 @@ use Rattle.tbr_renderer.proofs.FlushedBlocks.{FlushesBlock, Flushes}
 use Rattle.tbr_renderer.specs.Appended.{with_border}
 use Rattle.tbr_renderer.specs.Calls.{Call, laid_entries}
 use Rattle.text_block_renderer.specs.Drawn.{DrawNone}
-use Rattle.text_block_renderer.specs.EndedRuns.{EndedRun, flush_ends}
+use Rattle.text_block_renderer.specs.Added.{Added, text_laid, flush_ends}
 use Rattle.text_block_renderer.specs.Stretches.{AppendsNothing}
 
 -- The end of the run that is open in this renderer; a line of text or a border, where no block is open; what comes to the open block. Or a
@@ -58,21 +58,21 @@ abbrev pub ruled : {D A : Type 0} → List (Move D A) → List (List Cell)
 ruled [] = []
 ruled (m ∷ ms) = ruled_by m ++ ruled ms
 
--- the runs that moves end
-abbrev pub ended_by : {D A : Type 0} → Move D A → List (EndedRun D A)
-ended_by (flush r) = flush_ends r
-ended_by (line is) = []
-ended_by (rule cells) = []
-ended_by (join es) = []
-ended_by turn = []
+-- the runs that moves end, and the texts that they lay
+abbrev pub added_by : {D A : Type 0} → Move D A → List (Added D A)
+added_by (flush r) = flush_ends r
+added_by (line is) = text_laid is ∷ []
+added_by (rule cells) = []
+added_by (join es) = []
+added_by turn = []
 
-abbrev pub ended : {D A : Type 0} → List (Move D A) → List (EndedRun D A)
-ended [] = []
-ended (m ∷ ms) = ended_by m ++ ended ms
+abbrev pub added : {D A : Type 0} → List (Move D A) → List (Added D A)
+added [] = []
+added (m ∷ ms) = added_by m ++ added ms
 
-ended-append : {D A : Type 0} (ms ns : List (Move D A)) → ended (ms ++ ns) ≡ ended ms ++ ended ns
-ended-append [] ns = refl
-ended-append (m ∷ ms) ns = ap (λ rs. ended_by m ++ rs) (ended-append ms ns) ∙ sym (append_assoc (ended_by m) (ended ms) (ended ns))
+added-append : {D A : Type 0} (ms ns : List (Move D A)) → added (ms ++ ns) ≡ added ms ++ added ns
+added-append [] ns = refl
+added-append (m ∷ ms) ns = ap (λ xs. added_by m ++ xs) (added-append ms ns) ∙ sym (append_assoc (added_by m) (added ms) (added ns))
 
 ruled-append : {D A : Type 0} (ms ns : List (Move D A)) → ruled (ms ++ ns) ≡ ruled ms ++ ruled ns
 ruled-append [] ns = refl
@@ -156,15 +156,15 @@ module _ {D A : Type 0} (columns : ℕ → Option ℕ) (kind : Kind) where
   MakesAll [] r s = s ≡ r
   MakesAll (m ∷ ms) r s = (q : Renderer D A (List A)) × Makes m r q × MakesAll ms q s
 
-  -- some moves lead from one renderer to the other, bring these entries, put these borders, and end these runs
-  pub record Course (r s : Renderer D A (List A)) (es : List (Entry (List A))) (bs : List (List Cell)) (rs : List (EndedRun D A)) : Type 0 where
+  -- Some moves lead from one renderer to the other, bring these entries, put these borders, and add these runs and texts.
+  pub record Course (r s : Renderer D A (List A)) (es : List (Entry (List A))) (bs : List (List Cell)) (xs : List (Added D A)) : Type 0 where
     pub moves : List (Move D A)
     pub makes : MakesAll moves r s
     pub brings : brought moves ≡ es
     pub rules : ruled moves ≡ bs
-    pub ends : ended moves ≡ rs
+    pub adds : added moves ≡ xs
 
-  -- no border and no run
+  -- no border, no run, and no text
   abbrev pub Path : Renderer D A (List A) → Renderer D A (List A) → List (Entry (List A)) → Type 0
   Path r s es = Course r s es [] []
 
@@ -172,21 +172,21 @@ module _ {D A : Type 0} (columns : ℕ → Option ℕ) (kind : Kind) where
   makes-append [] ns r q s h k = subst (λ (p : Renderer D A (List A)). MakesAll ns p s) h k
   makes-append (m ∷ ms) ns r q s h k = (h.0, h.1, makes-append ms ns h.0 q s h.2 k)
 
-  pub onward : (r q s : Renderer D A (List A)) (es fs : List (Entry (List A))) {bs cs : List (List Cell)} {rs ss : List (EndedRun D A)} → Course r q es bs rs → Course q s fs cs ss → Course r s (es ++ fs) (bs ++ cs) (rs ++ ss)
-  onward r q s es fs {bs} {cs} {rs} {ss} p k = record {
+  pub onward : (r q s : Renderer D A (List A)) (es fs : List (Entry (List A))) {bs cs : List (List Cell)} {xs ys : List (Added D A)} → Course r q es bs xs → Course q s fs cs ys → Course r s (es ++ fs) (bs ++ cs) (xs ++ ys)
+  onward r q s es fs {bs} {cs} {xs} {ys} p k = record {
     moves = p.moves ++ k.moves;
     makes = makes-append p.moves k.moves r q s p.makes k.makes;
     brings = brought-append p.moves k.moves ∙ ap (λ gs. gs ++ brought k.moves) p.brings ∙ ap (λ gs. es ++ gs) k.brings;
     rules = ruled-append p.moves k.moves ∙ ap (λ ds. ds ++ ruled k.moves) p.rules ∙ ap (λ ds. bs ++ ds) k.rules;
-    ends = ended-append p.moves k.moves ∙ ap (λ ts. ts ++ ended k.moves) p.ends ∙ ap (λ ts. rs ++ ts) k.ends;
+    adds = added-append p.moves k.moves ∙ ap (λ zs. zs ++ added k.moves) p.adds ∙ ap (λ zs. xs ++ zs) k.adds;
   }
 
-  pub one : (m : Move D A) (r s : Renderer D A (List A)) → Makes m r s → Course r s (brought_by m) (ruled_by m) (ended_by m)
-  one m r s h = record { moves = m ∷ []; makes = (s, h, refl); brings = append-nil (brought_by m); rules = append-nil (ruled_by m); ends = append-nil (ended_by m) }
+  pub one : (m : Move D A) (r s : Renderer D A (List A)) → Makes m r s → Course r s (brought_by m) (ruled_by m) (added_by m)
+  one m r s h = record { moves = m ∷ []; makes = (s, h, refl); brings = append-nil (brought_by m); rules = append-nil (ruled_by m); adds = append-nil (added_by m) }
 
-  -- the end of the open run, and then what ends no other
-  pub flushed_first : (r m s : Renderer D A (List A)) (es : List (Entry (List A))) {bs : List (List Cell)} → Flushes columns r m → Course m s es bs [] → Course r s es bs (flush_ends r)
-  flushed_first r m s es {bs} h k = subst (λ (rs : List (EndedRun D A)). Course r s es bs rs) (append-nil (flush_ends r)) (onward r m s [] es (one (flush r) r m (refl, h)) k)
+  -- the end of the open run, and then others
+  pub flushed_first : (r m s : Renderer D A (List A)) (es : List (Entry (List A))) {bs : List (List Cell)} {xs : List (Added D A)} → Flushes columns r m → Course m s es bs xs → Course r s es bs (flush_ends r ++ xs)
+  flushed_first r m s es h k = onward r m s [] es (one (flush r) r m (refl, h)) k
 
   -- `q` is `r` but for what isn't text
   pub turned_by : (r q s : Renderer D A (List A)) → SameText r q → s ≡ q → Path r s []
@@ -196,7 +196,7 @@ module _ {D A : Type 0} (columns : ℕ → Option ℕ) (kind : Kind) where
   turned r q s lines block waiting width options hanging is = turned_by r q s (record { lines = lines; block = block; waiting = waiting; width = width; options = options; hanging = hanging }) is
 
   pub stays : (r s : Renderer D A (List A)) → s ≡ r → Path r s []
-  stays r s h = record { moves = []; makes = h; brings = refl; rules = refl; ends = refl }
+  stays r s h = record { moves = []; makes = h; brings = refl; rules = refl; adds = refl }
 
   -- What each move keeps, moves one after another keep.
   pub along : (P : Renderer D A (List A) → List (Entry (List A)) → Type 0) →
@@ -238,15 +238,15 @@ module _ {D A : Type 0} (columns : ℕ → Option ℕ) (kind : Kind) where
       let same = move_frame m r s h in
       sound_alike columns r s (ap (λ (f : Frame A). f.width) same) (ap (λ (f : Frame A). f.options) same) sound
 
-  path_frame : (r s : Renderer D A (List A)) (es : List (Entry (List A))) (bs : List (List Cell)) {rs : List (EndedRun D A)} → Course r s es bs rs → frame s ≡ frame r
-  path_frame r s es bs {rs} path =
+  path_frame : (r s : Renderer D A (List A)) (es : List (Entry (List A))) (bs : List (List Cell)) {xs : List (Added D A)} → Course r s es bs xs → frame s ≡ frame r
+  path_frame r s es bs {xs} path =
       through (λ p q. frame q ≡ frame p) (λ p q e. ap (λ (t : Renderer D A (List A)). frame t) e) (λ p q t g h. h ∙ g) move_frame path.moves r s path.makes
 
-  pub path_width : (r s : Renderer D A (List A)) (es : List (Entry (List A))) (bs : List (List Cell)) {rs : List (EndedRun D A)} → Course r s es bs rs → s.width ≡ r.width
-  path_width r s es bs {rs} path = ap (λ (f : Frame A). f.width) (path_frame r s es bs path)
+  pub path_width : (r s : Renderer D A (List A)) (es : List (Entry (List A))) (bs : List (List Cell)) {xs : List (Added D A)} → Course r s es bs xs → s.width ≡ r.width
+  path_width r s es bs {xs} path = ap (λ (f : Frame A). f.width) (path_frame r s es bs path)
 
-  pub path_options : (r s : Renderer D A (List A)) (es : List (Entry (List A))) (bs : List (List Cell)) {rs : List (EndedRun D A)} → Course r s es bs rs → s.options ≡ r.options
-  path_options r s es bs {rs} path = ap (λ (f : Frame A). f.options) (path_frame r s es bs path)
+  pub path_options : (r s : Renderer D A (List A)) (es : List (Entry (List A))) (bs : List (List Cell)) {xs : List (Added D A)} → Course r s es bs xs → s.options ≡ r.options
+  path_options r s es bs {xs} path = ap (λ (f : Frame A). f.options) (path_frame r s es bs path)
 
-  pub path_hanging : (r s : Renderer D A (List A)) (es : List (Entry (List A))) (bs : List (List Cell)) {rs : List (EndedRun D A)} → Course r s es bs rs → s.hanging ≡ r.hanging
-  path_hanging r s es bs {rs} path = ap (λ (f : Frame A). f.hanging) (path_frame r s es bs path)
+  pub path_hanging : (r s : Renderer D A (List A)) (es : List (Entry (List A))) (bs : List (List Cell)) {xs : List (Added D A)} → Course r s es bs xs → s.hanging ≡ r.hanging
+  path_hanging r s es bs {xs} path = ap (λ (f : Frame A). f.hanging) (path_frame r s es bs path)

@@ -18,8 +18,8 @@ use Rattle.tbr_renderer.specs.Flush.{after_flush}
 use Rattle.tbr_renderer.specs.Appended.{border_line}
 use Rattle.tbr_renderer.specs.Rows.{GivenCell, style_in, cells_from, PutsRow, after_row}
 use Rattle.tbr_renderer.specs.Calls.{Call, made, after, entries_brought, laid_entries}
-use Rattle.text_block_renderer.specs.EndedRuns.{EndedRun, flush_ends, call_ends}
-use Rattle.text_block_renderer.specs.Stretches.{Part, entries_of_part, run_of_part, lines_of_part, lines_laid, IsBetweenBlocks, IsPart}
+use Rattle.text_block_renderer.specs.Added.{Added, flush_ends, call_adds}
+use Rattle.text_block_renderer.specs.Stretches.{Part, entries_of_part, added_of_part, lines_of_part, lines_laid, IsBetweenBlocks, IsPart}
 
 -- What is done to a renderer: a call, or a row of cells side by side, with whether it collapses.
 pub data Act (T : Type 0) : Type 0 where
@@ -65,14 +65,14 @@ module _ {D A : Type 0} (columns : ℕ → Option ℕ) (decoration : Decoration 
       List (Act (List A)) → Renderer D A (List A) → List (Entry (List A)) → Renderer D A (List A) → Type 0
   ActsBring acts r es s = (run after_act acts r ≡ done s) × (es ≡ acts_brought acts r)
 
-  -- the run that one ends, if it ends one
-  abbrev pub act_ends : Act (List A) → Renderer D A (List A) → List (EndedRun D A)
-  act_ends (call c) r = call_ends decoration c r
-  act_ends (row collapses cells) r = flush_ends r
+  -- The run that one ends, if it ends one, and the texts that it lays. A row itself is no text.
+  abbrev pub act_adds : Act (List A) → Renderer D A (List A) → List (Added D A)
+  act_adds (call c) r = call_adds columns decoration c r
+  act_adds (row collapses cells) r = flush_ends r
 
-  -- the runs that acts end, one after another
-  abbrev pub acts_end : List (Act (List A)) → Renderer D A (List A) → List (EndedRun D A)
-  acts_end acts r = told act_ends after_act acts r
+  -- and those of acts, one after another
+  abbrev pub acts_add : List (Act (List A)) → Renderer D A (List A) → List (Added D A)
+  acts_add acts r = told act_adds after_act acts r
 
   -- where one answers `TooNarrow` for its own wrapping
   abbrev pub ActIsTooNarrow : Act (List A) → Renderer D A (List A) → Type 0
@@ -115,10 +115,10 @@ module _ {D A : Type 0} (columns : ℕ → Option ℕ) where
   lines_of_piece (put p) =
       lines_laid columns p.before p.puts.row.lines ++ border_lines_of p.before p.puts.row.next
 
-  -- the run that ended there
-  abbrev pub run_of_piece : Piece D A columns → List (EndedRun D A)
-  run_of_piece (part p) = run_of_part p
-  run_of_piece (put p) = []
+  -- the run that ended there, or the text that was laid
+  abbrev pub added_of_piece : Piece D A columns → List (Added D A)
+  added_of_piece (part p) = added_of_part p
+  added_of_piece (put p) = []
 
   abbrev pub entries_of_piece : Piece D A columns → List (Entry (List A))
   entries_of_piece (part p) = entries_of_part p

@@ -15,7 +15,7 @@ use Rattle.tbr_renderer.specs.Renderer.{Renderer, block_width, may_overflow}
 use Rattle.tbr_renderer.specs.Rows.{GivenCell, style_in}
 use Rattle.tbr_kept_lines.specs.LastBorder.{last_border}
 use Rattle.text_block_renderer.specs.Stretches.{ended, NoneIsAhead}
-use Rattle.text_block_renderer.specs.Acts.{Act, rows_of, acts_end, ActIsTooNarrow, PutRow, Piece, part, rows_in, run_of_piece, ComesInPieces}
+use Rattle.text_block_renderer.specs.Acts.{Act, rows_of, acts_add, ActIsTooNarrow, PutRow, Piece, part, rows_in, added_of_piece, ComesInPieces}
 
 module _ {D A : Type 0} (columns : ℕ → Option ℕ) where
   -- Of a `Normal` run that ended, where no line may be wider than the block: after any number of its lines no legal
@@ -72,10 +72,10 @@ TakeTwoAtMost columns = (c : ℕ) → IfSome (columns c) (λ n. n ≤ 2)
 -- Calls and rows led from a renderer to another, and brought these entries.
 pub record Headline {D A : Type 0} (columns : ℕ → Option ℕ) (decoration : Decoration D A) (acts : List (Act (List A)))
     (r : Renderer D A (List A)) (es : List (Entry (List A))) (s : Renderer D A (List A)) : Type 0 where
-  -- the lines are those of runs that ended, of laid texts, of borders and of rows, and the runs are those that each
-  -- call and row ends
+  -- the lines are those of runs that ended, of laid texts, of borders and of rows, and the runs and laid texts are, in
+  -- this order, those that each call and row adds
   pub came : ComesInPieces columns (rows_of acts) r es s
-  pub runs : flat_map (run_of_piece columns) came.pieces ≡ acts_end columns decoration acts r
+  pub added : flat_map (added_of_piece columns) came.pieces ≡ acts_add columns decoration acts r
   pub no_layout_is_ahead : Each (NoLayoutIsAhead columns) came.pieces
   pub visible_characters_stand_once : Each (StandsOnce columns) came.pieces
   -- Where no cell overhung before, and the lines of all cells fit: of each cell of a row, over the rows of its span.

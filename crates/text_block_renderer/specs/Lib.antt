@@ -23,7 +23,7 @@ pub use Rattle.tbr_stack.specs.Top
 pub use Rattle.tbr_renderer.specs.Rows
 pub mod Drawn
 pub mod MarkersStand
-pub mod EndedRuns
+pub mod Added
 pub mod Stretches
 pub mod Nested
 pub mod VerticalRows

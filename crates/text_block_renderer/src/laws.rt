@@ -19,8 +19,8 @@ ghost use Rattle.tbr_renderer.specs.Calls.{Call, Does, Steps, Brings, Shows};
 ghost use Rattle.text_block_renderer.specs.Settings.{settled};
 ghost use Rattle.text_block_renderer.specs.Drawn.{WithoutDrawnBorders, CameWithoutDrawnBorders, borders_added, borders_drawn, DrawNone};
 ghost use Rattle.text_block_renderer.specs.MarkersStand.{Stands, FlushStands, WaitForText};
-ghost use Rattle.text_block_renderer.specs.Stretches.{StandsAsStretch, StaysOpen, EndsAsStretch, ComesInParts, borders_of_part, run_of_part, AppendsNothing, IsOwnPart};
-ghost use Rattle.text_block_renderer.specs.EndedRuns.{runs_ended};
+ghost use Rattle.text_block_renderer.specs.Stretches.{StandsAsStretch, StaysOpen, EndsAsStretch, ComesInParts, borders_of_part, added_of_part, AppendsNothing, IsOwnPart};
+ghost use Rattle.text_block_renderer.specs.Added.{calls_add};
 ghost use Rattle.tbr_model.specs.Run.{Entry};
 ghost use Rattle.tbr_decor.specs.Decoration.{Decoration};
 
@@ -132,15 +132,15 @@ pub fn each_open_run_ends_as_one_stretch<D, A>()
         StaysOpen r b es s ⊎ EndsAsStretch columns r b es s }
 {}
 
-/// The lines that calls add are the stretches of the runs that they ended, laid texts such as empty lines, and the
-/// borders of the calls. What the calls brought are these runs and the entries of these texts, one after another, and
+/// The lines that calls add are the stretches of the runs that they end, the texts that they lay, such as empty lines,
+/// and their borders. What the calls brought are these runs and the entries of these texts, one after another, and
 /// then the run that is open. Calls that append nothing add stretches and empty lines alone.
 pub fn lines_are_stretches_laid_texts_and_borders<D, A>()
     ensures calls { (columns : ℕ → Option ℕ) (decoration : Decoration D A) (calls : List (Call (List A)))
         (r s : Renderer D A (List A)) (es : List (Entry (List A))) → IsSound columns r →
         Brings columns decoration calls r es s → (came : ComesInParts columns r es s)
         × (flat_map borders_of_part came.parts ≡ flat_map (borders_added r.width r.options) calls)
-        × (flat_map run_of_part came.parts ≡ runs_ended decoration columns calls r) }
+        × (flat_map added_of_part came.parts ≡ calls_add columns decoration calls r) }
     ensures own { (columns : ℕ → Option ℕ) (decoration : Decoration D A) (calls : List (Call (List A)))
         (r s : Renderer D A (List A)) (es : List (Entry (List A))) → IsSound columns r → Each AppendsNothing calls →
         Brings columns decoration calls r es s → (came : ComesInParts columns r es s) × Each IsOwnPart came.parts }
