@@ -1,5 +1,5 @@
 -- Lines of other renderers, and borders, as moves.
-use Rattle.std.proofs.Common.{◌≡◌, ℕ, Bool, true, false, if◌then◌else◌, Option, Some, None, List, [], ◌∷◌, ◌++◌, map, flat_map, fold, length, replicate, ◌-◌, suc, refl, ap, sym, ◌∙◌, subst, arith, append-nil}
+use Rattle.std.proofs.Common.{◌≡◌, ℕ, Bool, true, false, if◌then◌else◌, Option, Some, None, List, [], ◌∷◌, ◌++◌, map, flat_map, fold, length, replicate, ◌-◌, suc, refl, ap, sym, ◌∙◌, subst, arith, append_assoc, append-nil}
 use Rattle.std.proofs.lemmas.List.{map-append}
 use Rattle.tbr_model.specs.Run.{Entry, Item}
 use Rattle.tbr_model.specs.Layout.{joined}
@@ -15,7 +15,7 @@ use Rattle.tbr_renderer.proofs.FlushedBlocks.{FlushesBlock}
 use Rattle.tbr_renderer.proofs.CallParts.{FlushesThen}
 use Rattle.tbr_renderer.specs.Appended.{with_border, border_of_cells, as_text, prefixed, with_divider, with_cell, with_cell_below, with_cells}
 use Rattle.tbr_renderer.specs.Calls.{laid_entry, laid_entries}
-use Rattle.text_block_renderer.specs.Added.{Added, text_laid, flush_ends}
+use Rattle.text_block_renderer.specs.Added.{Added, text_laid, border_put, flush_ends, divider_adds, cell_lays, below_adds, cells_add}
 use Rattle.text_block_renderer.proofs.Moves.{line, rule, Kind, MayLay, MayRule, Course, onward, one, flushed_first, stays, flushed_none}
 
 -- ---- borders of rows
@@ -85,12 +85,12 @@ module _ {D A : Type 0} (columns : ℕ → Option ℕ) (kind : Kind) where
       let put = subst (λ (q : Renderer D A (List A)). Course columns kind h.0 q (laid_entries (joined texts)) [] (map text_laid texts)) (sym h.2) (lines_put texts h.0 may (flushed_none columns r h.0 h.1)) in
       flushed_first columns kind r h.0 s (laid_entries (joined texts)) h.1 put
 
-  pub border_added : (width : ℕ) (r s : Renderer D A (List A)) → ((q : Renderer D A (List A)) → q.options ≡ r.options → MayRule kind q) → FlushesThen columns (λ m. with_border columns m (border_of_cells horizontal width r)) r s → Course columns kind r s [] (replicate width horizontal ∷ []) (flush_ends r)
+  pub border_added : (width : ℕ) (r s : Renderer D A (List A)) → ((q : Renderer D A (List A)) → q.options ≡ r.options → MayRule kind q) → FlushesThen columns (λ m. with_border columns m (border_of_cells horizontal width r)) r s → Course columns kind r s [] (replicate width horizontal ∷ []) (flush_ends r ++ border_put (replicate width horizontal) ∷ [])
   border_added width r s may h =
       let joins = joins_flushed r h.0 r.block refl h.1 in
-      subst (λ (xs : List (Added D A)). Course columns kind r s [] (replicate width horizontal ∷ []) xs) (append-nil (flush_ends r)) (flushed_first columns kind r h.0 s [] h.1
+      flushed_first columns kind r h.0 s [] h.1
       (one columns kind (rule (replicate width horizontal)) h.0 s
-      (may h.0 joins.options, joins.block, h.2 ∙ ap (λ tag. with_border columns h.0 (without_holes (replicate width horizontal) tag)) (sym joins.annotations))))
+      (may h.0 joins.options, joins.block, h.2 ∙ ap (λ tag. with_border columns h.0 (without_holes (replicate width horizontal) tag)) (sym joins.annotations)))
 
   module _ (r : Renderer D A (List A)) (may_lay : (is : List (Item (List A))) → MayLay kind is) (may_rule : (q : Renderer D A (List A)) → q.options ≡ r.options → MayRule kind q) where
     abbrev divider : Cell → List (List Cell)
@@ -100,35 +100,28 @@ module _ {D A : Type 0} (columns : ℕ → Option ℕ) (kind : Kind) where
     slashes cells = slashes_for r.options.draw_borders r.width cells
 
     -- `q` leads to `s` by a border, and `s` joins the lines of `r`
-    record Divided (q s : Renderer D A (List A)) (bs : List (List Cell)) : Type 0 where
-      path : Course columns kind q s [] bs []
+    record Divided (q s : Renderer D A (List A)) (bs : List (List Cell)) (xs : List (Added D A)) : Type 0 where
+      path : Course columns kind q s [] bs xs
       joins : Joins r s
 
-    divided : (cell : Cell) (q : Renderer D A (List A)) → Joins r q → Divided q (with_divider columns cell q) (divider cell)
+    divided : (cell : Cell) (q : Renderer D A (List A)) → Joins r q → Divided q (with_divider columns cell q) (divider cell) (divider_adds cell r)
     divided cell q h =
-        subst (λ (o : RenderOptions). Divided q (with_divider columns cell q) (if o.draw_borders then replicate r.width cell ∷ [] else [])) h.options
-        (subst (λ width. Divided q (with_divider columns cell q) (if q.options.draw_borders then replicate width cell ∷ [] else [])) h.width (go q.options.draw_borders))
+        subst (λ (o : RenderOptions). Divided q (with_divider columns cell q) (if o.draw_borders then replicate r.width cell ∷ [] else []) (if o.draw_borders then border_put (replicate r.width cell) ∷ [] else [])) h.options
+        (subst (λ width. Divided q (with_divider columns cell q) (if q.options.draw_borders then replicate width cell ∷ [] else []) (if q.options.draw_borders then border_put (replicate width cell) ∷ [] else [])) h.width (go q.options.draw_borders))
       where
-        go : (drawn : Bool) → Divided q (if drawn then with_border columns q (border_of_cells cell q.width q) else q) (if drawn then replicate q.width cell ∷ [] else [])
+        go : (drawn : Bool) → Divided q (if drawn then with_border columns q (border_of_cells cell q.width q) else q) (if drawn then replicate q.width cell ∷ [] else []) (if drawn then border_put (replicate q.width cell) ∷ [] else [])
         go false = record { path = stays columns kind q q refl; joins = h }
         go true = record {
           path = one columns kind (rule (replicate q.width cell)) q (with_border columns q (border_of_cells cell q.width q)) (may_rule q h.options, h.block, refl);
           joins = record { block = h.block; width = h.width; annotations = h.annotations; options = h.options };
         }
 
-    cell_put : (lines : List (Line (List A))) (q : Renderer D A (List A)) → Joins r q → Course columns kind q (with_cell columns q lines) (laid_entries (joined (map (as_text r.annotations) lines))) [] (map text_laid (map (as_text r.annotations) lines))
+    cell_put : (lines : List (Line (List A))) (q : Renderer D A (List A)) → Joins r q → Course columns kind q (with_cell columns q lines) (laid_entries (joined (map (as_text r.annotations) lines))) [] (cell_lays r lines)
     cell_put lines q h =
         subst (λ (tag : List A). Course columns kind q (with_cell columns q lines) (laid_entries (joined (map (as_text tag) lines))) [] (map text_laid (map (as_text tag) lines))) h.annotations
         (lines_put (map (as_text q.annotations) lines) q may_lay h.block)
 
-    -- texts, and then others
-    texts_put : (q s : Renderer D A (List A)) (ts us : List (List (Item (List A)))) (bs : List (List Cell)) →
-        Course columns kind q s (laid_entries (joined ts) ++ laid_entries (joined us)) bs (map text_laid ts ++ map text_laid us) → Course columns kind q s (laid_entries (joined (ts ++ us))) bs (map text_laid (ts ++ us))
-    texts_put q s ts us bs h =
-        subst (λ (es : List (Entry (List A))). Course columns kind q s es bs (map text_laid (ts ++ us))) (sym (ap laid_entries (joined-append ts us) ∙ map-append laid_entry (joined ts) (joined us)))
-        (subst (λ (xs : List (Added D A)). Course columns kind q s (laid_entries (joined ts) ++ laid_entries (joined us)) bs xs) (sym (map-append (λ t. text_laid t) ts us)) h)
-
-    cells_below : (cells : List (List (Line (List A)))) (q : Renderer D A (List A)) → Joins r q → Course columns kind q (fold (with_cell_below columns) q cells) (laid_entries (joined (flat_map (map (as_text r.annotations)) cells))) (slashes cells) (map text_laid (flat_map (map (as_text r.annotations)) cells))
+    cells_below : (cells : List (List (Line (List A)))) (q : Renderer D A (List A)) → Joins r q → Course columns kind q (fold (with_cell_below columns) q cells) (laid_entries (joined (flat_map (map (as_text r.annotations)) cells))) (slashes cells) (flat_map (below_adds r) cells)
     cells_below [] q h = stays columns kind q q refl
     cells_below (lines ∷ cells) q h =
         let d = divided slash q h in
@@ -138,8 +131,10 @@ module _ {D A : Type 0} (columns : ℕ → Option ℕ) (kind : Kind) where
         let texts = map (as_text r.annotations) lines in
         let rest = flat_map (map (as_text r.annotations)) cells in
         let joins = joins_lines (map (as_text p.annotations) lines) r p d.joins in
-        texts_put q s texts rest (slashes (lines ∷ cells)) (onward columns kind q p s [] (laid_entries (joined texts) ++ laid_entries (joined rest)) d.path
-        (onward columns kind p n s (laid_entries (joined texts)) (laid_entries (joined rest)) (cell_put lines p d.joins) (cells_below cells n joins)))
+        subst (λ (es : List (Entry (List A))). Course columns kind q s es (slashes (lines ∷ cells)) (flat_map (below_adds r) (lines ∷ cells))) (sym (ap laid_entries (joined-append texts rest) ∙ map-append laid_entry (joined texts) (joined rest)))
+        (subst (λ (xs : List (Added D A)). Course columns kind q s (laid_entries (joined texts) ++ laid_entries (joined rest)) (slashes (lines ∷ cells)) xs) (sym (append_assoc (divider_adds slash r) (cell_lays r lines) (flat_map (below_adds r) cells)))
+        (onward columns kind q p s [] (laid_entries (joined texts) ++ laid_entries (joined rest)) d.path
+        (onward columns kind p n s (laid_entries (joined texts)) (laid_entries (joined rest)) (cell_put lines p d.joins) (cells_below cells n joins))))
 
     joins_below : (cells : List (List (Line (List A)))) (q : Renderer D A (List A)) → Joins r q → Joins r (fold (with_cell_below columns) q cells)
     joins_below [] q h = h
@@ -151,7 +146,7 @@ module _ {D A : Type 0} (columns : ℕ → Option ℕ) (kind : Kind) where
     abbrev between : List (List (Line (List A))) → List (List Cell)
     between cells = slashes_between r.options.draw_borders r.width cells
 
-    cells_put : (cells : List (List (Line (List A)))) (q : Renderer D A (List A)) → Joins r q → Course columns kind q (with_cells columns q cells) (laid_entries (joined (flat_map (map (as_text r.annotations)) cells))) (between cells) (map text_laid (flat_map (map (as_text r.annotations)) cells))
+    cells_put : (cells : List (List (Line (List A)))) (q : Renderer D A (List A)) → Joins r q → Course columns kind q (with_cells columns q cells) (laid_entries (joined (flat_map (map (as_text r.annotations)) cells))) (between cells) (cells_add cells r)
         × Joins r (with_cells columns q cells)
     cells_put [] q h = (stays columns kind q q refl, h)
     cells_put (lines ∷ cells) q h =
@@ -160,20 +155,19 @@ module _ {D A : Type 0} (columns : ℕ → Option ℕ) (kind : Kind) where
         let texts = map (as_text r.annotations) lines in
         let rest = flat_map (map (as_text r.annotations)) cells in
         let joins = joins_lines (map (as_text q.annotations) lines) r q h in (
-          texts_put q s texts rest (slashes cells) (onward columns kind q n s (laid_entries (joined texts)) (laid_entries (joined rest)) (cell_put lines q h) (cells_below cells n joins)),
+          subst (λ (es : List (Entry (List A))). Course columns kind q s es (slashes cells) (cells_add (lines ∷ cells) r)) (sym (ap laid_entries (joined-append texts rest) ∙ map-append laid_entry (joined texts) (joined rest)))
+              (onward columns kind q n s (laid_entries (joined texts)) (laid_entries (joined rest)) (cell_put lines q h) (cells_below cells n joins)),
           joins_below cells n joins,
         )
 
     pub cells_appended : (cells : List (List (Line (List A)))) (s : Renderer D A (List A)) → FlushesThen columns (λ m. with_divider columns horizontal (with_cells columns m cells)) r s →
-        Course columns kind r s (laid_entries (joined (flat_map (map (as_text r.annotations)) cells))) (if r.options.draw_borders then row_borders r.width (length cells) else []) (flush_ends r ++ map text_laid (flat_map (map (as_text r.annotations)) cells))
+        Course columns kind r s (laid_entries (joined (flat_map (map (as_text r.annotations)) cells))) (if r.options.draw_borders then row_borders r.width (length cells) else []) (flush_ends r ++ (cells_add cells r ++ divider_adds horizontal r))
     cells_appended cells s h =
         let es = laid_entries (joined (flat_map (map (as_text r.annotations)) cells)) in
         let p : Renderer D A (List A) = with_cells columns h.0 cells in
         let (path, joins) = cells_put cells h.0 (joins_flushed r h.0 r.block refl h.1) in
         let d = divided horizontal p joins in
-        let last = subst (λ (q : Renderer D A (List A)). Course columns kind p q [] (divider horizontal) []) (sym h.2) d.path in
-        let texts : List (Added D A) = map text_laid (flat_map (map (as_text r.annotations)) cells) in
-        subst (λ bs. Course columns kind r s es bs (flush_ends r ++ texts)) (row_is r.options.draw_borders r.width cells)
-        (flushed_first columns kind r h.0 s es h.1
-        (subst (λ (xs : List (Added D A)). Course columns kind h.0 s es (between cells ++ divider horizontal) xs) (append-nil texts)
-        (subst (λ (fs : List (Entry (List A))). Course columns kind h.0 s fs (between cells ++ divider horizontal) (texts ++ [])) (append-nil es) (onward columns kind h.0 p s es [] path last))))
+        let last = subst (λ (q : Renderer D A (List A)). Course columns kind p q [] (divider horizontal) (divider_adds horizontal r)) (sym h.2) d.path in
+        let adds = cells_add cells r ++ divider_adds horizontal r in
+        subst (λ bs. Course columns kind r s es bs (flush_ends r ++ adds)) (row_is r.options.draw_borders r.width cells)
+        (flushed_first columns kind r h.0 s es h.1 (subst (λ (fs : List (Entry (List A))). Course columns kind h.0 s fs (between cells ++ divider horizontal) adds) (append-nil es) (onward columns kind h.0 p s es [] path last)))

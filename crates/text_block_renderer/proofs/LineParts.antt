@@ -13,7 +13,7 @@ use Rattle.tbr_renderer.proofs.FlushedBlocks.{EndsBlock, FlushesBlock}
 use Rattle.tbr_renderer.specs.Appended.{with_border}
 use Rattle.tbr_renderer.specs.Calls.{Call, laid_entries, Brings}
 use Rattle.text_block_renderer.specs.Drawn.{borders_added}
-use Rattle.text_block_renderer.specs.Added.{Added, text_laid, run_of_block, flush_ends, calls_add}
+use Rattle.text_block_renderer.specs.Added.{Added, text_laid, border_put, run_of_block, flush_ends, calls_add}
 use Rattle.text_block_renderer.specs.Stretches.{Part, ended, laid, ruled, entries_of_part, borders_of_part, added_of_part, lines_of_part, IsPart, ComesInParts, AppendsNothing, IsOwnPart}
 use Rattle.std.specs.Prelude.{⊤}
 use Rattle.std.specs.List.{AllByRecursion as Each}
@@ -128,9 +128,9 @@ module _ {D A : Type 0} (columns : ℕ → Option ℕ) (kind : Kind) where
       subst (λ (p : Renderer D A (List A)). CameInParts r p (es ++ laid_entries is) (bs ++ []) (xs ++ text_laid is ∷ [])) (sym h)
       (one_part r q (with_line columns q is) es (laid_entries is) bs xs (laid q is) refl refl (record { width = k.width; options = k.options; block = none }) (laid_kind kind q is may) refl (none_open q (laid_entries is) none) k)
 
-  rule_parts : (r q s : Renderer D A (List A)) (cells : List Cell) (es : List (Entry (List A))) (bs : List (List Cell)) (xs : List (Added D A)) → MayRule kind q → q.block ≡ None → s ≡ with_border columns q (without_holes cells q.annotations) → CameInParts r q es bs xs → CameInParts r s (es ++ []) (bs ++ cells ∷ []) (xs ++ [])
+  rule_parts : (r q s : Renderer D A (List A)) (cells : List Cell) (es : List (Entry (List A))) (bs : List (List Cell)) (xs : List (Added D A)) → MayRule kind q → q.block ≡ None → s ≡ with_border columns q (without_holes cells q.annotations) → CameInParts r q es bs xs → CameInParts r s (es ++ []) (bs ++ cells ∷ []) (xs ++ border_put cells ∷ [])
   rule_parts r q s cells es bs xs may none h k =
-      subst (λ (p : Renderer D A (List A)). CameInParts r p (es ++ []) (bs ++ cells ∷ []) (xs ++ [])) (sym h)
+      subst (λ (p : Renderer D A (List A)). CameInParts r p (es ++ []) (bs ++ cells ∷ []) (xs ++ border_put cells ∷ [])) (sym h)
       (one_part r q (with_border columns q (without_holes cells q.annotations)) es [] bs xs (ruled q cells) refl refl (record { width = k.width; options = k.options; block = none }) (ruled_kind kind q cells may) refl (none_open q [] none) k)
 
   join_parts : (r q s : Renderer D A (List A)) (es : List (Entry (List A))) (more : List (Event (List A))) (bs : List (List Cell)) (xs : List (Added D A)) → s ≡ with_events q more → CameInParts r q es bs xs → CameInParts r s (es ++ run_of more) (bs ++ []) (xs ++ [])

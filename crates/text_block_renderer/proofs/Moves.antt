@@ -14,7 +14,7 @@ use Rattle.tbr_renderer.proofs.FlushedBlocks.{FlushesBlock, Flushes}
 use Rattle.tbr_renderer.specs.Appended.{with_border}
 use Rattle.tbr_renderer.specs.Calls.{Call, laid_entries}
 use Rattle.text_block_renderer.specs.Drawn.{DrawNone}
-use Rattle.text_block_renderer.specs.Added.{Added, text_laid, flush_ends}
+use Rattle.text_block_renderer.specs.Added.{Added, text_laid, border_put, flush_ends}
 use Rattle.text_block_renderer.specs.Stretches.{AppendsNothing}
 
 -- The end of the run that is open in this renderer; a line of text or a border, where no block is open; what comes to the open block. Or a
@@ -58,11 +58,11 @@ abbrev pub ruled : {D A : Type 0} → List (Move D A) → List (List Cell)
 ruled [] = []
 ruled (m ∷ ms) = ruled_by m ++ ruled ms
 
--- the runs that moves end, and the texts that they lay
+-- what moves add
 abbrev pub added_by : {D A : Type 0} → Move D A → List (Added D A)
 added_by (flush r) = flush_ends r
 added_by (line is) = text_laid is ∷ []
-added_by (rule cells) = []
+added_by (rule cells) = border_put cells ∷ []
 added_by (join es) = []
 added_by turn = []
 
@@ -156,7 +156,7 @@ module _ {D A : Type 0} (columns : ℕ → Option ℕ) (kind : Kind) where
   MakesAll [] r s = s ≡ r
   MakesAll (m ∷ ms) r s = (q : Renderer D A (List A)) × Makes m r q × MakesAll ms q s
 
-  -- Some moves lead from one renderer to the other, bring these entries, put these borders, and add these runs and texts.
+  -- Some moves lead from one renderer to the other, bring these entries, put these borders, and add this.
   pub record Course (r s : Renderer D A (List A)) (es : List (Entry (List A))) (bs : List (List Cell)) (xs : List (Added D A)) : Type 0 where
     pub moves : List (Move D A)
     pub makes : MakesAll moves r s
@@ -164,7 +164,7 @@ module _ {D A : Type 0} (columns : ℕ → Option ℕ) (kind : Kind) where
     pub rules : ruled moves ≡ bs
     pub adds : added moves ≡ xs
 
-  -- no border, no run, and no text
+  -- nothing is added
   abbrev pub Path : Renderer D A (List A) → Renderer D A (List A) → List (Entry (List A)) → Type 0
   Path r s es = Course r s es [] []
 

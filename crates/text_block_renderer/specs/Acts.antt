@@ -65,7 +65,7 @@ module _ {D A : Type 0} (columns : ℕ → Option ℕ) (decoration : Decoration 
       List (Act (List A)) → Renderer D A (List A) → List (Entry (List A)) → Renderer D A (List A) → Type 0
   ActsBring acts r es s = (run after_act acts r ≡ done s) × (es ≡ acts_brought acts r)
 
-  -- The run that one ends, if it ends one, and the texts that it lays. A row itself is no text.
+  -- What one adds. A row adds the run that it ends, but for itself.
   abbrev pub act_adds : Act (List A) → Renderer D A (List A) → List (Added D A)
   act_adds (call c) r = call_adds columns decoration c r
   act_adds (row collapses cells) r = flush_ends r
@@ -115,7 +115,7 @@ module _ {D A : Type 0} (columns : ℕ → Option ℕ) where
   lines_of_piece (put p) =
       lines_laid columns p.before p.puts.row.lines ++ border_lines_of p.before p.puts.row.next
 
-  -- the run that ended there, or the text that was laid
+  -- what was added there, but for rows
   abbrev pub added_of_piece : Piece D A columns → List (Added D A)
   added_of_piece (part p) = added_of_part p
   added_of_piece (put p) = []

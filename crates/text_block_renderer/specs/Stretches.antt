@@ -15,7 +15,7 @@ use Rattle.tbr_renderer.specs.Appended.{border_line}
 use Rattle.tbr_renderer.specs.Calls.{Call, add_border, append_subrender, append_vert_row, laid_entries}
 use Rattle.tbr_border.specs.Border.{without_holes}
 use Rattle.tbr_border.specs.Cell.{Cell}
-use Rattle.text_block_renderer.specs.Added.{Added, run_ended, text_laid}
+use Rattle.text_block_renderer.specs.Added.{Added, run_ended, text_laid, border_put}
 
 -- a text of a block as a line: after markers, and padded to the block's width and to the renderer's
 abbrev pub line_of_text : {D A : Type 0} → (ℕ → Option ℕ) → Renderer D A (List A) → Open (List A) → List (List ℕ)
@@ -96,11 +96,11 @@ entries_of_part (ended r b texts) = (run_of b.events)
 entries_of_part (laid r is) = laid_entries is
 entries_of_part (ruled r cells) = []
 
--- the run that ended there, or the text that was laid
+-- what was added there
 abbrev pub added_of_part : {D A : Type 0} → Part D A → List (Added D A)
 added_of_part (ended r b texts) = run_ended r b ∷ []
 added_of_part (laid r is) = text_laid is ∷ []
-added_of_part (ruled r cells) = []
+added_of_part (ruled r cells) = border_put cells ∷ []
 
 -- the border that is there
 abbrev pub borders_of_part : {D A : Type 0} → Part D A → List (List Cell)

@@ -8,7 +8,8 @@ ghost use Rattle.text_block_renderer.specs.Headline.{Headline};
 
 /// Whatever calls and rows of cells come to a renderer and succeed:
 ///
-/// - The runs are those between one flush and the next: each call and row ends the run that is open, or none.
+/// - The runs are those between one flush and the next: each call and row ends the run that is open, or none. Besides
+///   runs, calls add the texts that they lay, such as empty lines, and their borders, each in its place.
 /// - After any number of lines no legal layout of a `Normal` run has placed more of it than the renderer has.
 /// - Each run's visible characters are in the renderer's lines once, in order, under equal annotations.
 /// - Each cell of a row shows its texts once, in order, in its own columns, also in the borders that it spans.
