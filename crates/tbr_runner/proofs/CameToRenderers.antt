@@ -1,5 +1,5 @@
 -- Where in a script is what came to one of its renderers: in it, or in lines that others took from it.
-use Rattle.std.proofs.Common.{◌≡◌, ◌≤◌, ◌<◌, ◌^◌, ◌+◌, ◌⊎◌, inl, inr, ℕ, zero, suc, Bool, Option, None, Some, Result, Ok, List, [], ◌∷◌, ◌++◌, drop, length, take, replicate, chars, refl, ap, sym, ◌∙◌, subst, arith, append_assoc}
+use Rattle.std.proofs.Common.{◌≡◌, ◌≤◌, ◌<◌, ◌^◌, ◌+◌, ◌⊎◌, inl, inr, ℕ, zero, suc, Bool, Option, None, Some, Result, Ok, List, [], ◌∷◌, ◌++◌, drop, length, take, replicate, chars, refl, ap, sym, subst, arith, append_assoc}
 use Rattle.std.specs.List.{AllByRecursion as Each}
 use Rattle.std.specs.Cmp.Lexicographic.{pointwise}
 use Rattle.std.proofs.lemmas.List.{length-take, length-replicate}
@@ -19,7 +19,7 @@ use Rattle.text_block_renderer.specs.Rows.{spots_of, GivenCell, next_align, cell
 use Rattle.text_block_renderer.specs.Appended.{handed_out}
 use Rattle.text_block_renderer.specs.Calls.{Call, new_line, begin, finish, add_inline_text, append_subrender, append_vert_row, after}
 use Rattle.text_block_renderer.specs.Acts.{Act, call, row as row_of_cells, after_act, act_brought, acts_brought, ActsBring}
-use Rattle.text_block_renderer.specs.Taken.{Takes, TakesIn, AreTakenIn}
+use Rattle.text_block_renderer.specs.Taken.{Takes, NothingOverhangs, TakesIn, AreTakenIn}
 use Rattle.text_block_renderer.proofs.ActSteps.{acts_then}
 use Rattle.tbr_script.specs.declared.error.RunError.{RunError}
 use Rattle.tbr_script.specs.declared.error.RunError.TheVariants.{NothingToEnd, RowDoesNotFit}
@@ -38,7 +38,7 @@ use Rattle.tbr_program.specs.Progress.{Pending, Opened, Progress, renderers_of, 
 use Rattle.tbr_program.specs.Commands.{with_stack, level_opened, block_made, block_joined, request_made, cells_waiting, row_made, vertical_made, after_command}
 use Rattle.tbr_program.proofs.CommandParts.{one_ok, unless, if_so, some_are, of_top, stack_done, opens, Ends, block_ends, cell_ends}
 use Rattle.tbr_runner.specs.Led.{IsLed, AllAre}
-use Rattle.tbr_runner.specs.Kept.{KeepsAll, IsShort}
+use Rattle.tbr_runner.specs.Kept.{EndsOne, KeepsAll, IsShort}
 use Rattle.tbr_runner.proofs.LedRenderers.{first_led, others_led, led_on, inside_led}
 
 -- ---- some of a list
@@ -105,7 +105,8 @@ module _ {D M : Type 0} (columns : ℕ → Option ℕ) (decoration : Decoration 
       pub taking_it : Act (List M)
       pub later : List (Act (List M))
       pub leads : run (after_act columns decoration) (before ++ taking_it ∷ later) start_of ≡ done r
-      pub takes : Takes lines taking_it
+      pub span : ℕ
+      pub takes : Takes span lines taking_it
 
     abbrev pub Has : Top → Type 0
     Has r = HasStill r ⊎ HasTaken r
@@ -126,12 +127,13 @@ module _ {D M : Type 0} (columns : ℕ → Option ℕ) (decoration : Decoration 
           taking_it = h.taking_it;
           later = h.later ++ act ∷ [];
           leads = subst (λ acts. run (after_act columns decoration) acts h.start_of ≡ done s) (append_assoc h.before (h.taking_it ∷ h.later) (act ∷ [])) leads.0;
+          span = h.span;
           takes = h.takes;
         })
 
-    pub gives_on : (r : Top) (lines : Lines) → r.failure ≡ None → handed_out columns r ≡ done lines → Has r → Gave lines
-    gives_on r lines live gives (inl h) = record { origin = r; still = h; live = live; inside = lines; gives = gives; depth = 0; chain = refl }
-    gives_on r lines live gives (inr h) =
+    pub gives_on : (r : Top) (lines : Lines) → r.failure ≡ None → NothingOverhangs r → handed_out columns r ≡ done lines → Has r → Gave lines
+    gives_on r lines live none gives (inl h) = record { origin = r; still = h; live = live; inside = lines; gives = gives; depth = 0; chain = refl }
+    gives_on r lines live none gives (inr h) =
         let all = h.before ++ h.taking_it ∷ h.later in
         let takes : TakesIn columns decoration h.lines lines = record {
           first = h.start_of;
@@ -141,13 +143,15 @@ module _ {D M : Type 0} (columns : ℕ → Option ℕ) (decoration : Decoration 
           after = h.later;
           es = acts_brought columns decoration all h.start_of;
           bring = (h.leads, refl);
+          span = h.span;
           takes = h.takes;
+          come = inr none;
           gives = gives;
         } in
         record { origin = h.gave.origin; still = h.gave.still; live = h.gave.live; inside = h.gave.inside; gives = h.gave.gives; depth = suc h.gave.depth; chain = taken_on h.gave.depth h.gave.inside h.lines lines h.gave.chain takes }
 
-    takes_on : (act : Act (List M)) (lines : Lines) (r s : Top) → Takes lines act → IsLed columns decoration r → after_act columns decoration act r ≡ done s → Gave lines → Has s
-    takes_on act lines r s takes led does gave =
+    takes_on : (act : Act (List M)) (lines : Lines) (span : ℕ) (r s : Top) → Takes span lines act → IsLed columns decoration r → after_act columns decoration act r ≡ done s → Gave lines → Has s
+    takes_on act lines span r s takes led does gave =
         inr (record {
           lines = lines;
           gave = gave;
@@ -156,6 +160,7 @@ module _ {D M : Type 0} (columns : ℕ → Option ℕ) (decoration : Decoration 
           taking_it = act;
           later = [];
           leads = (acts_then columns decoration led.acts act led.first r s (acts_brought columns decoration led.acts led.first) (led.leads, refl) does).0;
+          span = span;
           takes = takes;
         })
 
@@ -222,40 +227,42 @@ module _ {D M : Type 0} (columns : ℕ → Option ℕ) (decoration : Decoration 
 
     -- ---- what a renderer takes
 
-    cells_give : (cells : List (Top × ℕ)) (aligns : List CellAlign) (given : List (GivenCell (List M))) → cells_given (λ r. r.width) (handed_out columns) cells aligns ≡ done given → Each (λ (c : Top × ℕ). IsLed columns decoration c.0) cells → Each (λ (c : Top × ℕ). c.1 ≡ 1) cells → Waits cells →
-        (lines : Lines) × Gave lines × ((collapse : Bool) → Takes lines (row_of_cells collapse given))
-    cells_give [] aligns given is led one h = absurd h
-    cells_give (c ∷ cells) aligns given is led one h =
+    cells_give : (cells : List (Top × ℕ)) (aligns : List CellAlign) (given : List (GivenCell (List M))) → cells_given (λ r. r.width) (handed_out columns) cells aligns ≡ done given → Each (λ (c : Top × ℕ). IsLed columns decoration c.0) cells → Each (λ (c : Top × ℕ). NothingOverhangs c.0) cells → Waits cells →
+        (lines : Lines) × Gave lines × (span : ℕ) × ((collapse : Bool) → Takes span lines (row_of_cells collapse given))
+    cells_give [] aligns given is led none h = absurd h
+    cells_give (c ∷ cells) aligns given is led none h =
         let others_given = cells_given (λ r. r.width) (handed_out columns) cells (drop 1 aligns) in
         let (x, here, rest) = done_first (cell_given (λ r. r.width) (handed_out columns) c (next_align aligns)) (λ (y : GivenCell (List M)). changed (λ ys. y ∷ ys) others_given) given is in
         let (xs, there, all) = done_before (λ ys. x ∷ ys) others_given given rest in
         let (lines, gives, cell_is) = done_before _ (handed_out columns c.0) x here in
-        go (λ ys are later. cells_give cells (drop 1 aligns) ys are led.1 one.1 later) h x xs lines there all gives cell_is
+        go (λ ys are later. cells_give cells (drop 1 aligns) ys are led.1 none.1 later) h x xs lines there all gives cell_is
       where
-        go : ((ys : List (GivenCell (List M))) → cells_given (λ r. r.width) (handed_out columns) cells (drop 1 aligns) ≡ done ys → Waits cells → (all : Lines) × Gave all × ((collapse : Bool) → Takes all (row_of_cells collapse ys))) → Waits (c ∷ cells) → (x : GivenCell (List M)) (xs : List (GivenCell (List M))) (lines : Lines) → cells_given (λ r. r.width) (handed_out columns) cells (drop 1 aligns) ≡ done xs → given ≡ x ∷ xs → handed_out columns c.0 ≡ done lines →
-            x ≡ record { width = c.0.width; span = c.1; align = next_align aligns; lines = lines } → (all : Lines) × Gave all × ((collapse : Bool) → Takes all (row_of_cells collapse given))
+        go : ((ys : List (GivenCell (List M))) → cells_given (λ r. r.width) (handed_out columns) cells (drop 1 aligns) ≡ done ys → Waits cells → (all : Lines) × Gave all × (span : ℕ) × ((collapse : Bool) → Takes span all (row_of_cells collapse ys))) → Waits (c ∷ cells) → (x : GivenCell (List M)) (xs : List (GivenCell (List M))) (lines : Lines) → cells_given (λ r. r.width) (handed_out columns) cells (drop 1 aligns) ≡ done xs → given ≡ x ∷ xs → handed_out columns c.0 ≡ done lines →
+            x ≡ record { width = c.0.width; span = c.1; align = next_align aligns; lines = lines } → (all : Lines) × Gave all × (span : ℕ) × ((collapse : Bool) → Takes span all (row_of_cells collapse given))
         go others_give (inl has) x xs lines there is_all gives cell_is = (
           lines,
-          gives_on c.0 lines (let l = led.0 in l.live) gives has,
-          λ collapse. (x, ([], xs, is_all), ap (λ (y : GivenCell (List M)). y.span) cell_is ∙ one.0, ap (λ (y : GivenCell (List M)). y.lines) cell_is),
+          gives_on c.0 lines (let l = led.0 in l.live) none.0 gives has,
+          c.1,
+          λ collapse. (x, ([], xs, is_all), ap (λ (y : GivenCell (List M)). y.span) cell_is, ap (λ (y : GivenCell (List M)). y.lines) cell_is),
         )
         go others_give (inr later) x xs lines there is_all gives cell_is =
-            let (all, gave, takes) = others_give xs there later in (
+            let (all, gave, span, takes) = others_give xs there later in (
               all,
               gave,
-              λ collapse. let (taken_cell, among, span, are) = takes collapse in (taken_cell, subst (StandsAmong taken_cell) (sym is_all) (among_more taken_cell x xs among), span, are),
+              span,
+              λ collapse. let (taken_cell, among, spans, are) = takes collapse in (taken_cell, subst (StandsAmong taken_cell) (sym is_all) (among_more taken_cell x xs among), spans, are),
             )
 
-    all_give : (cells : List (Top × ℕ)) (given : List Lines) → gathered (handed_out columns) (renderers_of cells) ≡ done given → Each (λ (c : Top × ℕ). IsLed columns decoration c.0) cells → Waits cells → (lines : Lines) × Gave lines × StandsAmong lines given
-    all_give [] given is led h = absurd h
-    all_give (c ∷ cells) given is led h =
+    all_give : (cells : List (Top × ℕ)) (given : List Lines) → gathered (handed_out columns) (renderers_of cells) ≡ done given → Each (λ (c : Top × ℕ). IsLed columns decoration c.0) cells → Each (λ (c : Top × ℕ). NothingOverhangs c.0) cells → Waits cells → (lines : Lines) × Gave lines × StandsAmong lines given
+    all_give [] given is led none h = absurd h
+    all_give (c ∷ cells) given is led none h =
         let others_given = gathered (handed_out columns) (renderers_of cells) in
         let (lines, here, rest) = done_first (handed_out columns c.0) (λ ls. changed (λ lss. ls ∷ lss) others_given) given is in
         let (lss, there, all) = done_before (λ others. lines ∷ others) others_given given rest in
-        go (λ others are later. all_give cells others are led.1 later) h lines lss here there all
+        go (λ others are later. all_give cells others are led.1 none.1 later) h lines lss here there all
       where
         go : ((others : List Lines) → gathered (handed_out columns) (renderers_of cells) ≡ done others → Waits cells → (all : Lines) × Gave all × StandsAmong all others) → Waits (c ∷ cells) → (lines : Lines) (lss : List Lines) → handed_out columns c.0 ≡ done lines → gathered (handed_out columns) (renderers_of cells) ≡ done lss → given ≡ lines ∷ lss → (all : Lines) × Gave all × StandsAmong all given
-        go others_give (inl has) lines lss here there is_all = (lines, gives_on c.0 lines (let l = led.0 in l.live) here has, ([], lss, is_all))
+        go others_give (inl has) lines lss here there is_all = (lines, gives_on c.0 lines (let l = led.0 in l.live) none.0 here has, ([], lss, is_all))
         go others_give (inr later) lines lss here there is_all =
             let (all, gave, among) = others_give lss there later in (all, gave, subst (StandsAmong all) (sym is_all) (among_more all lines lss among))
 
@@ -313,22 +320,22 @@ module _ {D M : Type 0} (columns : ℕ → Option ℕ) (decoration : Decoration 
     ended_has make by p q ends (inr (inl wait)) = absurd (subst Waits ends.none_wait wait)
     ended_has make by p q ends (inr (inr later)) = inr (inr (subst WaitsBelow ends.opened later))
 
-    pub command_has : (number : ℕ) (command : Command) (p q : Progress D M (List M)) → KeepsAll columns decoration p → IsShort columns decoration p → AllAre Led p → after_command columns decoration number command p ≡ Ok q → IsIn p → IsIn q
-    command_has number (ask request) p q keeps short led is h =
+    pub command_has : (number : ℕ) (command : Command) (p q : Progress D M (List M)) → KeepsAll columns decoration p → IsShort columns decoration p → (EndsOne command → (r : Top) → top_of p.stack ≡ Some r → NothingOverhangs r) → AllAre Led p → after_command columns decoration number command p ≡ Ok q → IsIn p → IsIn q
+    command_has number (ask request) p q keeps short none led is h =
         let (some, made) = unless (ends_nothing p.pending.begun request) (NothingToEnd number) _ (Ok q) (λ no. no) tt is in
         on_top_has p q (record p.pending { begun = counted p.pending.begun request }) (request_made columns decoration request) (λ w. w) (λ r s e k. called (call_of r.width request) r s e k) made h
-    command_has number (link target) p q keeps short led is h =
+    command_has number (link target) p q keeps short none led is h =
         let linked : Progress D M (List M) = record p { stack = with_link (chars target) p.stack } in
         on_top_has linked q p.pending (after columns decoration (begin (start.link (chars target)))) (λ w. w) (λ r s e k. called (begin (start.link (chars target))) r s e k) is
         (elim h [ inl on ↦ inl (linked_has (opened (length p.stack.links + 1)) (λ l. refl) p.stack.levels on) | inr rest ↦ inr rest ])
-    command_has number end_link p q keeps short led is h =
+    command_has number end_link p q keeps short none led is h =
         let make : Top → Outcome Top = λ r. after_end_with columns decoration (shown_number r (open_links p.stack)) r in
         let (s, made, same) = stack_done columns decoration p _ q (some_are (open_links p.stack) (NothingToEnd number) _ (Ok q) (λ no. no) tt is) in
         let (m, ended, whole) = done_before without_open_link (in_top make p.stack) s made in
         let there = on_top_has p (record p { stack = m }) p.pending make (λ w. w) (λ r t e k. link_ended (shown_number r (open_links p.stack)) r t e k) (ap (with_stack columns decoration p) ended) h in
         subst IsIn (sym same) (subst (λ (x : Stack Top). IsIn (record p { stack = x })) (sym whole) (elim there [ inl on ↦ inl (linked_has closed (λ l. refl) m.levels on) | inr rest ↦ inr rest ]))
-    command_has number (sub width) p q keeps short led is h = level_has Sub width p q is h
-    command_has number (append one next) p q keeps short led is h =
+    command_has number (sub width) p q keeps short none led is h = level_has Sub width p q is h
+    command_has number (append one next) p q keeps short none led is h =
         let ends = block_ends columns decoration number p p.opened (Ok q) tt one next is in
         elim (ended_has (block_joined columns decoration one next) Sub p q ends h) [
           | inl has ↦ joined ends has
@@ -347,17 +354,17 @@ module _ {D M : Type 0} (columns : ℕ → Option ℕ) (decoration : Decoration 
             let (before, after_it, top, step, there) = top_changed (block_made columns decoration one next ends.inside) left.stack s made in
             let (m, lines, flushed, gives, does) = taken (after columns decoration new_line) (handed_out columns ends.inside) (λ ls. after columns decoration (append_subrender (prefixes one next (length ls)) ls)) before after_it step in
             let led_below = others_led columns decoration Led (λ width. 0 < width) (led_on columns decoration) (inside_led columns decoration) p.stack.levels led.on_stack in
-            let gave = gives_on ends.inside lines (let l = led_top p.stack ends.inside ends.top led.on_stack in l.live) gives has in
-            let has_it = takes_on (call (append_subrender (prefixes one next (length lines)) lines)) lines before after_it (refl, as_many one next (length lines) (short ends.inside lines ends.top gives)) (led_top (below p.stack) before top led_below) does gave in
+            let gave = gives_on ends.inside lines (let l = led_top p.stack ends.inside ends.top led.on_stack in l.live) (none tt ends.inside ends.top) gives has in
+            let has_it = takes_on (call (append_subrender (prefixes one next (length lines)) lines)) lines 1 before after_it (refl, as_many one next (length lines) (short ends.inside lines ends.top gives)) (led_top (below p.stack) before top led_below) does gave in
             subst IsIn (sym same) (subst (λ (x : Stack Top). IsIn (record left { stack = x })) (sym there) (inl (some_top after_it (below p.stack) before top has_it)))
-    command_has number (cell width span align) p q keeps short led is h = level_has (Cell span align) width p q is h
-    command_has number end_cell p q keeps short led is h =
+    command_has number (cell width span align) p q keeps short none led is h = level_has (Cell span align) width p q is h
+    command_has number end_cell p q keeps short none led is h =
         let (span, align, ends) = cell_ends columns decoration number p p.opened (Ok q) tt is in
         subst IsIn (sym (one_ok _ q ends.makes)) (elim (ended_has _ (Cell span align) p q ends h) [
           | inl has ↦ inr (inl (some_later (λ (c : Top × ℕ). Has c.0) ends.pending.cells ((ends.inside, span) ∷ []) (inl has)))
           | inr left ↦ elim left [ inl on ↦ inl on | inr rest ↦ inr (elim rest [ inl wait ↦ inl (some_before (λ (c : Top × ℕ). Has c.0) ends.pending.cells ((ends.inside, span) ∷ []) wait) | inr later ↦ inr later ]) ]
         ])
-    command_has number (row collapse) p q keeps short led is h =
+    command_has number (row collapse) p q keeps short none led is h =
         let (top, there, made) = of_top (top_of p.stack) _ (Ok q) tt is in
         let (fits, lays) = if_so (row_fits top.hanging (spots_of columns p.pending.cells)) (RowDoesNotFit number) _ (Ok q) (λ no. no) tt made in
         let row = after_row (pointwise decoration.same) columns collapse in
@@ -365,13 +372,13 @@ module _ {D M : Type 0} (columns : ℕ → Option ℕ) (decoration : Decoration 
         (λ r s is_top e k. let (m, cells, flushed, gives, does) = taken (after columns decoration new_line) (cells_waiting columns decoration p.pending) row r s e in has_on (row_of_cells collapse cells) r s does k)
         (λ r s is_top e wait.
         let (m, cells, flushed, gives, does) = taken (after columns decoration new_line) (cells_waiting columns decoration p.pending) row r s e in
-        let (lines, gave, into) = cells_give p.pending.cells p.pending.aligns cells gives led.waiting keeps.waiting wait in
-        takes_on (row_of_cells collapse cells) lines r s (into collapse) (led_top p.stack r is_top led.on_stack) does gave) lays h
-    command_has number vertical_row p q keeps short led is h =
+        let (lines, gave, span, into) = cells_give p.pending.cells p.pending.aligns cells gives led.waiting keeps.waiting wait in
+        takes_on (row_of_cells collapse cells) lines span r s (into collapse) (led_top p.stack r is_top led.on_stack) does gave) lays h
+    command_has number vertical_row p q keeps short none led is h =
         let row = λ (cells : List Lines). after columns decoration (append_vert_row cells) in
         cells_taken p q (vertical_made columns decoration p.pending)
         (λ r s is_top e k. let (m, cells, flushed, gives, does) = taken (after columns decoration new_line) (gathered (handed_out columns) (renderers_of p.pending.cells)) row r s e in called (append_vert_row cells) r s does k)
         (λ r s is_top e wait.
         let (m, cells, flushed, gives, does) = taken (after columns decoration new_line) (gathered (handed_out columns) (renderers_of p.pending.cells)) row r s e in
-        let (lines, gave, among) = all_give p.pending.cells cells gives led.waiting wait in
-        takes_on (call (append_vert_row cells)) lines r s among (led_top p.stack r is_top led.on_stack) does gave) is h
+        let (lines, gave, among) = all_give p.pending.cells cells gives led.waiting keeps.waiting wait in
+        takes_on (call (append_vert_row cells)) lines 1 r s among (led_top p.stack r is_top led.on_stack) does gave) is h

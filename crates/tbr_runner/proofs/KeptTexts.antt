@@ -20,7 +20,7 @@ use Rattle.tbr_program.specs.Progress.{Progress}
 use Rattle.tbr_program.specs.Commands.{after_line}
 use Rattle.tbr_program.proofs.CommandParts.{one_ok}
 use Rattle.tbr_runner.specs.Led.{IsLed, AllAre}
-use Rattle.tbr_runner.specs.Kept.{LineAsksForOneRow, KeepsAll, IsShort, TextKeeps}
+use Rattle.tbr_runner.specs.Kept.{EndsWhole, KeepsAll, IsShort, TextKeeps}
 use Rattle.tbr_runner.specs.Scripts.{rendered_on}
 use Rattle.tbr_runner.specs.StackCalls.{stack_calls, link_targets, AskFor, LinesDo}
 use Rattle.tbr_runner.proofs.RenderedLines.{line_command}
@@ -34,7 +34,7 @@ use Rattle.tbr_program.specs.Commands.{started}
 use Rattle.tbr_runner.proofs.ShownTexts.{led_shows}
 use Rattle.tbr_runner.proofs.LedRenderers.{led_on, led_sound, inside_led, line_keeps, sized, of_first, at_end, closed_led, started_led}
 use Rattle.tbr_runner.proofs.CameToRenderers.{HasStill, IsIn, only_on_stack, only_one, first_has, gives_on, command_has}
-use Rattle.tbr_runner.proofs.OneRowCells.{Shape, command_shape}
+use Rattle.tbr_runner.proofs.ScriptLevels.{Shape, command_shape}
 
 module _ {X : Type 0} where
   each_weaker : {P Q : X → Type 0} → ((x : X) → P x → Q x) → (xs : List X) → Each P xs → Each Q xs
@@ -65,30 +65,29 @@ module _ {D M : Type 0} (columns : ℕ → Option ℕ) (decoration : Decoration 
   led_of : (p : Progress D M (List M)) → AllAre Unpadded p → AllAre (IsLed columns decoration) p
   led_of p h = record { on_stack = each_weaker (λ level k. k.0) p.stack.levels h.on_stack; waiting = each_weaker (λ c k. k.0) p.pending.cells h.waiting; below = each_weaker (λ o wait. each_weaker (λ c k. k.0) (let w = o.below in w.cells) wait) p.opened h.below }
 
-  pub line_keeps_all : (p next : Progress D M (List M)) (number : ℕ) (line : List ℕ) → KeepsAll columns decoration p → LineAsksForOneRow line → after_line columns decoration number line p ≡ Ok next → KeepsAll columns decoration next
-  line_keeps_all p next number line keeps one makes =
-      let shape = go line one makes in
+  pub line_keeps_all : (p next : Progress D M (List M)) (number : ℕ) (line : List ℕ) → KeepsAll columns decoration p → EndsWhole (line ∷ []) p → after_line columns decoration number line p ≡ Ok next → KeepsAll columns decoration next
+  line_keeps_all p next number line keeps whole makes =
+      let shape = go line whole makes in
       record {
         renderers = line_keeps columns decoration Unpadded (λ width. 0 < width) unpadded_on unpadded_inside p keeps.renderers number line next (sized columns decoration line) makes;
         levels = shape.levels;
         waiting = shape.waiting;
-        opened = shape.opened;
         below = shape.below_them;
       }
     where
       here : Shape p
-      here = record { levels = keeps.levels; waiting = keeps.waiting; opened = keeps.opened; below_them = keeps.below }
+      here = record { levels = keeps.levels; waiting = keeps.waiting; below_them = keeps.below }
 
-      go : (line : List ℕ) → LineAsksForOneRow line → after_line columns decoration number line p ≡ Ok next → Shape next
-      go [] asks e = subst Shape (sym (one_ok p next e)) here
-      go (b ∷ bs) asks e =
+      go : (line : List ℕ) → EndsWhole (line ∷ []) p → after_line columns decoration number line p ≡ Ok next → Shape next
+      go [] whole e = subst Shape (sym (one_ok p next e)) here
+      go (b ∷ bs) whole e =
           let (command, is, makes) = line_command columns decoration number p (Ok next) tt b bs e in
-          command_shape columns decoration number command p next (asks command is) makes here
+          command_shape columns decoration number command p next (λ ends. whole (command, is, ends)) makes here
 
   pub started_keeps_all : columns 32 ≡ Some 1 → (opening : Opening) (decorator : D) → 0 < opening.width → opening.options.wrap_width ≢ Some 0 → opening.options.pad_block_width ≡ false → KeepsAll columns decoration (started {M = M} opening decorator)
   started_keeps_all space opening decorator wide some unpadded =
       let led = started_led columns decoration space opening decorator wide some in
-      record { renderers = record { on_stack = ((let l = led.on_stack in l.0, unpadded), tt); waiting = tt; below = tt }; levels = refl; waiting = tt; opened = tt; below = tt }
+      record { renderers = record { on_stack = ((let l = led.on_stack in l.0, unpadded), tt); waiting = tt; below = tt }; levels = refl; waiting = tt; below = tt }
 
   -- ---- a script's lines
 
@@ -96,35 +95,36 @@ module _ {D M : Type 0} (columns : ℕ → Option ℕ) (decoration : Decoration 
     abbrev In : Progress D M (List M) → Type 0
     In p = IsIn columns decoration first es p
 
-    line_has : (number : ℕ) (line : List ℕ) (p next : Progress D M (List M)) → KeepsAll columns decoration p → IsShort columns decoration p → after_line columns decoration number line p ≡ Ok next → In p → In next
-    line_has number [] p next keeps short e h = subst In (sym (one_ok p next e)) h
-    line_has number (b ∷ bs) p next keeps short e h =
+    line_has : (number : ℕ) (line : List ℕ) (p next : Progress D M (List M)) → KeepsAll columns decoration p → IsShort columns decoration p → EndsWhole (line ∷ []) p → after_line columns decoration number line p ≡ Ok next → In p → In next
+    line_has number [] p next keeps short whole e h = subst In (sym (one_ok p next e)) h
+    line_has number (b ∷ bs) p next keeps short whole e h =
         let (command, is, makes) = line_command columns decoration number p (Ok next) tt b bs e in
-        command_has columns decoration first es number command p next keeps short (led_of p keeps.renderers) makes h
+        command_has columns decoration first es number command p next keeps short (λ ends. whole (command, is, ends)) (led_of p keeps.renderers) makes h
 
-    lines_keep : (number : ℕ) (lines : List (List ℕ)) (p q : Progress D M (List M)) → KeepsAll columns decoration p → Each LineAsksForOneRow lines → ((front back : List (List ℕ)) (there : Progress D M (List M)) → lines ≡ front ++ back → LinesDo columns decoration p number front there → IsShort columns decoration there) →
+    lines_keep : (number : ℕ) (lines : List (List ℕ)) (p q : Progress D M (List M)) → KeepsAll columns decoration p → ((front back : List (List ℕ)) (there : Progress D M (List M)) → lines ≡ front ++ back → LinesDo columns decoration p number front there → IsShort columns decoration there × EndsWhole back there) →
         LinesDo columns decoration p number lines q → In p → KeepsAll columns decoration q × In q
-    lines_keep number [] p q keeps one short same h = (subst (KeepsAll columns decoration) (sym same) keeps, subst In (sym same) h)
-    lines_keep number (line ∷ lines) p q keeps one short (next, does, lead) h =
-        lines_keep (number + 1) lines next q (line_keeps_all p next number line keeps one.0 does) one.1
-        (λ front back there are led. short (line ∷ front) back there (ap (λ ls. line ∷ ls) are) (next, does, led)) lead
-        (line_has number line p next keeps (short [] (line ∷ lines) p refl refl) does h)
+    lines_keep number [] p q keeps at same h = (subst (KeepsAll columns decoration) (sym same) keeps, subst In (sym same) h)
+    lines_keep number (line ∷ lines) p q keeps at (next, does, lead) h =
+        let (short, whole) = at [] (line ∷ lines) p refl refl in
+        lines_keep (number + 1) lines next q (line_keeps_all p next number line keeps whole does)
+        (λ front back there are led. at (line ∷ front) back there (ap (λ ls. line ∷ ls) are) (next, does, led)) lead
+        (line_has number line p next keeps short whole does h)
 
   -- what came to the renderer on top, and later, is in the lines of the text
-  pub text_keeps : (p : Progress D M (List M)) (number : ℕ) (lines : List (List ℕ)) (bytes : List ℕ) (r : Renderer D M (List M)) → KeepsAll columns decoration p → Each LineAsksForOneRow lines → ((front back : List (List ℕ)) (there : Progress D M (List M)) → lines ≡ front ++ back → LinesDo columns decoration p number front there → IsShort columns decoration there) →
+  pub text_keeps : (p : Progress D M (List M)) (number : ℕ) (lines : List (List ℕ)) (bytes : List ℕ) (r : Renderer D M (List M)) → KeepsAll columns decoration p → ((front back : List (List ℕ)) (there : Progress D M (List M)) → lines ≡ front ++ back → LinesDo columns decoration p number front there → IsShort columns decoration there × EndsWhole back there) →
       top_of p.stack ≡ Some r → (led : IsLed columns decoration r) → led.first.options.pad_block_width ≡ false → rendered_on columns decoration number lines p ≡ Ok bytes →
       (commands : List Command) × AskFor lines commands × TextKeeps columns decoration (p.stack.links ++ link_targets commands) bytes (acts_brought columns decoration led.acts led.first)
-  text_keeps p number lines bytes r keeps one short is_top led unpadded gives =
+  text_keeps p number lines bytes r keeps at is_top led unpadded gives =
       let es = acts_brought columns decoration led.acts led.first in
       let end = lines_end columns decoration p number lines bytes gives in
       let there = end.there in
       let still : HasStill columns decoration led.first es r = record { acts = led.acts; more = []; bring = (led.leads, append-nil es) } in
-      let (kept, has) = lines_keep led.first es number lines p there keeps one short end.lead (inl (first_has columns decoration led.first es p.stack.levels r is_top still)) in
+      let (kept, has) = lines_keep led.first es number lines p there keeps at end.lead (inl (first_has columns decoration led.first es p.stack.levels r is_top still)) in
       let (top, is, closed_is, none_open, none_wait) = at_end columns decoration end.last there bytes end.ends in
       let led_there = led_of there kept.renderers in
       let led_last = of_first columns decoration there.stack.levels top is led_there.on_stack in
       let (of, gives_it) = closed_led columns decoration there.stack.links top bytes led_last closed_is in
-      let gave = gives_on columns decoration led.first es top _ led_last.live gives_it (only_one columns decoration led.first es there.stack.levels top is (omega (arith, kept.levels, ap length none_open)) (only_on_stack columns decoration led.first es there none_open none_wait has)) in
+      let gave = gives_on columns decoration led.first es top _ led_last.live ((at lines [] there (sym (append-nil lines)) end.lead).1 tt top is) gives_it (only_one columns decoration led.first es there.stack.levels top is (omega (arith, kept.levels, ap length none_open)) (only_on_stack columns decoration led.first es there none_open none_wait has)) in
       let origin : IsLed columns decoration gave.origin = record { first = led.first; fresh = led.fresh; sound = led.sound; acts = gave.still.acts; leads = gave.still.bring.0; live = gave.live } in
       let shows = subst (Shows columns gave.origin) (sym gave.still.bring.1) (led_shows columns decoration gave.origin origin unpadded) in
       let steps = lines_step columns decoration number lines end.commands p there end.ask end.lead in

@@ -5,5 +5,5 @@ pub mod LedRenderers
 pub mod TwoColumns
 pub mod ShownTexts
 pub mod CameToRenderers
-pub mod OneRowCells
+pub mod ScriptLevels
 pub mod KeptTexts

@@ -1,5 +1,5 @@
 -- Scripts of which no visible character is lost.
-use Rattle.std.specs.Prelude.{◌≡◌, ℕ, ◌+◌, ◌<◌, ◌^◌, false, Option, Some, List, ◌++◌, length}
+use Rattle.std.specs.Prelude.{◌≡◌, ℕ, ◌+◌, ◌<◌, ◌^◌, false, Option, Some, List, [], ◌∷◌, ◌++◌, length}
 use Rattle.std.specs.List.{AllZip, AllByRecursion as Each}
 use Rattle.tbr_model.specs.Run.{Entry}
 use Rattle.tbr_model.specs.Hard.{IsShown, visible_glyphs, visible_entries}
@@ -8,45 +8,40 @@ use Rattle.tbr_decor.specs.Decoration.{Decoration}
 use Rattle.text_block_renderer.specs.Line.{Line}
 use Rattle.text_block_renderer.specs.Renderer.{Renderer}
 use Rattle.text_block_renderer.specs.Appended.{handed_out}
-use Rattle.text_block_renderer.specs.Taken.{StandWithin, written}
+use Rattle.text_block_renderer.specs.Taken.{StandWithin, written, NothingOverhangs}
 use Rattle.tbr_stack.specs.Stack.{top_of}
-use Rattle.tbr_commands.specs.Command.{Command, cell}
+use Rattle.tbr_commands.specs.Command.{Command, append, end_cell}
 use Rattle.tbr_commands.specs.Syntax.{IsCommand}
-use Rattle.tbr_program.specs.declared.opened.Opener.{Opener}
-use Rattle.tbr_program.specs.declared.opened.Opener.TheVariants.{Sub, Cell}
-use Rattle.tbr_program.specs.Progress.{Pending, Progress}
-use Rattle.tbr_runner.specs.Led.{IsLed, IsTextOfLed, AllAre}
+use Rattle.tbr_program.specs.Progress.{Progress}
+use Rattle.tbr_runner.specs.Led.{IsLed, IsTextOfLed, CellsAre, AllAre}
 
--- ---- cells of one row
+-- ---- blocks and cells that end
 
--- a level that isn't a cell of several rows
-abbrev pub IsOfOneRow : Opener → Type 0
-IsOfOneRow Sub = Unit {0}
-IsOfOneRow (Cell span align) = span ≡ 1
+-- the command ends the innermost block or cell
+abbrev pub EndsOne : Command → Type 0
+EndsOne (append first next) = Unit {0}
+EndsOne end_cell = Unit {0}
+EndsOne other = ⊥
 
--- the cells that wait span one row each
-abbrev pub WaitForOneRow : {D A T : Type 0} → Pending D A T → Type 0
-WaitForOneRow pending = Each (λ cell. cell.1 ≡ 1) pending.cells
+-- the first of these lines does, or there is none, and the script ends
+abbrev pub EndNext : List (List ℕ) → Type 0
+EndNext [] = Unit {0}
+EndNext (line ∷ lines) = (command : Command) × IsCommand line command × EndsOne command
 
--- a cell that a command opens spans one row
-abbrev pub AsksForOneRow : Command → Type 0
-AsksForOneRow (cell width span align) = span ≡ 1
-AsksForOneRow other = Unit {0}
-
-abbrev pub LineAsksForOneRow : List ℕ → Type 0
-LineAsksForOneRow line = (command : Command) → IsCommand line command → AsksForOneRow command
+-- Where it ends next, nothing overhangs in it.
+abbrev pub EndsWhole : {D A T : Type 0} → List (List ℕ) → Progress D A T → Type 0
+EndsWhole {D} {A} {T} lines p = EndNext lines → (r : Renderer D A T) → top_of p.stack ≡ Some r → NothingOverhangs r
 
 module _ {D M : Type 0} (columns : ℕ → Option ℕ) (decoration : Decoration D M) where
   -- ---- where nothing is lost from here on
 
-  -- Calls and rows led to each renderer, none pads its lines, there is one for each level and one below them, and all
-  -- cells span one row.
+  -- Calls and rows led to each renderer, none pads its lines, and there is one for each level and one below them. In
+  -- those of cells that wait nothing overhangs.
   pub record KeepsAll (p : Progress D M (List M)) : Type 0 where
     pub renderers : AllAre (λ r. IsLed columns decoration r × (r.options.pad_block_width ≡ false)) p
     pub levels : length p.stack.levels ≡ length p.opened + 1
-    pub waiting : WaitForOneRow p.pending
-    pub opened : Each (λ level. IsOfOneRow level.by) p.opened
-    pub below : Each (λ level. WaitForOneRow level.below) p.opened
+    pub waiting : CellsAre NothingOverhangs p.pending
+    pub below : Each (λ level. CellsAre NothingOverhangs level.below) p.opened
 
   -- The innermost block has fewer than 2^64 lines.
   abbrev pub IsShort : Progress D M (List M) → Type 0

@@ -18,7 +18,7 @@ ghost use Rattle.tbr_commands.specs.Syntax.{IsCommand};
 ghost use Rattle.tbr_commands.specs.Read.{command_read, opening_read};
 ghost use Rattle.tbr_runner.specs.StackCalls.{stack_calls, link_targets, AskFor, AskAfterFirst, LinesDo};
 ghost use Rattle.tbr_stack.specs.Stack.{top_of};
-ghost use Rattle.tbr_runner.specs.Kept.{LineAsksForOneRow, KeepsAll, IsShort, TextKeeps};
+ghost use Rattle.tbr_runner.specs.Kept.{EndsWhole, KeepsAll, IsShort, TextKeeps};
 ghost use Rattle.tbr_runner.specs.Led.{IsLed, AreLed, IsTextOfLed, IsTextOfScript, LineAsksForTwo};
 ghost use Rattle.std.specs.List.{AllByRecursion as Each};
 ghost use Rattle.tbr_script.specs.declared.error.RunError.TheVariants.{TooNarrow};
@@ -62,21 +62,22 @@ pub fn the_renderers_of_a_script_are_led_to<D, M>()
         Stands columns r (acts_brought columns decoration led.acts led.first) }
 {}
 
-/// No visible character is lost between the blocks and cells of a script, where lines aren't padded, each cell spans
-/// one row, and no block has 2^64 lines. What came to a renderer up to any line, and what comes to it later, is in the
-/// lines of the text, or in front of their borders: its visible characters, in order, each under an annotation of its
-/// call. Prefixes, borders and what came to other renderers may be between them.
+/// No visible character is lost between the blocks and cells of a script, where lines aren't padded, no block has 2^64
+/// lines, and nothing overhangs in a block, a cell or the script where that ends. What came to a renderer up to any
+/// line, and what comes to it later, is in the lines of the text, or in front of their borders: its visible characters,
+/// in order, each under an annotation of its call. Prefixes, borders and what came to other renderers may be between
+/// them.
 pub fn no_visible_character_of_a_script_is_lost<D, M>()
     ensures first { (columns : ℕ → Option ℕ) (decoration : Decoration D M) → columns 32 ≡ Some 1 →
         (opening : Opening) (decorator : D) → 0 < opening.width → opening.options.wrap_width ≢ Some 0 →
         opening.options.pad_block_width ≡ false → KeepsAll columns decoration (started {M = M} opening decorator) }
     ensures line { (columns : ℕ → Option ℕ) (decoration : Decoration D M) (p next : Progress D M (List M))
-        (number : ℕ) (line : List ℕ) → KeepsAll columns decoration p → LineAsksForOneRow line →
+        (number : ℕ) (line : List ℕ) → KeepsAll columns decoration p → EndsWhole (line ∷ []) p →
         after_line columns decoration number line p ≡ Ok next → KeepsAll columns decoration next }
     ensures text { (columns : ℕ → Option ℕ) (decoration : Decoration D M) (p : Progress D M (List M)) (number : ℕ)
         (lines : List (List ℕ)) (text : List ℕ) (r : Renderer D M (List M)) → KeepsAll columns decoration p →
-        Each LineAsksForOneRow lines → ((front back : List (List ℕ)) (there : Progress D M (List M)) →
-        lines ≡ front ++ back → LinesDo columns decoration p number front there → IsShort columns decoration there) →
+        ((front back : List (List ℕ)) (there : Progress D M (List M)) → lines ≡ front ++ back →
+        LinesDo columns decoration p number front there → IsShort columns decoration there × EndsWhole back there) →
         top_of p.stack ≡ Some r → (led : IsLed columns decoration r) → led.first.options.pad_block_width ≡ false →
         rendered_on columns decoration number lines p ≡ Ok text → (commands : List Command) × AskFor lines commands
         × TextKeeps columns decoration (p.stack.links ++ link_targets commands) text

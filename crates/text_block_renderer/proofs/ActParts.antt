@@ -89,7 +89,7 @@ module _ {D A : Type 0} (columns : ℕ → Option ℕ) where
   next_frame q None = refl
   next_frame q (Some b) = refl
 
-  row_frame : (m : Renderer D A (List A)) (seen : SeenRow (List A)) → frame (with_row columns m seen) ≡ record (frame m) { hanging = seen.overhang }
+  pub row_frame : (m : Renderer D A (List A)) (seen : SeenRow (List A)) → frame (with_row columns m seen) ≡ record (frame m) { hanging = seen.overhang }
   row_frame m seen =
       let top : Renderer D A (List A) = record m { lines = before_border m.lines ++ border_lines seen.above; hanging = seen.overhang } in
       next_frame (fold (with_line columns) top seen.lines) seen.next ∙ frame_of_lines columns seen.lines top
@@ -109,7 +109,7 @@ module _ {D A : Type 0} (columns : ℕ → Option ℕ) where
   next_lines r q (Some b) e =
       ap (λ l. q.lines ++ l ∷ []) (border_same r q b (ap (λ (t : Settings D A). t.kept.width) e) (ap (λ (t : Settings D A). t.kept.options) e) (ap (λ (t : Settings D A). t.annotations) e))
 
-  row_lines : (m : Renderer D A (List A)) (seen : SeenRow (List A)) →
+  pub row_lines : (m : Renderer D A (List A)) (seen : SeenRow (List A)) →
       (with_row columns m seen).lines ≡ (before_border m.lines ++ border_lines seen.above) ++ (lines_laid columns m seen.lines ++ border_lines_of columns m seen.next)
   row_lines m seen =
       let first = before_border m.lines ++ border_lines seen.above in

@@ -1,9 +1,11 @@
--- The visible characters of a cell that spans one row are in the row's lines, whatever the cell's width.
-use Rattle.std.proofs.Common.{◌≡◌, ◌≢◌, ℕ, zero, suc, ◌+◌, ◌-◌, ◌≤◌, ◌/◌, ◌⊎◌, inl, inr, is_none, Bool, true, false, if◌then◌else◌, Option, Some, None, List, [], ◌∷◌, ◌++◌, map, flat_map, fold, drop, length, refl, ap, sym, ◌∙◌, subst, arith, append_assoc, append-nil}
-use Rattle.std.specs.Prelude.{nat_le}
+-- The visible characters of a cell are in the lines of the rows that it spans, and in the borders between them, whatever its width.
+use Rattle.std.proofs.Common.{◌≡◌, ℕ, zero, suc, ◌+◌, ◌-◌, ◌<◌, ◌≤◌, ◌/◌, ◌⊎◌, inl, inr, is_none, Bool, true, false, if◌then◌else◌, Option, Some, None, List, [], ◌∷◌, ◌++◌, map, flat_map, drop, length, refl, ap, sym, ◌∙◌, subst, arith, append_assoc, append-nil}
+use Rattle.std.specs.Prelude.{nat_lt}
 use Rattle.std.specs.List.{AllZip}
+use Rattle.std.proofs.lemmas.Bool.{ltb-true, ltb-false, le-leb}
 use Rattle.std.proofs.lemmas.List.{map-append, drop-drop, length-drop}
-use Rattle.tbr_model.specs.Run.{Item, items_width}
+use Rattle.std.proofs.lemmas.List.Concat.{flat_map-append}
+use Rattle.tbr_model.specs.Run.{Item, items_width, glyph}
 use Rattle.tbr_model.specs.Layout.{joined}
 use Rattle.tbr_model.specs.Hard.{visible_glyphs}
 use Rattle.tbr_model.proofs.lists.Joined.{joined-append}
@@ -11,30 +13,33 @@ use Rattle.tbr_border.specs.Border.{Hole, Border, has_holes, shown}
 use Rattle.tbr_border.specs.declared.RenderLine.{RenderLine}
 use Rattle.tbr_border.specs.declared.RenderLine.TheVariants.{Text, Line as Rule}
 use Rattle.tbr_tagged.specs.declared.CellAlign.{CellAlign}
-use Rattle.tbr_tagged.specs.Elements.{items_of, text_items, element_items}
+use Rattle.tbr_tagged.specs.Elements.{Element, items_of, text_items, element_items}
 use Rattle.tbr_tagged.specs.Padding.{spaces, columns_in_front}
 use Rattle.tbr_rows.specs.declared.LineSet.{LineSet as Cell}
 use Rattle.tbr_rows.specs.declared.RowStyle.{RowStyle}
 use Rattle.tbr_rows.specs.Cells.{cell_height, first_line}
 use Rattle.tbr_rows.specs.CellsShown.{StandsAmong}
-use Rattle.tbr_rows.specs.Gaps.{cell_in}
-use Rattle.tbr_rows.specs.Meant.{SeenRow, MeansRow}
+use Rattle.tbr_rows.specs.Gaps.{cell_in, has_gap, with_element, with_elements, overhang_of, overhang}
+use Rattle.tbr_rows.specs.Meant.{IsGapOf, HasGapIf, HasGaps, SeenRow, MeansRow}
 use Rattle.tbr_rows.specs.Shown.{Meeting, met, meeting, as_lines, merged_first, merged_last}
 use Rattle.tbr_rows.specs.Borders.{first_mergeable, last_mergeable, without_first_border, with_last_border_apart}
-use Rattle.tbr_rows.specs.Rows.{separator_in}
-use Rattle.tbr_rows.specs.Texts.{row_height, row_text, cell_text, text_in_row, text_of_lines as cell_shows, line_text, line_texts, numbers_below}
+use Rattle.tbr_rows.specs.Rows.{separator_in, cells_left}
+use Rattle.tbr_rows.specs.Texts.{row_height, row_text, cell_text, dropped, text_in_row, text_of_lines as cell_shows, line_text, line_texts, numbers_below}
 use Rattle.tbr_rows.proofs.Among.{among_cons, among_front, none_among, among_map, each_among}
 use Rattle.tbr_rows.proofs.AllLines.{merged_and_left, cells_meet, row_is_high_enough}
 use Rattle.tbr_rows.proofs.CellsSeated.{among_own}
+use Rattle.tbr_kept_lines.specs.LastBorder.{before_border}
 use Rattle.tbr_kept_lines.specs.Line.{Line, text, border}
-use Rattle.tbr_renderer.specs.Renderer.{Renderer, with_line}
-use Rattle.tbr_renderer.specs.Rows.{GivenCell, FillsCell, ComesAs, PutsRow}
-use Rattle.tbr_model.specs.Run.{glyph}
+use Rattle.tbr_renderer.specs.Renderer.{Renderer, line_padding}
+use Rattle.tbr_renderer.specs.Rows.{GivenCell, FillsCell, ComesAs, PutsRow, border_lines}
+use Rattle.text_block_renderer.specs.Acts.{border_lines_of, StaysLine}
+use Rattle.text_block_renderer.specs.Stretches.{lines_laid}
 use Rattle.text_block_renderer.specs.Taken.{StandWithin, text_before, written}
-use Rattle.text_block_renderer.proofs.Within.{within_after, within_more, within_on, two_within, itself_within, middle_within}
-use Rattle.text_block_renderer.proofs.Written.{written-append, border_shown, written_texts}
-use Rattle.text_block_renderer.proofs.VisibleCharacters.{glyphs-append}
-use Rattle.text_block_renderer.proofs.RowsOfCells.{under_row, next_grows}
+use Rattle.text_block_renderer.proofs.Within.{within_on, two_within, itself_within, middle_within, after_within, before_within}
+use Rattle.text_block_renderer.proofs.Written.{written-append, stays_written, border_shown, laid_shown}
+use Rattle.text_block_renderer.proofs.LastingLines.{top_put_back}
+use Rattle.text_block_renderer.proofs.Moves.{Frame}
+use Rattle.text_block_renderer.proofs.ActParts.{row_frame, row_lines}
 
 -- ---- among the items of lists
 
@@ -78,19 +83,17 @@ firsts_and_others (suc n) xs =
     ap (λ k. (firsts n xs ++ one_of (drop n xs)) ++ drop k xs) (sym next) ∙ append_assoc (firsts n xs) (one_of (drop n xs)) (drop (n + 1) xs)
     ∙ ap (λ ys. firsts n xs ++ (one_of (drop n xs) ++ ys)) (sym (drop-drop 1 n xs)) ∙ ap (λ ys. firsts n xs ++ ys) (one_and_others (drop n xs)) ∙ firsts_and_others n xs
 
-none_left : {X : Type 0} (xs : List X) → length xs ≡ 0 → xs ≡ []
-none_left [] e = refl
-none_left (x ∷ xs) e = absurd (omega (arith, e))
-
-all_firsts : {X : Type 0} (n : ℕ) (xs : List X) → length xs ≤ n → firsts n xs ≡ xs
-all_firsts n xs short =
-    let none : length (drop n xs) ≡ 0 = omega (arith, length-drop n xs, short) in
-    sym (append-nil (firsts n xs)) ∙ ap (λ ys. firsts n xs ++ ys) (sym (none_left (drop n xs) none)) ∙ firsts_and_others n xs
+none_left : {X : Type 0} (n : ℕ) (xs : List X) → length xs ≤ n → drop n xs ≡ []
+none_left {X} n xs short = go (drop n xs) (omega (arith, length-drop n xs, short))
+  where
+    go : (ys : List X) → length ys ≡ 0 → ys ≡ []
+    go [] e = refl
+    go (y ∷ ys) e = absurd (omega (arith, e))
 
 -- ---- the texts of a cell's lines
 
 module _ {T : Type 0} where
-  abbrev items_in : List (RenderLine T) → List (Item T)
+  abbrev pub items_in : List (RenderLine T) → List (Item T)
   items_in [] = []
   items_in (Text es ∷ ls) = items_of es ++ items_in ls
   items_in (Rule b ∷ ls) = text_before b ++ items_in ls
@@ -141,9 +144,6 @@ module _ {T : Type 0} where
       go false true = refl
       go false false = refl
 
-  as_high : (c : Cell T) → c.span ≡ 1 → cell_height c ≡ length c.lines
-  as_high c one = let first : nat_le c.span 1 ≡ true = ap (λ n. nat_le n 1) one in ap (λ b. if b then length c.lines else length c.lines / c.span) first
-
 module _ {T : Type 0} (columns : ℕ → Option ℕ) (a : T) where
   abbrev glyphs : List (Item T) → List (ℕ × T)
   glyphs is = visible_glyphs columns is
@@ -191,40 +191,116 @@ module _ {T : Type 0} (columns : ℕ → Option ℕ) (a : T) where
       (subst (λ is. StandWithin (glyphs (items_in before ++ items_in next)) (glyphs is)) (sym whole)
       (two_within columns (items_in before) (items_in next) (joined texts) (shown n) (lines_within ls shown each n) (each n)))
 
+  -- ---- the border below the row
+
+  -- the text in front of it, if there is one
+  abbrev below : Option (Border T) → List (Item T)
+  below None = []
+  below (Some b) = text_before b
+
+  put_written : (place : ℕ) (b : Border T) (es : List (Element T)) → text_before (with_elements columns place b es) ≡ text_before b ++ items_of es
+  put_written place b [] = sym (append-nil (text_before b))
+  put_written place b (e ∷ es) =
+      put_written place (with_element columns place b e) es
+      ∙ ap (λ is. is ++ items_of es) (flat_map-append (λ (h : Hole T). element_items h.element) b.holes _ ∙ ap (λ is. text_before b ++ is) (append-nil (element_items e)))
+      ∙ append_assoc (text_before b) (element_items e) (items_of es)
+
+  -- a cell's line in it says what the line says
+  gap_within : (width : ℕ) (ls : List (RenderLine T)) (es : List (Element T)) → IsGapOf a width (first_line ls) es → StandWithin (glyphs (items_in (one_of ls))) (glyphs (items_of es))
+  gap_within width [] es h = tt
+  gap_within width (Text line ∷ ls) es h = subst (λ xs. StandWithin (glyphs (items_in (Text line ∷ []))) (glyphs (items_of xs))) (sym h) (line_within (Text line))
+  gap_within width (Rule b ∷ ls) es h =
+      subst (λ is. StandWithin (glyphs (items_in (Rule b ∷ []))) (glyphs is)) (sym h.0)
+      (subst (λ is. StandWithin (glyphs is) (glyphs (shown b.tag b))) (sym (append-nil (text_before b))) (border_shown columns b.tag b))
+
+  one_gap : (gap : Bool) (d : Cell T) (b m : Border T) → HasGapIf gap columns a d b m → (more : List (Item T)) × (text_before m ≡ text_before b ++ more) × (gap ≡ true → StandWithin (glyphs (items_in (one_of d.lines))) (glyphs more))
+  one_gap false d b m h = ([], ap (λ (x : Border T). text_before x) h ∙ sym (append-nil (text_before b)), λ no. absurd (let none : ⊥ = cc in none))
+  one_gap true d b m (es, is, put) = (items_of es, ap (λ (x : Border T). text_before x) put ∙ put_written d.place b es, λ yes. gap_within d.width d.lines es is)
+
+  module _ (draws : Bool) where
+    gaps_add : (ds : List (Cell T)) (b full : Border T) → HasGaps draws columns a ds b full → (more : List (Item T)) × (text_before full ≡ text_before b ++ more)
+    gaps_add [] b full h = ([], ap (λ (x : Border T). text_before x) h ∙ sym (append-nil (text_before b)))
+    gaps_add (d ∷ ds) b full (m, here, others) =
+        let (one, is, within) = one_gap (has_gap draws d) d b m here in
+        let (more, are) = gaps_add ds m full others in
+        (one ++ more, are ∙ ap (λ js. js ++ more) is ∙ append_assoc (text_before b) one more)
+
+    gaps_within : (front : List (Cell T)) (d : Cell T) (back : List (Cell T)) (b full : Border T) → HasGaps draws columns a (front ++ d ∷ back) b full → has_gap draws d ≡ true → StandWithin (glyphs (items_in (one_of d.lines))) (glyphs (text_before full))
+    gaps_within [] d back b full (m, here, others) gap =
+        let (one, is, within) = one_gap (has_gap draws d) d b m here in
+        let (more, are) = gaps_add back m full others in
+        let first = items_in (one_of d.lines) in
+        subst (λ js. StandWithin (glyphs first) (glyphs js)) (sym (are ∙ ap (λ js. js ++ more) is ∙ append_assoc (text_before b) one more))
+        (after_within columns (text_before b) first (one ++ more) (before_within columns first one more (within gap)))
+    gaps_within (e ∷ front) d back b full (m, here, others) gap = gaps_within front d back m full others gap
+
   -- ---- a cell in a row
 
-  cell_shown : (style : RowStyle) (hanging own : List (Cell T)) (top : Option (Border T)) (row : SeenRow T) → MeansRow columns style a hanging own top row → (c : Cell T) → c.span ≡ 1 → StandsAmong c own → c.lines ≢ [] →
-      StandWithin (glyphs (items_in c.lines)) (glyphs (joined row.lines))
-  cell_shown style hanging own top row means c one among some =
+  -- What is left of a cell of so many rows: nothing, or it overhangs, with a span less by one.
+  abbrev IsLeft : ℕ → List (RenderLine T) → List (Cell T) → Type 0
+  IsLeft span rest hanging = (rest ≡ []) ⊎ ((d : Cell T) × StandsAmong d hanging × (d.lines ≡ rest) × (1 ≤ d.span) × (d.span + 1 ≡ span))
+
+  -- what overhangs of a cell, without the line in the border below
+  left_within : (draws : Bool) (d : Cell T) (cs : List (Cell T)) (b full : Border T) → StandsAmong d cs → HasGaps draws columns a cs b full → (d.span ≤ 1 → d.lines ≡ []) →
+      (rest : List (RenderLine T)) × IsLeft d.span rest (overhang draws cs) × StandWithin (glyphs (items_in d.lines)) (glyphs (below (if draws then Some full else None) ++ items_in rest))
+  left_within draws d cs b full (front, back, is) gaps short = go draws (nat_lt 1 d.span) refl gaps
+    where
+      next : Bool → Cell T
+      next draws = record d { span = d.span - 1; lines = drop (if draws then 1 else 0) d.lines }
+
+      hangs : (draws : Bool) → nat_lt 1 d.span ≡ true → StandsAmong (next draws) (overhang draws cs)
+      hangs draws e = (
+        flat_map (overhang_of draws) front,
+        flat_map (overhang_of draws) back,
+        ap (flat_map (overhang_of draws)) is ∙ flat_map-append (overhang_of draws) front (d ∷ back) ∙ ap (λ s. flat_map (overhang_of draws) front ++ ((if s then next draws ∷ [] else []) ++ flat_map (overhang_of draws) back)) e,
+      )
+
+      long : nat_lt 1 d.span ≡ true → (1 ≤ d.span - 1) × (d.span - 1 + 1 ≡ d.span)
+      long e = let more : 1 < d.span = ltb-true 1 d.span e in (omega (arith, more), omega (arith, more))
+
+      go : (draws s : Bool) → nat_lt 1 d.span ≡ s → HasGaps draws columns a cs b full →
+          (rest : List (RenderLine T)) × IsLeft d.span rest (overhang draws cs) × StandWithin (glyphs (items_in d.lines)) (glyphs (below (if draws then Some full else None) ++ items_in rest))
+      go draws false e h =
+          let none = short (ltb-false 1 d.span e) in
+          ([], inl refl, subst (λ ls. StandWithin (glyphs (items_in ls)) (glyphs (below (if draws then Some full else None) ++ []))) (sym none) tt)
+      go false true e h = (d.lines, inr (next false, hangs false e, refl, (long e).0, (long e).1), itself_within columns (items_in d.lines))
+      go true true e h =
+          let first = items_in (one_of d.lines) in
+          let rest = items_in (drop 1 d.lines) in
+          let both : first ++ rest ≡ items_in d.lines = sym (items_in-append (one_of d.lines) (drop 1 d.lines)) ∙ ap items_in (one_and_others d.lines) in
+          let here = gaps_within true front d back b full (subst (λ ds. HasGaps true columns a ds b full) is h) e in
+          (drop 1 d.lines, inr (next true, hangs true e, refl, (long e).0, (long e).1), subst (λ js. StandWithin (glyphs js) (glyphs (text_before full ++ rest))) both (two_within columns first rest (text_before full) rest here (itself_within columns rest)))
+
+  -- a row's lines and the text in front of the border below it have a cell's characters, but for what is left
+  cell_shown : (style : RowStyle) (hanging own : List (Cell T)) (top : Option (Border T)) (row : SeenRow T) (means : MeansRow columns style a hanging own top row) (c : Cell T) → StandsAmong c means.cells →
+      (rest : List (RenderLine T)) × IsLeft c.span rest row.overhang × StandWithin (glyphs (items_in c.lines)) (glyphs (joined row.lines ++ (below row.next ++ items_in rest)))
+  cell_shown style hanging own top row means c among =
       let height = row_height means.shown in
       let m : Meeting = meeting style.collapses top height in
-      let seated = among_own 0 c hanging own means.cells (has_line c.lines some) among means.seated in
       let met_cells : map cell_in means.shown ≡ map (met m) means.cells = ap (map cell_in) means.shown_is ∙ cells_meet style.collapses top height means.cells in
-      let (k, shown, is) = among_unmap cell_in (met m c) means.shown (subst (StandsAmong (met m c)) (sym met_cells) (among_map (met m) c means.cells seated)) in
-      let met_one : (met m c).span ≡ 1 = span_met m c ∙ one in
-      let high : cell_height (met m c) ≤ height = subst (λ (d : Cell T). cell_height d ≤ height) is (each_among _ k means.shown shown (row_is_high_enough means.shown)) in
-      let short : length (met m c).lines ≤ height = subst (λ n. n ≤ height) (as_high (met m c) met_one) high in
-      let ls : List (RenderLine T) = (met m c).lines in
-      let same : items_in ls ≡ items_in c.lines = met_written m c in
-      let firsts_are : firsts height k.cell.lines ≡ ls = ap (λ (d : Cell T). firsts height d.lines) is ∙ all_firsts height ls short in
+      let (k, shown, is) = among_unmap cell_in (met m c) means.shown (subst (StandsAmong (met m c)) (sym met_cells) (among_map (met m) c means.cells among)) in
+      let ls : List (RenderLine T) = k.cell.lines in
+      let d : Cell T = cell_in (dropped height k) in
+      let high : cell_height k.cell ≤ height = each_among _ k means.shown shown (row_is_high_enough means.shown) in
+      let short : k.cell.span ≤ 1 → drop height ls ≡ [] = λ one. none_left height ls (subst (λ b. (if b then length ls else length ls / k.cell.span) ≤ height) (le-leb k.cell.span 1 one) high) in
+      let left = left_within style.draws_borders d (cells_left height means.shown) _ means.full (among_map cell_in (dropped height k) (map (dropped height) means.shown) (among_map (dropped height) k means.shown shown)) means.gaps short in
+      let (rest, goes_on, after) = left in
       let separator : Item T = glyph (separator_in style) a in
-      let here : StandWithin (glyphs (items_in c.lines)) (glyphs (joined (map (λ i. cell_text a i k) (numbers_below height)))) =
-      subst (λ js. StandWithin (glyphs js) (glyphs (joined (map (λ i. cell_text a i k) (numbers_below height))))) (ap items_in firsts_are ∙ same) (lines_within k.cell.lines (λ i. cell_text a i k) (λ i. one_within (cell_shows a k) (λ l ls. refl) (drop i k.cell.lines)) height) in
+      let texts = joined (map (λ i. cell_text a i k) (numbers_below height)) in
+      let firsts_are = items_in (firsts height ls) in
+      let here : StandWithin (glyphs firsts_are) (glyphs texts) = lines_within ls (λ i. cell_text a i k) (λ i. one_within (cell_shows a k) (λ l more. refl) (drop i ls)) height in
       let there = each_within (λ i. cell_text a i k) (line_text separator a means.shown) (λ i. text_among separator (cell_text a i k) (map (cell_text a i) means.shown) (among_map (cell_text a i) k means.shown shown)) (numbers_below height) in
-      subst (λ ts. StandWithin (glyphs (items_in c.lines)) (glyphs (joined ts))) (sym means.texts)
-      (within_on (glyphs (items_in c.lines)) (glyphs (joined (map (λ i. cell_text a i k) (numbers_below height)))) (glyphs (joined (line_texts separator a means.shown height))) here there)
-    where
-      has_line : (ls : List (RenderLine T)) → ls ≢ [] → is_none (first_line ls) ≡ false
-      has_line [] some = absurd (some refl)
-      has_line (l ∷ ls) some = refl
-
-  cell_in_row : (style : RowStyle) (hanging own : List (Cell T)) (top : Option (Border T)) (row : SeenRow T) → MeansRow columns style a hanging own top row → (c : Cell T) → c.span ≡ 1 → StandsAmong c own →
-      StandWithin (glyphs (items_in c.lines)) (glyphs (joined row.lines))
-  cell_in_row style hanging own top row means c one among = go c.lines refl
-    where
-      go : (ls : List (RenderLine T)) → c.lines ≡ ls → StandWithin (glyphs (items_in c.lines)) (glyphs (joined row.lines))
-      go [] e = subst (λ ls. StandWithin (glyphs (items_in ls)) (glyphs (joined row.lines))) (sym e) tt
-      go (l ∷ ls) e = cell_shown style hanging own top row means c one among (λ none. let no : l ∷ ls ≡ [] = sym e ∙ none in cc)
+      let in_lines : StandWithin (glyphs firsts_are) (glyphs (joined row.lines)) =
+      subst (λ ts. StandWithin (glyphs firsts_are) (glyphs (joined ts))) (sym means.texts)
+      (within_on (glyphs firsts_are) (glyphs texts) (glyphs (joined (line_texts separator a means.shown height))) here there) in
+      let in_border : StandWithin (glyphs (items_in d.lines)) (glyphs (below row.next ++ items_in rest)) = subst (λ o. StandWithin (glyphs (items_in d.lines)) (glyphs (below o ++ items_in rest))) (sym means.lower) after in
+      let all : firsts_are ++ items_in d.lines ≡ items_in c.lines = sym (items_in-append (firsts height ls) d.lines) ∙ ap items_in (firsts_and_others height ls) ∙ ap (λ (x : Cell T). items_in x.lines) is ∙ met_written m c in
+      let spans : d.span ≡ c.span = ap (λ (x : Cell T). x.span) is ∙ span_met m c in (
+        rest,
+        subst (λ n. IsLeft n rest row.overhang) spans (subst (IsLeft d.span rest) (sym means.rest) goes_on),
+        subst (λ js. StandWithin (glyphs js) (glyphs (joined row.lines ++ (below row.next ++ items_in rest)))) all
+            (two_within columns firsts_are (items_in d.lines) (joined row.lines) (below row.next ++ items_in rest) in_lines in_border),
+      )
 
   -- ---- what comes into the cell
 
@@ -246,23 +322,78 @@ module _ {T : Type 0} (columns : ℕ → Option ℕ) (a : T) where
   filled_within align width (text is ∷ ls) (Rule c ∷ fs) h = absurd h.0
   filled_within align width (border b ∷ ls) (Text es ∷ fs) h = absurd h.0
 
--- A row's lines have the visible characters of its cells of one row.
-pub cell_within_row : {D A : Type 0} (columns : ℕ → Option ℕ) (collapses : Bool) (cells : List (GivenCell (List A))) (m s : Renderer D A (List A)) → PutsRow columns collapses cells m s → (cell : GivenCell (List A)) → StandsAmong cell cells → cell.span ≡ 1 →
-    StandWithin (visible_glyphs columns (written cell.lines)) (visible_glyphs columns (written s.lines))
-cell_within_row columns collapses cells m s puts cell among one =
-    let (c, own, comes) = among_zip (ComesAs columns m.annotations) cell cells puts.own puts.come among in
-    let row = puts.row in
-    let top = under_row m row in
-    let full = fold (with_line columns) top row.lines in
-    let next = next_grows columns full row.next in
-    let inside = visible_glyphs columns (written cell.lines) in
-    let laid = visible_glyphs columns (joined row.lines) in
-    let in_row : StandWithin inside laid =
-    within_on inside (visible_glyphs columns (items_in c.lines)) laid (filled_within columns m.annotations cell.align cell.width cell.lines c.lines comes.2)
-    (cell_in_row columns m.annotations _ _ _ _ row puts.means c (comes.1 ∙ one) own) in
-    let in_full : StandWithin inside (visible_glyphs columns (written full.lines)) =
-    subst (StandWithin inside) (sym (written_texts columns row.lines top)) (within_after (visible_glyphs columns (written top.lines)) inside laid in_row) in
-    let whole : visible_glyphs columns (written s.lines) ≡ visible_glyphs columns (written full.lines) ++ visible_glyphs columns (written next.0) =
-    ap (λ (q : Renderer _ _ _). visible_glyphs columns (written q.lines)) puts.is ∙ ap (λ ls. visible_glyphs columns (written ls)) next.1 ∙ ap (visible_glyphs columns) (written-append full.lines next.0)
-    ∙ glyphs-append columns (written full.lines) (written next.0) in
-    subst (StandWithin inside) (sym whole) (within_more inside (visible_glyphs columns (written full.lines)) (visible_glyphs columns (written next.0)) in_full)
+abbrev seen : {T : Type 0} → (ℕ → Option ℕ) → List (Item T) → List (ℕ × T)
+seen columns is = visible_glyphs columns is
+
+module _ {D A : Type 0} (columns : ℕ → Option ℕ) where
+  -- the border below a row says what is in front of it
+  below_within : (r : Renderer D A (List A)) (o : Option (Border (List A))) → StandWithin (seen columns (below columns r.annotations o)) (seen columns (written (border_lines_of columns r o)))
+  below_within r None = tt
+  below_within r (Some b) = go r.options.pad_block_width
+    where
+      is : List (Item (List A))
+      is = shown b.tag b
+
+      go : (pads : Bool) → StandWithin (seen columns (text_before b)) (seen columns (written ((if pads then text (is ++ line_padding columns r is) else border b) ∷ [])))
+      go true = before_within columns (text_before b) (is ++ line_padding columns r is) [] (before_within columns (text_before b) is (line_padding columns r is) (border_shown columns b.tag b))
+      go false = before_within columns (text_before b) (text_before b) [] (itself_within columns (text_before b))
+
+  module _ (collapses : Bool) (cells : List (GivenCell (List A))) (m s : Renderer D A (List A)) (puts : PutsRow columns collapses cells m s) where
+    -- a row writes its lines after what there was, and then what is in front of the border below
+    pub row_adds : (more : List (Item (List A))) × (written s.lines ≡ written m.lines ++ more) × StandWithin (seen columns (joined puts.row.lines ++ below columns m.annotations puts.row.next)) (seen columns more)
+    row_adds =
+        let row = puts.row in
+        let top : List (Line (List A)) = before_border m.lines ++ border_lines row.above in
+        let upper : AllZip StaysLine m.lines top =
+        subst (λ (o : Option (Border (List A))). AllZip StaysLine m.lines (before_border m.lines ++ border_lines o)) (sym puts.means.upper) (top_put_back collapses puts.means.cells m.lines) in
+        let laid = lines_laid columns m row.lines in
+        let last = border_lines_of columns m row.next in
+        let texts : StandWithin (seen columns (joined row.lines)) (seen columns (written laid)) = subst (StandWithin (seen columns (joined row.lines))) (sym (laid_shown columns row.lines m)) (itself_within columns (joined row.lines)) in (
+          written laid ++ written last,
+          ap (λ (q : Renderer D A (List A)). written q.lines) puts.is ∙ ap written (row_lines columns m row) ∙ written-append top (laid ++ last) ∙ ap (λ is. is ++ written (laid ++ last)) (stays_written m.lines top upper)
+              ∙ ap (λ is. written m.lines ++ is) (written-append laid last),
+          two_within columns (joined row.lines) (below columns m.annotations row.next) (written laid) (written last) texts (below_within m row.next),
+        )
+
+  -- Characters stand in what is written, or what is left of them is in a cell that overhangs for some rows yet.
+  abbrev pub Follows : List (ℕ × List A) → ℕ → Renderer D A (List A) → Type 0
+  Follows gs rows r =
+      StandWithin gs (seen columns (written r.lines)) ⊎ ((c : Cell (List A)) × StandsAmong c r.hanging × (1 ≤ c.span) × (c.span ≤ rows) × StandWithin gs (seen columns (written r.lines ++ items_in c.lines)))
+
+  module _ (collapses : Bool) (cells : List (GivenCell (List A))) (m s : Renderer D A (List A)) (puts : PutsRow columns collapses cells m s) (gs : List (ℕ × List A)) (rows : ℕ) where
+    -- through a row
+    pub row_follows : (c : Cell (List A)) → StandsAmong c puts.means.cells → c.span ≤ suc rows → StandWithin gs (seen columns (written m.lines ++ items_in c.lines)) → Follows gs rows s
+    row_follows c among few within =
+        let (more, is, shows) = row_adds collapses cells m s puts in
+        let row = puts.row in
+        let (rest, left, inside) = cell_shown columns m.annotations _ _ _ _ row puts.means c among in
+        let there = below columns m.annotations row.next in
+        let is_rest = items_in rest in
+        let own : StandWithin (seen columns (items_in c.lines)) (seen columns (more ++ is_rest)) =
+        within_on (seen columns (items_in c.lines)) (seen columns ((joined row.lines ++ there) ++ is_rest)) (seen columns (more ++ is_rest)) (subst (λ js. StandWithin (seen columns (items_in c.lines)) (seen columns js)) (sym (append_assoc (joined row.lines) there is_rest)) inside)
+        (two_within columns (joined row.lines ++ there) is_rest more is_rest shows (itself_within columns is_rest)) in
+        let both = two_within columns (written m.lines) (items_in c.lines) (written m.lines) (more ++ is_rest) (itself_within columns (written m.lines)) own in
+        let all : StandWithin gs (seen columns (written s.lines ++ is_rest)) =
+        subst (λ js. StandWithin gs (seen columns js)) (sym (append_assoc (written m.lines) more is_rest) ∙ ap (λ js. js ++ is_rest) (sym is)) (within_on gs (seen columns (written m.lines ++ items_in c.lines)) (seen columns (written m.lines ++ (more ++ is_rest))) within both) in
+        go rest left all
+      where
+        go : (rest : List (RenderLine (List A))) → IsLeft columns m.annotations c.span rest puts.row.overhang → StandWithin gs (seen columns (written s.lines ++ items_in rest)) → Follows gs rows s
+        go rest (inl none) all = inl (subst (λ js. StandWithin gs (seen columns js)) (ap (λ ls. written s.lines ++ items_in ls) none ∙ append-nil (written s.lines)) all)
+        go rest (inr (d, hangs, are, some, spans)) all =
+            let hanging : s.hanging ≡ puts.row.overhang = ap (λ (q : Renderer D A (List A)). q.hanging) puts.is ∙ ap (λ (f : Frame A). f.hanging) (row_frame columns m puts.row) in
+            inr (d, subst (StandsAmong d) (sym hanging) hangs, some, omega (arith, spans, few), subst (λ ls. StandWithin gs (seen columns (written s.lines ++ items_in ls))) (sym are) all)
+
+  -- and from where a row takes a cell
+  pub cell_follows : (collapses : Bool) (cells : List (GivenCell (List A))) (m s : Renderer D A (List A)) → PutsRow columns collapses cells m s → (rows : ℕ) (cell : GivenCell (List A)) → StandsAmong cell cells → cell.span ≤ suc rows → Follows (seen columns (written cell.lines)) rows s
+  cell_follows collapses cells m s puts rows cell among few =
+      let (c, own, comes) = among_zip (ComesAs columns m.annotations) cell cells puts.own puts.come among in
+      let inside = seen columns (written cell.lines) in
+      let filled : StandWithin inside (seen columns (items_in c.lines)) = filled_within columns m.annotations cell.align cell.width cell.lines c.lines comes.2 in
+      go c own (omega (arith, comes.1, few)) filled c.lines refl
+    where
+      go : (c : Cell (List A)) → StandsAmong c puts.own → c.span ≤ suc rows → StandWithin (seen columns (written cell.lines)) (seen columns (items_in c.lines)) → (ls : List (RenderLine (List A))) → c.lines ≡ ls → Follows (seen columns (written cell.lines)) rows s
+      go c own fewer filled [] e = inl (within_on (seen columns (written cell.lines)) [] (seen columns (written s.lines)) (subst (λ ls. StandWithin (seen columns (written cell.lines)) (seen columns (items_in ls))) e filled) tt)
+      go c own fewer filled (l ∷ ls) e =
+          let seated = among_own 0 c m.hanging puts.own puts.means.cells (ap (λ ks. is_none (first_line ks)) e) own puts.means.seated in
+          row_follows collapses cells m s puts (seen columns (written cell.lines)) rows c seated fewer
+          (within_on (seen columns (written cell.lines)) (seen columns (items_in c.lines)) (seen columns (written m.lines ++ items_in c.lines)) filled (after_within columns (written m.lines) (items_in c.lines) (items_in c.lines) (itself_within columns (items_in c.lines))))

@@ -80,12 +80,12 @@ same_texts r row =
     ∙ cut_texts r.lines
 
 module _ {D A : Type 0} (columns : ℕ → Option ℕ) where
-  pub next_grows : (r : Renderer D A (List A)) (o : Option (Border (List A))) → Grows r (with_next columns r o)
+  next_grows : (r : Renderer D A (List A)) (o : Option (Border (List A))) → Grows r (with_next columns r o)
   next_grows r None = ([], sym (append-nil r.lines))
   next_grows r (Some b) = (_, refl)
 
   -- after the border above come the lines of the row, and the border below
-  pub row_grows : (r : Renderer D A (List A)) (row : SeenRow (List A)) → (more : List (Line (List A))) × ((with_row columns r row).lines ≡ (under_row r row).lines ++ more)
+  row_grows : (r : Renderer D A (List A)) (row : SeenRow (List A)) → (more : List (Line (List A))) × ((with_row columns r row).lines ≡ (under_row r row).lines ++ more)
   row_grows r row =
       let top = under_row r row in
       let texts = lines_grow columns row.lines top in

@@ -1,36 +1,39 @@
 -- Visible characters of lines that renderers take from one another.
-use Rattle.std.proofs.Common.{◌≡◌, ℕ, zero, suc, ◌≤◌, Bool, true, false, if◌then◌else◌, Option, List, [], ◌∷◌, ◌++◌, map, flat_map, fold, length, refl, ap, sym, ◌∙◌, subst, arith, append_assoc, append-nil}
+use Rattle.std.proofs.Common.{◌≡◌, ℕ, zero, suc, ◌+◌, ◌≤◌, ◌⊎◌, inl, inr, Bool, true, false, if◌then◌else◌, Option, List, [], ◌∷◌, ◌++◌, map, flat_map, fold, length, refl, ap, sym, ◌∙◌, subst, arith, append_assoc, append-nil}
 use Rattle.std.specs.List.{AllZip}
 use Rattle.std.proofs.lemmas.Grind.{fold-append}
 use Rattle.tbr_model.specs.Run.{Entry, Item}
 use Rattle.tbr_model.specs.Layout.{joined}
 use Rattle.tbr_model.specs.Hard.{IsShown, visible_glyphs, visible_entries}
-use Rattle.tbr_border.specs.Border.{Border, shown, without_holes}
-use Rattle.tbr_kept_lines.specs.LastBorder.{before_border}
-use Rattle.tbr_renderer.specs.Rows.{border_lines}
+use Rattle.tbr_border.specs.Border.{shown, without_holes}
 use Rattle.tbr_tagged.specs.Padding.{spaces}
 use Rattle.tbr_tagged.specs.Elements.{text_items}
 use Rattle.tbr_border.specs.Cell.{Cell, horizontal, slash}
 use Rattle.tbr_decor.specs.Decoration.{Decoration}
+use Rattle.tbr_rows.specs.CellsShown.{StandsAmong}
+use Rattle.tbr_rows.specs.declared.LineSet.{LineSet as Overhanging}
+use Rattle.tbr_rows.proofs.Among.{each_among}
+use Rattle.tbr_rows.proofs.CellsSeated.{among_seated}
 use Rattle.tbr_kept_lines.specs.Line.{Line, text, border}
+use Rattle.tbr_renderer.specs.Flush.{after_flush}
 use Rattle.tbr_renderer.specs.Renderer.{Renderer, IsSound}
 use Rattle.tbr_renderer.specs.Appended.{border_of_cells, with_border, as_text, prefixed, with_divider, with_cell, with_cell_below, with_cells, handed_out}
 use Rattle.tbr_renderer.specs.Calls.{Call, append_subrender, append_vert_row, Does, text_of_lines, Shows}
-use Rattle.tbr_tagged.specs.Outcome.{done}
+use Rattle.tbr_tagged.specs.Outcome.{done, if_live}
 use Rattle.tbr_renderer.proofs.CallParts.{handed_then}
-use Rattle.text_block_renderer.specs.Acts.{Act, call, row, StaysLine}
+use Rattle.text_block_renderer.specs.Acts.{Act, call, row, rows_of}
 use Rattle.text_block_renderer.proofs.ActSteps.{ActStep, ActSteps, steps}
 use Rattle.text_block_renderer.proofs.ActParts.{alone}
-use Rattle.text_block_renderer.proofs.RowsOfCells.{row_flushes, under_row, row_grows}
-use Rattle.text_block_renderer.proofs.Moves.{flush}
+use Rattle.text_block_renderer.proofs.RowsOfCells.{row_flushes}
+use Rattle.text_block_renderer.proofs.Moves.{any, flush, Frame, flush_frame, path_hanging}
+use Rattle.text_block_renderer.proofs.CallMoves.{calls_move}
 use Rattle.text_block_renderer.proofs.VerticalRows.{cells_after}
 use Rattle.text_block_renderer.specs.Drawn.{Put, as_it_is, drawn, line_put, not_drawn, WithoutDrawnBorders}
-use Rattle.text_block_renderer.specs.Taken.{StandWithin, text_before, written, CallTakes, Takes, AreTakenIn}
+use Rattle.text_block_renderer.specs.Taken.{StandWithin, text_before, written, CallTakes, Takes, NothingOverhangs, AreTakenIn}
 use Rattle.text_block_renderer.proofs.AddedLines.{Grows, moves_grow, steps_grow}
-use Rattle.text_block_renderer.proofs.CellsInRows.{cell_within_row}
-use Rattle.text_block_renderer.proofs.Within.{within_after, within_itself, within_more, within_on, two_within, itself_within, after_within}
-use Rattle.text_block_renderer.proofs.Written.{written-append, stays_written, texts_written, border_shown, written_texts}
-use Rattle.text_block_renderer.proofs.LastingLines.{top_put_back}
+use Rattle.text_block_renderer.proofs.CellsInRows.{items_in, Follows, row_adds, row_follows, cell_follows}
+use Rattle.text_block_renderer.proofs.Within.{within_after, within_itself, within_more, within_on, two_within, itself_within, after_within, before_within}
+use Rattle.text_block_renderer.proofs.Written.{written-append, texts_written, border_shown, written_texts}
 use Rattle.text_block_renderer.proofs.VisibleCharacters.{glyphs-append, handed_out_less}
 use Rattle.text_block_renderer.proofs.LaidTexts.{lines_after}
 
@@ -81,6 +84,12 @@ module _ {D A : Type 0} (columns : ℕ → Option ℕ) where
 
   more_within : (gs : List (ℕ × List A)) (r s : Renderer D A (List A)) → MoreText r s → StandWithin gs (seen columns r.lines) → StandWithin gs (seen columns s.lines)
   more_within gs r s (more, is) h = subst (StandWithin gs) (sym (ap (visible_glyphs columns) is ∙ glyphs-append columns (written r.lines) more)) (within_more gs (seen columns r.lines) (visible_glyphs columns more) h)
+
+  still_more : (gs : List (ℕ × List A)) (r s : Renderer D A (List A)) (is : List (Item (List A))) → MoreText r s → StandWithin gs (visible_glyphs columns (written r.lines ++ is)) → StandWithin gs (visible_glyphs columns (written s.lines ++ is))
+  still_more gs r s is (more, same) h =
+      let old = written r.lines in
+      let here : StandWithin (visible_glyphs columns old) (visible_glyphs columns (written s.lines)) = subst (λ js. StandWithin (visible_glyphs columns old) (visible_glyphs columns js)) (sym same) (before_within columns old old more (itself_within columns old)) in
+      within_on gs (visible_glyphs columns (old ++ is)) (visible_glyphs columns (written s.lines ++ is)) h (two_within columns old is (written s.lines) is here (itself_within columns is))
 
   more_text : (r s : Renderer D A (List A)) → Grows r s → MoreText r s
   more_text r s grows = (written grows.0, ap written grows.1 ∙ written-append r.lines grows.0)
@@ -139,41 +148,59 @@ module _ {D A : Type 0} (columns : ℕ → Option ℕ) where
         subst (λ (q : Renderer D A (List A)). StandWithin (seen columns lines) (seen columns q.lines)) (sym (whole ∙ ap (λ cs. with_divider columns horizontal (with_cells columns m cs)) is)) row
     taken_within other r s lines t h = elim t [ ]
 
+    flush_adds : (r m : Renderer D A (List A)) → if_live r.failure (after_flush columns r) ≡ done m → MoreText r m
+    flush_adds r m flushed = more_text r m (moves_grow columns (flush r ∷ []) r m (m, (refl, row_flushes columns r m flushed), refl))
+
     act_adds : (act : Act (List A)) (r s : Renderer D A (List A)) (es : List (Entry (List A))) → ActStep columns decoration act r es s → MoreText r s
     act_adds (call c) r s es h = more_text r s (steps_grow columns decoration (c ∷ []) r s (alone columns decoration c r s es h.0 h.1).0)
-    act_adds (row collapses cells) r s es h =
-        let (m, flushed, puts, is) = h in
-        let first = more_text r m (moves_grow columns (flush r ∷ []) r m (m, (refl, row_flushes columns r m flushed), refl)) in
-        let upper : AllZip StaysLine m.lines (under_row m puts.row).lines =
-        subst (λ (o : Option (Border (List A))). AllZip StaysLine m.lines (before_border m.lines ++ border_lines o)) (sym puts.means.upper) (top_put_back collapses puts.means.cells m.lines) in
-        let later = row_grows columns m puts.row in
-        let more = written later.0 in (
-          first.0 ++ more,
-          ap (λ (q : Renderer D A (List A)). written q.lines) puts.is ∙ ap written later.1 ∙ written-append (under_row m puts.row).lines later.0 ∙ ap (λ js. js ++ more) (stays_written m.lines (under_row m puts.row).lines upper ∙ first.1) ∙ append_assoc (written r.lines) first.0 more,
-        )
+    act_adds (row collapses cells) r s es (m, flushed, puts, is) =
+        let first = flush_adds r m flushed in
+        let (more, are, shows) = row_adds columns collapses cells m s puts in
+        (first.0 ++ more, are ∙ ap (λ js. js ++ more) first.1 ∙ append_assoc (written r.lines) first.0 more)
 
-    -- what is there stays through calls and rows
-    acts_within : (gs : List (ℕ × List A)) (acts : List (Act (List A))) (r s : Renderer D A (List A)) (es : List (Entry (List A))) → ActSteps columns decoration acts r es s → StandWithin gs (seen columns r.lines) → StandWithin gs (seen columns s.lines)
-    acts_within gs [] r s es h k = subst (λ (q : Renderer D A (List A)). StandWithin gs (seen columns q.lines)) (sym h.0) k
-    acts_within gs (act ∷ acts) r s es h k =
-        let (m, first, rest, does, others, is) = h in
-        acts_within gs acts m s rest others (more_within gs r m (act_adds act r m first does) k)
+    -- what is left goes on overhanging
+    follows_on : (gs : List (ℕ × List A)) (n rows : ℕ) (r s : Renderer D A (List A)) → n ≤ rows → MoreText r s → s.hanging ≡ r.hanging → Follows columns gs n r → Follows columns gs rows s
+    follows_on gs n rows r s fits more same (inl h) = inl (more_within gs r s more h)
+    follows_on gs n rows r s fits more same (inr (c, hangs, some, few, h)) = inr (c, subst (StandsAmong c) (sym same) hangs, some, omega (arith, few, fits), still_more gs r s (items_in c.lines) more h)
 
-    act_within : (act : Act (List A)) (r s : Renderer D A (List A)) (es : List (Entry (List A))) (lines : List (Line (List A))) → Takes lines act → ActStep columns decoration act r es s → StandWithin (seen columns lines) (seen columns s.lines)
-    act_within (call c) r s es lines t h = taken_within c r s lines t h.0
-    act_within (row collapses cells) r s es lines t h =
-        let (cell, among, one, is) = t in
-        let (m, flushed, puts, brings) = h in
-        subst (λ (ls : List (Line (List A))). StandWithin (seen columns ls) (seen columns s.lines)) is (cell_within_row columns collapses cells m s puts cell among one)
+    act_follows : (gs : List (ℕ × List A)) (act : Act (List A)) (n rows : ℕ) (r s : Renderer D A (List A)) (es : List (Entry (List A))) → n ≤ length (rows_of (act ∷ [])) + rows → ActStep columns decoration act r es s → Follows columns gs n r → Follows columns gs rows s
+    act_follows gs (call c) n rows r s es fits h k =
+        let path = calls_move columns any decoration (c ∷ []) r s es tt (alone columns decoration c r s es h.0 h.1) in
+        follows_on gs n rows r s (omega (arith, fits)) (act_adds (call c) r s es h) (path_hanging columns any r s es _ path) k
+    act_follows gs (row collapses cells) n rows r s es fits h (inl k) = inl (more_within gs r s (act_adds (row collapses cells) r s es h) k)
+    act_follows gs (row collapses cells) n rows r s es fits (m, flushed, puts, is) (inr (c, hangs, some, few, k)) =
+        let same : m.hanging ≡ r.hanging = ap (λ (f : Frame A). f.hanging) (flush_frame columns r m r.block (row_flushes columns r m flushed)) in
+        let seated = among_seated 0 c m.hanging puts.own puts.means.cells (subst (StandsAmong c) (sym same) hangs) puts.means.seated in
+        row_follows columns collapses cells m s puts gs rows c seated (omega (arith, few, fits)) (still_more gs r m (items_in c.lines) (flush_adds r m flushed) k)
 
-    steps_within : (before : List (Act (List A))) (act : Act (List A)) (after : List (Act (List A))) (r s : Renderer D A (List A)) (es : List (Entry (List A))) (lines : List (Line (List A))) → Takes lines act → ActSteps columns decoration (before ++ act ∷ after) r es s →
-        StandWithin (seen columns lines) (seen columns s.lines)
-    steps_within [] act after r s es lines t h =
-        let (m, first, rest, does, others, is) = h in
-        acts_within (seen columns lines) after m s rest others (act_within act r m first lines t does)
-    steps_within (d ∷ before) act after r s es lines t h =
-        let (m, first, rest, does, others, is) = h in
-        steps_within before act after m s rest lines t others
+    -- through calls and rows
+    acts_follow : (gs : List (ℕ × List A)) (acts : List (Act (List A))) (n rows : ℕ) (r s : Renderer D A (List A)) (es : List (Entry (List A))) → n ≤ length (rows_of acts) + rows → ActSteps columns decoration acts r es s → Follows columns gs n r → Follows columns gs rows s
+    acts_follow gs [] n rows r s es fits h k = subst (λ (q : Renderer D A (List A)). Follows columns gs rows q) (sym h.0) (follows_on gs n rows r r (omega (arith, fits)) ([], sym (append-nil (written r.lines))) refl k)
+    acts_follow gs (call c ∷ acts) n rows r s es fits (m, first, rest, does, others, is) k = acts_follow gs acts n rows m s rest fits others (act_follows gs (call c) n n r m first (omega arith) does k)
+    acts_follow gs (row collapses cells ∷ acts) n rows r s es fits (m, first, rest, does, others, is) k =
+        acts_follow gs acts (length (rows_of acts) + rows) rows m s rest (omega arith) others (act_follows gs (row collapses cells) n (length (rows_of acts) + rows) r m first (omega (arith, fits)) does k)
+
+    act_within : (act : Act (List A)) (span rows : ℕ) (r s : Renderer D A (List A)) (es : List (Entry (List A))) (lines : List (Line (List A))) → Takes span lines act → span ≤ suc rows → ActStep columns decoration act r es s → Follows columns (seen columns lines) rows s
+    act_within (call c) span rows r s es lines t few h = inl (taken_within c r s lines t h.0)
+    act_within (row collapses cells) span rows r s es lines (cell, among, spans, is) few (m, flushed, puts, brings) =
+        subst (λ (ls : List (Line (List A))). Follows columns (seen columns ls) rows s) is (cell_follows columns collapses cells m s puts rows cell among (omega (arith, spans, few)))
+
+    -- where the rows of its span come, or nothing overhangs in the end, all of it stands
+    followed : (gs : List (ℕ × List A)) (span : ℕ) (after : List (Act (List A))) (m s : Renderer D A (List A)) (es : List (Entry (List A))) → ActSteps columns decoration after m es s → ((rows : ℕ) → span ≤ suc rows → Follows columns gs rows m) → (span ≤ 1 + length (rows_of after)) ⊎ NothingOverhangs s →
+        StandWithin gs (seen columns s.lines)
+    followed gs span after m s es h from (inl few) =
+        elim (acts_follow gs after (length (rows_of after)) 0 m s es (omega arith) h (from (length (rows_of after)) (omega (arith, few)))) [ inl k ↦ k | inr k ↦ absurd (let (c, hangs, some, none, within) = k in omega (arith, some, none)) ]
+    followed gs span after m s es h from (inr none) =
+        elim (acts_follow gs after span span m s es (omega arith) h (from span (omega arith))) [
+          | inl k ↦ k
+          | inr k ↦ let (c, hangs, some, few, within) = k in
+              subst (λ js. StandWithin gs (visible_glyphs columns js)) (ap (λ ls. written s.lines ++ items_in ls) (each_among (λ (d : Overhanging (List A)). d.lines ≡ []) c s.hanging hangs none) ∙ append-nil (written s.lines)) within
+        ]
+
+    steps_within : (before : List (Act (List A))) (act : Act (List A)) (after : List (Act (List A))) (r s : Renderer D A (List A)) (es : List (Entry (List A))) (span : ℕ) (lines : List (Line (List A))) → Takes span lines act → (span ≤ 1 + length (rows_of after)) ⊎ NothingOverhangs s →
+        ActSteps columns decoration (before ++ act ∷ after) r es s → StandWithin (seen columns lines) (seen columns s.lines)
+    steps_within [] act after r s es span lines t come (m, first, rest, does, others, is) = followed (seen columns lines) span after m s rest others (λ rows few. act_within act span rows r m first lines t few does) come
+    steps_within (d ∷ before) act after r s es span lines t come (m, first, rest, does, others, is) = steps_within before act after m s rest span lines t come others
 
     handed_within : (gs : List (ℕ × List A)) (r : Renderer D A (List A)) (lines : List (Line (List A))) → handed_out columns r ≡ done lines → StandWithin gs (seen columns r.lines) → StandWithin gs (seen columns lines)
     handed_within gs r lines h k =
@@ -184,7 +211,7 @@ module _ {D A : Type 0} (columns : ℕ → Option ℕ) where
     all_within zero inside outside h = subst (λ (ls : List (Line (List A))). StandWithin (seen columns inside) (seen columns ls)) (sym h) (within_itself (seen columns inside))
     all_within (suc depth) inside outside h =
         let (between, taken, others) = h in
-        let here = handed_within (seen columns inside) taken.last between taken.gives (steps_within taken.before taken.taking taken.after taken.first taken.last taken.es inside taken.takes (steps columns decoration (taken.before ++ taken.taking ∷ taken.after) taken.first taken.last taken.es taken.bring)) in
+        let here = handed_within (seen columns inside) taken.last between taken.gives (steps_within taken.before taken.taking taken.after taken.first taken.last taken.es taken.span inside taken.takes taken.come (steps columns decoration (taken.before ++ taken.taking ∷ taken.after) taken.first taken.last taken.es taken.bring)) in
         within_on (seen columns inside) (seen columns between) (seen columns outside) here (all_within depth between outside others)
 
     pub brought_within : (depth : ℕ) (r : Renderer D A (List A)) (borders : List (List Cell)) (es : List (Entry (List A))) (inside outside : List (Line (List A))) →

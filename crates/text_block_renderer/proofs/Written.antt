@@ -66,12 +66,15 @@ module _ {D A : Type 0} (columns : ℕ → Option ℕ) where
   same_laid r [] = refl
   same_laid r (t ∷ ts) = refl
 
-  -- laid texts are written after what there was
+  -- laid texts have the visible characters of the texts
+  pub laid_shown : (ts : List (List (Item (List A)))) (r : Renderer D A (List A)) → visible_glyphs columns (written (lines_laid columns r ts)) ≡ visible_glyphs columns (joined ts)
+  laid_shown ts r =
+      let none : Renderer D A (List A) = record r { lines = [] } in
+      ap (visible_glyphs columns) (laid_written r ts) ∙ ap (λ ls. visible_glyphs columns (text_of_lines ls)) (sym (same_laid r ts) ∙ sym (laid_lines columns ts none)) ∙ shown_texts columns ts none
+
+  -- and are written after what there was
   pub written_texts : (ts : List (List (Item (List A)))) (r : Renderer D A (List A)) → visible_glyphs columns (written (fold (with_line columns) r ts).lines) ≡ visible_glyphs columns (written r.lines) ++ visible_glyphs columns (joined ts)
   written_texts ts r =
-      let none : Renderer D A (List A) = record r { lines = [] } in
       let laid = lines_laid columns r ts in
       ap (λ ls. visible_glyphs columns (written ls)) (laid_lines columns ts r) ∙ ap (visible_glyphs columns) (written-append r.lines laid) ∙ glyphs-append columns (written r.lines) (written laid)
-      ∙ ap (λ is. visible_glyphs columns (written r.lines) ++ visible_glyphs columns is) (laid_written r ts)
-      ∙ ap (λ ls. visible_glyphs columns (written r.lines) ++ visible_glyphs columns (text_of_lines ls)) (sym (same_laid r ts) ∙ sym (laid_lines columns ts none))
-      ∙ ap (λ gs. visible_glyphs columns (written r.lines) ++ gs) (shown_texts columns ts none)
+      ∙ ap (λ gs. visible_glyphs columns (written r.lines) ++ gs) (laid_shown ts r)

@@ -1,5 +1,6 @@
 -- Lines that renderers hand out and others take.
-use Rattle.std.specs.Prelude.{◌≡◌, ℕ, zero, suc, ◌≤◌, ◌⊎◌, ⊤, Option, List, [], ◌∷◌, ◌++◌, length, flat_map}
+use Rattle.std.specs.Prelude.{◌≡◌, ℕ, zero, suc, ◌+◌, ◌≤◌, ◌⊎◌, ⊤, Option, List, [], ◌∷◌, ◌++◌, length, flat_map}
+use Rattle.std.specs.List.{AllByRecursion as Each}
 use Rattle.tbr_model.specs.Run.{Entry, Item}
 use Rattle.tbr_decor.specs.Decoration.{Decoration}
 use Rattle.tbr_border.specs.Border.{Border}
@@ -11,7 +12,7 @@ use Rattle.tbr_renderer.specs.Appended.{handed_out}
 use Rattle.tbr_renderer.specs.Calls.{Call, append_subrender, append_vert_row}
 use Rattle.tbr_rows.specs.CellsShown.{StandsAmong}
 use Rattle.tbr_renderer.specs.Rows.{GivenCell}
-use Rattle.text_block_renderer.specs.Acts.{Act, call, row, ActsBring}
+use Rattle.text_block_renderer.specs.Acts.{Act, call, row, rows_of, ActsBring}
 
 -- They are there in order, with others between.
 abbrev pub StandWithin : {X : Type 0} → List X → List X → Type 0
@@ -35,13 +36,18 @@ CallTakes lines (append_subrender prefixes taken) = (taken ≡ lines) × (length
 CallTakes lines (append_vert_row cells) = StandsAmong lines cells
 CallTakes lines other = ⊥
 
--- and a row takes them as a cell that spans no other row
-abbrev pub Takes : {T : Type 0} → List (Line T) → Act T → Type 0
-Takes lines (call c) = CallTakes lines c
-Takes {T} lines (row collapses cells) =
-    (cell : GivenCell T) × StandsAmong cell cells × (cell.span ≡ 1) × (cell.lines ≡ lines)
+-- and a row takes them as a cell that spans so many rows
+abbrev pub Takes : {T : Type 0} → ℕ → List (Line T) → Act T → Type 0
+Takes span lines (call c) = CallTakes lines c
+Takes {T} span lines (row collapses cells) =
+    (cell : GivenCell T) × StandsAmong cell cells × (cell.span ≡ span) × (cell.lines ≡ lines)
+
+-- nothing is left in the cells that overhang
+abbrev pub NothingOverhangs : {D A T : Type 0} → Renderer D A T → Type 0
+NothingOverhangs r = Each (λ cell. cell.lines ≡ []) r.hanging
 
 -- Calls and rows lead from a renderer to another. It takes the lines at one of these, and hands out its own after all.
+-- The rows that a cell spans all come, or in the end nothing overhangs.
 pub record TakesIn {D A : Type 0} (columns : ℕ → Option ℕ) (decoration : Decoration D A)
     (inside outside : List (Line (List A))) : Type 0 where
   pub first : Renderer D A (List A)
@@ -51,7 +57,9 @@ pub record TakesIn {D A : Type 0} (columns : ℕ → Option ℕ) (decoration : D
   pub after : List (Act (List A))
   pub es : List (Entry (List A))
   pub bring : ActsBring columns decoration (before ++ taking ∷ after) first es last
-  pub takes : Takes inside taking
+  pub span : ℕ
+  pub takes : Takes span inside taking
+  pub come : (span ≤ 1 + length (rows_of after)) ⊎ NothingOverhangs last
   pub gives : handed_out columns last ≡ done outside
 
 -- so many renderers do, one after another

@@ -89,9 +89,10 @@ pub fn handed_out_lines_have_all_characters<D, A>()
         AllZip (IsShown (λ a b. a ≡ b)) (visible_glyphs columns (text_of_lines lines)) (visible_entries columns es) }
 {}
 
-/// Renderers take lines from one another, as cells that span no other row or after as many prefixes, among any calls
-/// and rows, and hand out their own, to any depth. Then the visible characters of the first lines are in the last, in
-/// order, also those in front of borders. So are those of all that was brought to a renderer that handed out the first.
+/// Renderers take lines from one another, after as many prefixes or as cells, among any calls and rows, and hand out
+/// their own, to any depth. The rows that a cell spans all come, or nothing overhangs in the end. Then the visible
+/// characters of the first lines are in the last, in order, also those in front of borders. So are those of all that
+/// was brought to a renderer that handed out the first.
 pub fn nothing_visible_is_lost_to_any_depth<D, A>()
     ensures lines { (columns : ℕ → Option ℕ) (decoration : Decoration D A) (depth : ℕ)
         (inside outside : List (Line (List A))) → AreTakenIn columns decoration depth inside outside →
