@@ -21,7 +21,7 @@ use Rattle.tbr_tagged.specs.Outcome.{Outcome, done, refused}
 use Rattle.tbr_renderer.specs.Outcomes.{and_then, told_by}
 use Rattle.tbr_renderer.proofs.OutcomeParts.{one_done, done_first}
 use Rattle.tbr_renderer.proofs.SettingsStay.{Steady, lines_added}
-use Rattle.text_block_renderer.specs.Added.{Added, flush_ends, call_adds, calls_add}
+use Rattle.text_block_renderer.specs.Added.{Added, row_put, flush_ends, call_adds, calls_add}
 use Rattle.text_block_renderer.specs.Stretches.{Part, ended, laid, ruled, lines_laid, IsPart, ComesInParts}
 use Rattle.text_block_renderer.specs.Acts.{Act, call, row, rows_of, after_act, act_brought, ActsBring, Piece, part, put, cells_in, rows_in, border_lines_of, lines_of_piece, entries_of_piece, added_of_piece, act_adds, acts_add, IsPiece, StaysLine, ComesInPieces}
 use Rattle.text_block_renderer.proofs.Moves.{any, Frame, frame, frame_of_lines, sound_alike, flushed_none, path_width, path_options, path_hanging}
@@ -192,7 +192,7 @@ module _ {D A : Type 0} (columns : ℕ → Option ℕ) where
           chain = subst (λ rows. Chain columns r.options.draw_borders r.hanging rows s.hanging) (sym (no_rows parts.parts)) (path_hanging columns any r s es _ path);
         }
 
-    row_along : (collapses : Bool) (cells : List (GivenCell (List A))) (m s : Renderer D A (List A)) → m.block ≡ None → s.block ≡ None → (puts : PutsRow columns collapses cells m s) → Along (cells ∷ []) [] m (laid_entries (joined puts.row.lines)) s
+    row_along : (collapses : Bool) (cells : List (GivenCell (List A))) (m s : Renderer D A (List A)) → m.block ≡ None → s.block ≡ None → (puts : PutsRow columns collapses cells m s) → Along (cells ∷ []) (row_put collapses cells ∷ []) m (laid_entries (joined puts.row.lines)) s
     unfolding put_piece
     row_along collapses cells m s none closed puts =
         let seen = puts.row in
@@ -212,8 +212,8 @@ module _ {D A : Type 0} (columns : ℕ → Option ℕ) where
         let first = call_along new_line r m [] sound (alone new_line r m [] flushed refl) in
         let closed = row_closed columns r s (m, flushed, puts.row, puts.is) in
         let second = row_along collapses cells m s (flushed_none columns r m (row_flushes columns r m flushed)) closed puts in
-        subst (λ (ss : List (Added D A)). Along (cells ∷ []) ss r es s) (append-nil (flush_ends r))
-        (subst (λ fs. Along (cells ∷ []) (flush_ends r ++ []) r fs s) (sym is) (along_on [] (cells ∷ []) (flush_ends r) [] r m s [] (laid_entries (joined puts.row.lines)) first second))
+        let puts_it : List (Added D A) = row_put collapses cells ∷ [] in
+        subst (λ fs. Along (cells ∷ []) (flush_ends r ++ puts_it) r fs s) (sym is) (along_on [] (cells ∷ []) (flush_ends r) puts_it r m s [] (laid_entries (joined puts.row.lines)) first second)
 
     all_along : (acts : List (Act (List A))) (r s : Renderer D A (List A)) → IsSound columns r → after_acts columns decoration acts r ≡ done s → Along (rows_of acts) (acts_add columns decoration acts r) r (brought_by columns decoration acts r) s
     all_along [] r s sound h =

@@ -18,7 +18,7 @@ use Rattle.tbr_renderer.specs.Flush.{after_flush}
 use Rattle.tbr_renderer.specs.Appended.{border_line}
 use Rattle.tbr_renderer.specs.Rows.{GivenCell, style_in, cells_from, PutsRow, after_row}
 use Rattle.tbr_renderer.specs.Calls.{Call, made, after, entries_brought, laid_entries}
-use Rattle.text_block_renderer.specs.Added.{Added, flush_ends, call_adds}
+use Rattle.text_block_renderer.specs.Added.{Added, row_put, flush_ends, call_adds}
 use Rattle.text_block_renderer.specs.Stretches.{Part, entries_of_part, added_of_part, lines_of_part, lines_laid, IsBetweenBlocks, IsPart}
 
 -- What is done to a renderer: a call, or a row of cells side by side, with whether it collapses.
@@ -65,10 +65,10 @@ module _ {D A : Type 0} (columns : ℕ → Option ℕ) (decoration : Decoration 
       List (Act (List A)) → Renderer D A (List A) → List (Entry (List A)) → Renderer D A (List A) → Type 0
   ActsBring acts r es s = (run after_act acts r ≡ done s) × (es ≡ acts_brought acts r)
 
-  -- What one adds. A row adds the run that it ends, but for itself.
+  -- what one adds
   abbrev pub act_adds : Act (List A) → Renderer D A (List A) → List (Added D A)
   act_adds (call c) r = call_adds columns decoration c r
-  act_adds (row collapses cells) r = flush_ends r
+  act_adds (row collapses cells) r = flush_ends r ++ row_put collapses cells ∷ []
 
   -- and those of acts, one after another
   abbrev pub acts_add : List (Act (List A)) → Renderer D A (List A) → List (Added D A)
@@ -115,10 +115,10 @@ module _ {D A : Type 0} (columns : ℕ → Option ℕ) where
   lines_of_piece (put p) =
       lines_laid columns p.before p.puts.row.lines ++ border_lines_of p.before p.puts.row.next
 
-  -- what was added there, but for rows
+  -- what was added there
   abbrev pub added_of_piece : Piece D A columns → List (Added D A)
   added_of_piece (part p) = added_of_part p
-  added_of_piece (put p) = []
+  added_of_piece (put p) = row_put p.collapses p.cells ∷ []
 
   abbrev pub entries_of_piece : Piece D A columns → List (Entry (List A))
   entries_of_piece (part p) = entries_of_part p

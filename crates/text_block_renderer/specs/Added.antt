@@ -1,5 +1,5 @@
--- What calls add to the lines: runs that they end, texts that they lay, and borders.
-use Rattle.std.specs.Prelude.{ℕ, if◌then◌else◌, Option, None, Some, List, [], ◌∷◌, ◌++◌, map, flat_map, replicate}
+-- What calls and rows add to the lines: runs that they end, texts that they lay, borders, and rows.
+use Rattle.std.specs.Prelude.{ℕ, Bool, if◌then◌else◌, Option, None, Some, List, [], ◌∷◌, ◌++◌, map, flat_map, replicate}
 use Rattle.tbr_model.specs.Run.{Item}
 use Rattle.tbr_border.specs.Cell.{Cell, horizontal, slash}
 use Rattle.tbr_kept_lines.specs.Line.{Line}
@@ -11,16 +11,18 @@ use Rattle.tbr_renderer.specs.Outcomes.{told_by, told}
 use Rattle.tbr_renderer.specs.Flush.{after_flush}
 use Rattle.tbr_renderer.specs.Steps.{at_line_start}
 use Rattle.tbr_renderer.specs.Appended.{as_text, prefixed}
+use Rattle.tbr_renderer.specs.Rows.{GivenCell}
 use Rattle.tbr_renderer.specs.Image.{shown_title}
 use Rattle.tbr_renderer.specs.Decorated.{struck_until, asked_to_close, annotated}
 use Rattle.tbr_renderer.specs.Calls.{Call, add_empty_line, new_line, new_line_hard, start_block, start_table, add_inline_text, begin, finish, start_strikeout, end_strikeout, add_image, add_border, append_subrender, append_vert_row, after}
 
--- A run that ends, by the renderer at that moment and the block that is open. Or a text that is laid, or a border of
--- these cells.
+-- A run that ends, by the renderer at that moment and the block that is open. Or a text that is laid, a border of these
+-- cells, or a row of cells, with whether it collapses.
 pub data Added (D A : Type 0) : Type 0 where
   run_ended : Renderer D A (List A) → Open (List A) → Added D A
   text_laid : List (Item (List A)) → Added D A
   border_put : List Cell → Added D A
+  row_put : Bool → List (GivenCell (List A)) → Added D A
 
 module _ {D A : Type 0} where
   abbrev pub run_of_block : Renderer D A (List A) → Option (Open (List A)) → List (Added D A)

@@ -72,8 +72,8 @@ TakeTwoAtMost columns = (c : ℕ) → IfSome (columns c) (λ n. n ≤ 2)
 -- Calls and rows led from a renderer to another, and brought these entries.
 pub record Headline {D A : Type 0} (columns : ℕ → Option ℕ) (decoration : Decoration D A) (acts : List (Act (List A)))
     (r : Renderer D A (List A)) (es : List (Entry (List A))) (s : Renderer D A (List A)) : Type 0 where
-  -- the lines are those of runs that ended, of laid texts, of borders and of rows, and all but rows are, in order, what
-  -- each call and row adds
+  -- the lines are those of runs that ended, of laid texts, of borders and of rows, which are, in order, what each call
+  -- and row adds
   pub came : ComesInPieces columns (rows_of acts) r es s
   pub added : flat_map (added_of_piece columns) came.pieces ≡ acts_add columns decoration acts r
   pub no_layout_is_ahead : Each (NoLayoutIsAhead columns) came.pieces
