@@ -39,7 +39,7 @@ use Rattle.tbr_program.specs.Commands.{with_stack, level_opened, block_made, blo
 use Rattle.tbr_program.proofs.CommandParts.{one_ok, unless, if_so, some_are, of_top, stack_done, opens, Ends, block_ends, cell_ends}
 use Rattle.tbr_runner.specs.Led.{IsLed, AllAre}
 use Rattle.tbr_runner.specs.Kept.{EndsOne, KeepsAll, IsShort}
-use Rattle.tbr_runner.proofs.LedRenderers.{first_led, others_led, led_on, inside_led}
+use Rattle.tbr_runner.proofs.LedRenderers.{first_led, others_led}
 
 -- ---- some of a list
 
@@ -307,7 +307,7 @@ module _ {D M : Type 0} (columns : ℕ → Option ℕ) (decoration : Decoration 
     Led r = IsLed columns decoration r
 
     led_top : (s : Stack Top) (r : Top) → top_of s ≡ Some r → Each (λ (l : Level Top). Led l.renderer) s.levels → Led r
-    led_top s r top led = first_led columns decoration Led (λ width. 0 < width) (led_on columns decoration) (inside_led columns decoration) s.levels r top led
+    led_top s r top led = first_led columns decoration Led s.levels r top led
 
     level_has : (by : Opener) (width : ℕ) (p q : Progress D M (List M)) → level_opened columns decoration by width p ≡ Ok q → IsIn p → IsIn q
     level_has by width p q is h =
@@ -353,7 +353,7 @@ module _ {D M : Type 0} (columns : ℕ → Option ℕ) (decoration : Decoration 
             let (s, made, same) = stack_done columns decoration left (in_top (block_made columns decoration one next ends.inside) left.stack) q ends.makes in
             let (before, after_it, top, step, there) = top_changed (block_made columns decoration one next ends.inside) left.stack s made in
             let (m, lines, flushed, gives, does) = taken (after columns decoration new_line) (handed_out columns ends.inside) (λ ls. after columns decoration (append_subrender (prefixes one next (length ls)) ls)) before after_it step in
-            let led_below = others_led columns decoration Led (λ width. 0 < width) (led_on columns decoration) (inside_led columns decoration) p.stack.levels led.on_stack in
+            let led_below = others_led columns decoration Led p.stack.levels led.on_stack in
             let gave = gives_on ends.inside lines (let l = led_top p.stack ends.inside ends.top led.on_stack in l.live) (none tt ends.inside ends.top) gives has in
             let has_it = takes_on (call (append_subrender (prefixes one next (length lines)) lines)) lines 1 before after_it (refl, as_many one next (length lines) (short ends.inside lines ends.top gives)) (led_top (below p.stack) before top led_below) does gave in
             subst IsIn (sym same) (subst (λ (x : Stack Top). IsIn (record left { stack = x })) (sym there) (inl (some_top after_it (below p.stack) before top has_it)))

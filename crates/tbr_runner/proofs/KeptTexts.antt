@@ -10,12 +10,12 @@ use Rattle.text_block_renderer.specs.Renderer.{Renderer}
 use Rattle.text_block_renderer.specs.Decorated.{sub_renderer}
 use Rattle.text_block_renderer.specs.Calls.{text_of_lines, Shows}
 use Rattle.text_block_renderer.specs.Acts.{Act, after_act, act_brought, acts_brought}
-use Rattle.text_block_renderer.specs.Taken.{StandWithin, text_before, written}
+use Rattle.text_block_renderer.specs.Taken.{StandWithin, text_before, written, NothingOverhangs}
 use Rattle.text_block_renderer.proofs.TakenLines.{all_within}
 use Rattle.text_block_renderer.proofs.VisibleCharacters.{all_handed_out}
 use Rattle.text_block_renderer.proofs.Within.{within_on, two_within, itself_within, after_within}
 use Rattle.tbr_stack.specs.Stack.{top_of}
-use Rattle.tbr_commands.specs.Command.{Command}
+use Rattle.tbr_commands.specs.Command.{Command, sub, cell}
 use Rattle.tbr_program.specs.Progress.{Progress}
 use Rattle.tbr_program.specs.Commands.{after_line}
 use Rattle.tbr_program.proofs.CommandParts.{one_ok}
@@ -34,7 +34,7 @@ use Rattle.tbr_program.specs.Commands.{started}
 use Rattle.tbr_runner.proofs.ShownTexts.{led_shows}
 use Rattle.tbr_runner.proofs.LedRenderers.{led_on, led_sound, inside_led, line_keeps, sized, of_first, at_end, closed_led, started_led}
 use Rattle.tbr_runner.proofs.CameToRenderers.{HasStill, IsIn, only_on_stack, only_one, first_has, gives_on, command_has}
-use Rattle.tbr_runner.proofs.ScriptLevels.{Shape, command_shape}
+use Rattle.tbr_runner.proofs.ScriptLevels.{Shape, Opens, line_shape}
 
 module _ {X : Type 0} where
   each_weaker : {P Q : X → Type 0} → ((x : X) → P x → Q x) → (xs : List X) → Each P xs → Each Q xs
@@ -67,7 +67,9 @@ module _ {D M : Type 0} (columns : ℕ → Option ℕ) (decoration : Decoration 
 
   pub line_keeps_all : (p next : Progress D M (List M)) (number : ℕ) (line : List ℕ) → KeepsAll columns decoration p → EndsWhole (line ∷ []) p → after_line columns decoration number line p ≡ Ok next → KeepsAll columns decoration next
   line_keeps_all p next number line keeps whole makes =
-      let shape = go line whole makes in
+      let Waits = λ (c : Renderer D M (List M) × ℕ). NothingOverhangs c.0 in
+      let here : Shape (λ by. Unit {0}) Waits p = record { levels = keeps.levels; waiting = keeps.waiting; opened = each_weaker (λ level wait. tt) p.opened keeps.below; below_them = keeps.below } in
+      let shape = line_shape columns decoration (λ by. Unit {0}) Waits number line p next (λ command is. (opens_any command, λ ends r top span align by. whole (command, is, ends) r top)) makes here in
       record {
         renderers = line_keeps columns decoration Unpadded (λ width. 0 < width) unpadded_on unpadded_inside p keeps.renderers number line next (sized columns decoration line) makes;
         levels = shape.levels;
@@ -75,14 +77,10 @@ module _ {D M : Type 0} (columns : ℕ → Option ℕ) (decoration : Decoration 
         below = shape.below_them;
       }
     where
-      here : Shape p
-      here = record { levels = keeps.levels; waiting = keeps.waiting; below_them = keeps.below }
-
-      go : (line : List ℕ) → EndsWhole (line ∷ []) p → after_line columns decoration number line p ≡ Ok next → Shape next
-      go [] whole e = subst Shape (sym (one_ok p next e)) here
-      go (b ∷ bs) whole e =
-          let (command, is, makes) = line_command columns decoration number p (Ok next) tt b bs e in
-          command_shape columns decoration number command p next (λ ends. whole (command, is, ends)) makes here
+      opens_any : (command : Command) → Opens (λ by. Unit {0}) command
+      opens_any (sub width) = tt
+      opens_any (cell width span align) = tt
+      opens_any other = tt
 
   pub started_keeps_all : columns 32 ≡ Some 1 → (opening : Opening) (decorator : D) → 0 < opening.width → opening.options.wrap_width ≢ Some 0 → opening.options.pad_block_width ≡ false → KeepsAll columns decoration (started {M = M} opening decorator)
   started_keeps_all space opening decorator wide some unpadded =

@@ -7,3 +7,4 @@ pub mod ShownTexts
 pub mod CameToRenderers
 pub mod ScriptLevels
 pub mod KeptTexts
+pub mod OneRowCells

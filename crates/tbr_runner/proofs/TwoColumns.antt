@@ -134,7 +134,7 @@ module _ {D M : Type 0} (columns : ℕ → Option ℕ) (decoration : Decoration 
   AllTwo s = Each (λ (l : Level (Top columns decoration)). Two l.renderer) s.levels
 
   top_two : (s : Stack (Top columns decoration)) (r : Top columns decoration) → top_of s ≡ Some r → AllTwo s → Two r
-  top_two s r top k = first_led columns decoration Two (λ width. 2 ≤ width) two_on two_inside s.levels r top k
+  top_two s r top k = first_led columns decoration Two s.levels r top k
 
   no_top : (change : Top columns decoration → Outcome (Top columns decoration)) (s : Stack (Top columns decoration)) → ((r : Top columns decoration) → top_of s ≡ Some r → change r ≡ refused E.TooNarrow → ⊥) → in_top change s ≡ refused E.TooNarrow → ⊥
   no_top change s none h = go (top_of s) refl h
@@ -176,7 +176,7 @@ module _ {D M : Type 0} (columns : ℕ → Option ℕ) (decoration : Decoration 
     no_command number (sub width) is = no_level Sub width is
     no_command number (append first others) is =
         let ends = block_ends columns decoration number p p.opened (Err TooNarrow) tt first others is in
-        no_change (record { stack = below p.stack; pending = ends.pending; opened = ends.others }) (block_made columns decoration first others ends.inside) (below p.stack) (others_led columns decoration Two (λ width. 2 ≤ width) two_on two_inside p.stack.levels h.on_stack)
+        no_change (record { stack = below p.stack; pending = ends.pending; opened = ends.others }) (block_made columns decoration first others ends.inside) (below p.stack) (others_led columns decoration Two p.stack.levels h.on_stack)
         (λ r two e. takes_all (handed_out columns ends.inside) (λ lines. after columns decoration (append_subrender (prefixes first others (length lines)) lines)) r two (hands_out ends.inside (top_two p.stack ends.inside ends.top h.on_stack)) (λ lines narrow_there. no_call (append_subrender (prefixes first others (length lines)) lines) r two narrow_there) e) ends.makes
     no_command number (cell width span align) is = no_level (Cell span align) width is
     no_command number end_cell is =

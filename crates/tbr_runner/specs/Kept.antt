@@ -10,9 +10,11 @@ use Rattle.text_block_renderer.specs.Renderer.{Renderer}
 use Rattle.text_block_renderer.specs.Appended.{handed_out}
 use Rattle.text_block_renderer.specs.Taken.{StandWithin, written, NothingOverhangs}
 use Rattle.tbr_stack.specs.Stack.{top_of}
-use Rattle.tbr_commands.specs.Command.{Command, append, end_cell}
+use Rattle.tbr_commands.specs.Command.{Command, append, cell, end_cell}
 use Rattle.tbr_commands.specs.Syntax.{IsCommand}
-use Rattle.tbr_program.specs.Progress.{Progress}
+use Rattle.tbr_program.specs.declared.opened.Opener.{Opener}
+use Rattle.tbr_program.specs.declared.opened.Opener.TheVariants.{Sub, Cell}
+use Rattle.tbr_program.specs.Progress.{Pending, Progress}
 use Rattle.tbr_runner.specs.Led.{IsLed, IsTextOfLed, CellsAre, AllAre}
 
 -- ---- blocks and cells that end
@@ -31,6 +33,32 @@ EndNext (line ∷ lines) = (command : Command) × IsCommand line command × Ends
 -- Where it ends next, nothing overhangs in it.
 abbrev pub EndsWhole : {D A T : Type 0} → List (List ℕ) → Progress D A T → Type 0
 EndsWhole {D} {A} {T} lines p = EndNext lines → (r : Renderer D A T) → top_of p.stack ≡ Some r → NothingOverhangs r
+
+-- ---- cells of one row
+
+-- a level that isn't a cell of several rows
+abbrev pub IsOfOneRow : Opener → Type 0
+IsOfOneRow Sub = Unit {0}
+IsOfOneRow (Cell span align) = span ≡ 1
+
+-- the cells that wait span one row each
+abbrev pub WaitForOneRow : {D A T : Type 0} → Pending D A T → Type 0
+WaitForOneRow pending = Each (λ cell. cell.1 ≡ 1) pending.cells
+
+-- Nothing overhangs in any renderer, and each cell that is open or waits spans one row.
+pub record OverhangsNowhere {D A T : Type 0} (p : Progress D A T) : Type 0 where
+  pub renderers : AllAre NothingOverhangs p
+  pub waiting : WaitForOneRow p.pending
+  pub opened : Each (λ level. IsOfOneRow level.by) p.opened
+  pub below : Each (λ level. WaitForOneRow level.below) p.opened
+
+-- a cell that a command opens spans one row
+abbrev pub AsksForOneRow : Command → Type 0
+AsksForOneRow (cell width span align) = span ≡ 1
+AsksForOneRow other = Unit {0}
+
+abbrev pub LineAsksForOneRow : List ℕ → Type 0
+LineAsksForOneRow line = (command : Command) → IsCommand line command → AsksForOneRow command
 
 module _ {D M : Type 0} (columns : ℕ → Option ℕ) (decoration : Decoration D M) where
   -- ---- where nothing is lost from here on

@@ -18,7 +18,7 @@ ghost use Rattle.tbr_commands.specs.Syntax.{IsCommand};
 ghost use Rattle.tbr_commands.specs.Read.{command_read, opening_read};
 ghost use Rattle.tbr_runner.specs.StackCalls.{stack_calls, link_targets, AskFor, AskAfterFirst, LinesDo};
 ghost use Rattle.tbr_stack.specs.Stack.{top_of};
-ghost use Rattle.tbr_runner.specs.Kept.{EndsWhole, KeepsAll, IsShort, TextKeeps};
+ghost use Rattle.tbr_runner.specs.Kept.{EndsWhole, LineAsksForOneRow, OverhangsNowhere, KeepsAll, IsShort, TextKeeps};
 ghost use Rattle.tbr_runner.specs.Led.{IsLed, AreLed, IsTextOfLed, IsTextOfScript, LineAsksForTwo};
 ghost use Rattle.std.specs.List.{AllByRecursion as Each};
 ghost use Rattle.tbr_script.specs.declared.error.RunError.TheVariants.{TooNarrow};
@@ -66,7 +66,7 @@ pub fn the_renderers_of_a_script_are_led_to<D, M>()
 /// lines, and nothing overhangs in a block, a cell or the script where that ends. What came to a renderer up to any
 /// line, and what comes to it later, is in the lines of the text, or in front of their borders: its visible characters,
 /// in order, each under an annotation of its call. Prefixes, borders and what came to other renderers may be between
-/// them.
+/// them. In a script whose cells span one row each nothing overhangs.
 pub fn no_visible_character_of_a_script_is_lost<D, M>()
     ensures first { (columns : ℕ → Option ℕ) (decoration : Decoration D M) → columns 32 ≡ Some 1 →
         (opening : Opening) (decorator : D) → 0 < opening.width → opening.options.wrap_width ≢ Some 0 →
@@ -82,6 +82,11 @@ pub fn no_visible_character_of_a_script_is_lost<D, M>()
         rendered_on columns decoration number lines p ≡ Ok text → (commands : List Command) × AskFor lines commands
         × TextKeeps columns decoration (p.stack.links ++ link_targets commands) text
         (acts_brought columns decoration led.acts led.first) }
+    ensures begins { (opening : Opening) (decorator : D) → OverhangsNowhere {T = List M} (started opening decorator) }
+    ensures one_row { (columns : ℕ → Option ℕ) (decoration : Decoration D M) (p there : Progress D M (List M))
+        (number : ℕ) (front back : List (List ℕ)) → KeepsAll columns decoration p → OverhangsNowhere p →
+        Each LineAsksForOneRow front → LinesDo columns decoration p number front there →
+        OverhangsNowhere there × EndsWhole back there }
 {}
 
 /// A script isn't refused as too narrow whose blocks and cells have two columns or more, the wrap width included, where
