@@ -113,17 +113,27 @@ all_rows {A} draws (m ∷ ms) c h =
 texts_append : {A : Type 0} (xs ys : List (RenderLine A)) → texts_in (xs ++ ys) ≡ texts_in xs ++ texts_in ys
 texts_append [] ys = refl
 texts_append {A} (Text es ∷ xs) ys = ap (λ (ls : List (RenderLine A)). Text es ∷ ls) (texts_append xs ys)
-texts_append (Line b ∷ xs) ys = texts_append xs ys
+texts_append {A} (Line b ∷ xs) ys = go (has_holes b.holes) (texts_append xs ys)
+  where
+    go : (h : Bool) → texts_in (xs ++ ys) ≡ texts_in xs ++ texts_in ys → (if h then Line b ∷ texts_in (xs ++ ys) else texts_in (xs ++ ys)) ≡ (if h then Line b ∷ texts_in xs else texts_in xs) ++ texts_in ys
+    go true rest = ap (λ (ls : List (RenderLine A)). Line b ∷ ls) rest
+    go false rest = rest
 
-no_text : {A : Type 0} (o : Option (Border A)) → texts_in (as_lines o) ≡ []
-no_text None = refl
-no_text (Some b) = refl
+-- a border that is merged has no text in front of it
+no_text : {A : Type 0} (ls : List (RenderLine A)) → texts_in (as_lines (first_mergeable ls)) ≡ []
+no_text [] = refl
+no_text (Text es ∷ ls) = refl
+no_text {A} (Line b ∷ ls) = go (has_holes b.holes) refl
+  where
+    go : (h : Bool) → has_holes b.holes ≡ h → texts_in (as_lines (if h then None else Some b)) ≡ []
+    go true e = refl
+    go false e = ap (λ (x : Bool). let xs : List (RenderLine A) = if x then Line b ∷ [] else [] in xs) e
 
 no_text_first : {A : Type 0} (m : Meeting) (c : Cell A) → texts_in (merged_first m c) ≡ []
 no_text_first m c = go m.first
   where
     go : (f : Bool) → texts_in (if f then as_lines (first_mergeable c.lines) else []) ≡ []
-    go true = no_text (first_mergeable c.lines)
+    go true = no_text c.lines
     go false = refl
 
 no_text_last : {A : Type 0} (m : Meeting) (c : Cell A) → texts_in (merged_last m c) ≡ []
@@ -133,7 +143,7 @@ no_text_last {A} m c = go m.last
     under = if m.first then without_first_border c else c
 
     go : (l : Bool) → texts_in (if l then as_lines (last_mergeable under.lines) else []) ≡ []
-    go true = no_text (last_mergeable under.lines)
+    go true = no_text (drop (length under.lines - 1) under.lines)
     go false = refl
 
 texts_left : {A : Type 0} (m : Meeting) (c : Cell A) → texts_in (met m c).lines ≡ texts_in c.lines

@@ -2,7 +2,7 @@
 use Rattle.std.proofs.Common.{◌≡◌, ℕ, zero, suc, ◌+◌, ◌-◌, ◌≤◌, max, Bool, true, false, if◌then◌else◌, Option, None, Some, List, [], ◌∷◌, ◌++◌, map, fold, take, drop, length, refl, ap, sym, ◌∙◌, subst, arith, append_assoc, append-nil}
 use Rattle.std.specs.Prelude.{⊤, slice_range}
 use Rattle.std.specs.List.{AllByRecursion as Each}
-use Rattle.std.proofs.lemmas.List.{map-append, length-map, length-drop, length-take-le, length-replicate, take-append-drop, drop-drop}
+use Rattle.std.proofs.lemmas.List.{map-append, length-replicate, take-append-drop, drop-drop}
 use Rattle.std.proofs.Math.Seq.{take-add}
 use Rattle.tbr_model.specs.Run.{Item, items_width}
 use Rattle.tbr_tagged.specs.Elements.{Element, element_items, items_of, text_items}
@@ -20,9 +20,9 @@ use Rattle.tbr_rows.specs.Borders.{joined, joined_at_each, last_mergeable, merge
 use Rattle.tbr_rows.specs.Gaps.{has_gap, with_element, with_elements}
 use Rattle.tbr_rows.specs.Meant.{IsGapOf, HasGapIf, HasGaps}
 use Rattle.tbr_rows.specs.Rows.{next_under, next_merged}
-use Rattle.tbr_rows.specs.Shown.{DrawsInOne}
+use Rattle.tbr_rows.specs.Shown.{DrawsInOne, HolesFill}
 use Rattle.tbr_rows.proofs.CellColumns.{width_append}
-use Rattle.tbr_rows.proofs.FilledCells.{text_columns, drawn_narrow, spaces_narrow}
+use Rattle.tbr_rows.proofs.FilledCells.{text_columns, spaces_narrow, fill_later, part_width}
 use Rattle.tbr_rows.proofs.ColumnsOfRows.{takes}
 
 -- ---- a border that changes is no shorter
@@ -95,11 +95,6 @@ module _ {A : Type 0} where
 -- ---- holes in order
 
 module _ {A : Type 0} (columns : ℕ → Option ℕ) where
-  -- from a place on, one after another, each as wide as what is there
-  abbrev pub InOrder : ℕ → List (Hole A) → ℕ → Type 0
-  InOrder from [] end = from ≤ end
-  InOrder from (h ∷ hs) end = (from ≤ h.place) × (items_width columns (element_items h.element) ≡ h.width) × InOrder (h.place + h.width) hs end
-
   -- the first of them is no earlier than at a place
   abbrev pub BeginAfter : ℕ → List (Hole A) → Type 0
   BeginAfter at [] = ⊤
@@ -112,21 +107,17 @@ module _ {A : Type 0} (columns : ℕ → Option ℕ) where
       let width = items_width columns (element_items e) in
       record { place = at; width = width; element = e } ∷ holes_from (at + width) es
 
-  in_order_later : (from : ℕ) (hs : List (Hole A)) (end later : ℕ) → InOrder from hs end → end ≤ later → InOrder from hs later
-  in_order_later from [] end later h k = omega (arith, h, k)
-  in_order_later from (g ∷ hs) end later h k = (h.0, h.1, in_order_later (g.place + g.width) hs end later h.2 k)
-
-  ends_before : (from : ℕ) (hs : List (Hole A)) (end : ℕ) → InOrder from hs end → last_end from hs ≤ end
+  ends_before : (from : ℕ) (hs : List (Hole A)) (end : ℕ) → HolesFill columns from hs end → last_end from hs ≤ end
   ends_before from [] end h = h
   ends_before from (g ∷ hs) end h = ends_before (g.place + g.width) hs end h.2
 
-  in_order_from : (from at : ℕ) (es : List (Element A)) (end : ℕ) → from ≤ at → end ≡ at + items_width columns (items_of es) → InOrder from (holes_from at es) end
+  in_order_from : (from at : ℕ) (es : List (Element A)) (end : ℕ) → from ≤ at → end ≡ at + items_width columns (items_of es) → HolesFill columns from (holes_from at es) end
   in_order_from from at [] end h e = omega (arith, h, e)
   in_order_from from at (x ∷ es) end h e =
       let width : ℕ = items_width columns (element_items x) in
       (h, refl, in_order_from (at + width) (at + width) es end (omega arith) (omega (arith, e, width_append columns (element_items x) (items_of es))))
 
-  in_order_more : (from : ℕ) (hs : List (Hole A)) (at : ℕ) (es : List (Element A)) (end : ℕ) → InOrder from hs at → end ≡ at + items_width columns (items_of es) → InOrder from (hs ++ holes_from at es) end
+  in_order_more : (from : ℕ) (hs : List (Hole A)) (at : ℕ) (es : List (Element A)) (end : ℕ) → HolesFill columns from hs at → end ≡ at + items_width columns (items_of es) → HolesFill columns from (hs ++ holes_from at es) end
   in_order_more from [] at es end h e = in_order_from from at es end h e
   in_order_more from (g ∷ hs) at es end h e = (h.0, h.1, in_order_more (g.place + g.width) hs at es end h.2 e)
 
@@ -161,14 +152,6 @@ module _ {A : Type 0} (columns : ℕ → Option ℕ) where
   -- ---- what a border shows
 
   module _ (one : DrawsInOne columns) (tag : A) (cells : List Segment) where
-    drawn_width : (part : List Segment) → items_width columns (drawn part tag) ≡ length part
-    drawn_width part = text_columns columns (map character part) tag one (drawn_narrow part) ∙ length-map part character
-
-    part_width : (from to : ℕ) → from ≤ to → to ≤ length cells → from + items_width columns (drawn (slice_range cells from to) tag) ≡ to
-    part_width from to h k =
-        let some : to - from ≤ length (drop from cells) = omega (arith, h, k, length-drop from cells) in
-        omega (arith, h, drawn_width (slice_range cells from to), length-take-le (to - from) (drop from cells) some)
-
     drawn_two : (xs ys : List Segment) → drawn (xs ++ ys) tag ≡ drawn xs tag ++ drawn ys tag
     drawn_two xs ys = ap (λ cs. text_items cs tag) (map-append character xs ys) ∙ map-append _ (map character xs) (map character ys)
 
@@ -190,9 +173,9 @@ module _ {A : Type 0} (columns : ℕ → Option ℕ) where
         ∙ append_assoc (drawn (slice_range cells at p) tag) (drawn (slice_range cells p g.place) tag) rest
 
     -- what comes before a column
-    pub shown_before : (from : ℕ) (hs : List (Hole A)) (p : ℕ) (more : List (Hole A)) → InOrder from hs p → p ≤ length cells → BeginAfter p more →
+    pub shown_before : (from : ℕ) (hs : List (Hole A)) (p : ℕ) (more : List (Hole A)) → HolesFill columns from hs p → p ≤ length cells → BeginAfter p more →
         (before : List (Item A)) × (shown_from tag cells from (hs ++ more) ≡ before ++ shown_from tag cells p more) × (from + items_width columns before ≡ p)
-    shown_before from [] p more h k past = (drawn (slice_range cells from p) tag, cut from p more h past, part_width from p h k)
+    shown_before from [] p more h k past = (drawn (slice_range cells from p) tag, cut from p more h past, part_width columns one tag cells from p h k)
     shown_before from (g ∷ hs) p more h k past =
         let later = shown_before (g.place + g.width) hs p more h.2 k past in
         let front : List (Item A) = drawn (slice_range cells from g.place) tag in
@@ -200,7 +183,7 @@ module _ {A : Type 0} (columns : ℕ → Option ℕ) where
         let within : g.place ≤ length cells = omega (arith, k, later.2) in (
           front ++ (here ++ later.0),
           ap (λ is. front ++ (here ++ is)) later.1 ∙ ap (λ is. front ++ is) (sym (append_assoc here later.0 (shown_from tag cells p more))) ∙ sym (append_assoc front (here ++ later.0) (shown_from tag cells p more)),
-          omega (arith, part_width from g.place h.0 within, width_append columns front (here ++ later.0), width_append columns here later.0, h.1, later.2),
+          omega (arith, part_width columns one tag cells from g.place h.0 within, width_append columns front (here ++ later.0), width_append columns here later.0, h.1, later.2),
         )
 
     -- and what from there on, where elements come one after another
@@ -217,10 +200,10 @@ module _ {A : Type 0} (columns : ℕ → Option ℕ) where
 
   -- ---- gaps in a border, one after another
 
-  put_order : (place : ℕ) (b : Border A) (es : List (Element A)) (end : ℕ) → InOrder 0 b.holes place → end ≡ place + items_width columns (items_of es) → InOrder 0 (with_elements columns place b es).holes end
+  put_order : (place : ℕ) (b : Border A) (es : List (Element A)) (end : ℕ) → HolesFill columns 0 b.holes place → end ≡ place + items_width columns (items_of es) → HolesFill columns 0 (with_elements columns place b es).holes end
   put_order place b es end h is =
       let far : max place (span_end b.holes) ≡ place = omega (arith, span_end-is b.holes, ends_before 0 b.holes place h) in
-      subst (λ (hs : List (Hole A)). InOrder 0 hs end) (sym (put_holes place place b es far)) (in_order_more 0 b.holes place es end h is)
+      subst (λ (hs : List (Hole A)). HolesFill columns 0 hs end) (sym (put_holes place place b es far)) (in_order_more 0 b.holes place es end h is)
 
   after_both : (p : ℕ) (hs ks : List (Hole A)) → BeginAfter p hs → BeginAfter p ks → BeginAfter p (hs ++ ks)
   after_both p [] ks h k = k
@@ -239,24 +222,24 @@ module _ {A : Type 0} (columns : ℕ → Option ℕ) where
     gap_width width (Text line ∷ ls) es h is = ap (λ xs. items_width columns (items_of xs)) is ∙ h.0
     gap_width width (Line b ∷ ls) es h is = ap (items_width columns) is.0 ∙ takes columns one b.tag width (Line b) h.0
 
-    one_gap : (d : Cell A) (g : Bool) (b m : Border A) → HasGapIf g columns tag d b m → IsFilled columns d → InOrder 0 b.holes d.place → InOrder 0 m.holes (end_of d + 1) × (length b.cells ≤ length m.cells)
+    one_gap : (d : Cell A) (g : Bool) (b m : Border A) → HasGapIf g columns tag d b m → IsFilled columns d → HolesFill columns 0 b.holes d.place → HolesFill columns 0 m.holes (end_of d + 1) × (length b.cells ≤ length m.cells)
     one_gap d false b m h fills k =
-        (subst (λ (x : Border A). InOrder 0 x.holes (end_of d + 1)) (sym h) (in_order_later 0 b.holes d.place (end_of d + 1) k (omega arith)), omega (arith, ap (λ (x : Border A). length x.cells) h))
+        (subst (λ (x : Border A). HolesFill columns 0 x.holes (end_of d + 1)) (sym h) (fill_later columns 0 b.holes d.place (end_of d + 1) k (omega arith)), omega (arith, ap (λ (x : Border A). length x.cells) h))
     one_gap d true b m h fills k =
         let (es, is, put) = h in
         let wide = gap_width d.width d.lines es fills is in (
-          subst (λ (x : Border A). InOrder 0 x.holes (end_of d + 1)) (sym put)
-              (in_order_later 0 (with_elements columns d.place b es).holes (end_of d) (end_of d + 1) (put_order d.place b es (end_of d) k (omega (arith, wide))) (omega arith)),
+          subst (λ (x : Border A). HolesFill columns 0 x.holes (end_of d + 1)) (sym put)
+              (fill_later columns 0 (with_elements columns d.place b es).holes (end_of d) (end_of d + 1) (put_order d.place b es (end_of d) k (omega (arith, wide))) (omega arith)),
           omega (arith, ap (λ (x : Border A). length x.cells) put, put_longer d.place b es),
         )
 
     -- Up to one of the cells: the border has gaps before its place alone.
-    pub gaps_in_front : (ds more : List (Cell A)) (at : ℕ) (b full : Border A) → HasGaps draws columns tag (ds ++ more) b full → AreSideBySide at (ds ++ more) → Each (IsFilled columns) ds → InOrder 0 b.holes at →
-        (m : Border A) × (to : ℕ) × HasGaps draws columns tag more m full × AreSideBySide to more × InOrder 0 m.holes to × (length b.cells ≤ length m.cells)
+    pub gaps_in_front : (ds more : List (Cell A)) (at : ℕ) (b full : Border A) → HasGaps draws columns tag (ds ++ more) b full → AreSideBySide at (ds ++ more) → Each (IsFilled columns) ds → HolesFill columns 0 b.holes at →
+        (m : Border A) × (to : ℕ) × HasGaps draws columns tag more m full × AreSideBySide to more × HolesFill columns 0 m.holes to × (length b.cells ≤ length m.cells)
     gaps_in_front [] more at b full h side fills k = (b, at, h, side, k, omega arith)
     gaps_in_front (d ∷ ds) more at b full h side fills k =
         let (m, here, past) = h in
-        let there : InOrder 0 b.holes d.place = subst (λ n. InOrder 0 b.holes n) (sym side.0) k in
+        let there : HolesFill columns 0 b.holes d.place = subst (λ n. HolesFill columns 0 b.holes n) (sym side.0) k in
         let step = one_gap d (has_gap draws d) b m here fills.0 there in
         let (n, to, more_gaps, more_side, order, longer) = gaps_in_front ds more (end_of d + 1) m full past side.1 fills.1 step.0 in
         (n, to, more_gaps, more_side, order, omega (arith, step.1, longer))
@@ -299,11 +282,11 @@ module _ {A : Type 0} (columns : ℕ → Option ℕ) where
     pub gap_stands : (front : List (Cell A)) (c : Cell A) (rest : List (Cell A)) (b full : Border A) → has_gap draws c ≡ true → HasGaps draws columns tag (front ++ c ∷ rest) b full → AreSideBySide 0 (front ++ c ∷ rest) →
         Each (IsFilled columns) front → b.holes ≡ [] → c.place ≤ length b.cells → GapStands c full
     gap_stands front c rest b full gap h side fills none within =
-        let begins : InOrder 0 b.holes 0 = subst (λ (hs : List (Hole A)). InOrder 0 hs 0) (sym none) (omega arith) in
+        let begins : HolesFill columns 0 b.holes 0 = subst (λ (hs : List (Hole A)). HolesFill columns 0 hs 0) (sym none) (omega arith) in
         let (m, to, gaps, more_side, order, longer) = gaps_in_front front (c ∷ rest) 0 b full h side fills begins in
         let (n, own, others) = gaps in
         let (es, is, put) = subst (λ (g : Bool). HasGapIf g columns tag c m n) gap own in
-        let ordered : InOrder 0 m.holes c.place = subst (λ k. InOrder 0 m.holes k) (sym more_side.0) order in
+        let ordered : HolesFill columns 0 m.holes c.place = subst (λ k. HolesFill columns 0 m.holes k) (sym more_side.0) order in
         let far : max c.place (span_end m.holes) ≡ c.place = omega (arith, span_end-is m.holes, ends_before 0 m.holes c.place ordered) in
         let (hs, holes, past, long) = gaps_after c.place rest n full others (places_after (end_of c + 1) c.place rest (omega arith) more_side.1) in
         let all : full.holes ≡ m.holes ++ (holes_from c.place es ++ hs) =

@@ -1,24 +1,24 @@
 -- What a row has of a cell takes the cell's columns.
 use Rattle.std.proofs.Common.{◌≡◌, if◌then◌else◌, ℕ, zero, suc, ◌+◌, ◌-◌, ◌<◌, Bool, true, false, Option, None, Some, unwrap_or, List, [], ◌∷◌, ◌++◌, map, take, drop, length, get_or, set, refl, ap, sym, subst, ◌∙◌, arith}
-use Rattle.std.specs.Prelude.{IsTrue, replicate}
+use Rattle.std.specs.Prelude.{◌≤◌, IsTrue, replicate, slice_range}
 use Rattle.std.specs.List.{AllZip, AllByRecursion as Each}
 use Rattle.tbr_model.specs.Run.{Item, items_width}
 use Rattle.tbr_model.specs.Width.{takes_one_column}
 use Rattle.tbr_border.specs.declared.render_line.RenderLine.{RenderLine}
 use Rattle.tbr_border.specs.declared.render_line.RenderLine.TheVariants.{Text, Line}
 use Rattle.tbr_border.specs.Cell.{Cell as Segment, slash, arms, horizontal, character, is_among, line_above}
-use Rattle.tbr_border.specs.Border.{Border, stretched, shown}
+use Rattle.tbr_border.specs.Border.{Hole, Border, stretched, drawn, shown_from, shown}
 use Rattle.tbr_tagged.specs.declared.padding.CellAlign.{CellAlign}
-use Rattle.tbr_tagged.specs.Elements.{items_of, text_items}
+use Rattle.tbr_tagged.specs.Elements.{element_items, items_of, text_items}
 use Rattle.tbr_tagged.specs.Padding.{spaces, columns_in_front, columns_missing}
 use Rattle.tbr_tagged.proofs.SameItems.{same_width}
 use Rattle.tbr_tagged.proofs.PaddedLines.{front_within}
-use Rattle.std.proofs.lemmas.List.{length-append, length-replicate, length-map, length-drop, get_or-drop, drop-set-lt, drop-drop, take_more, take_more_set}
+use Rattle.std.proofs.lemmas.List.{length-append, length-replicate, length-map, length-drop, length-take-le, get_or-drop, drop-set-lt, drop-drop, take_more, take_more_set}
 use Rattle.std.proofs.lemmas.List.Elements.{AllZip-push}
 use Rattle.tbr_rows.specs.declared.column.Column.{Column}
 use Rattle.tbr_rows.specs.Filled.{FillsLine}
 use Rattle.tbr_rows.specs.Texts.{text_of_lines, filler_above}
-use Rattle.tbr_rows.specs.Shown.{DrawsInOne, LineFits, TakesColumns, FillsBelow, LinesFillCell, TakesCellColumns}
+use Rattle.tbr_rows.specs.Shown.{DrawsInOne, HolesFill, LineFits, TakesColumns, FillsBelow, LinesFillCell, TakesCellColumns}
 use Rattle.tbr_rows.proofs.CellColumns.{width_append}
 
 -- characters of one column
@@ -61,6 +61,36 @@ above_narrow (c ∷ cells) = (go (is_among (character c) (0x2534 ∷ 0x253C ∷ 
     go true = refl
     go false = refl
 
+-- ---- borders with text in front
+
+module _ {A : Type 0} (columns : ℕ → Option ℕ) where
+  pub fill_later : (from : ℕ) (hs : List (Hole A)) (end later : ℕ) → HolesFill columns from hs end → end ≤ later → HolesFill columns from hs later
+  fill_later from [] end later h k = omega (arith, h, k)
+  fill_later from (g ∷ hs) end later h k = (h.0, h.1, fill_later (g.place + g.width) hs end later h.2 k)
+
+  fill_forward : (from : ℕ) (hs : List (Hole A)) (end : ℕ) → HolesFill columns from hs end → from ≤ end
+  fill_forward from [] end h = h
+  fill_forward from (g ∷ hs) end h = omega (arith, h.0, fill_forward (g.place + g.width) hs end h.2)
+
+  module _ (one : DrawsInOne columns) (tag : A) (cells : List Segment) where
+    drawn_width : (part : List Segment) → items_width columns (drawn part tag) ≡ length part
+    drawn_width part = text_columns columns (map character part) tag one (drawn_narrow part) ∙ length-map part character
+
+    pub part_width : (from to : ℕ) → from ≤ to → to ≤ length cells → from + items_width columns (drawn (slice_range cells from to) tag) ≡ to
+    part_width from to h k =
+        let some : to - from ≤ length (drop from cells) = omega (arith, h, k, length-drop from cells) in
+        omega (arith, h, drawn_width (slice_range cells from to), length-take-le (to - from) (drop from cells) some)
+
+    -- what a border shows takes as many columns as it has cells
+    pub shown_width : (from : ℕ) (hs : List (Hole A)) → HolesFill columns from hs (length cells) → from + items_width columns (shown_from tag cells from hs) ≡ length cells
+    shown_width from [] h = omega (arith, h, drawn_width (drop from cells), length-drop from cells)
+    shown_width from (g ∷ hs) h =
+        let front : List (Item A) = drawn (slice_range cells from g.place) tag in
+        let here : List (Item A) = element_items g.element in
+        let later : List (Item A) = shown_from tag cells (g.place + g.width) hs in
+        let within : g.place ≤ length cells = omega (arith, fill_forward (g.place + g.width) hs (length cells) h.2) in
+        omega (arith, part_width from g.place h.0 within, width_append columns front (here ++ later), width_append columns here later, h.1, shown_width (g.place + g.width) hs h.2)
+
 -- a line that fits takes its cell's columns once it is filled
 pub filled_line : {A : Type 0} (columns : ℕ → Option ℕ) (eq : A → A → Bool) (align : CellAlign) (width : ℕ) (a t : A) (l done : RenderLine A) → DrawsInOne columns → LineFits columns width l →
     FillsLine columns eq align width a l done → TakesColumns columns t width done
@@ -83,10 +113,9 @@ filled_line {A} columns eq align width a t (Text es) (Text done) one fits fills 
     )
 filled_line {A} columns eq align width a t (Line b) (Line done) one fits fills =
     let cells : List Segment = stretched width b.cells in
-    let plain : shown t done ≡ text_items (map character cells) t = ap (shown t) fills ∙ ap (λ hs. let c : Border A = record { cells = cells; tag = b.tag; holes = hs } in shown t c) fits.1 in
-    ap (items_width columns) plain
-    ∙ text_columns columns (map character cells) t one (drawn_narrow cells)
-    ∙ omega (arith, length-map cells character, length-append b.cells (replicate (width - length b.cells) horizontal), length-replicate (width - length b.cells) horizontal, fits.0)
+    let full : length cells ≡ width = omega (arith, length-append b.cells (replicate (width - length b.cells) horizontal), length-replicate (width - length b.cells) horizontal, fits.0) in
+    let inside : HolesFill columns 0 b.holes (length cells) = fill_later columns 0 b.holes (length b.cells) (length cells) fits.1 (omega (arith, full, fits.0)) in
+    ap (λ (c : Border A). items_width columns (shown t c)) fills ∙ omega (arith, shown_width columns one t cells 0 b.holes inside, full)
 filled_line columns eq align width a t (Text es) (Line done) one fits fills = absurd fills
 filled_line columns eq align width a t (Line b) (Text done) one fits fills = absurd fills
 

@@ -14,7 +14,7 @@ use Rattle.tbr_rows.specs.Cells.{AreSideBySide, AreApart}
 use Rattle.tbr_rows.specs.Texts.{text_in_row, row_height}
 use Rattle.tbr_rows.specs.Gaps.{has_gap}
 use Rattle.tbr_rows.specs.Meant.{SeenRow, MeansRow}
-use Rattle.tbr_rows.specs.Shown.{Meeting, meeting, met, continued, parts_of, texts_in}
+use Rattle.tbr_rows.specs.Shown.{Meeting, meeting, met, continued, parts_of, texts_in, HolesFill}
 
 -- A row, with the cells of which it was made: those that overhang, and its own.
 pub record MadeRow (A : Type 0) (columns : ℕ → Option ℕ) : Type 0 where
@@ -33,10 +33,10 @@ StandsAmong {X} x xs = (front rest : List X) × (xs ≡ front ++ x ∷ rest)
 
 -- ---- lines that fit
 
--- a line takes so many columns: a text, or a border with nothing in front of it
+-- a line takes so many columns: a text, or a border with what is in front of it
 abbrev pub Fills : {A : Type 0} → (ℕ → Option ℕ) → ℕ → RenderLine A → Type 0
 Fills columns width (Text es) = items_width columns (items_of es) ≡ width
-Fills columns width (Line b) = (length b.cells ≡ width) × (b.holes ≡ [])
+Fills columns width (Line b) = (length b.cells ≡ width) × HolesFill columns 0 b.holes (length b.cells)
 
 -- and so does each line of a cell
 abbrev pub IsFilled : {A : Type 0} → (ℕ → Option ℕ) → Cell A → Type 0

@@ -1,12 +1,12 @@
 -- What rows show of a cell.
-use Rattle.std.specs.Prelude.{◌≡◌, ℕ, ◌-◌, ◌≤◌, Bool, if◌then◌else◌, ◌&&◌, is_some, Option, None, Some, List, [], ◌∷◌, ◌++◌, flat_map, take, drop, length, nat_lt, ⊤, IsTrue}
+use Rattle.std.specs.Prelude.{◌≡◌, ℕ, ◌+◌, ◌-◌, ◌≤◌, Bool, if◌then◌else◌, ◌&&◌, is_some, Option, None, Some, List, [], ◌∷◌, ◌++◌, flat_map, take, drop, length, nat_lt, ⊤, IsTrue}
 use Rattle.std.specs.List.{AllByRecursion as Each}
 use Rattle.tbr_model.specs.Width.{takes_one_column}
-use Rattle.tbr_tagged.specs.Elements.{line_width}
+use Rattle.tbr_tagged.specs.Elements.{line_width, element_width}
 use Rattle.tbr_model.specs.Run.{items_width}
 use Rattle.tbr_border.specs.declared.render_line.RenderLine.{RenderLine}
 use Rattle.tbr_border.specs.declared.render_line.RenderLine.TheVariants.{Text, Line}
-use Rattle.tbr_border.specs.Border.{Border}
+use Rattle.tbr_border.specs.Border.{Hole, Border, has_holes}
 use Rattle.tbr_rows.specs.declared.line_set.LineSet.{LineSet as Cell}
 use Rattle.tbr_rows.specs.declared.column.Column.{Column}
 use Rattle.tbr_rows.specs.Cells.{cell_height}
@@ -81,11 +81,11 @@ abbrev pub AreItsRows : {A : Type 0} → Bool → List Meeting → Cell A → Ty
 AreItsRows draws [] c = c.lines ≡ []
 AreItsRows draws (m ∷ ms) c = (cell_height (met m c) ≤ m.height) × AreItsRows draws ms (continued draws m c)
 
--- the lines that are texts
+-- the lines that are texts, or borders with text in front of them
 abbrev pub texts_in : {A : Type 0} → List (RenderLine A) → List (RenderLine A)
 texts_in [] = []
 texts_in (Text es ∷ ls) = Text es ∷ texts_in ls
-texts_in (Line b ∷ ls) = texts_in ls
+texts_in (Line b ∷ ls) = if has_holes b.holes then Line b ∷ texts_in ls else texts_in ls
 
 -- ---- columns
 
@@ -97,10 +97,16 @@ TakesCellColumns columns a i c = items_width columns (cell_text a i c) ≡ c.cel
 abbrev pub DrawsInOne : (ℕ → Option ℕ) → Type 0
 DrawsInOne columns = (c : ℕ) → IsTrue (takes_one_column c) → columns c ≡ Some 1
 
--- a text that is no wider than its cell, or a border that is no longer, with nothing in front of it
+-- What is in front of a border comes one after another, from a column on up to another, each as wide as its hole.
+abbrev pub HolesFill : {A : Type 0} → (ℕ → Option ℕ) → ℕ → List (Hole A) → ℕ → Type 0
+HolesFill columns from [] end = from ≤ end
+HolesFill columns from (h ∷ hs) end =
+    (from ≤ h.place) × (element_width columns h.element ≡ h.width) × HolesFill columns (h.place + h.width) hs end
+
+-- a text that is no wider than its cell, or a border that is no longer, with what is in front of it
 abbrev pub LineFits : {A : Type 0} → (ℕ → Option ℕ) → ℕ → RenderLine A → Type 0
 LineFits columns width (Text es) = line_width columns es ≤ width
-LineFits columns width (Line b) = (length b.cells ≤ width) × (b.holes ≡ [])
+LineFits columns width (Line b) = (length b.cells ≤ width) × HolesFill columns 0 b.holes (length b.cells)
 
 -- a line takes so many columns in a row
 abbrev pub TakesColumns : {A : Type 0} → (ℕ → Option ℕ) → A → ℕ → RenderLine A → Type 0

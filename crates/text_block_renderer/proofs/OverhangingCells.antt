@@ -12,8 +12,9 @@ use Rattle.tbr_border.specs.declared.RenderLine.{RenderLine}
 use Rattle.tbr_border.specs.declared.RenderLine.TheVariants.{Text, Line as Rule}
 use Rattle.tbr_rows.specs.declared.LineSet.{LineSet as Cell}
 use Rattle.tbr_rows.specs.Cells.{AreApart}
-use Rattle.tbr_rows.specs.Shown.{DrawsInOne}
+use Rattle.tbr_rows.specs.Shown.{DrawsInOne, HolesFill}
 use Rattle.tbr_rows.specs.CellsShown.{Fills, IsFilled, FollowOneAnother, HasFilledCells, ShowsTexts}
+use Rattle.tbr_rows.proofs.FilledCells.{fill_later}
 use Rattle.tbr_rows.proofs.CellsOfRows.{aligned_width, all_filled, overhang_apart, overhang_filled, shown_over}
 use Rattle.tbr_kept_lines.specs.Line.{Line, text, border}
 use Rattle.tbr_renderer.specs.Rows.{GivenCell, FillsCell, ComesAs}
@@ -26,10 +27,10 @@ module _ {A : Type 0} (columns : ℕ → Option ℕ) (one : DrawsInOne columns) 
   line_filled : (align : CellAlign) (width : ℕ) (a : A) (l : Line A) (done : RenderLine A) → FitsCell columns width l → FillsCell columns align width a l done → Fills columns width done
   line_filled align width a (text is) (Text es) fits h =
       ap (items_width columns) h.0 ∙ aligned_width columns one align is (width - items_width columns is) a ∙ omega (arith, fits)
-  line_filled align width a (border b) (Rule done) fits h = (
-    ap (λ (c : Border A). length c.cells) h ∙ length-append b.cells (replicate (width - length b.cells) horizontal) ∙ omega (arith, length-replicate (width - length b.cells) horizontal, fits.0),
-    ap (λ (c : Border A). c.holes) h ∙ fits.1,
-  )
+  line_filled align width a (border b) (Rule done) fits h =
+      let full : length done.cells ≡ width = ap (λ (c : Border A). length c.cells) h ∙ length-append b.cells (replicate (width - length b.cells) horizontal) ∙ omega (arith, length-replicate (width - length b.cells) horizontal, fits.0) in
+      let inside = fill_later columns 0 b.holes (length b.cells) (length done.cells) fits.1 (omega (arith, full, fits.0)) in
+      (full, subst (λ (c : Border A). HolesFill columns 0 c.holes (length done.cells)) (sym h) inside)
   line_filled align width a (text is) (Rule done) fits h = absurd h
   line_filled align width a (border b) (Text es) fits h = absurd h
 

@@ -7,7 +7,7 @@ use Rattle.tbr_model.specs.Hard.{ShowsVisible}
 use Rattle.tbr_model.specs.Shown.{ShowsOwn}
 use Rattle.tbr_wrap.specs.Runs.{IsNormal}
 use Rattle.tbr_rows.specs.declared.LineSet.{LineSet as Cell}
-use Rattle.tbr_rows.specs.Shown.{DrawsInOne}
+use Rattle.tbr_rows.specs.Shown.{DrawsInOne, HolesFill}
 use Rattle.tbr_rows.specs.CellsShown.{MadeRow, StandsAmong, ShowsTexts}
 use Rattle.tbr_decor.specs.Decoration.{Decoration}
 use Rattle.tbr_kept_lines.specs.Line.{Line, text, border}
@@ -35,10 +35,10 @@ module _ {D A : Type 0} (columns : ℕ → Option ℕ) where
 
 -- ---- cells side by side
 
--- a line is no wider than its cell: a text, or a border with nothing in front of it
+-- a line is no wider than its cell: a text, or a border with what is in front of it
 abbrev pub FitsCell : {T : Type 0} → (ℕ → Option ℕ) → ℕ → Line T → Type 0
 FitsCell columns width (text is) = items_width columns is ≤ width
-FitsCell columns width (border b) = (length b.cells ≤ width) × (b.holes ≡ [])
+FitsCell columns width (border b) = (length b.cells ≤ width) × HolesFill columns 0 b.holes (length b.cells)
 
 abbrev pub LinesFit : {T : Type 0} → (ℕ → Option ℕ) → GivenCell T → Type 0
 LinesFit columns cell = Each (FitsCell columns cell.width) cell.lines

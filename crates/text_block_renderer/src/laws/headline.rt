@@ -17,8 +17,8 @@ ghost use Rattle.text_block_renderer.specs.Headline.{Headline};
 ///
 /// Legal layouts are compared where no line may be wider than the block: overflow isn't allowed, or the block has two
 /// columns or more. The promise of cells is for a renderer in which no cell overhung at first, where the lines of all
-/// cells fit and all rows of a cell's span come. None of these lines is then a border with text in front of it, as a
-/// row leaves below a spanning cell. The last promise is of characters that take two columns at most.
+/// cells fit and all rows of a cell's span come. A text in front of a border, as a row leaves it below a spanning cell,
+/// is one of the texts. The last promise is of characters that take two columns at most.
 pub fn the_headline<D, A>()
     ensures { (columns : ℕ → Option ℕ) (decoration : Decoration D A) (acts : List (Act (List A)))
         (r s : Renderer D A (List A)) (es : List (Entry (List A))) →
