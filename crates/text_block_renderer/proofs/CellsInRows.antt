@@ -1,4 +1,4 @@
--- The visible characters of a cell are in the lines of the rows that it spans, and in the borders between them, whatever its width.
+-- The visible characters and the markers of a cell are in the lines of the rows that it spans, and in the borders between them, whatever its width.
 use Rattle.std.proofs.Common.{◌≡◌, ℕ, zero, suc, ◌+◌, ◌-◌, ◌<◌, ◌≤◌, ◌/◌, ◌⊎◌, inl, inr, is_none, Bool, true, false, if◌then◌else◌, Option, Some, None, List, [], ◌∷◌, ◌++◌, map, flat_map, drop, length, refl, ap, sym, ◌∙◌, subst, arith, append_assoc, append-nil}
 use Rattle.std.specs.Prelude.{nat_lt}
 use Rattle.std.specs.List.{AllZip}
@@ -7,7 +7,6 @@ use Rattle.std.proofs.lemmas.List.{map-append, drop-drop, length-drop}
 use Rattle.std.proofs.lemmas.List.Concat.{flat_map-append}
 use Rattle.tbr_model.specs.Run.{Item, items_width, glyph}
 use Rattle.tbr_model.specs.Layout.{joined}
-use Rattle.tbr_model.specs.Hard.{visible_glyphs}
 use Rattle.tbr_model.proofs.lists.Joined.{joined-append}
 use Rattle.tbr_border.specs.Border.{Hole, Border, has_holes, shown}
 use Rattle.tbr_border.specs.declared.RenderLine.{RenderLine}
@@ -34,9 +33,9 @@ use Rattle.tbr_renderer.specs.Renderer.{Renderer, line_padding}
 use Rattle.tbr_renderer.specs.Rows.{GivenCell, FillsCell, ComesAs, PutsRow, border_lines}
 use Rattle.text_block_renderer.specs.Acts.{border_lines_of, StaysLine}
 use Rattle.text_block_renderer.specs.Stretches.{lines_laid}
-use Rattle.text_block_renderer.specs.Taken.{StandWithin, text_before, written}
+use Rattle.text_block_renderer.specs.Taken.{StandWithin, text_before, written, to_show}
 use Rattle.text_block_renderer.proofs.Within.{within_on, two_within, itself_within, middle_within, after_within, before_within}
-use Rattle.text_block_renderer.proofs.Written.{written-append, stays_written, border_shown, laid_shown}
+use Rattle.text_block_renderer.proofs.Written.{written-append, stays_written, border_shown, laid_within}
 use Rattle.text_block_renderer.proofs.LastingLines.{top_put_back}
 use Rattle.text_block_renderer.proofs.Moves.{Frame}
 use Rattle.text_block_renderer.proofs.ActParts.{row_frame, row_lines}
@@ -145,50 +144,50 @@ module _ {T : Type 0} where
       go false false = refl
 
 module _ {T : Type 0} (columns : ℕ → Option ℕ) (a : T) where
-  abbrev glyphs : List (Item T) → List (ℕ × T)
-  glyphs is = visible_glyphs columns is
+  abbrev seen : List (Item T) → List (Item T)
+  seen is = to_show columns is
 
   -- ---- a line of the row
 
-  text_among : (separator : Item T) (t : List (Item T)) (ts : List (List (Item T))) → StandsAmong t ts → StandWithin (glyphs t) (glyphs (row_text separator ts))
+  text_among : (separator : Item T) (t : List (Item T)) (ts : List (List (Item T))) → StandsAmong t ts → StandWithin (seen t) (seen (row_text separator ts))
   text_among separator t [] h = absurd (none_among t h)
   text_among separator t (u ∷ []) h = go (among_cons t u [] h)
     where
-      go : (t ≡ u) ⊎ StandsAmong t [] → StandWithin (glyphs t) (glyphs u)
-      go (inl same) = subst (λ v. StandWithin (glyphs t) (glyphs v)) same (itself_within columns t)
+      go : (t ≡ u) ⊎ StandsAmong t [] → StandWithin (seen t) (seen u)
+      go (inl same) = subst (λ v. StandWithin (seen t) (seen v)) same (itself_within columns t)
       go (inr there) = absurd (none_among t there)
   text_among separator t (u ∷ v ∷ ts) h = go (among_cons t u (v ∷ ts) h) (text_among separator t (v ∷ ts))
     where
       rest : List (Item T)
       rest = row_text separator (v ∷ ts)
 
-      go : (t ≡ u) ⊎ StandsAmong t (v ∷ ts) → (StandsAmong t (v ∷ ts) → StandWithin (glyphs t) (glyphs rest)) → StandWithin (glyphs t) (glyphs (u ++ separator ∷ rest))
-      go (inl same) later = subst (λ w. StandWithin (glyphs t) (glyphs (w ++ separator ∷ rest))) same (middle_within columns [] t (separator ∷ rest))
+      go : (t ≡ u) ⊎ StandsAmong t (v ∷ ts) → (StandsAmong t (v ∷ ts) → StandWithin (seen t) (seen rest)) → StandWithin (seen t) (seen (u ++ separator ∷ rest))
+      go (inl same) later = subst (λ w. StandWithin (seen t) (seen (w ++ separator ∷ rest))) same (middle_within columns [] t (separator ∷ rest))
       go (inr there) later = two_within columns [] t u (separator ∷ rest) tt (two_within columns [] t (separator ∷ []) rest tt (later there))
 
-  each_within : (f g : ℕ → List (Item T)) → ((n : ℕ) → StandWithin (glyphs (f n)) (glyphs (g n))) → (ns : List ℕ) → StandWithin (glyphs (joined (map f ns))) (glyphs (joined (map g ns)))
+  each_within : (f g : ℕ → List (Item T)) → ((n : ℕ) → StandWithin (seen (f n)) (seen (g n))) → (ns : List ℕ) → StandWithin (seen (joined (map f ns))) (seen (joined (map g ns)))
   each_within f g h [] = tt
   each_within f g h (n ∷ ns) = two_within columns (f n) (joined (map f ns)) (g n) (joined (map g ns)) (h n) (each_within f g h ns)
 
   -- ---- the lines of a cell
 
-  line_within : (l : RenderLine T) → StandWithin (glyphs (items_in (l ∷ []))) (glyphs (text_in_row a l))
-  line_within (Text es) = subst (λ is. StandWithin (glyphs is) (glyphs (items_of es))) (sym (append-nil (items_of es))) (itself_within columns (items_of es))
-  line_within (Rule b) = subst (λ is. StandWithin (glyphs is) (glyphs (shown a b))) (sym (append-nil (text_before b))) (border_shown columns a b)
+  line_within : (l : RenderLine T) → StandWithin (seen (items_in (l ∷ []))) (seen (text_in_row a l))
+  line_within (Text es) = subst (λ is. StandWithin (seen is) (seen (items_of es))) (sym (append-nil (items_of es))) (itself_within columns (items_of es))
+  line_within (Rule b) = subst (λ is. StandWithin (seen is) (seen (shown a b))) (sym (append-nil (text_before b))) (border_shown columns a b)
 
-  one_within : (shows : List (RenderLine T) → List (Item T)) → ((l : RenderLine T) (ls : List (RenderLine T)) → shows (l ∷ ls) ≡ text_in_row a l) → (ls : List (RenderLine T)) → StandWithin (glyphs (items_in (one_of ls))) (glyphs (shows ls))
+  one_within : (shows : List (RenderLine T) → List (Item T)) → ((l : RenderLine T) (ls : List (RenderLine T)) → shows (l ∷ ls) ≡ text_in_row a l) → (ls : List (RenderLine T)) → StandWithin (seen (items_in (one_of ls))) (seen (shows ls))
   one_within shows each [] = tt
-  one_within shows each (l ∷ ls) = subst (λ is. StandWithin (glyphs (items_in (l ∷ []))) (glyphs is)) (sym (each l ls)) (line_within l)
+  one_within shows each (l ∷ ls) = subst (λ is. StandWithin (seen (items_in (l ∷ []))) (seen is)) (sym (each l ls)) (line_within l)
 
-  lines_within : (ls : List (RenderLine T)) (shown : ℕ → List (Item T)) → ((i : ℕ) → StandWithin (glyphs (items_in (one_of (drop i ls)))) (glyphs (shown i))) → (n : ℕ) → StandWithin (glyphs (items_in (firsts n ls))) (glyphs (joined (map shown (numbers_below n))))
+  lines_within : (ls : List (RenderLine T)) (shown : ℕ → List (Item T)) → ((i : ℕ) → StandWithin (seen (items_in (one_of (drop i ls)))) (seen (shown i))) → (n : ℕ) → StandWithin (seen (items_in (firsts n ls))) (seen (joined (map shown (numbers_below n))))
   lines_within ls shown each zero = tt
   lines_within ls shown each (suc n) =
       let before = firsts n ls in
       let next = one_of (drop n ls) in
       let texts = map shown (numbers_below n) in
       let whole : joined (map shown (numbers_below n ++ n ∷ [])) ≡ joined texts ++ shown n = ap joined (map-append shown (numbers_below n) (n ∷ [])) ∙ joined-append texts (shown n ∷ []) ∙ ap (λ is. joined texts ++ is) (append-nil (shown n)) in
-      subst (λ is. StandWithin (glyphs is) (glyphs (joined (map shown (numbers_below n ++ n ∷ []))))) (sym (items_in-append before next))
-      (subst (λ is. StandWithin (glyphs (items_in before ++ items_in next)) (glyphs is)) (sym whole)
+      subst (λ is. StandWithin (seen is) (seen (joined (map shown (numbers_below n ++ n ∷ []))))) (sym (items_in-append before next))
+      (subst (λ is. StandWithin (seen (items_in before ++ items_in next)) (seen is)) (sym whole)
       (two_within columns (items_in before) (items_in next) (joined texts) (shown n) (lines_within ls shown each n) (each n)))
 
   -- ---- the border below the row
@@ -206,14 +205,14 @@ module _ {T : Type 0} (columns : ℕ → Option ℕ) (a : T) where
       ∙ append_assoc (text_before b) (element_items e) (items_of es)
 
   -- a cell's line in it says what the line says
-  gap_within : (width : ℕ) (ls : List (RenderLine T)) (es : List (Element T)) → IsGapOf a width (first_line ls) es → StandWithin (glyphs (items_in (one_of ls))) (glyphs (items_of es))
+  gap_within : (width : ℕ) (ls : List (RenderLine T)) (es : List (Element T)) → IsGapOf a width (first_line ls) es → StandWithin (seen (items_in (one_of ls))) (seen (items_of es))
   gap_within width [] es h = tt
-  gap_within width (Text line ∷ ls) es h = subst (λ xs. StandWithin (glyphs (items_in (Text line ∷ []))) (glyphs (items_of xs))) (sym h) (line_within (Text line))
+  gap_within width (Text line ∷ ls) es h = subst (λ xs. StandWithin (seen (items_in (Text line ∷ []))) (seen (items_of xs))) (sym h) (line_within (Text line))
   gap_within width (Rule b ∷ ls) es h =
-      subst (λ is. StandWithin (glyphs (items_in (Rule b ∷ []))) (glyphs is)) (sym h.0)
-      (subst (λ is. StandWithin (glyphs is) (glyphs (shown b.tag b))) (sym (append-nil (text_before b))) (border_shown columns b.tag b))
+      subst (λ is. StandWithin (seen (items_in (Rule b ∷ []))) (seen is)) (sym h.0)
+      (subst (λ is. StandWithin (seen is) (seen (shown b.tag b))) (sym (append-nil (text_before b))) (border_shown columns b.tag b))
 
-  one_gap : (gap : Bool) (d : Cell T) (b m : Border T) → HasGapIf gap columns a d b m → (more : List (Item T)) × (text_before m ≡ text_before b ++ more) × (gap ≡ true → StandWithin (glyphs (items_in (one_of d.lines))) (glyphs more))
+  one_gap : (gap : Bool) (d : Cell T) (b m : Border T) → HasGapIf gap columns a d b m → (more : List (Item T)) × (text_before m ≡ text_before b ++ more) × (gap ≡ true → StandWithin (seen (items_in (one_of d.lines))) (seen more))
   one_gap false d b m h = ([], ap (λ (x : Border T). text_before x) h ∙ sym (append-nil (text_before b)), λ no. absurd (let none : ⊥ = cc in none))
   one_gap true d b m (es, is, put) = (items_of es, ap (λ (x : Border T). text_before x) put ∙ put_written d.place b es, λ yes. gap_within d.width d.lines es is)
 
@@ -225,12 +224,12 @@ module _ {T : Type 0} (columns : ℕ → Option ℕ) (a : T) where
         let (more, are) = gaps_add ds m full others in
         (one ++ more, are ∙ ap (λ js. js ++ more) is ∙ append_assoc (text_before b) one more)
 
-    gaps_within : (front : List (Cell T)) (d : Cell T) (back : List (Cell T)) (b full : Border T) → HasGaps draws columns a (front ++ d ∷ back) b full → has_gap draws d ≡ true → StandWithin (glyphs (items_in (one_of d.lines))) (glyphs (text_before full))
+    gaps_within : (front : List (Cell T)) (d : Cell T) (back : List (Cell T)) (b full : Border T) → HasGaps draws columns a (front ++ d ∷ back) b full → has_gap draws d ≡ true → StandWithin (seen (items_in (one_of d.lines))) (seen (text_before full))
     gaps_within [] d back b full (m, here, others) gap =
         let (one, is, within) = one_gap (has_gap draws d) d b m here in
         let (more, are) = gaps_add back m full others in
         let first = items_in (one_of d.lines) in
-        subst (λ js. StandWithin (glyphs first) (glyphs js)) (sym (are ∙ ap (λ js. js ++ more) is ∙ append_assoc (text_before b) one more))
+        subst (λ js. StandWithin (seen first) (seen js)) (sym (are ∙ ap (λ js. js ++ more) is ∙ append_assoc (text_before b) one more))
         (after_within columns (text_before b) first (one ++ more) (before_within columns first one more (within gap)))
     gaps_within (e ∷ front) d back b full (m, here, others) gap = gaps_within front d back m full others gap
 
@@ -242,7 +241,7 @@ module _ {T : Type 0} (columns : ℕ → Option ℕ) (a : T) where
 
   -- what overhangs of a cell, without the line in the border below
   left_within : (draws : Bool) (d : Cell T) (cs : List (Cell T)) (b full : Border T) → StandsAmong d cs → HasGaps draws columns a cs b full → (d.span ≤ 1 → d.lines ≡ []) →
-      (rest : List (RenderLine T)) × IsLeft d.span rest (overhang draws cs) × StandWithin (glyphs (items_in d.lines)) (glyphs (below (if draws then Some full else None) ++ items_in rest))
+      (rest : List (RenderLine T)) × IsLeft d.span rest (overhang draws cs) × StandWithin (seen (items_in d.lines)) (seen (below (if draws then Some full else None) ++ items_in rest))
   left_within draws d cs b full (front, back, is) gaps short = go draws (nat_lt 1 d.span) refl gaps
     where
       next : Bool → Cell T
@@ -259,21 +258,21 @@ module _ {T : Type 0} (columns : ℕ → Option ℕ) (a : T) where
       long e = let more : 1 < d.span = ltb-true 1 d.span e in (omega (arith, more), omega (arith, more))
 
       go : (draws s : Bool) → nat_lt 1 d.span ≡ s → HasGaps draws columns a cs b full →
-          (rest : List (RenderLine T)) × IsLeft d.span rest (overhang draws cs) × StandWithin (glyphs (items_in d.lines)) (glyphs (below (if draws then Some full else None) ++ items_in rest))
+          (rest : List (RenderLine T)) × IsLeft d.span rest (overhang draws cs) × StandWithin (seen (items_in d.lines)) (seen (below (if draws then Some full else None) ++ items_in rest))
       go draws false e h =
           let none = short (ltb-false 1 d.span e) in
-          ([], inl refl, subst (λ ls. StandWithin (glyphs (items_in ls)) (glyphs (below (if draws then Some full else None) ++ []))) (sym none) tt)
+          ([], inl refl, subst (λ ls. StandWithin (seen (items_in ls)) (seen (below (if draws then Some full else None) ++ []))) (sym none) tt)
       go false true e h = (d.lines, inr (next false, hangs false e, refl, (long e).0, (long e).1), itself_within columns (items_in d.lines))
       go true true e h =
           let first = items_in (one_of d.lines) in
           let rest = items_in (drop 1 d.lines) in
           let both : first ++ rest ≡ items_in d.lines = sym (items_in-append (one_of d.lines) (drop 1 d.lines)) ∙ ap items_in (one_and_others d.lines) in
           let here = gaps_within true front d back b full (subst (λ ds. HasGaps true columns a ds b full) is h) e in
-          (drop 1 d.lines, inr (next true, hangs true e, refl, (long e).0, (long e).1), subst (λ js. StandWithin (glyphs js) (glyphs (text_before full ++ rest))) both (two_within columns first rest (text_before full) rest here (itself_within columns rest)))
+          (drop 1 d.lines, inr (next true, hangs true e, refl, (long e).0, (long e).1), subst (λ js. StandWithin (seen js) (seen (text_before full ++ rest))) both (two_within columns first rest (text_before full) rest here (itself_within columns rest)))
 
-  -- a row's lines and the text in front of the border below it have a cell's characters, but for what is left
+  -- a row's lines and the text in front of the border below it have what a cell shows, but for what is left
   cell_shown : (style : RowStyle) (hanging own : List (Cell T)) (top : Option (Border T)) (row : SeenRow T) (means : MeansRow columns style a hanging own top row) (c : Cell T) → StandsAmong c means.cells →
-      (rest : List (RenderLine T)) × IsLeft c.span rest row.overhang × StandWithin (glyphs (items_in c.lines)) (glyphs (joined row.lines ++ (below row.next ++ items_in rest)))
+      (rest : List (RenderLine T)) × IsLeft c.span rest row.overhang × StandWithin (seen (items_in c.lines)) (seen (joined row.lines ++ (below row.next ++ items_in rest)))
   cell_shown style hanging own top row means c among =
       let height = row_height means.shown in
       let m : Meeting = meeting style.collapses top height in
@@ -288,23 +287,23 @@ module _ {T : Type 0} (columns : ℕ → Option ℕ) (a : T) where
       let separator : Item T = glyph (separator_in style) a in
       let texts = joined (map (λ i. cell_text a i k) (numbers_below height)) in
       let firsts_are = items_in (firsts height ls) in
-      let here : StandWithin (glyphs firsts_are) (glyphs texts) = lines_within ls (λ i. cell_text a i k) (λ i. one_within (cell_shows a k) (λ l more. refl) (drop i ls)) height in
+      let here : StandWithin (seen firsts_are) (seen texts) = lines_within ls (λ i. cell_text a i k) (λ i. one_within (cell_shows a k) (λ l more. refl) (drop i ls)) height in
       let there = each_within (λ i. cell_text a i k) (line_text separator a means.shown) (λ i. text_among separator (cell_text a i k) (map (cell_text a i) means.shown) (among_map (cell_text a i) k means.shown shown)) (numbers_below height) in
-      let in_lines : StandWithin (glyphs firsts_are) (glyphs (joined row.lines)) =
-      subst (λ ts. StandWithin (glyphs firsts_are) (glyphs (joined ts))) (sym means.texts)
-      (within_on (glyphs firsts_are) (glyphs texts) (glyphs (joined (line_texts separator a means.shown height))) here there) in
-      let in_border : StandWithin (glyphs (items_in d.lines)) (glyphs (below row.next ++ items_in rest)) = subst (λ o. StandWithin (glyphs (items_in d.lines)) (glyphs (below o ++ items_in rest))) (sym means.lower) after in
+      let in_lines : StandWithin (seen firsts_are) (seen (joined row.lines)) =
+      subst (λ ts. StandWithin (seen firsts_are) (seen (joined ts))) (sym means.texts)
+      (within_on (seen firsts_are) (seen texts) (seen (joined (line_texts separator a means.shown height))) here there) in
+      let in_border : StandWithin (seen (items_in d.lines)) (seen (below row.next ++ items_in rest)) = subst (λ o. StandWithin (seen (items_in d.lines)) (seen (below o ++ items_in rest))) (sym means.lower) after in
       let all : firsts_are ++ items_in d.lines ≡ items_in c.lines = sym (items_in-append (firsts height ls) d.lines) ∙ ap items_in (firsts_and_others height ls) ∙ ap (λ (x : Cell T). items_in x.lines) is ∙ met_written m c in
       let spans : d.span ≡ c.span = ap (λ (x : Cell T). x.span) is ∙ span_met m c in (
         rest,
         subst (λ n. IsLeft n rest row.overhang) spans (subst (IsLeft d.span rest) (sym means.rest) goes_on),
-        subst (λ js. StandWithin (glyphs js) (glyphs (joined row.lines ++ (below row.next ++ items_in rest)))) all
+        subst (λ js. StandWithin (seen js) (seen (joined row.lines ++ (below row.next ++ items_in rest)))) all
             (two_within columns firsts_are (items_in d.lines) (joined row.lines) (below row.next ++ items_in rest) in_lines in_border),
       )
 
   -- ---- what comes into the cell
 
-  filled_within : (align : CellAlign) (width : ℕ) (lines : List (Line T)) (filled : List (RenderLine T)) → AllZip (FillsCell columns align width a) lines filled → StandWithin (glyphs (written lines)) (glyphs (items_in filled))
+  filled_within : (align : CellAlign) (width : ℕ) (lines : List (Line T)) (filled : List (RenderLine T)) → AllZip (FillsCell columns align width a) lines filled → StandWithin (seen (written lines)) (seen (items_in filled))
   filled_within align width [] [] h = tt
   filled_within align width [] (f ∷ fs) h = elim h [ ]
   filled_within align width (l ∷ ls) [] h = elim h [ ]
@@ -314,33 +313,30 @@ module _ {T : Type 0} (columns : ℕ → Option ℕ) (a : T) where
       let back : List (Item T) = text_items (spaces (missing - columns_in_front align missing)) a in
       let are : front ++ (is ++ back) ≡ items_of es = sym (append_assoc front is back) ∙ sym h.0.0 in
       two_within columns is (written ls) (items_of es) (items_in fs)
-      (subst (λ js. StandWithin (glyphs is) (glyphs js)) are (middle_within columns front is back))
+      (subst (λ js. StandWithin (seen is) (seen js)) are (middle_within columns front is back))
       (filled_within align width ls fs h.1)
   filled_within align width (border b ∷ ls) (Rule c ∷ fs) h =
       let same : text_before c ≡ text_before b = ap (λ (d : Border T). text_before d) h.0 in
-      two_within columns (text_before b) (written ls) (text_before c) (items_in fs) (subst (λ is. StandWithin (glyphs (text_before b)) (glyphs is)) (sym same) (itself_within columns (text_before b))) (filled_within align width ls fs h.1)
+      two_within columns (text_before b) (written ls) (text_before c) (items_in fs) (subst (λ is. StandWithin (seen (text_before b)) (seen is)) (sym same) (itself_within columns (text_before b))) (filled_within align width ls fs h.1)
   filled_within align width (text is ∷ ls) (Rule c ∷ fs) h = absurd h.0
   filled_within align width (border b ∷ ls) (Text es ∷ fs) h = absurd h.0
 
-abbrev seen : {T : Type 0} → (ℕ → Option ℕ) → List (Item T) → List (ℕ × T)
-seen columns is = visible_glyphs columns is
-
 module _ {D A : Type 0} (columns : ℕ → Option ℕ) where
   -- the border below a row says what is in front of it
-  below_within : (r : Renderer D A (List A)) (o : Option (Border (List A))) → StandWithin (seen columns (below columns r.annotations o)) (seen columns (written (border_lines_of columns r o)))
+  below_within : (r : Renderer D A (List A)) (o : Option (Border (List A))) → StandWithin (to_show columns (below columns r.annotations o)) (to_show columns (written (border_lines_of columns r o)))
   below_within r None = tt
   below_within r (Some b) = go r.options.pad_block_width
     where
       is : List (Item (List A))
       is = shown b.tag b
 
-      go : (pads : Bool) → StandWithin (seen columns (text_before b)) (seen columns (written ((if pads then text (is ++ line_padding columns r is) else border b) ∷ [])))
+      go : (pads : Bool) → StandWithin (to_show columns (text_before b)) (to_show columns (written ((if pads then text (is ++ line_padding columns r is) else border b) ∷ [])))
       go true = before_within columns (text_before b) (is ++ line_padding columns r is) [] (before_within columns (text_before b) is (line_padding columns r is) (border_shown columns b.tag b))
       go false = before_within columns (text_before b) (text_before b) [] (itself_within columns (text_before b))
 
   module _ (collapses : Bool) (cells : List (GivenCell (List A))) (m s : Renderer D A (List A)) (puts : PutsRow columns collapses cells m s) where
     -- a row writes its lines after what there was, and then what is in front of the border below
-    pub row_adds : (more : List (Item (List A))) × (written s.lines ≡ written m.lines ++ more) × StandWithin (seen columns (joined puts.row.lines ++ below columns m.annotations puts.row.next)) (seen columns more)
+    pub row_adds : (more : List (Item (List A))) × (written s.lines ≡ written m.lines ++ more) × StandWithin (to_show columns (joined puts.row.lines ++ below columns m.annotations puts.row.next)) (to_show columns more)
     row_adds =
         let row = puts.row in
         let top : List (Line (List A)) = before_border m.lines ++ border_lines row.above in
@@ -348,52 +344,52 @@ module _ {D A : Type 0} (columns : ℕ → Option ℕ) where
         subst (λ (o : Option (Border (List A))). AllZip StaysLine m.lines (before_border m.lines ++ border_lines o)) (sym puts.means.upper) (top_put_back collapses puts.means.cells m.lines) in
         let laid = lines_laid columns m row.lines in
         let last = border_lines_of columns m row.next in
-        let texts : StandWithin (seen columns (joined row.lines)) (seen columns (written laid)) = subst (StandWithin (seen columns (joined row.lines))) (sym (laid_shown columns row.lines m)) (itself_within columns (joined row.lines)) in (
+        let texts = laid_within columns m row.lines in (
           written laid ++ written last,
           ap (λ (q : Renderer D A (List A)). written q.lines) puts.is ∙ ap written (row_lines columns m row) ∙ written-append top (laid ++ last) ∙ ap (λ is. is ++ written (laid ++ last)) (stays_written m.lines top upper)
               ∙ ap (λ is. written m.lines ++ is) (written-append laid last),
           two_within columns (joined row.lines) (below columns m.annotations row.next) (written laid) (written last) texts (below_within m row.next),
         )
 
-  -- Characters stand in what is written, or what is left of them is in a cell that overhangs for some rows yet.
-  abbrev pub Follows : List (ℕ × List A) → ℕ → Renderer D A (List A) → Type 0
-  Follows gs rows r =
-      StandWithin gs (seen columns (written r.lines)) ⊎ ((c : Cell (List A)) × StandsAmong c r.hanging × (1 ≤ c.span) × (c.span ≤ rows) × StandWithin gs (seen columns (written r.lines ++ items_in c.lines)))
+  -- Items stand in what is written, or what is left of them is in a cell that overhangs for some rows yet.
+  abbrev pub Follows : List (Item (List A)) → ℕ → Renderer D A (List A) → Type 0
+  Follows us rows r =
+      StandWithin us (to_show columns (written r.lines)) ⊎ ((c : Cell (List A)) × StandsAmong c r.hanging × (1 ≤ c.span) × (c.span ≤ rows) × StandWithin us (to_show columns (written r.lines ++ items_in c.lines)))
 
-  module _ (collapses : Bool) (cells : List (GivenCell (List A))) (m s : Renderer D A (List A)) (puts : PutsRow columns collapses cells m s) (gs : List (ℕ × List A)) (rows : ℕ) where
+  module _ (collapses : Bool) (cells : List (GivenCell (List A))) (m s : Renderer D A (List A)) (puts : PutsRow columns collapses cells m s) (us : List (Item (List A))) (rows : ℕ) where
     -- through a row
-    pub row_follows : (c : Cell (List A)) → StandsAmong c puts.means.cells → c.span ≤ suc rows → StandWithin gs (seen columns (written m.lines ++ items_in c.lines)) → Follows gs rows s
+    pub row_follows : (c : Cell (List A)) → StandsAmong c puts.means.cells → c.span ≤ suc rows → StandWithin us (to_show columns (written m.lines ++ items_in c.lines)) → Follows us rows s
     row_follows c among few within =
         let (more, is, shows) = row_adds collapses cells m s puts in
         let row = puts.row in
         let (rest, left, inside) = cell_shown columns m.annotations _ _ _ _ row puts.means c among in
         let there = below columns m.annotations row.next in
         let is_rest = items_in rest in
-        let own : StandWithin (seen columns (items_in c.lines)) (seen columns (more ++ is_rest)) =
-        within_on (seen columns (items_in c.lines)) (seen columns ((joined row.lines ++ there) ++ is_rest)) (seen columns (more ++ is_rest)) (subst (λ js. StandWithin (seen columns (items_in c.lines)) (seen columns js)) (sym (append_assoc (joined row.lines) there is_rest)) inside)
+        let own : StandWithin (to_show columns (items_in c.lines)) (to_show columns (more ++ is_rest)) =
+        within_on (to_show columns (items_in c.lines)) (to_show columns ((joined row.lines ++ there) ++ is_rest)) (to_show columns (more ++ is_rest)) (subst (λ js. StandWithin (to_show columns (items_in c.lines)) (to_show columns js)) (sym (append_assoc (joined row.lines) there is_rest)) inside)
         (two_within columns (joined row.lines ++ there) is_rest more is_rest shows (itself_within columns is_rest)) in
         let both = two_within columns (written m.lines) (items_in c.lines) (written m.lines) (more ++ is_rest) (itself_within columns (written m.lines)) own in
-        let all : StandWithin gs (seen columns (written s.lines ++ is_rest)) =
-        subst (λ js. StandWithin gs (seen columns js)) (sym (append_assoc (written m.lines) more is_rest) ∙ ap (λ js. js ++ is_rest) (sym is)) (within_on gs (seen columns (written m.lines ++ items_in c.lines)) (seen columns (written m.lines ++ (more ++ is_rest))) within both) in
+        let all : StandWithin us (to_show columns (written s.lines ++ is_rest)) =
+        subst (λ js. StandWithin us (to_show columns js)) (sym (append_assoc (written m.lines) more is_rest) ∙ ap (λ js. js ++ is_rest) (sym is)) (within_on us (to_show columns (written m.lines ++ items_in c.lines)) (to_show columns (written m.lines ++ (more ++ is_rest))) within both) in
         go rest left all
       where
-        go : (rest : List (RenderLine (List A))) → IsLeft columns m.annotations c.span rest puts.row.overhang → StandWithin gs (seen columns (written s.lines ++ items_in rest)) → Follows gs rows s
-        go rest (inl none) all = inl (subst (λ js. StandWithin gs (seen columns js)) (ap (λ ls. written s.lines ++ items_in ls) none ∙ append-nil (written s.lines)) all)
+        go : (rest : List (RenderLine (List A))) → IsLeft columns m.annotations c.span rest puts.row.overhang → StandWithin us (to_show columns (written s.lines ++ items_in rest)) → Follows us rows s
+        go rest (inl none) all = inl (subst (λ js. StandWithin us (to_show columns js)) (ap (λ ls. written s.lines ++ items_in ls) none ∙ append-nil (written s.lines)) all)
         go rest (inr (d, hangs, are, some, spans)) all =
             let hanging : s.hanging ≡ puts.row.overhang = ap (λ (q : Renderer D A (List A)). q.hanging) puts.is ∙ ap (λ (f : Frame A). f.hanging) (row_frame columns m puts.row) in
-            inr (d, subst (StandsAmong d) (sym hanging) hangs, some, omega (arith, spans, few), subst (λ ls. StandWithin gs (seen columns (written s.lines ++ items_in ls))) (sym are) all)
+            inr (d, subst (StandsAmong d) (sym hanging) hangs, some, omega (arith, spans, few), subst (λ ls. StandWithin us (to_show columns (written s.lines ++ items_in ls))) (sym are) all)
 
   -- and from where a row takes a cell
-  pub cell_follows : (collapses : Bool) (cells : List (GivenCell (List A))) (m s : Renderer D A (List A)) → PutsRow columns collapses cells m s → (rows : ℕ) (cell : GivenCell (List A)) → StandsAmong cell cells → cell.span ≤ suc rows → Follows (seen columns (written cell.lines)) rows s
+  pub cell_follows : (collapses : Bool) (cells : List (GivenCell (List A))) (m s : Renderer D A (List A)) → PutsRow columns collapses cells m s → (rows : ℕ) (cell : GivenCell (List A)) → StandsAmong cell cells → cell.span ≤ suc rows → Follows (to_show columns (written cell.lines)) rows s
   cell_follows collapses cells m s puts rows cell among few =
       let (c, own, comes) = among_zip (ComesAs columns m.annotations) cell cells puts.own puts.come among in
-      let inside = seen columns (written cell.lines) in
-      let filled : StandWithin inside (seen columns (items_in c.lines)) = filled_within columns m.annotations cell.align cell.width cell.lines c.lines comes.2 in
+      let inside = to_show columns (written cell.lines) in
+      let filled : StandWithin inside (to_show columns (items_in c.lines)) = filled_within columns m.annotations cell.align cell.width cell.lines c.lines comes.2 in
       go c own (omega (arith, comes.1, few)) filled c.lines refl
     where
-      go : (c : Cell (List A)) → StandsAmong c puts.own → c.span ≤ suc rows → StandWithin (seen columns (written cell.lines)) (seen columns (items_in c.lines)) → (ls : List (RenderLine (List A))) → c.lines ≡ ls → Follows (seen columns (written cell.lines)) rows s
-      go c own fewer filled [] e = inl (within_on (seen columns (written cell.lines)) [] (seen columns (written s.lines)) (subst (λ ls. StandWithin (seen columns (written cell.lines)) (seen columns (items_in ls))) e filled) tt)
+      go : (c : Cell (List A)) → StandsAmong c puts.own → c.span ≤ suc rows → StandWithin (to_show columns (written cell.lines)) (to_show columns (items_in c.lines)) → (ls : List (RenderLine (List A))) → c.lines ≡ ls → Follows (to_show columns (written cell.lines)) rows s
+      go c own fewer filled [] e = inl (within_on (to_show columns (written cell.lines)) [] (to_show columns (written s.lines)) (subst (λ ls. StandWithin (to_show columns (written cell.lines)) (to_show columns (items_in ls))) e filled) tt)
       go c own fewer filled (l ∷ ls) e =
           let seated = among_own 0 c m.hanging puts.own puts.means.cells (ap (λ ks. is_none (first_line ks)) e) own puts.means.seated in
-          row_follows collapses cells m s puts (seen columns (written cell.lines)) rows c seated fewer
-          (within_on (seen columns (written cell.lines)) (seen columns (items_in c.lines)) (seen columns (written m.lines ++ items_in c.lines)) filled (after_within columns (written m.lines) (items_in c.lines) (items_in c.lines) (itself_within columns (items_in c.lines))))
+          row_follows collapses cells m s puts (to_show columns (written cell.lines)) rows c seated fewer
+          (within_on (to_show columns (written cell.lines)) (to_show columns (items_in c.lines)) (to_show columns (written m.lines ++ items_in c.lines)) filled (after_within columns (written m.lines) (items_in c.lines) (items_in c.lines) (itself_within columns (items_in c.lines))))

@@ -32,7 +32,7 @@ module _ {T : Type 0} where
   all_others [] = refl
   all_others (l ∷ ls) = ap (λ ms. l ∷ ms) (all_others ls)
 
-  none_among : (ls : List (Line T)) → AreDrawnAmong [] ls ls
+  pub none_among : (ls : List (Line T)) → AreDrawnAmong [] ls ls
   none_among ls = (map as_it_is ls, put_as_they_are ls, none_drawn ls, all_others ls)
 
   -- more lines after lines

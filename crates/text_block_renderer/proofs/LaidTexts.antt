@@ -76,7 +76,7 @@ module _ {D A : Type 0} (columns : ℕ → Option ℕ) where
   plain_lines ts r e none = unmarked_lines ts r none ∙ ap (λ ls. r.lines ++ ls) (unpadded_lines r ts e)
 
   -- where they come after a flush
-  pub lines_after : (decoration : Decoration D A) (prefixes : List (List ℕ)) (lines : List (Line (List A))) (r s : Renderer D A (List A)) → Does columns decoration (append_subrender prefixes lines) r s →
+  lines_after : (decoration : Decoration D A) (prefixes : List (List ℕ)) (lines : List (Line (List A))) (r s : Renderer D A (List A)) → Does columns decoration (append_subrender prefixes lines) r s →
       (m : Renderer D A (List A)) × (after_flush columns r ≡ done m) × (s ≡ fold (with_line columns) m (prefixed r.annotations prefixes lines))
   lines_after decoration prefixes lines r s h =
       let change : Renderer D A (List A) → Renderer D A (List A) = λ m. fold (with_line columns) m (prefixed r.annotations prefixes lines) in
@@ -90,7 +90,7 @@ module _ {D A : Type 0} (columns : ℕ → Option ℕ) where
 
   -- ---- visible characters
 
-  pub shown_texts : (ts : List (List (Item (List A)))) (r : Renderer D A (List A)) → visible_glyphs columns (text_of_lines (fold (with_line columns) r ts).lines) ≡ visible_glyphs columns (text_of_lines r.lines) ++ visible_glyphs columns (joined ts)
+  shown_texts : (ts : List (List (Item (List A)))) (r : Renderer D A (List A)) → visible_glyphs columns (text_of_lines (fold (with_line columns) r ts).lines) ≡ visible_glyphs columns (text_of_lines r.lines) ++ visible_glyphs columns (joined ts)
   shown_texts [] r = sym (append-nil (visible_glyphs columns (text_of_lines r.lines)))
   shown_texts (t ∷ ts) r =
       let old = visible_glyphs columns (text_of_lines r.lines) in

@@ -1,10 +1,11 @@
--- Visible characters of lines that renderers take from one another.
-use Rattle.std.proofs.Common.{◌≡◌, ℕ, zero, suc, ◌+◌, ◌≤◌, ◌⊎◌, inl, inr, Bool, true, false, if◌then◌else◌, Option, List, [], ◌∷◌, ◌++◌, map, flat_map, fold, length, refl, ap, sym, ◌∙◌, subst, arith, append_assoc, append-nil}
+-- Visible characters and markers of lines that renderers take from one another.
+use Rattle.std.proofs.Common.{◌≡◌, ℕ, zero, suc, ◌+◌, ◌≤◌, ◌⊎◌, inl, inr, Bool, true, false, if◌then◌else◌, Option, List, [], ◌∷◌, ◌++◌, map, filter, flat_map, fold, length, refl, ap, sym, ◌∙◌, subst, arith, append_assoc, append-nil}
 use Rattle.std.specs.List.{AllZip}
+use Rattle.std.proofs.lemmas.List.Elements.{filter-append}
 use Rattle.std.proofs.lemmas.Grind.{fold-append}
 use Rattle.tbr_model.specs.Run.{Entry, Item}
 use Rattle.tbr_model.specs.Layout.{joined}
-use Rattle.tbr_model.specs.Hard.{IsShown, visible_glyphs, visible_entries}
+use Rattle.tbr_model.specs.Shown.{is_visible_or_marker, is_entry_to_show, ShowsEntry}
 use Rattle.tbr_border.specs.Border.{shown, without_holes}
 use Rattle.tbr_tagged.specs.Padding.{spaces}
 use Rattle.tbr_tagged.specs.Elements.{text_items}
@@ -16,49 +17,52 @@ use Rattle.tbr_rows.proofs.Among.{each_among}
 use Rattle.tbr_rows.proofs.CellsSeated.{among_seated}
 use Rattle.tbr_kept_lines.specs.Line.{Line, text, border}
 use Rattle.tbr_renderer.specs.Flush.{after_flush}
-use Rattle.tbr_renderer.specs.Renderer.{Renderer, IsSound}
+use Rattle.tbr_renderer.specs.Renderer.{Open, Renderer, open_run, IsSound}
 use Rattle.tbr_renderer.specs.Appended.{border_of_cells, with_border, as_text, prefixed, with_divider, with_cell, with_cell_below, with_cells, handed_out}
-use Rattle.tbr_renderer.specs.Calls.{Call, append_subrender, append_vert_row, Does, text_of_lines, Shows}
+use Rattle.tbr_renderer.specs.Calls.{Call, append_subrender, append_vert_row, Does, text_of_lines}
 use Rattle.tbr_tagged.specs.Outcome.{done, if_live}
 use Rattle.tbr_renderer.proofs.CallParts.{handed_then}
 use Rattle.text_block_renderer.specs.Acts.{Act, call, row, rows_of}
 use Rattle.text_block_renderer.proofs.ActSteps.{ActStep, ActSteps, steps}
 use Rattle.text_block_renderer.proofs.ActParts.{alone}
 use Rattle.text_block_renderer.proofs.RowsOfCells.{row_flushes}
-use Rattle.text_block_renderer.proofs.Moves.{any, flush, Frame, flush_frame, path_hanging}
+use Rattle.text_block_renderer.proofs.Moves.{any, flush, flushed_none, Frame, flush_frame, path_hanging}
 use Rattle.text_block_renderer.proofs.CallMoves.{calls_move}
 use Rattle.text_block_renderer.proofs.VerticalRows.{cells_after}
+use Rattle.text_block_renderer.specs.MarkersStand.{Stands}
+use Rattle.text_block_renderer.specs.Stretches.{lines_laid}
+use Rattle.text_block_renderer.proofs.BroughtEntries.{shown_before, move_stands}
+use Rattle.text_block_renderer.proofs.DrawnBorders.{moves_on}
 use Rattle.text_block_renderer.specs.Drawn.{Put, as_it_is, drawn, line_put, not_drawn, WithoutDrawnBorders}
-use Rattle.text_block_renderer.specs.Taken.{StandWithin, text_before, written, CallTakes, Takes, NothingOverhangs, AreTakenIn}
-use Rattle.text_block_renderer.proofs.AddedLines.{Grows, moves_grow, steps_grow}
+use Rattle.text_block_renderer.specs.Taken.{StandWithin, text_before, written, to_show, AreWrittenIn, CallTakes, Takes, NothingOverhangs, AreTakenIn}
+use Rattle.text_block_renderer.proofs.AddedLines.{Grows, lines_grow, moves_grow, steps_grow}
 use Rattle.text_block_renderer.proofs.CellsInRows.{items_in, Follows, row_adds, row_follows, cell_follows}
-use Rattle.text_block_renderer.proofs.Within.{within_after, within_itself, within_more, within_on, two_within, itself_within, after_within, before_within}
-use Rattle.text_block_renderer.proofs.Written.{written-append, texts_written, border_shown, written_texts}
-use Rattle.text_block_renderer.proofs.VisibleCharacters.{glyphs-append, handed_out_less}
-use Rattle.text_block_renderer.proofs.LaidTexts.{lines_after}
+use Rattle.text_block_renderer.proofs.Within.{within_itself, within_more, within_on, two_within, itself_within, after_within, before_within}
+use Rattle.text_block_renderer.proofs.Written.{written-append, texts_written, border_shown, laid_within}
+use Rattle.text_block_renderer.proofs.LaidTexts.{laid_lines, appended_after}
 
 -- ---- lines as text
 
-abbrev seen : {T : Type 0} → (ℕ → Option ℕ) → List (Line T) → List (ℕ × T)
-seen columns lines = visible_glyphs columns (written lines)
+abbrev seen : {T : Type 0} → (ℕ → Option ℕ) → List (Line T) → List (Item T)
+seen columns lines = to_show columns (written lines)
 
 module _ {T : Type 0} (columns : ℕ → Option ℕ) where
   -- a line as text says what is written there
-  line_within : (tag : T) (line : Line T) → StandWithin (seen columns (line ∷ [])) (visible_glyphs columns (as_text tag line))
-  line_within tag (text is) = subst (λ js. StandWithin (visible_glyphs columns js) (visible_glyphs columns is)) (sym (append-nil is)) (itself_within columns is)
-  line_within tag (border b) = subst (λ js. StandWithin (visible_glyphs columns js) (visible_glyphs columns (shown tag b))) (sym (append-nil (text_before b))) (border_shown columns tag b)
+  line_within : (tag : T) (line : Line T) → StandWithin (seen columns (line ∷ [])) (to_show columns (as_text tag line))
+  line_within tag (text is) = subst (λ js. StandWithin (to_show columns js) (to_show columns is)) (sym (append-nil is)) (itself_within columns is)
+  line_within tag (border b) = subst (λ js. StandWithin (to_show columns js) (to_show columns (shown tag b))) (sym (append-nil (text_before b))) (border_shown columns tag b)
 
   -- and so it does after others, before other lines
-  first_within : (tag : T) (line : Line T) (lines : List (Line T)) (front rest : List (Item T)) → StandWithin (seen columns lines) (visible_glyphs columns rest) → StandWithin (seen columns (line ∷ lines)) (visible_glyphs columns ((front ++ as_text tag line) ++ rest))
+  first_within : (tag : T) (line : Line T) (lines : List (Line T)) (front rest : List (Item T)) → StandWithin (seen columns lines) (to_show columns rest) → StandWithin (seen columns (line ∷ lines)) (to_show columns ((front ++ as_text tag line) ++ rest))
   first_within tag line lines front rest h =
-      subst (λ is. StandWithin (visible_glyphs columns is) (visible_glyphs columns ((front ++ as_text tag line) ++ rest))) (sym (written-append (line ∷ []) lines))
+      subst (λ is. StandWithin (to_show columns is) (to_show columns ((front ++ as_text tag line) ++ rest))) (sym (written-append (line ∷ []) lines))
       (two_within columns (written (line ∷ [])) (written lines) (front ++ as_text tag line) rest (after_within columns front (written (line ∷ [])) (as_text tag line) (line_within tag line)) h)
 
-  texts_within : (tag : T) (lines : List (Line T)) → StandWithin (seen columns lines) (visible_glyphs columns (joined (map (as_text tag) lines)))
+  texts_within : (tag : T) (lines : List (Line T)) → StandWithin (seen columns lines) (to_show columns (joined (map (as_text tag) lines)))
   texts_within tag [] = tt
   texts_within tag (line ∷ lines) = first_within tag line lines [] (joined (map (as_text tag) lines)) (texts_within tag lines)
 
-  prefixed_within : (tag : T) (prefixes : List (List ℕ)) (lines : List (Line T)) → length lines ≤ length prefixes → StandWithin (seen columns lines) (visible_glyphs columns (joined (prefixed tag prefixes lines)))
+  prefixed_within : (tag : T) (prefixes : List (List ℕ)) (lines : List (Line T)) → length lines ≤ length prefixes → StandWithin (seen columns lines) (to_show columns (joined (prefixed tag prefixes lines)))
   prefixed_within tag [] [] h = tt
   prefixed_within tag [] (line ∷ lines) h = absurd (omega (arith, h))
   prefixed_within tag (p ∷ ps) [] h = tt
@@ -70,8 +74,8 @@ module _ {T : Type 0} (columns : ℕ → Option ℕ) where
   undrawn_within : (puts : List (Put T)) → StandWithin (seen columns (flat_map not_drawn puts)) (seen columns (map line_put puts))
   undrawn_within [] = tt
   undrawn_within (as_it_is line ∷ puts) =
-      subst (λ is. StandWithin (visible_glyphs columns is) (seen columns (line ∷ map line_put puts))) (sym (written-append (line ∷ []) (flat_map not_drawn puts)))
-      (subst (λ is. StandWithin (visible_glyphs columns (written (line ∷ []) ++ written (flat_map not_drawn puts))) (visible_glyphs columns is)) (sym (written-append (line ∷ []) (map line_put puts)))
+      subst (λ is. StandWithin (to_show columns is) (seen columns (line ∷ map line_put puts))) (sym (written-append (line ∷ []) (flat_map not_drawn puts)))
+      (subst (λ is. StandWithin (to_show columns (written (line ∷ []) ++ written (flat_map not_drawn puts))) (to_show columns is)) (sym (written-append (line ∷ []) (map line_put puts)))
       (two_within columns (written (line ∷ [])) (written (flat_map not_drawn puts)) (written (line ∷ [])) (written (map line_put puts)) (itself_within columns (written (line ∷ []))) (undrawn_within puts)))
   undrawn_within (drawn cells n tag ∷ puts) = after_within columns (shown tag (without_holes cells tag) ++ text_items (spaces n) tag) (written (flat_map not_drawn puts)) (written (map line_put puts)) (undrawn_within puts)
 
@@ -82,46 +86,50 @@ module _ {D A : Type 0} (columns : ℕ → Option ℕ) where
   abbrev MoreText : Renderer D A (List A) → Renderer D A (List A) → Type 0
   MoreText r s = (more : List (Item (List A))) × (written s.lines ≡ written r.lines ++ more)
 
-  more_within : (gs : List (ℕ × List A)) (r s : Renderer D A (List A)) → MoreText r s → StandWithin gs (seen columns r.lines) → StandWithin gs (seen columns s.lines)
-  more_within gs r s (more, is) h = subst (StandWithin gs) (sym (ap (visible_glyphs columns) is ∙ glyphs-append columns (written r.lines) more)) (within_more gs (seen columns r.lines) (visible_glyphs columns more) h)
+  more_within : (us : List (Item (List A))) (r s : Renderer D A (List A)) → MoreText r s → StandWithin us (seen columns r.lines) → StandWithin us (seen columns s.lines)
+  more_within us r s (more, is) h = subst (StandWithin us) (sym (ap (to_show columns) is ∙ filter-append (is_visible_or_marker columns) (written r.lines) more)) (within_more us (seen columns r.lines) (to_show columns more) h)
 
-  still_more : (gs : List (ℕ × List A)) (r s : Renderer D A (List A)) (is : List (Item (List A))) → MoreText r s → StandWithin gs (visible_glyphs columns (written r.lines ++ is)) → StandWithin gs (visible_glyphs columns (written s.lines ++ is))
-  still_more gs r s is (more, same) h =
+  still_more : (us : List (Item (List A))) (r s : Renderer D A (List A)) (is : List (Item (List A))) → MoreText r s → StandWithin us (to_show columns (written r.lines ++ is)) → StandWithin us (to_show columns (written s.lines ++ is))
+  still_more us r s is (more, same) h =
       let old = written r.lines in
-      let here : StandWithin (visible_glyphs columns old) (visible_glyphs columns (written s.lines)) = subst (λ js. StandWithin (visible_glyphs columns old) (visible_glyphs columns js)) (sym same) (before_within columns old old more (itself_within columns old)) in
-      within_on gs (visible_glyphs columns (old ++ is)) (visible_glyphs columns (written s.lines ++ is)) h (two_within columns old is (written s.lines) is here (itself_within columns is))
+      let here : StandWithin (to_show columns old) (to_show columns (written s.lines)) = subst (λ js. StandWithin (to_show columns old) (to_show columns js)) (sym same) (before_within columns old old more (itself_within columns old)) in
+      within_on us (to_show columns (old ++ is)) (to_show columns (written s.lines ++ is)) h (two_within columns old is (written s.lines) is here (itself_within columns is))
 
   more_text : (r s : Renderer D A (List A)) → Grows r s → MoreText r s
   more_text r s grows = (written grows.0, ap written grows.1 ∙ written-append r.lines grows.0)
 
   -- nor do more lines
-  still_within : (gs : List (ℕ × List A)) (r s : Renderer D A (List A)) → Grows r s → StandWithin gs (seen columns r.lines) → StandWithin gs (seen columns s.lines)
-  still_within gs r s grows h = more_within gs r s (more_text r s grows) h
+  still_within : (us : List (Item (List A))) (r s : Renderer D A (List A)) → Grows r s → StandWithin us (seen columns r.lines) → StandWithin us (seen columns s.lines)
+  still_within us r s grows h = more_within us r s (more_text r s grows) h
 
-  divider_keeps : (gs : List (ℕ × List A)) (cell : Cell) (r : Renderer D A (List A)) → StandWithin gs (seen columns r.lines) → StandWithin gs (seen columns (with_divider columns cell r).lines)
-  divider_keeps gs cell r h = go r.options.draw_borders
+  divider_keeps : (us : List (Item (List A))) (cell : Cell) (r : Renderer D A (List A)) → StandWithin us (seen columns r.lines) → StandWithin us (seen columns (with_divider columns cell r).lines)
+  divider_keeps us cell r h = go r.options.draw_borders
     where
       b : Renderer D A (List A)
       b = with_border columns r (border_of_cells cell r.width r)
 
-      go : (drawn : Bool) → StandWithin gs (let s = if drawn then b else r in seen columns s.lines)
-      go true = still_within gs r (with_border columns r (border_of_cells cell r.width r)) (_, refl) h
+      go : (drawn : Bool) → StandWithin us (let s = if drawn then b else r in seen columns s.lines)
+      go true = still_within us r (with_border columns r (border_of_cells cell r.width r)) (_, refl) h
       go false = h
 
-  cell_shown : (lines : List (Line (List A))) (r : Renderer D A (List A)) → seen columns (with_cell columns r lines).lines ≡ seen columns r.lines ++ visible_glyphs columns (joined (map (as_text r.annotations) lines))
-  cell_shown lines r = written_texts columns (map (as_text r.annotations) lines) r
+  -- laid texts are written after what there was
+  laid_after : (us : List (Item (List A))) (ts : List (List (Item (List A)))) (r s : Renderer D A (List A)) → s.lines ≡ r.lines ++ lines_laid columns r ts → StandWithin us (to_show columns (joined ts)) → StandWithin us (seen columns s.lines)
+  laid_after us ts r s is h =
+      let laid = lines_laid columns r ts in
+      subst (λ js. StandWithin us (to_show columns js)) (sym (ap written is ∙ written-append r.lines laid))
+      (within_on us (seen columns laid) (to_show columns (written r.lines ++ written laid)) (within_on us (to_show columns (joined ts)) (seen columns laid) h (laid_within columns r ts)) (after_within columns (written r.lines) (written laid) (written laid) (itself_within columns (written laid))))
 
-  cell_keeps : (gs : List (ℕ × List A)) (lines : List (Line (List A))) (r : Renderer D A (List A)) → StandWithin gs (seen columns r.lines) → StandWithin gs (seen columns (with_cell columns r lines).lines)
-  cell_keeps gs lines r h = subst (StandWithin gs) (sym (cell_shown lines r)) (within_more gs (seen columns r.lines) (visible_glyphs columns (joined (map (as_text r.annotations) lines))) h)
+  cell_keeps : (us : List (Item (List A))) (lines : List (Line (List A))) (r : Renderer D A (List A)) → StandWithin us (seen columns r.lines) → StandWithin us (seen columns (with_cell columns r lines).lines)
+  cell_keeps us lines r h = still_within us r (with_cell columns r lines) (lines_grow columns (map (as_text r.annotations) lines) r) h
 
-  cells_keep : (gs : List (ℕ × List A)) (cells : List (List (Line (List A)))) (r : Renderer D A (List A)) → StandWithin gs (seen columns r.lines) → StandWithin gs (seen columns (fold (with_cell_below columns) r cells).lines)
-  cells_keep gs [] r h = h
-  cells_keep gs (lines ∷ cells) r h = cells_keep gs cells (with_cell_below columns r lines) (cell_keeps gs lines (with_divider columns slash r) (divider_keeps gs slash r h))
+  cells_keep : (us : List (Item (List A))) (cells : List (List (Line (List A)))) (r : Renderer D A (List A)) → StandWithin us (seen columns r.lines) → StandWithin us (seen columns (fold (with_cell_below columns) r cells).lines)
+  cells_keep us [] r h = h
+  cells_keep us (lines ∷ cells) r h = cells_keep us cells (with_cell_below columns r lines) (cell_keeps us lines (with_divider columns slash r) (divider_keeps us slash r h))
 
   cell_within : (lines : List (Line (List A))) (r : Renderer D A (List A)) → StandWithin (seen columns lines) (seen columns (with_cell columns r lines).lines)
   cell_within lines r =
-      subst (StandWithin (seen columns lines)) (sym (cell_shown lines r))
-      (within_after (seen columns r.lines) (seen columns lines) (visible_glyphs columns (joined (map (as_text r.annotations) lines))) (texts_within columns r.annotations lines))
+      let texts = map (as_text r.annotations) lines in
+      laid_after (seen columns lines) texts r (with_cell columns r lines) (laid_lines columns texts r) (texts_within columns r.annotations lines)
 
   row_within : (front back : List (List (Line (List A)))) (lines : List (Line (List A))) (r : Renderer D A (List A)) → StandWithin (seen columns lines) (seen columns (with_cells columns r (front ++ lines ∷ back)).lines)
   row_within [] back lines r = cells_keep (seen columns lines) back (with_cell columns r lines) (cell_within lines r)
@@ -135,12 +143,9 @@ module _ {D A : Type 0} (columns : ℕ → Option ℕ) where
     taken_within : (c : Call (List A)) (r s : Renderer D A (List A)) (lines : List (Line (List A))) → CallTakes lines c → Does columns decoration c r s → StandWithin (seen columns lines) (seen columns s.lines)
     taken_within (append_subrender prefixes taken) r s lines t h =
         let tag = r.annotations in
-        let all : StandWithin (seen columns taken) (visible_glyphs columns (joined (prefixed tag prefixes taken))) = prefixed_within columns tag prefixes taken (subst (λ (ls : List (Line (List A))). length ls ≤ length prefixes) (sym t.0) t.1) in
-        let (m, flushed, is) = lines_after columns decoration prefixes taken r s h in
-        let shown = ap (λ (q : Renderer D A (List A)). seen columns q.lines) is ∙ written_texts columns (prefixed tag prefixes taken) m in
-        subst (λ (ls : List (Line (List A))). StandWithin (seen columns ls) (seen columns s.lines)) t.0
-        (subst (StandWithin (seen columns taken)) (sym shown)
-        (within_after (seen columns m.lines) (seen columns taken) (visible_glyphs columns (joined (prefixed tag prefixes taken))) all))
+        let all : StandWithin (seen columns taken) (to_show columns (joined (prefixed tag prefixes taken))) = prefixed_within columns tag prefixes taken (subst (λ (ls : List (Line (List A))). length ls ≤ length prefixes) (sym t.0) t.1) in
+        let (m, flushed, is) = appended_after columns decoration prefixes taken r s h in
+        subst (λ (ls : List (Line (List A))). StandWithin (seen columns ls) (seen columns s.lines)) t.0 (laid_after (seen columns taken) (prefixed tag prefixes taken) m s is all)
     taken_within (append_vert_row cells) r s lines t h =
         let (front, back, is) = t in
         let (m, flushed, whole) = cells_after columns decoration cells r s h in
@@ -159,26 +164,26 @@ module _ {D A : Type 0} (columns : ℕ → Option ℕ) where
         (first.0 ++ more, are ∙ ap (λ js. js ++ more) first.1 ∙ append_assoc (written r.lines) first.0 more)
 
     -- what is left goes on overhanging
-    follows_on : (gs : List (ℕ × List A)) (n rows : ℕ) (r s : Renderer D A (List A)) → n ≤ rows → MoreText r s → s.hanging ≡ r.hanging → Follows columns gs n r → Follows columns gs rows s
-    follows_on gs n rows r s fits more same (inl h) = inl (more_within gs r s more h)
-    follows_on gs n rows r s fits more same (inr (c, hangs, some, few, h)) = inr (c, subst (StandsAmong c) (sym same) hangs, some, omega (arith, few, fits), still_more gs r s (items_in c.lines) more h)
+    follows_on : (us : List (Item (List A))) (n rows : ℕ) (r s : Renderer D A (List A)) → n ≤ rows → MoreText r s → s.hanging ≡ r.hanging → Follows columns us n r → Follows columns us rows s
+    follows_on us n rows r s fits more same (inl h) = inl (more_within us r s more h)
+    follows_on us n rows r s fits more same (inr (c, hangs, some, few, h)) = inr (c, subst (StandsAmong c) (sym same) hangs, some, omega (arith, few, fits), still_more us r s (items_in c.lines) more h)
 
-    act_follows : (gs : List (ℕ × List A)) (act : Act (List A)) (n rows : ℕ) (r s : Renderer D A (List A)) (es : List (Entry (List A))) → n ≤ length (rows_of (act ∷ [])) + rows → ActStep columns decoration act r es s → Follows columns gs n r → Follows columns gs rows s
-    act_follows gs (call c) n rows r s es fits h k =
+    act_follows : (us : List (Item (List A))) (act : Act (List A)) (n rows : ℕ) (r s : Renderer D A (List A)) (es : List (Entry (List A))) → n ≤ length (rows_of (act ∷ [])) + rows → ActStep columns decoration act r es s → Follows columns us n r → Follows columns us rows s
+    act_follows us (call c) n rows r s es fits h k =
         let path = calls_move columns any decoration (c ∷ []) r s es tt (alone columns decoration c r s es h.0 h.1) in
-        follows_on gs n rows r s (omega (arith, fits)) (act_adds (call c) r s es h) (path_hanging columns any r s es _ path) k
-    act_follows gs (row collapses cells) n rows r s es fits h (inl k) = inl (more_within gs r s (act_adds (row collapses cells) r s es h) k)
-    act_follows gs (row collapses cells) n rows r s es fits (m, flushed, puts, is) (inr (c, hangs, some, few, k)) =
+        follows_on us n rows r s (omega (arith, fits)) (act_adds (call c) r s es h) (path_hanging columns any r s es _ path) k
+    act_follows us (row collapses cells) n rows r s es fits h (inl k) = inl (more_within us r s (act_adds (row collapses cells) r s es h) k)
+    act_follows us (row collapses cells) n rows r s es fits (m, flushed, puts, is) (inr (c, hangs, some, few, k)) =
         let same : m.hanging ≡ r.hanging = ap (λ (f : Frame A). f.hanging) (flush_frame columns r m r.block (row_flushes columns r m flushed)) in
         let seated = among_seated 0 c m.hanging puts.own puts.means.cells (subst (StandsAmong c) (sym same) hangs) puts.means.seated in
-        row_follows columns collapses cells m s puts gs rows c seated (omega (arith, few, fits)) (still_more gs r m (items_in c.lines) (flush_adds r m flushed) k)
+        row_follows columns collapses cells m s puts us rows c seated (omega (arith, few, fits)) (still_more us r m (items_in c.lines) (flush_adds r m flushed) k)
 
     -- through calls and rows
-    acts_follow : (gs : List (ℕ × List A)) (acts : List (Act (List A))) (n rows : ℕ) (r s : Renderer D A (List A)) (es : List (Entry (List A))) → n ≤ length (rows_of acts) + rows → ActSteps columns decoration acts r es s → Follows columns gs n r → Follows columns gs rows s
-    acts_follow gs [] n rows r s es fits h k = subst (λ (q : Renderer D A (List A)). Follows columns gs rows q) (sym h.0) (follows_on gs n rows r r (omega (arith, fits)) ([], sym (append-nil (written r.lines))) refl k)
-    acts_follow gs (call c ∷ acts) n rows r s es fits (m, first, rest, does, others, is) k = acts_follow gs acts n rows m s rest fits others (act_follows gs (call c) n n r m first (omega arith) does k)
-    acts_follow gs (row collapses cells ∷ acts) n rows r s es fits (m, first, rest, does, others, is) k =
-        acts_follow gs acts (length (rows_of acts) + rows) rows m s rest (omega arith) others (act_follows gs (row collapses cells) n (length (rows_of acts) + rows) r m first (omega (arith, fits)) does k)
+    acts_follow : (us : List (Item (List A))) (acts : List (Act (List A))) (n rows : ℕ) (r s : Renderer D A (List A)) (es : List (Entry (List A))) → n ≤ length (rows_of acts) + rows → ActSteps columns decoration acts r es s → Follows columns us n r → Follows columns us rows s
+    acts_follow us [] n rows r s es fits h k = subst (λ (q : Renderer D A (List A)). Follows columns us rows q) (sym h.0) (follows_on us n rows r r (omega (arith, fits)) ([], sym (append-nil (written r.lines))) refl k)
+    acts_follow us (call c ∷ acts) n rows r s es fits (m, first, rest, does, others, is) k = acts_follow us acts n rows m s rest fits others (act_follows us (call c) n n r m first (omega arith) does k)
+    acts_follow us (row collapses cells ∷ acts) n rows r s es fits (m, first, rest, does, others, is) k =
+        acts_follow us acts (length (rows_of acts) + rows) rows m s rest (omega arith) others (act_follows us (row collapses cells) n (length (rows_of acts) + rows) r m first (omega (arith, fits)) does k)
 
     act_within : (act : Act (List A)) (span rows : ℕ) (r s : Renderer D A (List A)) (es : List (Entry (List A))) (lines : List (Line (List A))) → Takes span lines act → span ≤ suc rows → ActStep columns decoration act r es s → Follows columns (seen columns lines) rows s
     act_within (call c) span rows r s es lines t few h = inl (taken_within c r s lines t h.0)
@@ -186,15 +191,15 @@ module _ {D A : Type 0} (columns : ℕ → Option ℕ) where
         subst (λ (ls : List (Line (List A))). Follows columns (seen columns ls) rows s) is (cell_follows columns collapses cells m s puts rows cell among (omega (arith, spans, few)))
 
     -- where the rows of its span come, or nothing overhangs in the end, all of it stands
-    followed : (gs : List (ℕ × List A)) (span : ℕ) (after : List (Act (List A))) (m s : Renderer D A (List A)) (es : List (Entry (List A))) → ActSteps columns decoration after m es s → ((rows : ℕ) → span ≤ suc rows → Follows columns gs rows m) → (span ≤ 1 + length (rows_of after)) ⊎ NothingOverhangs s →
-        StandWithin gs (seen columns s.lines)
-    followed gs span after m s es h from (inl few) =
-        elim (acts_follow gs after (length (rows_of after)) 0 m s es (omega arith) h (from (length (rows_of after)) (omega (arith, few)))) [ inl k ↦ k | inr k ↦ absurd (let (c, hangs, some, none, within) = k in omega (arith, some, none)) ]
-    followed gs span after m s es h from (inr none) =
-        elim (acts_follow gs after span span m s es (omega arith) h (from span (omega arith))) [
+    followed : (us : List (Item (List A))) (span : ℕ) (after : List (Act (List A))) (m s : Renderer D A (List A)) (es : List (Entry (List A))) → ActSteps columns decoration after m es s → ((rows : ℕ) → span ≤ suc rows → Follows columns us rows m) → (span ≤ 1 + length (rows_of after)) ⊎ NothingOverhangs s →
+        StandWithin us (seen columns s.lines)
+    followed us span after m s es h from (inl few) =
+        elim (acts_follow us after (length (rows_of after)) 0 m s es (omega arith) h (from (length (rows_of after)) (omega (arith, few)))) [ inl k ↦ k | inr k ↦ absurd (let (c, hangs, some, none, within) = k in omega (arith, some, none)) ]
+    followed us span after m s es h from (inr none) =
+        elim (acts_follow us after span span m s es (omega arith) h (from span (omega arith))) [
           | inl k ↦ k
           | inr k ↦ let (c, hangs, some, few, within) = k in
-              subst (λ js. StandWithin gs (visible_glyphs columns js)) (ap (λ ls. written s.lines ++ items_in ls) (each_among (λ (d : Overhanging (List A)). d.lines ≡ []) c s.hanging hangs none) ∙ append-nil (written s.lines)) within
+              subst (λ js. StandWithin us (to_show columns js)) (ap (λ ls. written s.lines ++ items_in ls) (each_among (λ (d : Overhanging (List A)). d.lines ≡ []) c s.hanging hangs none) ∙ append-nil (written s.lines)) within
         ]
 
     steps_within : (before : List (Act (List A))) (act : Act (List A)) (after : List (Act (List A))) (r s : Renderer D A (List A)) (es : List (Entry (List A))) (span : ℕ) (lines : List (Line (List A))) → Takes span lines act → (span ≤ 1 + length (rows_of after)) ⊎ NothingOverhangs s →
@@ -202,10 +207,10 @@ module _ {D A : Type 0} (columns : ℕ → Option ℕ) where
     steps_within [] act after r s es span lines t come (m, first, rest, does, others, is) = followed (seen columns lines) span after m s rest others (λ rows few. act_within act span rows r m first lines t few does) come
     steps_within (d ∷ before) act after r s es span lines t come (m, first, rest, does, others, is) = steps_within before act after m s rest span lines t come others
 
-    handed_within : (gs : List (ℕ × List A)) (r : Renderer D A (List A)) (lines : List (Line (List A))) → handed_out columns r ≡ done lines → StandWithin gs (seen columns r.lines) → StandWithin gs (seen columns lines)
-    handed_within gs r lines h k =
+    handed_within : (us : List (Item (List A))) (r : Renderer D A (List A)) (lines : List (Line (List A))) → handed_out columns r ≡ done lines → StandWithin us (seen columns r.lines) → StandWithin us (seen columns lines)
+    handed_within us r lines h k =
         let (s, flushed, is) = handed_then columns r lines h in
-        subst (λ (ls : List (Line (List A))). StandWithin gs (seen columns ls)) (sym is) (still_within gs r s (moves_grow columns (flush r ∷ []) r s (s, (refl, flushed), refl)) k)
+        subst (λ (ls : List (Line (List A))). StandWithin us (seen columns ls)) (sym is) (still_within us r s (moves_grow columns (flush r ∷ []) r s (s, (refl, flushed), refl)) k)
 
     pub all_within : (depth : ℕ) (inside outside : List (Line (List A))) → AreTakenIn columns decoration depth inside outside → StandWithin (seen columns inside) (seen columns outside)
     all_within zero inside outside h = subst (λ (ls : List (Line (List A))). StandWithin (seen columns inside) (seen columns ls)) (sym h) (within_itself (seen columns inside))
@@ -215,13 +220,22 @@ module _ {D A : Type 0} (columns : ℕ → Option ℕ) where
         within_on (seen columns inside) (seen columns between) (seen columns outside) here (all_within depth between outside others)
 
     pub brought_within : (depth : ℕ) (r : Renderer D A (List A)) (borders : List (List Cell)) (es : List (Entry (List A))) (inside outside : List (Line (List A))) →
-        IsSound columns r → WithoutDrawnBorders borders (λ q. Shows columns q es) r → handed_out columns r ≡ done inside → AreTakenIn columns decoration depth inside outside →
-        (shown : List (ℕ × List A)) × AllZip (IsShown (λ a b. a ≡ b)) shown (visible_entries columns es) × StandWithin shown (visible_glyphs columns (written outside))
-    brought_within depth r borders es inside outside sound shows gives h =
-        let (rest, among, shown) = handed_out_less columns r borders es inside sound shows gives in
-        let (puts, is, drawn_are, others) = among in
+        IsSound columns r → WithoutDrawnBorders borders (λ q. Stands columns q es) r → handed_out columns r ≡ done inside → AreTakenIn columns decoration depth inside outside → AreWrittenIn columns es outside
+    brought_within depth r borders es inside outside sound stands gives h =
+        let (s, flushed, is) = handed_then columns r inside gives in
+        let (rest, among, stood) = moves_on columns (Stands columns) (move_stands columns) (flush r ∷ []) r s borders es sound (s, (refl, flushed), refl) stands in
+        let (puts, are, drawn_are, others) = among in
         let here : StandWithin (seen columns rest) (seen columns inside) =
         subst (λ (ls : List (Line (List A))). StandWithin (seen columns ls) (seen columns inside)) (sym others)
-        (subst (λ (ls : List (Line (List A))). StandWithin (seen columns (flat_map not_drawn puts)) (seen columns ls)) (sym is) (undrawn_within columns puts)) in
-        let gs = visible_glyphs columns (text_of_lines rest) in
-        (gs, shown, within_on gs (seen columns inside) (seen columns outside) (within_on gs (seen columns rest) (seen columns inside) (texts_written columns rest) here) (all_within depth inside outside h))
+        (subst (λ (ls : List (Line (List A))). StandWithin (seen columns (flat_map not_drawn puts)) (seen columns ls)) (sym (is ∙ are)) (undrawn_within columns puts)) in
+        let q : Renderer D A (List A) = record s { lines = rest } in
+        let k : Stands columns q (es ++ []) = stood in
+        let shown = to_show columns (text_of_lines rest) in
+        let came : k.ended ≡ es = sym (append-nil k.ended) ∙ ap (λ (o : Option (Open (List A))). k.ended ++ open_run o) (sym (flushed_none columns r s flushed)) ∙ k.whole ∙ append-nil es in
+        subst (λ (fs : List (Entry (List A))). AreWrittenIn columns fs outside) came (record {
+          shown = shown;
+          lack = s.waiting;
+          order = subst (λ js. AllZip (ShowsEntry (λ a b. a ≡ b)) js (filter (is_entry_to_show columns) k.ended)) (shown_before columns (text_of_lines rest) s.waiting) k.order;
+          last = k.waits;
+          stand = within_on shown (seen columns rest) (seen columns outside) (texts_written columns rest) (within_on (seen columns rest) (seen columns inside) (seen columns outside) here (all_within depth inside outside h));
+        })

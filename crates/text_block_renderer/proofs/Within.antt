@@ -1,12 +1,12 @@
 -- Lists that stand within others, in order.
 use Rattle.std.proofs.Common.{ℕ, Option, inl, inr, List, [], ◌∷◌, ◌++◌, refl, sym, ◌∙◌, subst, append-nil}
+use Rattle.std.proofs.lemmas.List.Elements.{filter-append}
 use Rattle.tbr_model.specs.Run.{Item}
-use Rattle.tbr_model.specs.Hard.{visible_glyphs}
-use Rattle.text_block_renderer.specs.Taken.{StandWithin}
-use Rattle.text_block_renderer.proofs.VisibleCharacters.{glyphs-append}
+use Rattle.tbr_model.specs.Shown.{is_visible_or_marker}
+use Rattle.text_block_renderer.specs.Taken.{StandWithin, to_show}
 
 module _ {X : Type 0} where
-  pub within_after : (front xs ys : List X) → StandWithin xs ys → StandWithin xs (front ++ ys)
+  within_after : (front xs ys : List X) → StandWithin xs ys → StandWithin xs (front ++ ys)
   within_after [] xs ys h = h
   within_after (f ∷ front) [] ys h = tt
   within_after (f ∷ front) (x ∷ xs) ys h = inr (within_after front (x ∷ xs) ys h)
@@ -32,28 +32,28 @@ module _ {X : Type 0} where
   within_on (x ∷ xs) (y ∷ ys) (z ∷ zs) (inl h) (inl k) = inl (h.0 ∙ k.0, within_on xs ys zs h.1 k.1)
   within_on (x ∷ xs) (y ∷ ys) (z ∷ zs) (inr h) (inl k) = inr (within_on (x ∷ xs) ys zs h k.1)
 
--- ---- visible characters
+-- ---- visible characters and markers
 
 module _ {T : Type 0} (columns : ℕ → Option ℕ) where
-  abbrev glyphs : List (Item T) → List (ℕ × T)
-  glyphs is = visible_glyphs columns is
+  abbrev seen : List (Item T) → List (Item T)
+  seen is = to_show columns is
 
-  pub two_within : (is js us vs : List (Item T)) → StandWithin (glyphs is) (glyphs us) → StandWithin (glyphs js) (glyphs vs) → StandWithin (glyphs (is ++ js)) (glyphs (us ++ vs))
+  pub two_within : (is js us vs : List (Item T)) → StandWithin (seen is) (seen us) → StandWithin (seen js) (seen vs) → StandWithin (seen (is ++ js)) (seen (us ++ vs))
   two_within is js us vs h k =
-      subst (λ gs. StandWithin gs (glyphs (us ++ vs))) (sym (glyphs-append columns is js))
-      (subst (StandWithin (glyphs is ++ glyphs js)) (sym (glyphs-append columns us vs)) (within_both (glyphs is) (glyphs js) (glyphs us) (glyphs vs) h k))
+      subst (λ ks. StandWithin ks (seen (us ++ vs))) (sym (filter-append (is_visible_or_marker columns) is js))
+      (subst (StandWithin (seen is ++ seen js)) (sym (filter-append (is_visible_or_marker columns) us vs)) (within_both (seen is) (seen js) (seen us) (seen vs) h k))
 
-  pub itself_within : (is : List (Item T)) → StandWithin (glyphs is) (glyphs is)
-  itself_within is = within_itself (glyphs is)
+  pub itself_within : (is : List (Item T)) → StandWithin (seen is) (seen is)
+  itself_within is = within_itself (seen is)
 
   -- items with others in front and after
-  pub middle_within : (front is back : List (Item T)) → StandWithin (glyphs is) (glyphs (front ++ (is ++ back)))
-  middle_within front is back = subst (λ js. StandWithin (glyphs js) (glyphs (front ++ (is ++ back)))) (append-nil is) (two_within [] (is ++ []) front (is ++ back) tt (two_within is [] is back (itself_within is) tt))
+  pub middle_within : (front is back : List (Item T)) → StandWithin (seen is) (seen (front ++ (is ++ back)))
+  middle_within front is back = subst (λ js. StandWithin (seen js) (seen (front ++ (is ++ back)))) (append-nil is) (two_within [] (is ++ []) front (is ++ back) tt (two_within is [] is back (itself_within is) tt))
 
   -- in front come others
-  pub after_within : (front is js : List (Item T)) → StandWithin (glyphs is) (glyphs js) → StandWithin (glyphs is) (glyphs (front ++ js))
+  pub after_within : (front is js : List (Item T)) → StandWithin (seen is) (seen js) → StandWithin (seen is) (seen (front ++ js))
   after_within front is js h = two_within [] is front js tt h
 
   -- and after it
-  pub before_within : (is js back : List (Item T)) → StandWithin (glyphs is) (glyphs js) → StandWithin (glyphs is) (glyphs (js ++ back))
-  before_within is js back h = subst (λ ks. StandWithin (glyphs ks) (glyphs (js ++ back))) (append-nil is) (two_within is [] js back h tt)
+  pub before_within : (is js back : List (Item T)) → StandWithin (seen is) (seen js) → StandWithin (seen is) (seen (js ++ back))
+  before_within is js back h = subst (λ ks. StandWithin (seen ks) (seen (js ++ back))) (append-nil is) (two_within is [] js back h tt)

@@ -1,7 +1,11 @@
 -- Lines that renderers hand out and others take.
-use Rattle.std.specs.Prelude.{◌≡◌, ℕ, zero, suc, ◌+◌, ◌≤◌, ◌⊎◌, ⊤, Option, List, [], ◌∷◌, ◌++◌, length, flat_map}
-use Rattle.std.specs.List.{AllByRecursion as Each}
+use Rattle.std.specs.Prelude.{◌≡◌, ℕ, zero, suc, ◌+◌, ◌≤◌, ◌⊎◌, ⊤, Option, List, [], ◌∷◌, ◌++◌, length, filter, flat_map}
+use Rattle.std.specs.List.{AllZip, AllByRecursion as Each}
 use Rattle.tbr_model.specs.Run.{Entry, Item}
+use Rattle.tbr_model.specs.Markers.{marker_items, names_after}
+use Rattle.tbr_model.specs.Hard.{is_visible}
+use Rattle.tbr_model.specs.Shown.{is_visible_or_marker, is_entry_to_show, ShowsEntry}
+use Rattle.tbr_wrap.specs.Runs.{AreLastOf}
 use Rattle.tbr_decor.specs.Decoration.{Decoration}
 use Rattle.tbr_border.specs.Border.{Border}
 use Rattle.tbr_tagged.specs.Elements.{element_items}
@@ -29,6 +33,20 @@ abbrev pub written : {T : Type 0} → List (Line T) → List (Item T)
 written [] = []
 written (text is ∷ ls) = is ++ written ls
 written (border b ∷ ls) = text_before b ++ written ls
+
+-- the visible characters and the markers of items
+abbrev pub to_show : {T : Type 0} → (ℕ → Option ℕ) → List (Item T) → List (Item T)
+to_show columns is = filter (is_visible_or_marker columns) is
+
+-- Lines have the visible characters and the markers of what came, once and in order, with others between. Only some
+-- of the markers that no visible character follows may lack.
+pub record AreWrittenIn {T : Type 0} (columns : ℕ → Option ℕ) (es : List (Entry T))
+    (lines : List (Line T)) : Type 0 where
+  pub shown : List (Item T)
+  pub lack : List (List ℕ)
+  pub order : AllZip (ShowsEntry (λ a b. a ≡ b)) (shown ++ marker_items lack) (filter (is_entry_to_show columns) es)
+  pub last : AreLastOf lack (names_after (is_visible columns) es)
+  pub stand : StandWithin shown (to_show columns (written lines))
 
 -- a call that takes the lines, after as many prefixes or as a cell
 abbrev pub CallTakes : {T : Type 0} → List (Line T) → Call T → Type 0

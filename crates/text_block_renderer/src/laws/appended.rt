@@ -13,10 +13,11 @@ ghost use Rattle.tbr_renderer.specs.Flush.{after_flush};
 ghost use Rattle.tbr_renderer.specs.Appended.{as_text, prefixed, handed_out};
 ghost use Rattle.tbr_renderer.specs.Calls.{append_subrender, append_vert_row, Does, text_of_lines, Shows};
 ghost use Rattle.text_block_renderer.specs.Drawn.{AreDrawnAmong, WithoutDrawnBorders};
+ghost use Rattle.text_block_renderer.specs.MarkersStand.{Stands};
 ghost use Rattle.text_block_renderer.specs.Stretches.{lines_laid};
 ghost use Rattle.text_block_renderer.specs.Nested.{Level, nested, IsFront, shortest, visible_after, HandOn};
 ghost use Rattle.text_block_renderer.specs.VerticalRows.{row_lines};
-ghost use Rattle.text_block_renderer.specs.Taken.{StandWithin, written, AreTakenIn};
+ghost use Rattle.text_block_renderer.specs.Taken.{StandWithin, written, to_show, AreWrittenIn, AreTakenIn};
 
 /// Line i of blocks inside blocks is prefix i of each of them, from the outermost to the innermost, and then line i of
 /// the innermost as text. There are as many lines as the shortest of these lists has. Renderers that hand their lines
@@ -91,17 +92,15 @@ pub fn handed_out_lines_have_all_characters<D, A>()
 
 /// Renderers take lines from one another, after as many prefixes or as cells, among any calls and rows, and hand out
 /// their own, to any depth. The rows that a cell spans all come, or nothing overhangs in the end. Then the visible
-/// characters of the first lines are in the last, in order, also those in front of borders. So are those of all that
-/// was brought to a renderer that handed out the first.
+/// characters and the markers of the first lines are in the last, in order, also those in front of borders. So are those
+/// of all that was brought to a renderer that handed out the first, but for markers behind its last visible character.
 pub fn nothing_visible_is_lost_to_any_depth<D, A>()
     ensures lines { (columns : ℕ → Option ℕ) (decoration : Decoration D A) (depth : ℕ)
         (inside outside : List (Line (List A))) → AreTakenIn columns decoration depth inside outside →
-        StandWithin (visible_glyphs columns (written inside)) (visible_glyphs columns (written outside)) }
+        StandWithin (to_show columns (written inside)) (to_show columns (written outside)) }
     ensures brought { (columns : ℕ → Option ℕ) (decoration : Decoration D A) (depth : ℕ) (r : Renderer D A (List A))
         (borders : List (List Cell)) (es : List (Entry (List A))) (inside outside : List (Line (List A))) →
-        IsSound columns r → WithoutDrawnBorders borders (λ q. Shows columns q es) r →
+        IsSound columns r → WithoutDrawnBorders borders (λ q. Stands columns q es) r →
         handed_out columns r ≡ done inside →
-        AreTakenIn columns decoration depth inside outside →
-        (shown : List (ℕ × List A)) × AllZip (IsShown (λ a b. a ≡ b)) shown (visible_entries columns es)
-        × StandWithin shown (visible_glyphs columns (written outside)) }
+        AreTakenIn columns decoration depth inside outside → AreWrittenIn columns es outside }
 {}
