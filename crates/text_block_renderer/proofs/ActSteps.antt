@@ -120,5 +120,5 @@ module _ {D A : Type 0} (columns : ℕ → Option ℕ) (decoration : Decoration 
           ∙ ap (λ fs. act_brought columns decoration a q ++ fs) (brings others n rest) ∙ sym (brought_then a (others ++ act ∷ []) q n first)
 
   pub between_then : (acts : List (Act A)) (act : Act A) (r m : Renderer D A (List A)) → AreBetweenRuns columns decoration acts r → after_acts acts r ≡ done m → IsBetweenRuns columns decoration act m → AreBetweenRuns columns decoration (acts ++ act ∷ []) r
-  between_then [] act r m h is k = (subst (IsBetweenRuns columns decoration act) (sym (one_done r m is)) k, λ s does. tt)
+  between_then [] act r m h is k = (subst (IsBetweenRuns columns decoration act) (one_done r m is) k, λ s does. tt)
   between_then (a ∷ acts) act r m h is k = (h.0, λ s does. between_then acts act s m (h.1 s does) (sym (ap (λ o. and_then o (after_acts acts)) does) ∙ is) k)
