@@ -11,4 +11,5 @@ pub mod Markers
 pub mod WaitingMarkers
 pub mod TerminalColumns
 pub mod Tables
+pub mod Footnotes
 pub mod Commands

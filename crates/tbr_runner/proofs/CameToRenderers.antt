@@ -18,9 +18,9 @@ use Rattle.text_block_renderer.specs.Renderer.{Renderer}
 use Rattle.text_block_renderer.specs.Rows.{spots_of, GivenCell, next_align, cell_given, cells_given, after_row}
 use Rattle.text_block_renderer.specs.Appended.{handed_out}
 use Rattle.text_block_renderer.specs.Calls.{Call, new_line, begin, finish, add_inline_text, append_subrender, append_vert_row, after}
-use Rattle.text_block_renderer.specs.Acts.{Act, call, row as row_of_cells, after_act, act_brought, acts_brought, ActsBring}
+use Rattle.text_block_renderer.specs.Acts.{Act, call, row as row_of_cells, after_act, act_brought, acts_brought, ActsBring, IsBetweenRuns, AreBetweenRuns}
 use Rattle.text_block_renderer.specs.Taken.{Takes, NothingOverhangs, TakesIn, AreTakenIn}
-use Rattle.text_block_renderer.proofs.ActSteps.{acts_then}
+use Rattle.text_block_renderer.proofs.ActSteps.{acts_then, between_then}
 use Rattle.tbr_script.specs.declared.error.RunError.{RunError}
 use Rattle.tbr_script.specs.declared.error.RunError.TheVariants.{NothingToEnd, RowDoesNotFit}
 use Rattle.tbr_stack.specs.Stack.{Level, Stack, first_renderer, top_of, below, in_first, with_top}
@@ -83,9 +83,10 @@ module _ {D M : Type 0} (columns : ℕ → Option ℕ) (decoration : Decoration 
   module _ (first : Top) (es : List (Entry (List M))) where
     -- what came is still in it, with others after it
     pub record HasStill (r : Top) : Type 0 where
-      pub acts : List (Act (List M))
+      pub acts : List (Act M)
       pub more : List (Entry (List M))
       pub bring : ActsBring columns decoration acts first (es ++ more) r
+      pub between : AreBetweenRuns columns decoration acts first
 
     -- the lines that it handed out were taken, again and again
     pub record Gave (lines : Lines) : Type 0 where
@@ -101,9 +102,9 @@ module _ {D M : Type 0} (columns : ℕ → Option ℕ) (decoration : Decoration 
       pub lines : Lines
       pub gave : Gave lines
       pub start_of : Top
-      pub before : List (Act (List M))
-      pub taking_it : Act (List M)
-      pub later : List (Act (List M))
+      pub before : List (Act M)
+      pub taking_it : Act M
+      pub later : List (Act M)
       pub leads : run (after_act columns decoration) (before ++ taking_it ∷ later) start_of ≡ done r
       pub span : ℕ
       pub takes : Takes span lines taking_it
@@ -111,12 +112,17 @@ module _ {D M : Type 0} (columns : ℕ → Option ℕ) (decoration : Decoration 
     abbrev pub Has : Top → Type 0
     Has r = HasStill r ⊎ HasTaken r
 
-    has_on : (act : Act (List M)) (r s : Top) → after_act columns decoration act r ≡ done s → Has r → Has s
-    has_on act r s does (inl h) =
+    has_on : (act : Act M) (r s : Top) → IsBetweenRuns columns decoration act r → after_act columns decoration act r ≡ done s → Has r → Has s
+    has_on act r s between does (inl h) =
         let more = act_brought columns decoration act r in
         let bring = acts_then columns decoration h.acts act first r s (es ++ h.more) h.bring does in
-        inl (record { acts = h.acts ++ act ∷ []; more = h.more ++ more; bring = subst (λ fs. ActsBring columns decoration (h.acts ++ act ∷ []) first fs s) (append_assoc es h.more more) bring })
-    has_on act r s does (inr h) =
+        inl (record {
+          acts = h.acts ++ act ∷ [];
+          more = h.more ++ more;
+          bring = subst (λ fs. ActsBring columns decoration (h.acts ++ act ∷ []) first fs s) (append_assoc es h.more more) bring;
+          between = between_then columns decoration h.acts act first r h.between h.bring.0 between;
+        })
+    has_on act r s between does (inr h) =
         let all = h.before ++ h.taking_it ∷ h.later in
         let leads = acts_then columns decoration all act h.start_of r s (acts_brought columns decoration all h.start_of) (h.leads, refl) does in
         inr (record {
@@ -150,7 +156,7 @@ module _ {D M : Type 0} (columns : ℕ → Option ℕ) (decoration : Decoration 
         } in
         record { origin = h.gave.origin; still = h.gave.still; live = h.gave.live; inside = h.gave.inside; gives = h.gave.gives; depth = suc h.gave.depth; chain = taken_on h.gave.depth h.gave.inside h.lines lines h.gave.chain takes }
 
-    takes_on : (act : Act (List M)) (lines : Lines) (span : ℕ) (r s : Top) → Takes span lines act → IsLed columns decoration r → after_act columns decoration act r ≡ done s → Gave lines → Has s
+    takes_on : (act : Act M) (lines : Lines) (span : ℕ) (r s : Top) → Takes span lines act → IsLed columns decoration r → after_act columns decoration act r ≡ done s → Gave lines → Has s
     takes_on act lines span r s takes led does gave =
         inr (record {
           lines = lines;
@@ -294,7 +300,7 @@ module _ {D M : Type 0} (columns : ℕ → Option ℕ) (decoration : Decoration 
         go before next top step (inr (inr later)) = inr (inr later)
 
     called : (c : Call (List M)) (r s : Top) → after columns decoration c r ≡ done s → Has r → Has s
-    called c r s h = has_on (call c) r s h
+    called c r s h = has_on (call c) r s tt h
 
     link_ended : (k : Option ℕ) (r s : Top) → after_end_with columns decoration k r ≡ done s → Has r → Has s
     link_ended None r s e h = called (finish end.link) r s e h
@@ -369,7 +375,7 @@ module _ {D M : Type 0} (columns : ℕ → Option ℕ) (decoration : Decoration 
         let (fits, lays) = if_so (row_fits top.hanging (spots_of columns p.pending.cells)) (RowDoesNotFit number) _ (Ok q) (λ no. no) tt made in
         let row = after_row (pointwise decoration.same) columns collapse in
         cells_taken p q (row_made columns decoration p.pending collapse)
-        (λ r s is_top e k. let (m, cells, flushed, gives, does) = taken (after columns decoration new_line) (cells_waiting columns decoration p.pending) row r s e in has_on (row_of_cells collapse cells) r s does k)
+        (λ r s is_top e k. let (m, cells, flushed, gives, does) = taken (after columns decoration new_line) (cells_waiting columns decoration p.pending) row r s e in has_on (row_of_cells collapse cells) r s tt does k)
         (λ r s is_top e wait.
         let (m, cells, flushed, gives, does) = taken (after columns decoration new_line) (cells_waiting columns decoration p.pending) row r s e in
         let (lines, gave, span, into) = cells_give p.pending.cells p.pending.aligns cells gives led.waiting keeps.waiting wait in

@@ -9,7 +9,7 @@ use Rattle.text_block_renderer.specs.Line.{Line, text, border}
 use Rattle.text_block_renderer.specs.Renderer.{Renderer}
 use Rattle.text_block_renderer.specs.Decorated.{sub_renderer}
 use Rattle.text_block_renderer.specs.Calls.{text_of_lines, Shows}
-use Rattle.text_block_renderer.specs.Acts.{Act, after_act, act_brought, acts_brought}
+use Rattle.text_block_renderer.specs.Acts.{Act, after_act, acts_brought, IsBetweenRuns}
 use Rattle.text_block_renderer.specs.Taken.{StandWithin, text_before, written, NothingOverhangs}
 use Rattle.text_block_renderer.proofs.TakenLines.{all_within}
 use Rattle.text_block_renderer.proofs.VisibleCharacters.{all_handed_out}
@@ -27,7 +27,7 @@ use Rattle.tbr_runner.proofs.RenderedLines.{line_command}
 use Rattle.tbr_runner.proofs.StackCalls.{lines_step, lines_end}
 use Rattle.text_block_renderer.proofs.LinkNumbers.{targets_come}
 use Rattle.text_block_renderer.proofs.ActParts.{acts_along}
-use Rattle.text_block_renderer.proofs.ActSteps.{one_act}
+use Rattle.tbr_renderer.proofs.OutcomeParts.{run_last}
 use Rattle.tbr_renderer.specs.declared.RenderOptions.{RenderOptions}
 use Rattle.tbr_commands.specs.declared.opening.Opening.{Opening}
 use Rattle.tbr_program.specs.Commands.{started}
@@ -53,10 +53,10 @@ module _ {D M : Type 0} (columns : ℕ → Option ℕ) (decoration : Decoration 
   abbrev Unpadded : Renderer D M (List M) → Type 0
   Unpadded r = IsLed columns decoration r × (r.options.pad_block_width ≡ false)
 
-  unpadded_on : (act : Act (List M)) (r s : Renderer D M (List M)) → after_act columns decoration act r ≡ done s → Unpadded r → Unpadded s
-  unpadded_on act r s does k =
-      let along = acts_along columns decoration (act ∷ []) r s (act_brought columns decoration act r) (led_sound columns decoration r k.0) (one_act columns decoration act r s does) in
-      (led_on columns decoration act r s does k.0, ap (λ (o : RenderOptions). o.pad_block_width) along.options ∙ k.1)
+  unpadded_on : (act : Act M) (r s : Renderer D M (List M)) → IsBetweenRuns columns decoration act r → after_act columns decoration act r ≡ done s → Unpadded r → Unpadded s
+  unpadded_on act r s between does k =
+      let along = acts_along columns decoration (act ∷ []) r s (led_sound columns decoration r k.0) (run_last (after_act columns decoration) act r s does) in
+      (led_on columns decoration act r s between does k.0, ap (λ (o : RenderOptions). o.pad_block_width) along.options ∙ k.1)
 
   unpadded_inside : (width : ℕ) (r : Renderer D M (List M)) → 0 < width → Unpadded r → Unpadded (sub_renderer decoration width r)
   unpadded_inside width r wide k = (inside_led columns decoration width r wide k.0, k.1)
@@ -116,14 +116,14 @@ module _ {D M : Type 0} (columns : ℕ → Option ℕ) (decoration : Decoration 
       let es = acts_brought columns decoration led.acts led.first in
       let end = lines_end columns decoration p number lines bytes gives in
       let there = end.there in
-      let still : HasStill columns decoration led.first es r = record { acts = led.acts; more = []; bring = (led.leads, append-nil es) } in
+      let still : HasStill columns decoration led.first es r = record { acts = led.acts; more = []; bring = (led.leads, append-nil es); between = led.between } in
       let (kept, has) = lines_keep led.first es number lines p there keeps at end.lead (inl (first_has columns decoration led.first es p.stack.levels r is_top still)) in
       let (top, is, closed_is, none_open, none_wait) = at_end columns decoration end.last there bytes end.ends in
       let led_there = led_of there kept.renderers in
       let led_last = of_first columns decoration there.stack.levels top is led_there.on_stack in
       let (of, gives_it) = closed_led columns decoration there.stack.links top bytes led_last closed_is in
       let gave = gives_on columns decoration led.first es top _ led_last.live ((at lines [] there (sym (append-nil lines)) end.lead).1 tt top is) gives_it (only_one columns decoration led.first es there.stack.levels top is (omega (arith, kept.levels, ap length none_open)) (only_on_stack columns decoration led.first es there none_open none_wait has)) in
-      let origin : IsLed columns decoration gave.origin = record { first = led.first; fresh = led.fresh; sound = led.sound; acts = gave.still.acts; leads = gave.still.bring.0; live = gave.live } in
+      let origin : IsLed columns decoration gave.origin = record { first = led.first; fresh = led.fresh; sound = led.sound; acts = gave.still.acts; leads = gave.still.bring.0; between = gave.still.between; live = gave.live } in
       let shows = subst (Shows columns gave.origin) (sym gave.still.bring.1) (led_shows columns decoration gave.origin origin unpadded) in
       let steps = lines_step columns decoration number lines end.commands p there end.ask end.lead in
       let same = targets_come columns decoration (stack_calls end.commands) p.stack there.stack steps in

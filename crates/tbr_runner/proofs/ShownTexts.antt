@@ -23,7 +23,7 @@ module _ {D M : Type 0} (columns : ℕ → Option ℕ) (decoration : Decoration 
   pub led_shows : (r : Top) (led : IsLed columns decoration r) → led.first.options.pad_block_width ≡ false → Shows columns r (acts_brought columns decoration led.acts led.first)
   led_shows r led unpadded =
       let none : Shows columns (emptied led.first) [] = record { ended = []; shown = tt; whole = refl } in
-      acts_show columns decoration led.acts led.first r [] (acts_brought columns decoration led.acts led.first) led.sound unpadded (led.leads, refl)
+      acts_show columns decoration led.acts led.first r [] (acts_brought columns decoration led.acts led.first) led.sound unpadded led.between (led.leads, refl)
       (subst (λ (q : Top). Shows columns q []) (is_emptied led.first led.fresh) none)
 
   pub led_stands : (r : Top) (led : IsLed columns decoration r) → led.first.options.pad_block_width ≡ false → Stands columns r (acts_brought columns decoration led.acts led.first)
@@ -31,5 +31,5 @@ module _ {D M : Type 0} (columns : ℕ → Option ℕ) (decoration : Decoration 
       let n : Stands {D = D} {A = M} columns _ [] = new_stands columns led.first.width led.first.options led.first.decorator in
       let none : Stands columns (emptied led.first) [] =
       record { ended = n.ended; whole = n.whole; order = n.order; markers = n.markers; waits = n.waits; kept = n.kept; waits_kept = n.waits_kept } in
-      acts_stand columns decoration led.acts led.first r [] (acts_brought columns decoration led.acts led.first) led.sound unpadded (led.leads, refl)
+      acts_stand columns decoration led.acts led.first r [] (acts_brought columns decoration led.acts led.first) led.sound unpadded led.between (led.leads, refl)
       (subst (λ (q : Top). Stands columns q []) (is_emptied led.first led.fresh) none)

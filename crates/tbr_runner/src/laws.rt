@@ -35,8 +35,8 @@ pub fn a_line_is_read_as_the_command_that_it_is()
 /// Calls and rows lead to each renderer that a script fills, also to those of cells that wait, from a sound one to
 /// which nothing had come: first to the script's own, and then after each line. The script's text is that of such a
 /// one's lines, without an open run, and then of the footnotes of all its links, in their order. So the laws of lists
-/// of calls and rows hold of it: the first promise, and where lines aren't padded, that its lines show the visible
-/// characters and the markers of all that came to it, once and in order.
+/// of calls and rows hold of it, also with its footnotes: the first promise, and where lines aren't padded, that its
+/// lines show the visible characters and the markers of all that came to it, once and in order.
 pub fn the_renderers_of_a_script_are_led_to<D, M>()
     ensures first { (columns : ℕ → Option ℕ) (decoration : Decoration D M) → columns 32 ≡ Some 1 →
         (opening : Opening) (decorator : D) → 0 < opening.width → opening.options.wrap_width ≢ Some 0 →
@@ -52,8 +52,7 @@ pub fn the_renderers_of_a_script_are_led_to<D, M>()
         rendered columns script ≡ Ok text → (commands : List Command)
         × AskAfterFirst (lines_of script) commands × IsTextOfScript columns (link_targets commands) text }
     ensures headline { (columns : ℕ → Option ℕ) (decoration : Decoration D M) (r : Renderer D M (List M)) →
-        (led : IsLed columns decoration r) →
-        Headline columns decoration led.acts led.first (acts_brought columns decoration led.acts led.first) r }
+        (led : IsLed columns decoration r) → Headline columns decoration led.acts led.first r }
     ensures shows { (columns : ℕ → Option ℕ) (decoration : Decoration D M) (r : Renderer D M (List M)) →
         (led : IsLed columns decoration r) → led.first.options.pad_block_width ≡ false →
         Shows columns r (acts_brought columns decoration led.acts led.first) }

@@ -1,4 +1,4 @@
--- What calls and rows add to the lines, piece by piece.
+-- What calls, rows and footnotes add to the lines, piece by piece.
 use Rattle.std.proofs.Common.{◌≡◌, ℕ, Bool, Option, Some, None, List, [], ◌∷◌, ◌++◌, map, flat_map, fold, refl, ap, sym, ◌∙◌, subst, append_assoc, append-nil}
 use Rattle.std.specs.List.{AllZip}
 use Rattle.std.proofs.lemmas.List.{map-append}
@@ -9,10 +9,12 @@ use Rattle.tbr_model.proofs.lists.Each.{each_append}
 use Rattle.tbr_border.specs.Border.{Border}
 use Rattle.tbr_rows.specs.Meant.{SeenRow}
 use Rattle.tbr_rows.specs.declared.LineSet.{LineSet as Cell}
+use Rattle.tbr_decor.specs.Change as change
 use Rattle.tbr_decor.specs.Decoration.{Decoration}
 use Rattle.tbr_renderer.specs.declared.options.RenderOptions.{RenderOptions}
 use Rattle.tbr_kept_lines.specs.Line.{Line}
 use Rattle.tbr_renderer.specs.Renderer.{Open, Renderer, Settings, settings_of, with_line, open_run, IsSound}
+use Rattle.tbr_renderer.specs.Footnotes.{listed, footnote_lines}
 use Rattle.tbr_renderer.specs.Rows.{GivenCell, border_lines, with_next, with_row, PutsRow}
 use Rattle.tbr_kept_lines.specs.LastBorder.{before_border}
 use Rattle.tbr_renderer.specs.Appended.{border_line}
@@ -21,14 +23,14 @@ use Rattle.tbr_tagged.specs.Outcome.{Outcome, done, refused}
 use Rattle.tbr_renderer.specs.Outcomes.{and_then, told_by}
 use Rattle.tbr_renderer.proofs.OutcomeParts.{one_done, done_first}
 use Rattle.tbr_renderer.proofs.SettingsStay.{Steady, lines_added}
-use Rattle.text_block_renderer.specs.Added.{Added, row_put, flush_ends, call_adds, calls_add}
+use Rattle.text_block_renderer.specs.Added.{Added, text_laid, row_put, flush_ends, call_adds, calls_add}
 use Rattle.text_block_renderer.specs.Stretches.{Part, ended, laid, ruled, lines_laid, IsPart, ComesInParts}
-use Rattle.text_block_renderer.specs.Acts.{Act, call, row, rows_of, after_act, act_brought, ActsBring, Piece, part, put, cells_in, rows_in, border_lines_of, lines_of_piece, entries_of_piece, added_of_piece, act_adds, acts_add, IsPiece, StaysLine, ComesInPieces}
+use Rattle.text_block_renderer.specs.Acts.{Act, call, row, fmt_links, finalise, rows_of, beside_footnotes, after_act, act_brought, act_enters, acts_enter, Piece, part, put, noted, cells_in, rows_in, border_lines_of, lines_of_piece, entries_of_piece, added_of_piece, act_adds, acts_add, IsPiece, StaysLine, ComesInPieces}
 use Rattle.text_block_renderer.proofs.Moves.{any, Frame, frame, frame_of_lines, sound_alike, flushed_none, path_width, path_options, path_hanging}
 use Rattle.text_block_renderer.proofs.CallMoves.{calls_move}
 use Rattle.text_block_renderer.proofs.LineParts.{brings_parts}
 use Rattle.text_block_renderer.proofs.LaidTexts.{laid_lines}
-use Rattle.text_block_renderer.proofs.ActSteps.{told_then, ActStep, after_acts, brought_by, act_step, brought_then}
+use Rattle.text_block_renderer.proofs.ActSteps.{told_then, ActStep, after_acts, act_step}
 use Rattle.text_block_renderer.proofs.RowsOfCells.{row_flushes, row_closed}
 use Rattle.text_block_renderer.proofs.LastingLines.{all_stay, stay_on, stay_append, top_put_back}
 use Rattle.tbr_rows.proofs.Among.{each_gives}
@@ -40,6 +42,7 @@ module _ {D A : Type 0} (columns : ℕ → Option ℕ) where
   rows_append [] qs = refl
   rows_append (part p ∷ ps) qs = rows_append ps qs
   rows_append (put p ∷ ps) qs = ap (λ rows. p ∷ rows) (rows_append ps qs)
+  rows_append (noted r is ∷ ps) qs = rows_append ps qs
 
   no_rows : (ps : List (Part D A)) → rows_in {columns = columns} (map (λ p. part p) ps) ≡ []
   no_rows [] = refl
@@ -63,6 +66,7 @@ module _ {D A : Type 0} (columns : ℕ → Option ℕ) where
   piece_of_other : (r q : Renderer D A (List A)) → q.width ≡ r.width → q.options ≡ r.options → (p : Piece D A columns) → IsPiece columns q p → IsPiece columns r p
   piece_of_other r q width options (part p) h = part_of_other r q width options p h
   piece_of_other r q width options (put p) h = record { width = h.width ∙ width; options = h.options ∙ options; block = h.block }
+  piece_of_other r q width options (noted t is) h = (h.0 ∙ width, h.1 ∙ options)
 
   -- and then others
   come_on : (xs ys : List (List (GivenCell (List A)))) (r q s : Renderer D A (List A)) (es fs : List (Entry (List A))) → q.width ≡ r.width → q.options ≡ r.options → ComesInPieces columns xs r es q → ComesInPieces columns ys q fs s →
@@ -147,9 +151,11 @@ module _ {D A : Type 0} (columns : ℕ → Option ℕ) where
         let first = entries_brought columns decoration c r in
         (ap (λ o. and_then o (λ t. done t)) does, is ∙ sym (append-nil first) ∙ ap (λ o. first ++ told_by (λ t. []) o) (sym does))
 
-    rows_one : (act : Act (List A)) (acts : List (Act (List A))) → rows_of (act ∷ acts) ≡ rows_of (act ∷ []) ++ rows_of acts
+    rows_one : (act : Act A) (acts : List (Act A)) → rows_of (act ∷ acts) ≡ rows_of (act ∷ []) ++ rows_of acts
     rows_one (call c) acts = refl
     rows_one (row collapses cells) acts = refl
+    rows_one (fmt_links links) acts = refl
+    rows_one (finalise targets) acts = refl
 
     -- What came in pieces, to a renderer that is the same but for what calls and rows may change.
     pub record Along (xs : List (List (GivenCell (List A)))) (rs : List (Added D A)) (r : Renderer D A (List A)) (es : List (Entry (List A))) (s : Renderer D A (List A)) : Type 0 where
@@ -205,8 +211,35 @@ module _ {D A : Type 0} (columns : ℕ → Option ℕ) where
           chain = (refl, refl, ap (λ (f : Frame A). f.hanging) same);
         }
 
-    act_along : (act : Act (List A)) (r s : Renderer D A (List A)) (es : List (Entry (List A))) → IsSound columns r → ActStep columns decoration act r es s → Along (rows_of (act ∷ [])) (act_adds columns decoration act r) r es s
+    -- one that adds nothing, whatever it makes of the decorator
+    asked_along : (d : D) (r : Renderer D A (List A)) → Along [] [] r [] (record r { decorator = d })
+    asked_along d r = record {
+      width = refl;
+      options = refl;
+      came = record { pieces = []; are = tt; lines = subst (λ ls. AllZip StaysLine ls r.lines) (sym (append-nil r.lines)) (all_stay r.lines); entries = append-nil (open_run r.block); put_rows = refl };
+      added = refl;
+      chain = refl;
+    }
+
+    -- footnotes' lines
+    noted_along : (ts : List (List (Item (List A)))) (r : Renderer D A (List A)) → Along [] (map text_laid ts) r [] (fold (with_line columns) r ts)
+    noted_along [] r = asked_along r.decorator r
+    noted_along (t ∷ ts) r =
+        let q : Renderer D A (List A) = with_line columns r t in
+        let one : Along [] (text_laid t ∷ []) r [] q = record {
+          width = refl;
+          options = refl;
+          came = record { pieces = noted r t ∷ []; are = ((refl, refl), tt); lines = all_stay q.lines; entries = append-nil (open_run r.block); put_rows = refl };
+          added = refl;
+          chain = refl;
+        } in
+        along_on [] [] (text_laid t ∷ []) (map text_laid ts) r q (fold (with_line columns) q ts) [] [] one (noted_along ts q)
+
+    act_along : (act : Act A) (r s : Renderer D A (List A)) (es : List (Entry (List A))) → IsSound columns r → ActStep columns decoration act r es s → Along (rows_of (act ∷ [])) (act_adds columns decoration act r) r (beside_footnotes act es) s
     act_along (call c) r s es sound h = call_along c r s es sound (alone c r s es h.0 h.1)
+    act_along (fmt_links links) r s es sound h = subst (λ (q : Renderer D A (List A)). Along [] (act_adds columns decoration (fmt_links links) r) r [] q) (sym h.0) (noted_along (flat_map (footnote_lines columns r) links) r)
+    act_along (finalise targets) r s es sound h =
+        subst (λ fs. Along [] [] r fs s) (sym h.1) (subst (λ (q : Renderer D A (List A)). Along [] [] r [] q) (sym h.0) (asked_along (decoration.after r.decorator (change.finalise (listed r.options targets))) r))
     act_along (row collapses cells) r s es sound h =
         let (m, flushed, puts, is) = h in
         let first = call_along new_line r m [] sound (alone new_line r m [] flushed refl) in
@@ -215,29 +248,19 @@ module _ {D A : Type 0} (columns : ℕ → Option ℕ) where
         let puts_it : List (Added D A) = row_put collapses cells ∷ [] in
         subst (λ fs. Along (cells ∷ []) (flush_ends r ++ puts_it) r fs s) (sym is) (along_on [] (cells ∷ []) (flush_ends r) puts_it r m s [] (laid_entries (joined puts.row.lines)) first second)
 
-    all_along : (acts : List (Act (List A))) (r s : Renderer D A (List A)) → IsSound columns r → after_acts columns decoration acts r ≡ done s → Along (rows_of acts) (acts_add columns decoration acts r) r (brought_by columns decoration acts r) s
-    all_along [] r s sound h =
-        subst (λ (q : Renderer D A (List A)). Along [] [] r [] q) (sym (one_done r s h)) (record {
-          width = refl;
-          options = refl;
-          came = record { pieces = []; are = tt; lines = subst (λ ls. AllZip StaysLine ls r.lines) (sym (append-nil r.lines)) (all_stay r.lines); entries = append-nil (open_run r.block); put_rows = refl };
-          added = refl;
-          chain = refl;
-        })
-    all_along (act ∷ acts) r s sound h =
+    pub acts_along : (acts : List (Act A)) (r s : Renderer D A (List A)) → IsSound columns r → after_acts columns decoration acts r ≡ done s → Along (rows_of acts) (acts_add columns decoration acts r) r (acts_enter columns decoration acts r) s
+    acts_along [] r s sound h = subst (λ (q : Renderer D A (List A)). Along [] [] r [] q) (sym (one_done r s h)) (asked_along r.decorator r)
+    acts_along (act ∷ acts) r s sound h =
         let (m, does, others) = done_first (after_act columns decoration act r) (after_acts columns decoration acts) s h in
-        let first = act_brought columns decoration act r in
-        let rest = brought_by columns decoration acts m in
-        let here = act_along act r m first sound (act_step columns decoration act r m does) in
+        let first = act_enters columns decoration act r in
+        let rest = acts_enter columns decoration acts m in
+        let here = act_along act r m (act_brought columns decoration act r) sound (act_step columns decoration act r m does) in
         let still = sound_alike columns r m here.width here.options sound in
         let adds = act_adds columns decoration act r in
         let later = acts_add columns decoration acts m in
-        subst (λ xs. Along (rows_of (act ∷ acts)) xs r (brought_by columns decoration (act ∷ acts) r) s) (sym (told_then (act_adds columns decoration) (after_act columns decoration) act acts r m does))
-        (subst (λ fs. Along (rows_of (act ∷ acts)) (adds ++ later) r fs s) (sym (brought_then columns decoration act acts r m does))
-        (subst (λ xs. Along xs (adds ++ later) r (first ++ rest) s) (sym (rows_one act acts)) (along_on (rows_of (act ∷ [])) (rows_of acts) adds later r m s first rest here (all_along acts m s still others))))
+        subst (λ xs. Along (rows_of (act ∷ acts)) xs r (acts_enter columns decoration (act ∷ acts) r) s) (sym (told_then (act_adds columns decoration) (after_act columns decoration) act acts r m does))
+        (subst (λ fs. Along (rows_of (act ∷ acts)) (adds ++ later) r fs s) (sym (told_then (act_enters columns decoration) (after_act columns decoration) act acts r m does))
+        (subst (λ xs. Along xs (adds ++ later) r (first ++ rest) s) (sym (rows_one act acts)) (along_on (rows_of (act ∷ [])) (rows_of acts) adds later r m s first rest here (acts_along acts m s still others))))
 
-    pub acts_along : (acts : List (Act (List A))) (r s : Renderer D A (List A)) (es : List (Entry (List A))) → IsSound columns r → ActsBring columns decoration acts r es s → Along (rows_of acts) (acts_add columns decoration acts r) r es s
-    acts_along acts r s es sound h = subst (λ fs. Along (rows_of acts) (acts_add columns decoration acts r) r fs s) (sym h.1) (all_along acts r s sound h.0)
-
-    pub act_sound : (act : Act (List A)) (r s : Renderer D A (List A)) (es : List (Entry (List A))) → IsSound columns r → ActStep columns decoration act r es s → (s.options ≡ r.options) × IsSound columns s
+    pub act_sound : (act : Act A) (r s : Renderer D A (List A)) (es : List (Entry (List A))) → IsSound columns r → ActStep columns decoration act r es s → (s.options ≡ r.options) × IsSound columns s
     act_sound act r s es sound h = let along = act_along act r s es sound h in (along.options, sound_alike columns r s along.width along.options sound)

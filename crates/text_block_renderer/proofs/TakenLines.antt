@@ -17,16 +17,17 @@ use Rattle.tbr_rows.proofs.Among.{each_among}
 use Rattle.tbr_rows.proofs.CellsSeated.{among_seated}
 use Rattle.tbr_kept_lines.specs.Line.{Line, text, border}
 use Rattle.tbr_renderer.specs.Flush.{after_flush}
+use Rattle.tbr_renderer.specs.Footnotes.{footnote_lines}
 use Rattle.tbr_renderer.specs.Renderer.{Open, Renderer, open_run, IsSound}
 use Rattle.tbr_renderer.specs.Appended.{border_of_cells, with_border, as_text, prefixed, with_divider, with_cell, with_cell_below, with_cells, handed_out}
 use Rattle.tbr_renderer.specs.Calls.{Call, append_subrender, append_vert_row, Does, text_of_lines}
 use Rattle.tbr_tagged.specs.Outcome.{done, if_live}
 use Rattle.tbr_renderer.proofs.CallParts.{handed_then}
-use Rattle.text_block_renderer.specs.Acts.{Act, call, row, rows_of}
+use Rattle.text_block_renderer.specs.Acts.{Act, call, row, fmt_links, finalise, rows_of}
 use Rattle.text_block_renderer.proofs.ActSteps.{ActStep, ActSteps, steps}
 use Rattle.text_block_renderer.proofs.ActParts.{alone}
 use Rattle.text_block_renderer.proofs.RowsOfCells.{row_flushes}
-use Rattle.text_block_renderer.proofs.Moves.{any, flush, flushed_none, Frame, flush_frame, path_hanging}
+use Rattle.text_block_renderer.proofs.Moves.{any, flush, flushed_none, Frame, frame_of_lines, flush_frame, path_hanging}
 use Rattle.text_block_renderer.proofs.CallMoves.{calls_move}
 use Rattle.text_block_renderer.proofs.VerticalRows.{cells_after}
 use Rattle.text_block_renderer.specs.MarkersStand.{Stands}
@@ -156,8 +157,10 @@ module _ {D A : Type 0} (columns : ℕ → Option ℕ) where
     flush_adds : (r m : Renderer D A (List A)) → if_live r.failure (after_flush columns r) ≡ done m → MoreText r m
     flush_adds r m flushed = more_text r m (moves_grow columns (flush r ∷ []) r m (m, (refl, row_flushes columns r m flushed), refl))
 
-    act_adds : (act : Act (List A)) (r s : Renderer D A (List A)) (es : List (Entry (List A))) → ActStep columns decoration act r es s → MoreText r s
+    act_adds : (act : Act A) (r s : Renderer D A (List A)) (es : List (Entry (List A))) → ActStep columns decoration act r es s → MoreText r s
     act_adds (call c) r s es h = more_text r s (steps_grow columns decoration (c ∷ []) r s (alone columns decoration c r s es h.0 h.1).0)
+    act_adds (fmt_links links) r s es h = more_text r s (subst (λ (q : Renderer D A (List A)). Grows r q) (sym h.0) (lines_grow columns (flat_map (footnote_lines columns r) links) r))
+    act_adds (finalise targets) r s es h = more_text r s ([], ap (λ (q : Renderer D A (List A)). q.lines) h.0 ∙ sym (append-nil r.lines))
     act_adds (row collapses cells) r s es (m, flushed, puts, is) =
         let first = flush_adds r m flushed in
         let (more, are, shows) = row_adds columns collapses cells m s puts in
@@ -168,10 +171,13 @@ module _ {D A : Type 0} (columns : ℕ → Option ℕ) where
     follows_on us n rows r s fits more same (inl h) = inl (more_within us r s more h)
     follows_on us n rows r s fits more same (inr (c, hangs, some, few, h)) = inr (c, subst (StandsAmong c) (sym same) hangs, some, omega (arith, few, fits), still_more us r s (items_in c.lines) more h)
 
-    act_follows : (us : List (Item (List A))) (act : Act (List A)) (n rows : ℕ) (r s : Renderer D A (List A)) (es : List (Entry (List A))) → n ≤ length (rows_of (act ∷ [])) + rows → ActStep columns decoration act r es s → Follows columns us n r → Follows columns us rows s
+    act_follows : (us : List (Item (List A))) (act : Act A) (n rows : ℕ) (r s : Renderer D A (List A)) (es : List (Entry (List A))) → n ≤ length (rows_of (act ∷ [])) + rows → ActStep columns decoration act r es s → Follows columns us n r → Follows columns us rows s
     act_follows us (call c) n rows r s es fits h k =
         let path = calls_move columns any decoration (c ∷ []) r s es tt (alone columns decoration c r s es h.0 h.1) in
         follows_on us n rows r s (omega (arith, fits)) (act_adds (call c) r s es h) (path_hanging columns any r s es _ path) k
+    act_follows us (fmt_links links) n rows r s es fits h k =
+        follows_on us n rows r s (omega (arith, fits)) (act_adds (fmt_links links) r s es h) (ap (λ (q : Renderer D A (List A)). q.hanging) h.0 ∙ ap (λ (f : Frame A). f.hanging) (frame_of_lines columns (flat_map (footnote_lines columns r) links) r)) k
+    act_follows us (finalise targets) n rows r s es fits h k = follows_on us n rows r s (omega (arith, fits)) (act_adds (finalise targets) r s es h) (ap (λ (q : Renderer D A (List A)). q.hanging) h.0) k
     act_follows us (row collapses cells) n rows r s es fits h (inl k) = inl (more_within us r s (act_adds (row collapses cells) r s es h) k)
     act_follows us (row collapses cells) n rows r s es fits (m, flushed, puts, is) (inr (c, hangs, some, few, k)) =
         let same : m.hanging ≡ r.hanging = ap (λ (f : Frame A). f.hanging) (flush_frame columns r m r.block (row_flushes columns r m flushed)) in
@@ -179,19 +185,22 @@ module _ {D A : Type 0} (columns : ℕ → Option ℕ) where
         row_follows columns collapses cells m s puts us rows c seated (omega (arith, few, fits)) (still_more us r m (items_in c.lines) (flush_adds r m flushed) k)
 
     -- through calls and rows
-    acts_follow : (us : List (Item (List A))) (acts : List (Act (List A))) (n rows : ℕ) (r s : Renderer D A (List A)) (es : List (Entry (List A))) → n ≤ length (rows_of acts) + rows → ActSteps columns decoration acts r es s → Follows columns us n r → Follows columns us rows s
+    acts_follow : (us : List (Item (List A))) (acts : List (Act A)) (n rows : ℕ) (r s : Renderer D A (List A)) (es : List (Entry (List A))) → n ≤ length (rows_of acts) + rows → ActSteps columns decoration acts r es s → Follows columns us n r → Follows columns us rows s
     acts_follow us [] n rows r s es fits h k = subst (λ (q : Renderer D A (List A)). Follows columns us rows q) (sym h.0) (follows_on us n rows r r (omega (arith, fits)) ([], sym (append-nil (written r.lines))) refl k)
     acts_follow us (call c ∷ acts) n rows r s es fits (m, first, rest, does, others, is) k = acts_follow us acts n rows m s rest fits others (act_follows us (call c) n n r m first (omega arith) does k)
+    acts_follow us (fmt_links links ∷ acts) n rows r s es fits (m, first, rest, does, others, is) k = acts_follow us acts n rows m s rest fits others (act_follows us (fmt_links links) n n r m first (omega arith) does k)
+    acts_follow us (finalise targets ∷ acts) n rows r s es fits (m, first, rest, does, others, is) k = acts_follow us acts n rows m s rest fits others (act_follows us (finalise targets) n n r m first (omega arith) does k)
     acts_follow us (row collapses cells ∷ acts) n rows r s es fits (m, first, rest, does, others, is) k =
         acts_follow us acts (length (rows_of acts) + rows) rows m s rest (omega arith) others (act_follows us (row collapses cells) n (length (rows_of acts) + rows) r m first (omega (arith, fits)) does k)
 
-    act_within : (act : Act (List A)) (span rows : ℕ) (r s : Renderer D A (List A)) (es : List (Entry (List A))) (lines : List (Line (List A))) → Takes span lines act → span ≤ suc rows → ActStep columns decoration act r es s → Follows columns (seen columns lines) rows s
+    act_within : (act : Act A) (span rows : ℕ) (r s : Renderer D A (List A)) (es : List (Entry (List A))) (lines : List (Line (List A))) → Takes span lines act → span ≤ suc rows → ActStep columns decoration act r es s → Follows columns (seen columns lines) rows s
     act_within (call c) span rows r s es lines t few h = inl (taken_within c r s lines t h.0)
     act_within (row collapses cells) span rows r s es lines (cell, among, spans, is) few (m, flushed, puts, brings) =
         subst (λ (ls : List (Line (List A))). Follows columns (seen columns ls) rows s) is (cell_follows columns collapses cells m s puts rows cell among (omega (arith, spans, few)))
+    act_within other span rows r s es lines t few h = elim t [ ]
 
     -- where the rows of its span come, or nothing overhangs in the end, all of it stands
-    followed : (us : List (Item (List A))) (span : ℕ) (after : List (Act (List A))) (m s : Renderer D A (List A)) (es : List (Entry (List A))) → ActSteps columns decoration after m es s → ((rows : ℕ) → span ≤ suc rows → Follows columns us rows m) → (span ≤ 1 + length (rows_of after)) ⊎ NothingOverhangs s →
+    followed : (us : List (Item (List A))) (span : ℕ) (after : List (Act A)) (m s : Renderer D A (List A)) (es : List (Entry (List A))) → ActSteps columns decoration after m es s → ((rows : ℕ) → span ≤ suc rows → Follows columns us rows m) → (span ≤ 1 + length (rows_of after)) ⊎ NothingOverhangs s →
         StandWithin us (seen columns s.lines)
     followed us span after m s es h from (inl few) =
         elim (acts_follow us after (length (rows_of after)) 0 m s es (omega arith) h (from (length (rows_of after)) (omega (arith, few)))) [ inl k ↦ k | inr k ↦ absurd (let (c, hangs, some, none, within) = k in omega (arith, some, none)) ]
@@ -202,7 +211,7 @@ module _ {D A : Type 0} (columns : ℕ → Option ℕ) where
               subst (λ js. StandWithin us (to_show columns js)) (ap (λ ls. written s.lines ++ items_in ls) (each_among (λ (d : Overhanging (List A)). d.lines ≡ []) c s.hanging hangs none) ∙ append-nil (written s.lines)) within
         ]
 
-    steps_within : (before : List (Act (List A))) (act : Act (List A)) (after : List (Act (List A))) (r s : Renderer D A (List A)) (es : List (Entry (List A))) (span : ℕ) (lines : List (Line (List A))) → Takes span lines act → (span ≤ 1 + length (rows_of after)) ⊎ NothingOverhangs s →
+    steps_within : (before : List (Act A)) (act : Act A) (after : List (Act A)) (r s : Renderer D A (List A)) (es : List (Entry (List A))) (span : ℕ) (lines : List (Line (List A))) → Takes span lines act → (span ≤ 1 + length (rows_of after)) ⊎ NothingOverhangs s →
         ActSteps columns decoration (before ++ act ∷ after) r es s → StandWithin (seen columns lines) (seen columns s.lines)
     steps_within [] act after r s es span lines t come (m, first, rest, does, others, is) = followed (seen columns lines) span after m s rest others (λ rows few. act_within act span rows r m first lines t few does) come
     steps_within (d ∷ before) act after r s es span lines t come (m, first, rest, does, others, is) = steps_within before act after m s rest span lines t come others

@@ -108,6 +108,7 @@ module _ {D A : Type 0} (columns : ℕ → Option ℕ) (one : columns 32 ≡ Som
     call_fits (append_vert_row cells) r wide h = flushed_fits (λ m. with_divider columns horizontal (with_cells columns m cells)) r wide h
     call_fits other r wide h = cc
 
-    pub act_fits : (act : Act (List A)) (r : Renderer D A (List A)) → 2 ≤ block_width r → ActIsTooNarrow columns decoration act r → ⊥
+    pub act_fits : (act : Act A) (r : Renderer D A (List A)) → 2 ≤ block_width r → ActIsTooNarrow columns decoration act r → ⊥
     act_fits (call c) r wide h = call_fits c r wide h
     act_fits (row collapses cells) r wide h = flush_fits r wide h
+    act_fits other r wide h = elim h [ ]

@@ -1,5 +1,5 @@
 -- Markers that wait, until a line of text comes by a call or a row.
-use Rattle.std.proofs.Common.{◌≡◌, ℕ, inl, false, Option, Some, None, List, [], ◌∷◌, ◌++◌, fold, refl, ap, sym, ◌∙◌, subst, append_assoc, append-nil}
+use Rattle.std.proofs.Common.{◌≡◌, ℕ, inl, false, Option, Some, None, List, [], ◌∷◌, ◌++◌, flat_map, fold, refl, ap, sym, ◌∙◌, subst, append_assoc, append-nil}
 use Rattle.std.specs.List.{AllZip}
 use Rattle.tbr_model.specs.Run.{Entry}
 use Rattle.tbr_border.specs.Border.{Border}
@@ -11,10 +11,11 @@ use Rattle.tbr_tagged.proofs.Outcomes.{live_done}
 use Rattle.tbr_renderer.specs.declared.options.RenderOptions.{RenderOptions}
 use Rattle.tbr_renderer.specs.Renderer.{Renderer, with_line, IsSound}
 use Rattle.tbr_renderer.specs.Flush.{after_flush}
+use Rattle.tbr_renderer.specs.Footnotes.{footnote_lines, with_footnotes}
 use Rattle.tbr_renderer.specs.Rows.{border_lines, with_next, with_row}
 use Rattle.tbr_renderer.specs.Calls.{new_line}
 use Rattle.tbr_renderer.proofs.SettingsStay.{Steady, lines_added, flushed_alike}
-use Rattle.text_block_renderer.specs.Acts.{Act, call, row, ActsBring, StaysLine}
+use Rattle.text_block_renderer.specs.Acts.{Act, call, row, fmt_links, finalise, ActsBring, StaysLine}
 use Rattle.text_block_renderer.specs.MarkersStand.{first_text, WaitForText, WaitForTextUnderRows}
 use Rattle.text_block_renderer.proofs.ActSteps.{ActStep, ActSteps, steps}
 use Rattle.text_block_renderer.proofs.LastingLines.{all_stay, stay_on, top_put_back}
@@ -86,8 +87,10 @@ module _ {D A : Type 0} (columns : ℕ → Option ℕ) where
       waits_on m top (with_row columns m seen) above (of_calls top (with_row columns m seen) (wait_on top full (with_row columns m seen) (lines_came columns seen.lines top) (below_waits full seen.next still)))
 
   module _ (decoration : Decoration D A) where
-    act_waits : (act : Act (List A)) (r s : Renderer D A (List A)) (es : List (Entry (List A))) → r.options.pad_block_width ≡ false → ActStep columns decoration act r es s → WaitForTextUnderRows r s
+    act_waits : (act : Act A) (r s : Renderer D A (List A)) (es : List (Entry (List A))) → r.options.pad_block_width ≡ false → ActStep columns decoration act r es s → WaitForTextUnderRows r s
     act_waits (call c) r s es unpadded h = of_calls r s (steps_wait_all columns decoration (c ∷ []) r s (inl unpadded) (alone columns decoration c r s es h.0 h.1).0)
+    act_waits (fmt_links links) r s es unpadded h = subst (λ (q : Renderer D A (List A)). WaitForTextUnderRows r q) (sym h.0) (of_calls r (with_footnotes columns r links) (lines_came columns (flat_map (footnote_lines columns r) links) r))
+    act_waits (finalise targets) r s es unpadded h = of_calls r s (same_wait r s (ap (λ (q : Renderer D A (List A)). q.lines) h.0) (ap (λ (q : Renderer D A (List A)). q.waiting) h.0))
     act_waits (row collapses cells) r s es unpadded h =
         let (m, flushed, puts, is) = h in
         let first = of_calls r m (steps_wait_all columns decoration (new_line ∷ []) r m (inl unpadded) (alone columns decoration new_line r m [] flushed refl).0) in
@@ -95,7 +98,7 @@ module _ {D A : Type 0} (columns : ℕ → Option ℕ) where
         let stay = subst (λ (o : Option (Border (List A))). AllZip StaysLine m.lines (before_border m.lines ++ border_lines o)) (sym puts.means.upper) (top_put_back collapses puts.means.cells m.lines) in
         waits_on r m s first (subst (λ (q : Renderer D A (List A)). WaitForTextUnderRows m q) (sym puts.is) (row_waits m puts.row stay still))
 
-    all_wait : (acts : List (Act (List A))) (r s : Renderer D A (List A)) (es : List (Entry (List A))) → IsSound columns r → r.options.pad_block_width ≡ false → ActSteps columns decoration acts r es s → WaitForTextUnderRows r s
+    all_wait : (acts : List (Act A)) (r s : Renderer D A (List A)) (es : List (Entry (List A))) → IsSound columns r → r.options.pad_block_width ≡ false → ActSteps columns decoration acts r es s → WaitForTextUnderRows r s
     all_wait [] r s es sound unpadded h = subst (λ (q : Renderer D A (List A)). WaitForTextUnderRows r q) (sym h.0) (of_calls r r (same_wait r r refl refl))
     all_wait (act ∷ acts) r s es sound unpadded h =
         let (m, first, rest, does, others, is) = h in
@@ -103,5 +106,5 @@ module _ {D A : Type 0} (columns : ℕ → Option ℕ) where
         let still : m.options.pad_block_width ≡ false = ap (λ (o : RenderOptions). o.pad_block_width) options ∙ unpadded in
         waits_on r m s (act_waits act r m first unpadded does) (all_wait acts m s rest sound_there still others)
 
-    pub acts_wait : (acts : List (Act (List A))) (r s : Renderer D A (List A)) (es : List (Entry (List A))) → IsSound columns r → r.options.pad_block_width ≡ false → ActsBring columns decoration acts r es s → WaitForTextUnderRows r s
+    pub acts_wait : (acts : List (Act A)) (r s : Renderer D A (List A)) (es : List (Entry (List A))) → IsSound columns r → r.options.pad_block_width ≡ false → ActsBring columns decoration acts r es s → WaitForTextUnderRows r s
     acts_wait acts r s es sound unpadded h = all_wait acts r s es sound unpadded (steps columns decoration acts r s es h)

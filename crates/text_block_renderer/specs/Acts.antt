@@ -1,42 +1,60 @@
--- Calls and rows of cells, one after another, and what they add to a renderer's lines.
-use Rattle.std.specs.Prelude.{◌≡◌, ℕ, Bool, Option, None, Some, List, [], ◌∷◌, ◌++◌, map, flat_map}
+-- Calls, rows of cells and footnotes, one after another, and what they add to a renderer's lines.
+use Rattle.std.specs.Prelude.{◌≡◌, ℕ, Bool, ⊤, Option, None, Some, List, [], ◌∷◌, ◌++◌, map, flat_map}
 use Rattle.std.specs.Cmp.Lexicographic.{pointwise}
 use Rattle.std.specs.List.{AllZip, AllByRecursion as Each}
-use Rattle.tbr_model.specs.Run.{Entry}
+use Rattle.tbr_model.specs.Run.{Entry, Item}
 use Rattle.tbr_model.specs.Layout.{joined}
 use Rattle.tbr_border.specs.Border.{Border}
+use Rattle.tbr_tagged.specs.Elements.{Element}
+use Rattle.tbr_decor.specs.Change as change
 use Rattle.tbr_decor.specs.Decoration.{Decoration}
 use Rattle.tbr_rows.specs.Meant.{SeenRow}
 use Rattle.tbr_rows.specs.Computed.{row_of}
 use Rattle.tbr_kept_lines.specs.LastBorder.{last_border}
 use Rattle.tbr_kept_lines.specs.Line.{Line, text, border}
 use Rattle.tbr_renderer.specs.Renderer.{Renderer, open_run}
-use Rattle.tbr_tagged.specs.Outcome.{Outcome, done, refused}
+use Rattle.tbr_tagged.specs.Outcome.{Outcome, done, refused, if_live}
 use Rattle.tbr_tagged.specs.declared.Error.TheVariants.{TooNarrow}
 use Rattle.tbr_renderer.specs.Outcomes.{run, told_by, told}
 use Rattle.tbr_renderer.specs.Flush.{after_flush}
 use Rattle.tbr_renderer.specs.Appended.{border_line}
+use Rattle.tbr_renderer.specs.Footnotes.{listed, footnote_lines, with_footnotes}
 use Rattle.tbr_renderer.specs.Rows.{GivenCell, style_in, cells_from, PutsRow, after_row}
 use Rattle.tbr_renderer.specs.Calls.{Call, made, after, entries_brought, laid_entries}
-use Rattle.text_block_renderer.specs.Added.{Added, row_put, flush_ends, call_adds}
+use Rattle.text_block_renderer.specs.Added.{Added, text_laid, row_put, flush_ends, call_adds}
 use Rattle.text_block_renderer.specs.Stretches.{Part, entries_of_part, added_of_part, lines_of_part, lines_laid, IsBetweenBlocks, IsPart}
 
--- What is done to a renderer: a call, or a row of cells side by side, with whether it collapses.
-pub data Act (T : Type 0) : Type 0 where
-  call : Call T → Act T
-  row : Bool → List (GivenCell T) → Act T
+-- What is done to a renderer: a call, or a row of cells side by side, with whether it collapses. Or footnotes come, or
+-- the decorator is asked for those of these targets.
+pub data Act (A : Type 0) : Type 0 where
+  call : Call (List A) → Act A
+  row : Bool → List (GivenCell (List A)) → Act A
+  fmt_links : List (List (Element A)) → Act A
+  finalise : List (List ℕ) → Act A
 
 -- the cells of the rows among these, row by row
-abbrev pub rows_of : {T : Type 0} → List (Act T) → List (List (GivenCell T))
+abbrev pub rows_of : {A : Type 0} → List (Act A) → List (List (GivenCell (List A)))
 rows_of [] = []
 rows_of (call c ∷ acts) = rows_of acts
 rows_of (row collapses cells ∷ acts) = cells ∷ rows_of acts
+rows_of (fmt_links links ∷ acts) = rows_of acts
+rows_of (finalise targets ∷ acts) = rows_of acts
+
+-- these entries, unless footnotes bring them
+abbrev pub beside_footnotes : {A : Type 0} → Act A → List (Entry (List A)) → List (Entry (List A))
+beside_footnotes (fmt_links links) es = []
+beside_footnotes other es = es
 
 module _ {D A : Type 0} (columns : ℕ → Option ℕ) (decoration : Decoration D A) where
   -- what one makes of a renderer
-  abbrev pub after_act : Act (List A) → Renderer D A (List A) → Outcome (Renderer D A (List A))
+  abbrev pub after_act : Act A → Renderer D A (List A) → Outcome (Renderer D A (List A))
   after_act (call c) r = after columns decoration c r
   after_act (row collapses cells) r = after_row (pointwise decoration.same) columns collapses cells r
+  after_act (fmt_links links) r = if_live r.failure (done (with_footnotes columns r links))
+  after_act (finalise targets) r =
+      if_live r.failure (done (record r {
+        decorator = decoration.after r.decorator (change.finalise (listed r.options targets));
+      }))
 
   -- a row of these cells, and nothing where a cell that overhangs has no place
   abbrev pub row_seen : Bool → List (GivenCell (List A)) → Renderer D A (List A) → Option (SeenRow (List A))
@@ -51,33 +69,55 @@ module _ {D A : Type 0} (columns : ℕ → Option ℕ) (decoration : Decoration 
   texts_of_row (Some seen) = laid_entries (joined seen.lines)
 
   -- The entries that one brings. A row comes after a flush, and brings its texts.
-  abbrev pub act_brought : Act (List A) → Renderer D A (List A) → List (Entry (List A))
+  abbrev pub act_brought : Act A → Renderer D A (List A) → List (Entry (List A))
   act_brought (call c) r = entries_brought columns decoration c r
   act_brought (row collapses cells) r =
       told_by (λ m. texts_of_row (row_seen collapses cells m)) (after_flush columns r)
+  act_brought (fmt_links links) r = laid_entries (joined (flat_map (footnote_lines columns r) links))
+  act_brought (finalise targets) r = []
 
   -- and those of acts, one after another
-  abbrev pub acts_brought : List (Act (List A)) → Renderer D A (List A) → List (Entry (List A))
+  abbrev pub acts_brought : List (Act A) → Renderer D A (List A) → List (Entry (List A))
   acts_brought acts r = told act_brought after_act acts r
 
   -- What acts leave, one after another, and the entries that they bring.
   abbrev pub ActsBring :
-      List (Act (List A)) → Renderer D A (List A) → List (Entry (List A)) → Renderer D A (List A) → Type 0
+      List (Act A) → Renderer D A (List A) → List (Entry (List A)) → Renderer D A (List A) → Type 0
   ActsBring acts r es s = (run after_act acts r ≡ done s) × (es ≡ acts_brought acts r)
 
+  -- The footnotes among them come where no block is open. Else their lines are before those of the open run.
+  abbrev pub IsBetweenRuns : Act A → Renderer D A (List A) → Type 0
+  IsBetweenRuns (fmt_links links) r = r.block ≡ None
+  IsBetweenRuns other r = ⊤
+
+  abbrev pub AreBetweenRuns : List (Act A) → Renderer D A (List A) → Type 0
+  AreBetweenRuns [] r = ⊤
+  AreBetweenRuns (act ∷ acts) r =
+      IsBetweenRuns act r × ((s : Renderer D A (List A)) → after_act act r ≡ done s → AreBetweenRuns acts s)
+
+  -- what calls and rows bring, and not footnotes
+  abbrev pub act_enters : Act A → Renderer D A (List A) → List (Entry (List A))
+  act_enters act r = beside_footnotes act (act_brought act r)
+
+  abbrev pub acts_enter : List (Act A) → Renderer D A (List A) → List (Entry (List A))
+  acts_enter acts r = told act_enters after_act acts r
+
   -- what one adds
-  abbrev pub act_adds : Act (List A) → Renderer D A (List A) → List (Added D A)
+  abbrev pub act_adds : Act A → Renderer D A (List A) → List (Added D A)
   act_adds (call c) r = call_adds columns decoration c r
   act_adds (row collapses cells) r = flush_ends r ++ row_put collapses cells ∷ []
+  act_adds (fmt_links links) r = map text_laid (flat_map (footnote_lines columns r) links)
+  act_adds (finalise targets) r = []
 
   -- and those of acts, one after another
-  abbrev pub acts_add : List (Act (List A)) → Renderer D A (List A) → List (Added D A)
+  abbrev pub acts_add : List (Act A) → Renderer D A (List A) → List (Added D A)
   acts_add acts r = told act_adds after_act acts r
 
   -- where one answers `TooNarrow` for its own wrapping
-  abbrev pub ActIsTooNarrow : Act (List A) → Renderer D A (List A) → Type 0
+  abbrev pub ActIsTooNarrow : Act A → Renderer D A (List A) → Type 0
   ActIsTooNarrow (call c) r = made columns decoration c r ≡ refused TooNarrow
   ActIsTooNarrow (row collapses cells) r = after_flush columns r ≡ refused TooNarrow
+  ActIsTooNarrow other r = ⊥
 
 -- ---- what adds lines
 
@@ -89,10 +129,11 @@ pub record PutRow (D A : Type 0) (columns : ℕ → Option ℕ) : Type 0 where
   pub cells : List (GivenCell (List A))
   pub puts : PutsRow columns collapses cells before after
 
--- What adds lines: a part as calls have it, or a row.
+-- What adds lines: a part as calls have it, a row, or a footnote's line, with the renderer at that moment.
 pub data Piece (D A : Type 0) (columns : ℕ → Option ℕ) : Type 0 where
   part : Part D A → Piece D A columns
   put : PutRow D A columns → Piece D A columns
+  noted : Renderer D A (List A) → List (Item (List A)) → Piece D A columns
 
 module _ {D A : Type 0} {columns : ℕ → Option ℕ} where
   abbrev pub cells_in : PutRow D A columns → List (GivenCell (List A))
@@ -103,6 +144,7 @@ module _ {D A : Type 0} {columns : ℕ → Option ℕ} where
   rows_in [] = []
   rows_in (part p ∷ pieces) = rows_in pieces
   rows_in (put p ∷ pieces) = p ∷ rows_in pieces
+  rows_in (noted r is ∷ pieces) = rows_in pieces
 
 module _ {D A : Type 0} (columns : ℕ → Option ℕ) where
   abbrev pub border_lines_of : Renderer D A (List A) → Option (Border (List A)) → List (Line (List A))
@@ -114,20 +156,25 @@ module _ {D A : Type 0} (columns : ℕ → Option ℕ) where
   lines_of_piece (part p) = lines_of_part columns p
   lines_of_piece (put p) =
       lines_laid columns p.before p.puts.row.lines ++ border_lines_of p.before p.puts.row.next
+  lines_of_piece (noted r is) = lines_laid columns r (is ∷ [])
 
   -- what was added there
   abbrev pub added_of_piece : Piece D A columns → List (Added D A)
   added_of_piece (part p) = added_of_part p
   added_of_piece (put p) = row_put p.collapses p.cells ∷ []
+  added_of_piece (noted r is) = text_laid is ∷ []
 
+  -- what calls and rows brought of it
   abbrev pub entries_of_piece : Piece D A columns → List (Entry (List A))
   entries_of_piece (part p) = entries_of_part p
   entries_of_piece (put p) = laid_entries (joined p.puts.row.lines)
+  entries_of_piece (noted r is) = []
 
-  -- The renderer's width and options are still those of another one, and a row comes where no block is open.
+  -- The renderer's width and options are still those of another one. A row comes where no block is open.
   abbrev pub IsPiece : Renderer D A (List A) → Piece D A columns → Type 0
   IsPiece first (part p) = IsPart columns first p
   IsPiece first (put p) = IsBetweenBlocks first p.before
+  IsPiece first (noted r is) = (r.width ≡ first.width) × (r.options ≡ first.options)
 
 -- the same tag, and the same text in the same columns
 abbrev pub KeepsText : {T : Type 0} → Border T → Border T → Type 0
@@ -141,7 +188,8 @@ StaysLine (text is) (border c) = ⊥
 StaysLine (border b) (text js) = ⊥
 
 -- The lines are those that there were and those of the pieces, one after another. The entries of the pieces, and then
--- the open run, are what there was of the open run and what came. The rows among the pieces are those of these cells.
+-- the open run, are what there was of the open run and what came by calls and rows. The rows among the pieces are those
+-- of these cells.
 pub record ComesInPieces {D A : Type 0} (columns : ℕ → Option ℕ) (rows : List (List (GivenCell (List A))))
     (r : Renderer D A (List A)) (es : List (Entry (List A))) (s : Renderer D A (List A)) : Type 0 where
   pub pieces : List (Piece D A columns)

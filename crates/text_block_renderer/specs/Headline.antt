@@ -2,7 +2,7 @@
 use Rattle.std.specs.Prelude.{◌≡◌, ℕ, ◌≤◌, false, ⊤, Option, IfSome, List, [], ◌∷◌, ◌++◌, length, map, flat_map}
 use Rattle.std.specs.List.{AllByRecursion as Each}
 use Rattle.tbr_model.specs.Rule.{run_of}
-use Rattle.tbr_model.specs.Run.{Entry, items_width}
+use Rattle.tbr_model.specs.Run.{items_width}
 use Rattle.tbr_model.specs.Hard.{ShowsVisible}
 use Rattle.tbr_model.specs.Shown.{ShowsOwn}
 use Rattle.tbr_wrap.specs.Runs.{IsNormal}
@@ -15,7 +15,7 @@ use Rattle.tbr_renderer.specs.Renderer.{Renderer, block_width, may_overflow}
 use Rattle.tbr_renderer.specs.Rows.{GivenCell, style_in}
 use Rattle.tbr_kept_lines.specs.LastBorder.{last_border}
 use Rattle.text_block_renderer.specs.Stretches.{ended, NoneIsAhead}
-use Rattle.text_block_renderer.specs.Acts.{Act, rows_of, acts_add, ActIsTooNarrow, PutRow, Piece, part, rows_in, added_of_piece, ComesInPieces}
+use Rattle.text_block_renderer.specs.Acts.{Act, rows_of, acts_enter, acts_add, ActIsTooNarrow, PutRow, Piece, part, rows_in, added_of_piece, ComesInPieces}
 
 module _ {D A : Type 0} (columns : ℕ → Option ℕ) where
   -- Of a `Normal` run that ended, where no line may be wider than the block: after any number of its lines no legal
@@ -69,12 +69,12 @@ module _ {D A : Type 0} {columns : ℕ → Option ℕ} where
 abbrev pub TakeTwoAtMost : (ℕ → Option ℕ) → Type 0
 TakeTwoAtMost columns = (c : ℕ) → IfSome (columns c) (λ n. n ≤ 2)
 
--- Calls and rows led from a renderer to another, and brought these entries.
-pub record Headline {D A : Type 0} (columns : ℕ → Option ℕ) (decoration : Decoration D A) (acts : List (Act (List A)))
-    (r : Renderer D A (List A)) (es : List (Entry (List A))) (s : Renderer D A (List A)) : Type 0 where
-  -- the lines are those of runs that ended, of laid texts, of borders and of rows, which are, in order, what each call
-  -- and row adds
-  pub came : ComesInPieces columns (rows_of acts) r es s
+-- Calls, rows and footnotes led from a renderer to another.
+pub record Headline {D A : Type 0} (columns : ℕ → Option ℕ) (decoration : Decoration D A) (acts : List (Act A))
+    (r s : Renderer D A (List A)) : Type 0 where
+  -- the lines are those of runs that ended, of laid texts, of borders, of rows and of footnotes, which are, in order,
+  -- what each of these adds
+  pub came : ComesInPieces columns (rows_of acts) r (acts_enter columns decoration acts r) s
   pub added : flat_map (added_of_piece columns) came.pieces ≡ acts_add columns decoration acts r
   pub no_layout_is_ahead : Each (NoLayoutIsAhead columns) came.pieces
   pub visible_characters_stand_once : Each (StandsOnce columns) came.pieces
@@ -85,4 +85,4 @@ pub record Headline {D A : Type 0} (columns : ℕ → Option ℕ) (decoration : 
       ShowsTexts columns r.options.draw_borders (map made rows) cell
   -- a renderer of two columns or more isn't too narrow for anything that comes next
   pub two_columns_are_enough : TakeTwoAtMost columns → 2 ≤ block_width r →
-      (act : Act (List A)) → ActIsTooNarrow columns decoration act s → ⊥
+      (act : Act A) → ActIsTooNarrow columns decoration act s → ⊥

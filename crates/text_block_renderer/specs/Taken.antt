@@ -55,10 +55,11 @@ CallTakes lines (append_vert_row cells) = StandsAmong lines cells
 CallTakes lines other = ⊥
 
 -- and a row takes them as a cell that spans so many rows
-abbrev pub Takes : {T : Type 0} → ℕ → List (Line T) → Act T → Type 0
+abbrev pub Takes : {A : Type 0} → ℕ → List (Line (List A)) → Act A → Type 0
 Takes span lines (call c) = CallTakes lines c
-Takes {T} span lines (row collapses cells) =
-    (cell : GivenCell T) × StandsAmong cell cells × (cell.span ≡ span) × (cell.lines ≡ lines)
+Takes {A} span lines (row collapses cells) =
+    (cell : GivenCell (List A)) × StandsAmong cell cells × (cell.span ≡ span) × (cell.lines ≡ lines)
+Takes span lines other = ⊥
 
 -- nothing is left in the cells that overhang
 abbrev pub NothingOverhangs : {D A T : Type 0} → Renderer D A T → Type 0
@@ -70,9 +71,9 @@ pub record TakesIn {D A : Type 0} (columns : ℕ → Option ℕ) (decoration : D
     (inside outside : List (Line (List A))) : Type 0 where
   pub first : Renderer D A (List A)
   pub last : Renderer D A (List A)
-  pub before : List (Act (List A))
-  pub taking : Act (List A)
-  pub after : List (Act (List A))
+  pub before : List (Act A)
+  pub taking : Act A
+  pub after : List (Act A)
   pub es : List (Entry (List A))
   pub bring : ActsBring columns decoration (before ++ taking ∷ after) first es last
   pub span : ℕ

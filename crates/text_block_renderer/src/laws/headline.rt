@@ -1,15 +1,17 @@
 //! What the repository promises first, in one place.
-ghost use Rattle.std.specs.Prelude.{ℕ, Option, List};
-ghost use Rattle.tbr_model.specs.Run.{Entry};
+ghost use Rattle.std.specs.Prelude.{◌≡◌, ℕ, Option, List};
+ghost use Rattle.tbr_tagged.specs.Outcome.{done};
 ghost use Rattle.tbr_decor.specs.Decoration.{Decoration};
 ghost use Rattle.tbr_renderer.specs.Renderer.{Renderer, IsSound};
-ghost use Rattle.text_block_renderer.specs.Acts.{Act, ActsBring};
+ghost use Rattle.tbr_renderer.specs.Outcomes.{run};
+ghost use Rattle.text_block_renderer.specs.Acts.{Act, after_act};
 ghost use Rattle.text_block_renderer.specs.Headline.{Headline};
 
-/// Whatever calls and rows of cells come to a renderer and succeed:
+/// Whatever calls, rows of cells and footnotes come to a renderer and succeed:
 ///
 /// - The runs are those between one flush and the next: each call and row ends the run that is open, or none. Besides
-///   runs, calls add the texts that they lay, such as empty lines, and their borders, each in its place.
+///   runs, calls add the texts that they lay, such as empty lines, and their borders, each in its place. Footnotes add
+///   their lines, before those of an open run.
 /// - After any number of lines no legal layout of a `Normal` run has placed more of it than the renderer has.
 /// - Each run's visible characters are in the renderer's lines once, in order, under equal annotations.
 /// - Each cell of a row shows its texts once, in order, in its own columns, also in the borders that it spans.
@@ -20,7 +22,7 @@ ghost use Rattle.text_block_renderer.specs.Headline.{Headline};
 /// cells fit and all rows of a cell's span come. A text in front of a border, as a row leaves it below a spanning cell,
 /// is one of the texts. The last promise is of characters that take two columns at most.
 pub fn the_headline<D, A>()
-    ensures { (columns : ℕ → Option ℕ) (decoration : Decoration D A) (acts : List (Act (List A)))
-        (r s : Renderer D A (List A)) (es : List (Entry (List A))) →
-        IsSound columns r → ActsBring columns decoration acts r es s → Headline columns decoration acts r es s }
+    ensures { (columns : ℕ → Option ℕ) (decoration : Decoration D A) (acts : List (Act A))
+        (r s : Renderer D A (List A)) → IsSound columns r → run (after_act columns decoration) acts r ≡ done s →
+        Headline columns decoration acts r s }
 {}

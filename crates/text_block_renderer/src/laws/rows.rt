@@ -8,7 +8,7 @@ ghost use Rattle.tbr_renderer.specs.Calls.{text_of_lines, Shows};
 ghost use Rattle.tbr_tagged.specs.Outcome.{done};
 ghost use Rattle.tbr_rows.specs.Computed.{TellsApart};
 ghost use Rattle.tbr_renderer.specs.Rows.{GivenCell, AppendsRow, after_row};
-ghost use Rattle.text_block_renderer.specs.Acts.{Act, ActsBring};
+ghost use Rattle.text_block_renderer.specs.Acts.{Act, ActsBring, AreBetweenRuns};
 ghost use Rattle.text_block_renderer.specs.MarkersStand.{Stands, WaitForTextUnderRows};
 
 /// A row is what it means: what is computed of it is the one state that it may leave, where annotations can be told
@@ -34,31 +34,31 @@ pub fn a_row_changes_no_settings<D, A>()
         after_row (pointwise decoration.same) columns collapses cells r ≡ done s → settings_of s ≡ settings_of r }
 {}
 
-/// After any calls and rows the visible characters of what they brought are in the lines of text, but for those of the
-/// open run. They are there once and in order, each under an annotation of its call, where lines aren't padded. A row
-/// brings the texts of its lines.
+/// After any calls and rows, and footnotes between runs, the visible characters of what they brought are in the lines of
+/// text, but for those of the open run. They are there once and in order, each under an annotation of its call, where
+/// lines aren't padded. A row brings the texts of its lines.
 pub fn visible_characters_stand_once_with_rows_too<D, A>()
-    ensures { (columns : ℕ → Option ℕ) (decoration : Decoration D A) (acts : List (Act (List A)))
+    ensures { (columns : ℕ → Option ℕ) (decoration : Decoration D A) (acts : List (Act A))
         (r s : Renderer D A (List A)) (before es : List (Entry (List A))) → IsSound columns r →
-        r.options.pad_block_width ≡ false → ActsBring columns decoration acts r es s → Shows columns r before →
-        Shows columns s (before ++ es) }
+        r.options.pad_block_width ≡ false → AreBetweenRuns columns decoration acts r →
+        ActsBring columns decoration acts r es s → Shows columns r before → Shows columns s (before ++ es) }
 {}
 
-/// And what calls and rows brought is in the lines of text, or is a marker that waits, as [`what_was_brought_stands`]
-/// says it of calls, where lines aren't padded.
+/// And what calls, rows and footnotes between runs brought is in the lines of text, or is a marker that waits, as
+/// [`what_was_brought_stands`] says it of calls, where lines aren't padded.
 ///
 /// [`what_was_brought_stands`]: super::what_was_brought_stands
 pub fn what_was_brought_stands_with_rows_too<D, A>()
-    ensures { (columns : ℕ → Option ℕ) (decoration : Decoration D A) (acts : List (Act (List A)))
+    ensures { (columns : ℕ → Option ℕ) (decoration : Decoration D A) (acts : List (Act A))
         (r s : Renderer D A (List A)) (before es : List (Entry (List A))) → IsSound columns r →
-        r.options.pad_block_width ≡ false → ActsBring columns decoration acts r es s → Stands columns r before →
-        Stands columns s (before ++ es) }
+        r.options.pad_block_width ≡ false → AreBetweenRuns columns decoration acts r →
+        ActsBring columns decoration acts r es s → Stands columns r before → Stands columns s (before ++ es) }
 {}
 
-/// Markers that wait begin the next line of text, by a call or by a row, and until then they wait, where lines aren't
-/// padded.
+/// Markers that wait begin the next line of text, by a call, a row or a footnote, and until then they wait, where lines
+/// aren't padded.
 pub fn waiting_markers_begin_the_next_text_with_rows_too<D, A>()
-    ensures { (columns : ℕ → Option ℕ) (decoration : Decoration D A) (acts : List (Act (List A)))
+    ensures { (columns : ℕ → Option ℕ) (decoration : Decoration D A) (acts : List (Act A))
         (r s : Renderer D A (List A)) (es : List (Entry (List A))) → IsSound columns r →
         r.options.pad_block_width ≡ false → ActsBring columns decoration acts r es s → WaitForTextUnderRows r s }
 {}

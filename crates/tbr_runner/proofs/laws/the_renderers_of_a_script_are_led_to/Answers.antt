@@ -1,5 +1,3 @@
-use Rattle.std.proofs.Common.{refl}
-use Rattle.text_block_renderer.specs.Acts.{acts_brought}
 use Rattle.text_block_renderer.proofs.Headline.{headline}
 use Rattle.tbr_runner.proofs.LedRenderers.{started_led, line_led, text_led, script_led}
 use Rattle.tbr_runner.proofs.ShownTexts.{led_shows, led_stands}
@@ -11,7 +9,7 @@ returns g c = record {
   line = line_led;
   text = text_led;
   script = script_led;
-  headline = λ columns decoration r led. headline columns decoration led.acts led.first r (acts_brought columns decoration led.acts led.first) led.sound (led.leads, refl);
+  headline = λ columns decoration r led. headline columns decoration led.acts led.first r led.sound led.leads;
   shows = led_shows;
   stands = led_stands;
 }

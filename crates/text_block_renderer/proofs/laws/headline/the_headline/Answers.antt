@@ -2,4 +2,4 @@ use Rattle.text_block_renderer.proofs.Headline.{headline}
 use Rattle.text_block_renderer.proofs.laws.headline.the_headline.Goals as goal
 
 pub returns : goal.returns
-returns g c = λ columns decoration acts r s es sound h. headline columns decoration acts r s es sound h
+returns g c = headline
