@@ -29,7 +29,7 @@ use Rattle.tbr_renderer.specs.Calls.{Call, laid_entries, Brings, text_of_lines}
 use Rattle.text_block_renderer.specs.Drawn.{WithoutDrawnBorders, borders_drawn, DrawNone}
 use Rattle.text_block_renderer.specs.MarkersStand.{items_so_far, Stands}
 use Rattle.text_block_renderer.proofs.Moves.{Move, flush, line, rule, join, turn, SameText, brought_by, Makes, no_block, undrawn}
-use Rattle.text_block_renderer.proofs.DrawnBorders.{brings_on, brings_on_all, border_stays}
+use Rattle.text_block_renderer.proofs.DrawnBorders.{brings_on, calls_bring_on, border_stays}
 use Rattle.tbr_renderer.proofs.JoinedTexts.{run_joined}
 use Rattle.text_block_renderer.proofs.LineContents.{Looks, seen_line, seen_flushed, no_text_after}
 use Rattle.text_block_renderer.proofs.VisibleCharacters.{space_unseen}
@@ -56,7 +56,7 @@ no_space_passes test h (suc n) a = rw (h a) (no_space_passes test h n a)
 at_passing : {T : Type 0} (test : Item T → Bool) → ((a : T) → test (glyph 32 a) ≡ false) → Looks (filter test)
 at_passing test h = record { append = filter-append test; nothing = refl; spaces_unseen = no_space_passes test h }
 
-at_shown : {T : Type 0} (columns : ℕ → Option ℕ) → Looks {T = T} (filter (is_visible_or_marker columns))
+pub at_shown : {T : Type 0} (columns : ℕ → Option ℕ) → Looks {T = T} (filter (is_visible_or_marker columns))
 at_shown columns = at_passing (is_visible_or_marker columns) (λ a. space_unseen columns)
 
 pub at_unspaced : {T : Type 0} → Looks {T = T} without_spaces
@@ -102,7 +102,7 @@ module _ {T : Type 0} (columns : ℕ → Option ℕ) where
 
   -- ---- markers alone
 
-  shown_markers : (names : List (List ℕ)) → filter (is_visible_or_marker columns) (let is : List (Item T) = marker_items names in is) ≡ marker_items names
+  pub shown_markers : (names : List (List ℕ)) → filter (is_visible_or_marker columns) (let is : List (Item T) = marker_items names in is) ≡ marker_items names
   shown_markers [] = refl
   shown_markers (name ∷ names) = ap (λ (is : List (Item T)). marker name ∷ is) (shown_markers names)
 
@@ -210,13 +210,14 @@ module _ {T : Type 0} (columns : ℕ → Option ℕ) where
       go rest true e = ap (λ (v : Bool). fold (item_after (is_kept columns)) (if v then [] else names) (kept_items columns es)) e ∙ rest []
       go rest false e = rest names
 
-  -- the markers at the end of items that stand for entries come after the last visible character, and the last kept one
+  -- The markers at the end of items come after the last visible character that these show, and the last kept one.
+  pub last_shown : (shown : List (Item T)) (names : List (List ℕ)) (es : List (Entry T)) → AllZip (ShowsEntry (λ a b. a ≡ b)) (shown ++ marker_items names) (filter (is_entry_to_show columns) es) → AreLastOf names (names_after (is_visible columns) es)
+  last_shown shown names es h =
+      last_after (is_visible columns) shown names (names_after (is_visible columns) es) (after_alike (is_visible columns) [] (shown ++ marker_items names) (filter (is_entry_to_show columns) es) h ∙ after_shown [] es)
+
   pub waits_after : (is : List (Item T)) (names : List (List ℕ)) (es : List (Entry T)) → StandFor columns (is ++ marker_items names) es → AreLastOf names (names_after (is_visible columns) es)
   waits_after is names es h =
-      last_after (is_visible columns) (filter (is_visible_or_marker columns) is) names (names_after (is_visible columns) es)
-      (ap (fold (item_after (is_visible columns)) []) (sym (shown_before columns is names))
-      ∙ after_alike (is_visible columns) [] (filter (is_visible_or_marker columns) (is ++ marker_items names)) (filter (is_entry_to_show columns) es) h.order
-      ∙ after_shown [] es)
+      last_shown (filter (is_visible_or_marker columns) is) names es (subst (λ js. AllZip (ShowsEntry (λ a b. a ≡ b)) js (filter (is_entry_to_show columns) es)) (shown_before columns is names) h.order)
 
   pub waits_after_kept : (is : List (Item T)) (names : List (List ℕ)) (es : List (Entry T)) → StandFor columns (is ++ marker_items names) es → IsNormal es → AreLastOf names (names_after (is_kept columns) es)
   waits_after_kept is names es h normal =
@@ -311,4 +312,4 @@ module _ {D A : Type 0} (columns : ℕ → Option ℕ) where
 
   pub brings_stands_all : (decoration : Decoration D A) (calls : List (Call (List A))) (r s : Renderer D A (List A)) (before es : List (Entry (List A))) →
       IsSound columns r → DrawNone r calls → Brings columns decoration calls r es s → Stands columns r before → Stands columns s (before ++ es)
-  brings_stands_all = brings_on_all columns (Stands columns) move_stands
+  brings_stands_all = calls_bring_on columns undrawn (Stands columns) move_stands

@@ -16,7 +16,7 @@ use Rattle.tbr_renderer.proofs.FlushedBlocks.{FlushesBlock}
 use Rattle.tbr_renderer.specs.Appended.{border_line, with_border}
 use Rattle.tbr_renderer.specs.Calls.{laid_entries, Call, Steps, Brings, brought as all_brought}
 use Rattle.text_block_renderer.specs.Drawn.{as_it_is, drawn, line_put, not_drawn, cells_drawn, AreDrawnAmong, WithoutDrawnBorders, CameWithoutDrawnBorders, borders_drawn, DrawNone}
-use Rattle.text_block_renderer.proofs.Moves.{Move, flush, line, rule, join, turn, brought_by, brought, brought-append, ruled_by, ruled, Makes, MakesAll, makes-append, move_options, sound_moved, along, through, any, undrawn}
+use Rattle.text_block_renderer.proofs.Moves.{Kind, Fits, Move, flush, line, rule, join, turn, brought_by, brought, brought-append, ruled_by, ruled, Makes, MakesAll, makes-append, move_options, sound_moved, along, through, any, undrawn}
 use Rattle.text_block_renderer.proofs.CallMoves.{calls_move}
 
 module _ {T : Type 0} where
@@ -187,12 +187,24 @@ module _ {D A : Type 0} (columns : ℕ → Option ℕ) where
 
   -- ---- calls
 
+  -- what moves of a kind keep of a sound renderer, calls of the kind keep
+  module _ (kind : Kind) (P : Renderer D A (List A) → List (Entry (List A)) → Type 0)
+      (each : (m : Move D A) (r s : Renderer D A (List A)) (es : List (Entry (List A))) → Makes columns kind m r s → IsSound columns r → P r es → P s (es ++ brought_by m)) where
+    -- it holds where the renderer is sound, and so it goes on
+    each_sound : (m : Move D A) (r s : Renderer D A (List A)) (es : List (Entry (List A))) → Makes columns kind m r s → IsSound columns r × P r es → IsSound columns s × P s (es ++ brought_by m)
+    each_sound m r s es h k = (sound_moved columns kind m r s h k.0, each m r s es h k.0 k.1)
+
+    along_sound : (ms : List (Move D A)) (r s : Renderer D A (List A)) (es : List (Entry (List A))) → IsSound columns r → MakesAll columns kind ms r s → P r es → P s (es ++ brought ms)
+    along_sound ms r s es sound makes k = (along columns kind (λ t fs. IsSound columns t × P t fs) each_sound ms r s es makes (sound, k)).1
+
+    pub calls_bring_on : (decoration : Decoration D A) (calls : List (Call (List A))) (r s : Renderer D A (List A)) (before es : List (Entry (List A))) →
+        IsSound columns r → Fits kind r calls → Brings columns decoration calls r es s → P r before → P s (before ++ es)
+    calls_bring_on decoration calls r s before es sound fits h k =
+        let path = calls_move columns kind decoration calls r s es fits h in
+        subst (λ fs. P s (before ++ fs)) path.brings (along_sound path.moves r s before sound path.makes k)
+
   module _ (P : Renderer D A (List A) → List (Entry (List A)) → Type 0)
       (each : (m : Move D A) (r s : Renderer D A (List A)) (es : List (Entry (List A))) → Makes columns undrawn m r s → IsSound columns r → P r es → P s (es ++ brought_by m)) where
-    -- it holds where the renderer is sound, and so it goes on
-    each_sound : (m : Move D A) (r s : Renderer D A (List A)) (es : List (Entry (List A))) → Makes columns undrawn m r s → IsSound columns r × P r es → IsSound columns s × P s (es ++ brought_by m)
-    each_sound m r s es h k = (sound_moved columns undrawn m r s h k.0, each m r s es h k.0 k.1)
-
     pub moves_on : (ms : List (Move D A)) (r s : Renderer D A (List A)) (borders : List (List Cell)) (before : List (Entry (List A))) →
         IsSound columns r → MakesAll columns any ms r s → WithoutDrawnBorders borders (λ q. P q before) r → WithoutDrawnBorders (borders ++ if_drawn r.options.pad_block_width (ruled ms)) (λ q. P q (before ++ brought ms)) s
     moves_on ms r s borders before sound makes k =
@@ -200,7 +212,7 @@ module _ {D A : Type 0} (columns : ℕ → Option ℕ) where
         let bs = if_drawn r.options.pad_block_width (ruled ms) in
         let less = moves_less ms r s ls r.options.pad_block_width refl makes in
         let q : Renderer D A (List A) = on s (ls ++ less.rest) in
-        let all : P q (before ++ brought less.moves) = (along columns undrawn (λ t es. IsSound columns t × P t es) each_sound less.moves (on r ls) q before less.makes (record { space = sound.space; wide = sound.wide }, holds)).1 in
+        let all : P q (before ++ brought less.moves) = along_sound undrawn P each less.moves (on r ls) q before (record { space = sound.space; wide = sound.wide }) less.makes holds in
         let drawn_all = among_both borders bs r.lines less.more ls less.rest among less.among in
         (ls ++ less.rest, subst (λ ms. AreDrawnAmong (borders ++ bs) ms (ls ++ less.rest)) (sym less.came) drawn_all, subst (λ fs. P q (before ++ fs)) less.brings all)
 
@@ -210,13 +222,6 @@ module _ {D A : Type 0} (columns : ℕ → Option ℕ) where
         let path = calls_move columns any decoration calls r s es tt h in
         subst (λ bs. WithoutDrawnBorders (borders ++ if_drawn r.options.pad_block_width bs) (λ q. P q (before ++ es)) s) path.rules
         (subst (λ fs. WithoutDrawnBorders (borders ++ if_drawn r.options.pad_block_width (ruled path.moves)) (λ q. P q (before ++ fs)) s) path.brings (moves_on path.moves r s borders before sound path.makes k))
-
-    -- where no border becomes text
-    pub brings_on_all : (decoration : Decoration D A) (calls : List (Call (List A))) (r s : Renderer D A (List A)) (before es : List (Entry (List A))) →
-        IsSound columns r → DrawNone r calls → Brings columns decoration calls r es s → P r before → P s (before ++ es)
-    brings_on_all decoration calls r s before es sound none h k =
-        let path = calls_move columns undrawn decoration calls r s es none h in
-        subst (λ fs. P s (before ++ fs)) path.brings (along columns undrawn (λ t es. IsSound columns t × P t es) each_sound path.moves r s before path.makes (sound, k)).1
 
   module _ (R : Renderer D A (List A) → Renderer D A (List A) → Type 0)
       (same : (r s : Renderer D A (List A)) → s ≡ r → R r s) (on_from : (r q s : Renderer D A (List A)) → R r q → R q s → R r s)

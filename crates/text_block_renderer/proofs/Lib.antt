@@ -17,6 +17,7 @@ pub mod VerticalRows
 pub mod RowsOfCells
 pub mod Within
 pub mod Written
+pub mod WrittenEntries
 pub mod CellsInRows
 pub mod TakenLines
 pub mod LinkNumbers

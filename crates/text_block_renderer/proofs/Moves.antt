@@ -1,5 +1,5 @@
 -- The moves of which calls consist. What holds of lists of calls is shown move by move.
-use Rattle.std.proofs.Common.{◌≡◌, ◌<◌, ℕ, false, Option, Some, None, List, [], ◌∷◌, ◌++◌, fold, refl, ap, sym, ◌∙◌, subst, append_assoc, append-nil}
+use Rattle.std.proofs.Common.{◌≡◌, ◌<◌, ℕ, inl, false, Option, Some, None, List, [], ◌∷◌, ◌++◌, fold, refl, ap, sym, ◌∙◌, subst, append_assoc, append-nil}
 use Rattle.std.specs.Prelude.{⊤}
 use Rattle.std.specs.List.{AllByRecursion as Each}
 use Rattle.tbr_model.specs.Rule.{Event, run_of}
@@ -106,6 +106,23 @@ abbrev pub MayRule : {D A : Type 0} → Kind → Renderer D A (List A) → Type 
 MayRule any r = ⊤
 MayRule undrawn r = r.options.pad_block_width ≡ false
 MayRule own r = ⊥
+
+-- where a kind's moves may put borders
+module _ {D A : Type 0} where
+  pub may_lay : (kind : Kind) (r : Renderer D A (List A)) (is : List (Item (List A))) → MayRule kind r → MayLay kind is
+  may_lay any r is h = tt
+  may_lay undrawn r is h = tt
+  may_lay own r is h = absurd h
+
+  pub may_call : (kind : Kind) (r : Renderer D A (List A)) (c : Call (List A)) → MayRule kind r → Fits kind r (c ∷ [])
+  may_call any r c h = tt
+  may_call undrawn r c h = inl h
+  may_call own r c h = absurd h
+
+  pub may_still : (kind : Kind) (r q : Renderer D A (List A)) → q.options ≡ r.options → MayRule kind r → MayRule kind q
+  may_still any r q same h = tt
+  may_still undrawn r q same h = ap (λ (o : RenderOptions). o.pad_block_width) same ∙ h
+  may_still own r q same h = absurd h
 
 -- ---- paths
 

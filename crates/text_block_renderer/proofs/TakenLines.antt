@@ -1,13 +1,11 @@
 -- Visible characters and markers of lines that renderers take from one another.
-use Rattle.std.proofs.Common.{◌≡◌, ℕ, zero, suc, ◌+◌, ◌≤◌, ◌⊎◌, inl, inr, Bool, true, false, if◌then◌else◌, Option, List, [], ◌∷◌, ◌++◌, map, filter, flat_map, fold, length, refl, ap, sym, ◌∙◌, subst, arith, append_assoc, append-nil}
-use Rattle.std.specs.List.{AllZip}
+use Rattle.std.proofs.Common.{◌≡◌, ℕ, zero, suc, ◌+◌, ◌≤◌, ◌⊎◌, inl, inr, Bool, true, false, if◌then◌else◌, Option, List, [], ◌∷◌, ◌++◌, map, flat_map, fold, length, refl, ap, sym, ◌∙◌, subst, arith, append_assoc, append-nil}
 use Rattle.std.proofs.lemmas.List.Elements.{filter-append}
 use Rattle.std.proofs.lemmas.Grind.{fold-append}
 use Rattle.tbr_model.specs.Run.{Entry, Item}
 use Rattle.tbr_model.specs.Layout.{joined}
-use Rattle.tbr_model.specs.Shown.{is_visible_or_marker, is_entry_to_show, ShowsEntry}
-use Rattle.tbr_border.specs.Border.{shown, without_holes}
-use Rattle.tbr_tagged.specs.Padding.{spaces}
+use Rattle.tbr_model.specs.Shown.{is_visible_or_marker}
+use Rattle.tbr_border.specs.Border.{shown}
 use Rattle.tbr_tagged.specs.Elements.{text_items}
 use Rattle.tbr_border.specs.Cell.{Cell, horizontal, slash}
 use Rattle.tbr_decor.specs.Decoration.{Decoration}
@@ -20,7 +18,7 @@ use Rattle.tbr_renderer.specs.Flush.{after_flush}
 use Rattle.tbr_renderer.specs.Footnotes.{footnote_lines}
 use Rattle.tbr_renderer.specs.Renderer.{Open, Renderer, open_run, IsSound}
 use Rattle.tbr_renderer.specs.Appended.{border_of_cells, with_border, as_text, prefixed, with_divider, with_cell, with_cell_below, with_cells, handed_out}
-use Rattle.tbr_renderer.specs.Calls.{Call, append_subrender, append_vert_row, Does, text_of_lines}
+use Rattle.tbr_renderer.specs.Calls.{Call, append_subrender, append_vert_row, Does}
 use Rattle.tbr_tagged.specs.Outcome.{done, if_live}
 use Rattle.tbr_renderer.proofs.CallParts.{handed_then}
 use Rattle.text_block_renderer.specs.Acts.{Act, call, row, fmt_links, finalise, rows_of}
@@ -30,16 +28,14 @@ use Rattle.text_block_renderer.proofs.RowsOfCells.{row_flushes}
 use Rattle.text_block_renderer.proofs.Moves.{any, flush, flushed_none, Frame, frame_of_lines, flush_frame, path_hanging}
 use Rattle.text_block_renderer.proofs.CallMoves.{calls_move}
 use Rattle.text_block_renderer.proofs.VerticalRows.{cells_after}
-use Rattle.text_block_renderer.specs.MarkersStand.{Stands}
 use Rattle.text_block_renderer.specs.Stretches.{lines_laid}
-use Rattle.text_block_renderer.proofs.BroughtEntries.{shown_before, move_stands}
-use Rattle.text_block_renderer.proofs.DrawnBorders.{moves_on}
-use Rattle.text_block_renderer.specs.Drawn.{Put, as_it_is, drawn, line_put, not_drawn, WithoutDrawnBorders}
-use Rattle.text_block_renderer.specs.Taken.{StandWithin, text_before, written, to_show, AreWrittenIn, CallTakes, Takes, NothingOverhangs, AreTakenIn}
+use Rattle.text_block_renderer.proofs.BroughtEntries.{last_shown}
+use Rattle.text_block_renderer.proofs.WrittenEntries.{move_written}
+use Rattle.text_block_renderer.specs.Taken.{StandWithin, text_before, written, to_show, AreWrittenIn, IsWrittenSoFar, CallTakes, Takes, NothingOverhangs, AreTakenIn}
 use Rattle.text_block_renderer.proofs.AddedLines.{Grows, lines_grow, moves_grow, steps_grow}
 use Rattle.text_block_renderer.proofs.CellsInRows.{items_in, Follows, row_adds, row_follows, cell_follows}
 use Rattle.text_block_renderer.proofs.Within.{within_itself, within_more, within_on, two_within, itself_within, after_within, before_within}
-use Rattle.text_block_renderer.proofs.Written.{written-append, texts_written, border_shown, laid_within}
+use Rattle.text_block_renderer.proofs.Written.{written-append, border_shown, laid_within}
 use Rattle.text_block_renderer.proofs.LaidTexts.{laid_lines, appended_after}
 
 -- ---- lines as text
@@ -70,15 +66,6 @@ module _ {T : Type 0} (columns : ℕ → Option ℕ) where
   prefixed_within tag (p ∷ ps) (line ∷ lines) h =
       let fewer : length lines ≤ length ps = omega (arith, h) in
       first_within tag line lines (text_items p tag) (joined (prefixed tag ps lines)) (prefixed_within tag ps lines fewer)
-
-  -- the others among borders drawn as text
-  undrawn_within : (puts : List (Put T)) → StandWithin (seen columns (flat_map not_drawn puts)) (seen columns (map line_put puts))
-  undrawn_within [] = tt
-  undrawn_within (as_it_is line ∷ puts) =
-      subst (λ is. StandWithin (to_show columns is) (seen columns (line ∷ map line_put puts))) (sym (written-append (line ∷ []) (flat_map not_drawn puts)))
-      (subst (λ is. StandWithin (to_show columns (written (line ∷ []) ++ written (flat_map not_drawn puts))) (to_show columns is)) (sym (written-append (line ∷ []) (map line_put puts)))
-      (two_within columns (written (line ∷ [])) (written (flat_map not_drawn puts)) (written (line ∷ [])) (written (map line_put puts)) (itself_within columns (written (line ∷ []))) (undrawn_within puts)))
-  undrawn_within (drawn cells n tag ∷ puts) = after_within columns (shown tag (without_holes cells tag) ++ text_items (spaces n) tag) (written (flat_map not_drawn puts)) (written (map line_put puts)) (undrawn_within puts)
 
 -- ---- calls
 
@@ -228,23 +215,17 @@ module _ {D A : Type 0} (columns : ℕ → Option ℕ) where
         let here = handed_within (seen columns inside) taken.last between taken.gives (steps_within taken.before taken.taking taken.after taken.first taken.last taken.es taken.span inside taken.takes taken.come (steps columns decoration (taken.before ++ taken.taking ∷ taken.after) taken.first taken.last taken.es taken.bring)) in
         within_on (seen columns inside) (seen columns between) (seen columns outside) here (all_within depth between outside others)
 
-    pub brought_within : (depth : ℕ) (r : Renderer D A (List A)) (borders : List (List Cell)) (es : List (Entry (List A))) (inside outside : List (Line (List A))) →
-        IsSound columns r → WithoutDrawnBorders borders (λ q. Stands columns q es) r → handed_out columns r ≡ done inside → AreTakenIn columns decoration depth inside outside → AreWrittenIn columns es outside
-    brought_within depth r borders es inside outside sound stands gives h =
+    pub brought_within : (depth : ℕ) (r : Renderer D A (List A)) (es : List (Entry (List A))) (inside outside : List (Line (List A))) →
+        IsSound columns r → IsWrittenSoFar columns r es → handed_out columns r ≡ done inside → AreTakenIn columns decoration depth inside outside → AreWrittenIn columns es outside
+    brought_within depth r es inside outside sound so_far gives h =
         let (s, flushed, is) = handed_then columns r inside gives in
-        let (rest, among, stood) = moves_on columns (Stands columns) (move_stands columns) (flush r ∷ []) r s borders es sound (s, (refl, flushed), refl) stands in
-        let (puts, are, drawn_are, others) = among in
-        let here : StandWithin (seen columns rest) (seen columns inside) =
-        subst (λ (ls : List (Line (List A))). StandWithin (seen columns ls) (seen columns inside)) (sym others)
-        (subst (λ (ls : List (Line (List A))). StandWithin (seen columns (flat_map not_drawn puts)) (seen columns ls)) (sym (is ∙ are)) (undrawn_within columns puts)) in
-        let q : Renderer D A (List A) = record s { lines = rest } in
-        let k : Stands columns q (es ++ []) = stood in
-        let shown = to_show columns (text_of_lines rest) in
+        let k : IsWrittenSoFar columns s (es ++ []) = move_written columns (flush r) r s es (refl, flushed) sound so_far in
         let came : k.ended ≡ es = sym (append-nil k.ended) ∙ ap (λ (o : Option (Open (List A))). k.ended ++ open_run o) (sym (flushed_none columns r s flushed)) ∙ k.whole ∙ append-nil es in
+        let here = subst (λ (ls : List (Line (List A))). StandWithin k.shown (seen columns ls)) (sym is) k.stand in
         subst (λ (fs : List (Entry (List A))). AreWrittenIn columns fs outside) came (record {
-          shown = shown;
+          shown = k.shown;
           lack = s.waiting;
-          order = subst (λ js. AllZip (ShowsEntry (λ a b. a ≡ b)) js (filter (is_entry_to_show columns) k.ended)) (shown_before columns (text_of_lines rest) s.waiting) k.order;
-          last = k.waits;
-          stand = within_on shown (seen columns rest) (seen columns outside) (texts_written columns rest) (within_on (seen columns rest) (seen columns inside) (seen columns outside) here (all_within depth inside outside h));
+          order = k.order;
+          last = last_shown columns k.shown s.waiting k.ended k.order;
+          stand = within_on k.shown (seen columns inside) (seen columns outside) here (all_within depth inside outside h);
         })

@@ -26,7 +26,7 @@ use Rattle.tbr_decor.specs.Decoration.{Decoration}
 use Rattle.tbr_renderer.specs.Calls.{Call, laid_entries, Brings, text_of_lines, Shows}
 use Rattle.text_block_renderer.specs.Drawn.{AreDrawnAmong, WithoutDrawnBorders, borders_drawn, DrawNone}
 use Rattle.text_block_renderer.proofs.Moves.{Move, flush, line, rule, join, turn, brought_by, Makes, no_block, flushed_none, undrawn}
-use Rattle.text_block_renderer.proofs.DrawnBorders.{if_drawn, if_none_drawn, moves_on, brings_on, brings_on_all, border_stays}
+use Rattle.text_block_renderer.proofs.DrawnBorders.{if_drawn, if_none_drawn, moves_on, brings_on, calls_bring_on, border_stays}
 use Rattle.tbr_renderer.proofs.JoinedTexts.{run_joined}
 use Rattle.text_block_renderer.proofs.LineContents.{Looks, seen_line, seen_lines, no_text_after}
 use Rattle.text_block_renderer.specs.MarkersStand.{items_so_far}
@@ -178,7 +178,7 @@ module _ {D A : Type 0} (columns : ℕ → Option ℕ) where
 
   pub brings_shown_all : (decoration : Decoration D A) (calls : List (Call (List A))) (r s : Renderer D A (List A)) (before es : List (Entry (List A))) →
       IsSound columns r → DrawNone r calls → Brings columns decoration calls r es s → Shows columns r before → Shows columns s (before ++ es)
-  brings_shown_all = brings_on_all columns (Shows columns) shows_move
+  brings_shown_all = calls_bring_on columns undrawn (Shows columns) shows_move
 
   -- ---- lines that are handed out
 

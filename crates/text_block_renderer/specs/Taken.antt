@@ -10,7 +10,7 @@ use Rattle.tbr_decor.specs.Decoration.{Decoration}
 use Rattle.tbr_border.specs.Border.{Border}
 use Rattle.tbr_tagged.specs.Elements.{element_items}
 use Rattle.tbr_kept_lines.specs.Line.{Line, text, border}
-use Rattle.tbr_renderer.specs.Renderer.{Renderer}
+use Rattle.tbr_renderer.specs.Renderer.{Renderer, open_run}
 use Rattle.tbr_tagged.specs.Outcome.{done}
 use Rattle.tbr_renderer.specs.Appended.{handed_out}
 use Rattle.tbr_renderer.specs.Calls.{Call, append_subrender, append_vert_row}
@@ -47,6 +47,17 @@ pub record AreWrittenIn {T : Type 0} (columns : ℕ → Option ℕ) (es : List (
   pub order : AllZip (ShowsEntry (λ a b. a ≡ b)) (shown ++ marker_items lack) (filter (is_entry_to_show columns) es)
   pub last : AreLastOf lack (names_after (is_visible columns) es)
   pub stand : StandWithin shown (to_show columns (written lines))
+
+-- Of the entries that came, those of the open run are in no line yet. The visible characters and the markers of the
+-- others are in the lines, once and in order, with others between, but for the markers that wait.
+pub record IsWrittenSoFar {D A : Type 0} (columns : ℕ → Option ℕ) (r : Renderer D A (List A))
+    (es : List (Entry (List A))) : Type 0 where
+  pub ended : List (Entry (List A))
+  pub whole : ended ++ open_run r.block ≡ es
+  pub shown : List (Item (List A))
+  pub order : AllZip (ShowsEntry (λ a b. a ≡ b))
+      (shown ++ marker_items r.waiting) (filter (is_entry_to_show columns) ended)
+  pub stand : StandWithin shown (to_show columns (written r.lines))
 
 -- a call that takes the lines, after as many prefixes or as a cell
 abbrev pub CallTakes : {T : Type 0} → List (Line T) → Call T → Type 0

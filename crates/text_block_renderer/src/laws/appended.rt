@@ -13,11 +13,10 @@ ghost use Rattle.tbr_renderer.specs.Flush.{after_flush};
 ghost use Rattle.tbr_renderer.specs.Appended.{as_text, prefixed, handed_out};
 ghost use Rattle.tbr_renderer.specs.Calls.{append_subrender, append_vert_row, Does, text_of_lines, Shows};
 ghost use Rattle.text_block_renderer.specs.Drawn.{AreDrawnAmong, WithoutDrawnBorders};
-ghost use Rattle.text_block_renderer.specs.MarkersStand.{Stands};
 ghost use Rattle.text_block_renderer.specs.Stretches.{lines_laid};
 ghost use Rattle.text_block_renderer.specs.Nested.{Level, nested, IsFront, shortest, visible_after, HandOn};
 ghost use Rattle.text_block_renderer.specs.VerticalRows.{row_lines};
-ghost use Rattle.text_block_renderer.specs.Taken.{StandWithin, written, to_show, AreWrittenIn, AreTakenIn};
+ghost use Rattle.text_block_renderer.specs.Taken.{StandWithin, written, to_show, AreWrittenIn, IsWrittenSoFar, AreTakenIn};
 
 /// Line i of blocks inside blocks is prefix i of each of them, from the outermost to the innermost, and then line i of
 /// the innermost as text. There are as many lines as the shortest of these lists has. Renderers that hand their lines
@@ -99,8 +98,7 @@ pub fn nothing_visible_is_lost_to_any_depth<D, A>()
         (inside outside : List (Line (List A))) → AreTakenIn columns decoration depth inside outside →
         StandWithin (to_show columns (written inside)) (to_show columns (written outside)) }
     ensures brought { (columns : ℕ → Option ℕ) (decoration : Decoration D A) (depth : ℕ) (r : Renderer D A (List A))
-        (borders : List (List Cell)) (es : List (Entry (List A))) (inside outside : List (Line (List A))) →
-        IsSound columns r → WithoutDrawnBorders borders (λ q. Stands columns q es) r →
-        handed_out columns r ≡ done inside →
+        (es : List (Entry (List A))) (inside outside : List (Line (List A))) → IsSound columns r →
+        IsWrittenSoFar columns r es → handed_out columns r ≡ done inside →
         AreTakenIn columns decoration depth inside outside → AreWrittenIn columns es outside }
 {}

@@ -1,14 +1,16 @@
 //! What follows for rows of cells side by side.
-ghost use Rattle.std.specs.Prelude.{◌≡◌, ◌↔◌, ℕ, Bool, false, Option, List, ◌++◌};
+ghost use Rattle.std.specs.Prelude.{◌≡◌, ◌↔◌, ℕ, Bool, false, Option, List, [], ◌++◌};
 ghost use Rattle.tbr_model.specs.Run.{Entry, Item};
 ghost use Rattle.std.specs.Cmp.Lexicographic.{pointwise};
 ghost use Rattle.tbr_decor.specs.Decoration.{Decoration};
-ghost use Rattle.tbr_renderer.specs.Renderer.{Renderer, settings_of, IsSound};
+ghost use Rattle.tbr_renderer.specs.Renderer.{Renderer, new_renderer, settings_of, IsSound};
+ghost use Rattle.tbr_renderer.specs.declared.options.RenderOptions.{RenderOptions};
 ghost use Rattle.tbr_renderer.specs.Calls.{text_of_lines, Shows};
 ghost use Rattle.tbr_tagged.specs.Outcome.{done};
 ghost use Rattle.tbr_rows.specs.Computed.{TellsApart};
 ghost use Rattle.tbr_renderer.specs.Rows.{GivenCell, AppendsRow, after_row};
 ghost use Rattle.text_block_renderer.specs.Acts.{Act, ActsBring, AreBetweenRuns};
+ghost use Rattle.text_block_renderer.specs.Taken.{IsWrittenSoFar};
 ghost use Rattle.text_block_renderer.specs.MarkersStand.{Stands, WaitForTextUnderRows};
 
 /// A row is what it means: what is computed of it is the one state that it may leave, where annotations can be told
@@ -53,6 +55,18 @@ pub fn what_was_brought_stands_with_rows_too<D, A>()
         (r s : Renderer D A (List A)) (before es : List (Entry (List A))) → IsSound columns r →
         r.options.pad_block_width ≡ false → AreBetweenRuns columns decoration acts r →
         ActsBring columns decoration acts r es s → Stands columns r before → Stands columns s (before ++ es) }
+{}
+
+/// Where lines are padded too, what came is in the lines, with others between: its visible characters and its markers,
+/// once and in order, but for the open run and the markers that wait. A border that became text by padding is among the
+/// others.
+pub fn what_was_brought_is_written<D, A>()
+    ensures acts { (columns : ℕ → Option ℕ) (decoration : Decoration D A) (acts : List (Act A))
+        (r s : Renderer D A (List A)) (before es : List (Entry (List A))) → IsSound columns r →
+        AreBetweenRuns columns decoration acts r → ActsBring columns decoration acts r es s →
+        IsWrittenSoFar columns r before → IsWrittenSoFar columns s (before ++ es) }
+    ensures new { (columns : ℕ → Option ℕ) (width : ℕ) (options : RenderOptions) (decorator : D) →
+        IsWrittenSoFar columns (new_renderer {A = A} width options decorator) [] }
 {}
 
 /// Markers that wait begin the next line of text, by a call, a row or a footnote, and until then they wait, where lines
