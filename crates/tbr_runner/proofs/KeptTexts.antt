@@ -2,36 +2,26 @@
 use Rattle.std.proofs.Common.{◌≡◌, ◌<◌, ◌+◌, inl, ℕ, false, Option, Some, Ok, List, [], ◌∷◌, ◌++◌, length, append-nil, ◌≢◌, refl, ap, sym, ◌∙◌, subst, arith}
 use Rattle.std.specs.List.{AllByRecursion as Each}
 use Rattle.tbr_model.specs.Run.{Entry}
-use Rattle.tbr_model.specs.Hard.{visible_glyphs}
-use Rattle.tbr_tagged.specs.Outcome.{done}
 use Rattle.tbr_decor.specs.Decoration.{Decoration}
-use Rattle.text_block_renderer.specs.Line.{Line, text, border}
 use Rattle.text_block_renderer.specs.Renderer.{Renderer}
-use Rattle.text_block_renderer.specs.Decorated.{sub_renderer}
-use Rattle.text_block_renderer.specs.Calls.{text_of_lines, Shows}
-use Rattle.text_block_renderer.specs.Acts.{Act, after_act, acts_brought, IsBetweenRuns}
-use Rattle.text_block_renderer.specs.Taken.{StandWithin, text_before, written, NothingOverhangs}
-use Rattle.text_block_renderer.proofs.TakenLines.{all_within}
-use Rattle.text_block_renderer.proofs.VisibleCharacters.{all_handed_out}
-use Rattle.text_block_renderer.proofs.Within.{within_on, two_within, itself_within, after_within}
+use Rattle.text_block_renderer.specs.Acts.{acts_brought}
+use Rattle.text_block_renderer.specs.Taken.{IsWrittenSoFar, NothingOverhangs}
+use Rattle.text_block_renderer.proofs.TakenLines.{brought_within}
 use Rattle.tbr_stack.specs.Stack.{top_of}
 use Rattle.tbr_commands.specs.Command.{Command, sub, cell}
 use Rattle.tbr_program.specs.Progress.{Progress}
 use Rattle.tbr_program.specs.Commands.{after_line}
 use Rattle.tbr_program.proofs.CommandParts.{one_ok}
-use Rattle.tbr_runner.specs.Led.{IsLed, AllAre}
+use Rattle.tbr_runner.specs.Led.{IsLed}
 use Rattle.tbr_runner.specs.Kept.{EndsWhole, KeepsAll, IsShort, TextKeeps}
 use Rattle.tbr_runner.specs.Scripts.{rendered_on}
 use Rattle.tbr_runner.specs.StackCalls.{stack_calls, link_targets, AskFor, LinesDo}
 use Rattle.tbr_runner.proofs.RenderedLines.{line_command}
 use Rattle.tbr_runner.proofs.StackCalls.{lines_step, lines_end}
 use Rattle.text_block_renderer.proofs.LinkNumbers.{targets_come}
-use Rattle.text_block_renderer.proofs.ActParts.{acts_along}
-use Rattle.tbr_renderer.proofs.OutcomeParts.{run_last}
-use Rattle.tbr_renderer.specs.declared.RenderOptions.{RenderOptions}
 use Rattle.tbr_commands.specs.declared.opening.Opening.{Opening}
 use Rattle.tbr_program.specs.Commands.{started}
-use Rattle.tbr_runner.proofs.ShownTexts.{led_shows}
+use Rattle.tbr_runner.proofs.ShownTexts.{led_writes}
 use Rattle.tbr_runner.proofs.LedRenderers.{led_on, led_sound, inside_led, line_keeps, sized, of_first, at_end, closed_led, started_led}
 use Rattle.tbr_runner.proofs.CameToRenderers.{HasStill, IsIn, only_on_stack, only_one, first_has, gives_on, command_has}
 use Rattle.tbr_runner.proofs.ScriptLevels.{Shape, Opens, line_shape}
@@ -41,37 +31,14 @@ module _ {X : Type 0} where
   each_weaker f [] h = tt
   each_weaker f (x ∷ xs) h = (f x h.0, each_weaker f xs h.1)
 
--- text is written
-texts_written : {T : Type 0} (columns : ℕ → Option ℕ) (ls : List (Line T)) → StandWithin (visible_glyphs columns (text_of_lines ls)) (visible_glyphs columns (written ls))
-texts_written columns [] = tt
-texts_written columns (text is ∷ ls) = two_within columns is (text_of_lines ls) is (written ls) (itself_within columns is) (texts_written columns ls)
-texts_written columns (border b ∷ ls) = after_within columns (text_before b) (text_of_lines ls) (written ls) (texts_written columns ls)
-
 module _ {D M : Type 0} (columns : ℕ → Option ℕ) (decoration : Decoration D M) where
-  -- ---- renderers that don't pad
-
-  abbrev Unpadded : Renderer D M (List M) → Type 0
-  Unpadded r = IsLed columns decoration r × (r.options.pad_block_width ≡ false)
-
-  unpadded_on : (act : Act M) (r s : Renderer D M (List M)) → IsBetweenRuns columns decoration act r → after_act columns decoration act r ≡ done s → Unpadded r → Unpadded s
-  unpadded_on act r s between does k =
-      let along = acts_along columns decoration (act ∷ []) r s (led_sound columns decoration r k.0) (run_last (after_act columns decoration) act r s does) in
-      (led_on columns decoration act r s between does k.0, ap (λ (o : RenderOptions). o.pad_block_width) along.options ∙ k.1)
-
-  unpadded_inside : (width : ℕ) (r : Renderer D M (List M)) → 0 < width → Unpadded r → Unpadded (sub_renderer decoration width r)
-  unpadded_inside width r wide k = (inside_led columns decoration width r wide k.0, k.1)
-
-  -- the first of the two holds of all
-  led_of : (p : Progress D M (List M)) → AllAre Unpadded p → AllAre (IsLed columns decoration) p
-  led_of p h = record { on_stack = each_weaker (λ level k. k.0) p.stack.levels h.on_stack; waiting = each_weaker (λ c k. k.0) p.pending.cells h.waiting; below = each_weaker (λ o wait. each_weaker (λ c k. k.0) (let w = o.below in w.cells) wait) p.opened h.below }
-
   pub line_keeps_all : (p next : Progress D M (List M)) (number : ℕ) (line : List ℕ) → KeepsAll columns decoration p → EndsWhole (line ∷ []) p → after_line columns decoration number line p ≡ Ok next → KeepsAll columns decoration next
   line_keeps_all p next number line keeps whole makes =
       let Waits = λ (c : Renderer D M (List M) × ℕ). NothingOverhangs c.0 in
       let here : Shape (λ by. Unit {0}) Waits p = record { levels = keeps.levels; waiting = keeps.waiting; opened = each_weaker (λ level wait. tt) p.opened keeps.below; below_them = keeps.below } in
       let shape = line_shape columns decoration (λ by. Unit {0}) Waits number line p next (λ command is. (opens_any command, λ ends r top span align by. whole (command, is, ends) r top)) makes here in
       record {
-        renderers = line_keeps columns decoration Unpadded (λ width. 0 < width) unpadded_on unpadded_inside p keeps.renderers number line next (sized columns decoration line) makes;
+        renderers = line_keeps columns decoration (IsLed columns decoration) (λ width. 0 < width) (led_on columns decoration) (inside_led columns decoration) p keeps.renderers number line next (sized columns decoration line) makes;
         levels = shape.levels;
         waiting = shape.waiting;
         below = shape.below_them;
@@ -82,10 +49,8 @@ module _ {D M : Type 0} (columns : ℕ → Option ℕ) (decoration : Decoration 
       opens_any (cell width span align) = tt
       opens_any other = tt
 
-  pub started_keeps_all : columns 32 ≡ Some 1 → (opening : Opening) (decorator : D) → 0 < opening.width → opening.options.wrap_width ≢ Some 0 → opening.options.pad_block_width ≡ false → KeepsAll columns decoration (started {M = M} opening decorator)
-  started_keeps_all space opening decorator wide some unpadded =
-      let led = started_led columns decoration space opening decorator wide some in
-      record { renderers = record { on_stack = ((let l = led.on_stack in l.0, unpadded), tt); waiting = tt; below = tt }; levels = refl; waiting = tt; below = tt }
+  pub started_keeps_all : columns 32 ≡ Some 1 → (opening : Opening) (decorator : D) → 0 < opening.width → opening.options.wrap_width ≢ Some 0 → KeepsAll columns decoration (started {M = M} opening decorator)
+  started_keeps_all space opening decorator wide some = record { renderers = started_led columns decoration space opening decorator wide some; levels = refl; waiting = tt; below = tt }
 
   -- ---- a script's lines
 
@@ -97,7 +62,7 @@ module _ {D M : Type 0} (columns : ℕ → Option ℕ) (decoration : Decoration 
     line_has number [] p next keeps short whole e h = subst In (sym (one_ok p next e)) h
     line_has number (b ∷ bs) p next keeps short whole e h =
         let (command, is, makes) = line_command columns decoration number p (Ok next) tt b bs e in
-        command_has columns decoration first es number command p next keeps short (λ ends. whole (command, is, ends)) (led_of p keeps.renderers) makes h
+        command_has columns decoration first es number command p next keeps short (λ ends. whole (command, is, ends)) keeps.renderers makes h
 
     lines_keep : (number : ℕ) (lines : List (List ℕ)) (p q : Progress D M (List M)) → KeepsAll columns decoration p → ((front back : List (List ℕ)) (there : Progress D M (List M)) → lines ≡ front ++ back → LinesDo columns decoration p number front there → IsShort columns decoration there × EndsWhole back there) →
         LinesDo columns decoration p number lines q → In p → KeepsAll columns decoration q × In q
@@ -110,31 +75,26 @@ module _ {D M : Type 0} (columns : ℕ → Option ℕ) (decoration : Decoration 
 
   -- what came to the renderer on top, and later, is in the lines of the text
   pub text_keeps : (p : Progress D M (List M)) (number : ℕ) (lines : List (List ℕ)) (bytes : List ℕ) (r : Renderer D M (List M)) → KeepsAll columns decoration p → ((front back : List (List ℕ)) (there : Progress D M (List M)) → lines ≡ front ++ back → LinesDo columns decoration p number front there → IsShort columns decoration there × EndsWhole back there) →
-      top_of p.stack ≡ Some r → (led : IsLed columns decoration r) → led.first.options.pad_block_width ≡ false → rendered_on columns decoration number lines p ≡ Ok bytes →
+      top_of p.stack ≡ Some r → (led : IsLed columns decoration r) → rendered_on columns decoration number lines p ≡ Ok bytes →
       (commands : List Command) × AskFor lines commands × TextKeeps columns decoration (p.stack.links ++ link_targets commands) bytes (acts_brought columns decoration led.acts led.first)
-  text_keeps p number lines bytes r keeps at is_top led unpadded gives =
+  text_keeps p number lines bytes r keeps at is_top led gives =
       let es = acts_brought columns decoration led.acts led.first in
       let end = lines_end columns decoration p number lines bytes gives in
       let there = end.there in
       let still : HasStill columns decoration led.first es r = record { acts = led.acts; more = []; bring = (led.leads, append-nil es); between = led.between } in
       let (kept, has) = lines_keep led.first es number lines p there keeps at end.lead (inl (first_has columns decoration led.first es p.stack.levels r is_top still)) in
       let (top, is, closed_is, none_open, none_wait) = at_end columns decoration end.last there bytes end.ends in
-      let led_there = led_of there kept.renderers in
+      let led_there = kept.renderers in
       let led_last = of_first columns decoration there.stack.levels top is led_there.on_stack in
       let (of, gives_it) = closed_led columns decoration there.stack.links top bytes led_last closed_is in
       let gave = gives_on columns decoration led.first es top _ led_last.live ((at lines [] there (sym (append-nil lines)) end.lead).1 tt top is) gives_it (only_one columns decoration led.first es there.stack.levels top is (omega (arith, kept.levels, ap length none_open)) (only_on_stack columns decoration led.first es there none_open none_wait has)) in
       let origin : IsLed columns decoration gave.origin = record { first = led.first; fresh = led.fresh; sound = led.sound; acts = gave.still.acts; leads = gave.still.bring.0; between = gave.still.between; live = gave.live } in
-      let shows = subst (Shows columns gave.origin) (sym gave.still.bring.1) (led_shows columns decoration gave.origin origin unpadded) in
+      let so_far = subst (IsWrittenSoFar columns gave.origin) (sym gave.still.bring.1) (led_writes columns decoration gave.origin origin) in
       let steps = lines_step columns decoration number lines end.commands p there end.ask end.lead in
       let same = targets_come columns decoration (stack_calls end.commands) p.stack there.stack steps in
-      let inside = gave.inside in
-      let texts = visible_glyphs columns (text_of_lines inside) in
-      let last = let m = of.renderer in m.lines in
       let kept_text : TextKeeps columns decoration there.stack.links bytes es = record {
         of = of;
         more = gave.still.more;
-        shown = texts;
-        each = all_handed_out columns gave.origin (es ++ gave.still.more) inside (led_sound columns decoration gave.origin origin) shows gave.gives;
-        stand = within_on texts (visible_glyphs columns (written inside)) (visible_glyphs columns (written last)) (texts_written columns inside) (all_within columns decoration gave.depth inside last gave.chain);
+        all = brought_within columns decoration gave.depth gave.origin (es ++ gave.still.more) gave.inside (let m = of.renderer in m.lines) (led_sound columns decoration gave.origin origin) so_far gave.gives gave.chain;
       } in
       (end.commands, end.ask, subst (λ targets. TextKeeps columns decoration targets bytes es) same kept_text)

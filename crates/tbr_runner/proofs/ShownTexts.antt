@@ -4,8 +4,9 @@ use Rattle.tbr_decor.specs.Decoration.{Decoration}
 use Rattle.text_block_renderer.specs.Renderer.{Renderer}
 use Rattle.text_block_renderer.specs.Calls.{Shows}
 use Rattle.text_block_renderer.specs.MarkersStand.{Stands}
+use Rattle.text_block_renderer.specs.Taken.{IsWrittenSoFar}
 use Rattle.text_block_renderer.specs.Acts.{acts_brought}
-use Rattle.text_block_renderer.proofs.ActsKeep.{acts_show, acts_stand}
+use Rattle.text_block_renderer.proofs.ActsKeep.{acts_show, acts_stand, acts_write}
 use Rattle.text_block_renderer.proofs.BroughtEntries.{new_stands}
 use Rattle.tbr_runner.specs.Led.{IsFresh, IsLed}
 
@@ -33,3 +34,9 @@ module _ {D M : Type 0} (columns : ℕ → Option ℕ) (decoration : Decoration 
       record { ended = n.ended; whole = n.whole; order = n.order; markers = n.markers; waits = n.waits; kept = n.kept; waits_kept = n.waits_kept } in
       acts_stand columns decoration led.acts led.first r [] (acts_brought columns decoration led.acts led.first) led.sound unpadded led.between (led.leads, refl)
       (subst (λ (q : Top). Stands columns q []) (is_emptied led.first led.fresh) none)
+
+  pub led_writes : (r : Top) (led : IsLed columns decoration r) → IsWrittenSoFar columns r (acts_brought columns decoration led.acts led.first)
+  led_writes r led =
+      let none : IsWrittenSoFar columns (emptied led.first) [] = record { ended = []; whole = refl; shown = []; order = tt; stand = tt } in
+      acts_write columns decoration led.acts led.first r [] (acts_brought columns decoration led.acts led.first) led.sound led.between (led.leads, refl)
+      (subst (λ (q : Top). IsWrittenSoFar columns q []) (is_emptied led.first led.fresh) none)

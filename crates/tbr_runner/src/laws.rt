@@ -7,6 +7,7 @@ ghost use Rattle.tbr_stack.specs.StackCalls.{IsNextToEnd, StackSteps, after_end_
 ghost use Rattle.text_block_renderer.specs.Renderer.{Renderer, least};
 ghost use Rattle.text_block_renderer.specs.Calls.{Shows};
 ghost use Rattle.text_block_renderer.specs.MarkersStand.{Stands};
+ghost use Rattle.text_block_renderer.specs.Taken.{IsWrittenSoFar};
 ghost use Rattle.text_block_renderer.specs.Acts.{acts_brought};
 ghost use Rattle.text_block_renderer.specs.Headline.{Headline, TakeTwoAtMost};
 ghost use Rattle.tbr_program.specs.Progress.{Progress};
@@ -36,7 +37,8 @@ pub fn a_line_is_read_as_the_command_that_it_is()
 /// which nothing had come: first to the script's own, and then after each line. The script's text is that of such a
 /// one's lines, without an open run, and then of the footnotes of all its links, in their order. So the laws of lists
 /// of calls and rows hold of it, also with its footnotes: the first promise, and where lines aren't padded, that its
-/// lines show the visible characters and the markers of all that came to it, once and in order.
+/// lines show the visible characters and the markers of all that came to it, once and in order. Where they are padded,
+/// borders that became text are between these.
 pub fn the_renderers_of_a_script_are_led_to<D, M>()
     ensures first { (columns : ℕ → Option ℕ) (decoration : Decoration D M) → columns 32 ≡ Some 1 →
         (opening : Opening) (decorator : D) → 0 < opening.width → opening.options.wrap_width ≢ Some 0 →
@@ -59,17 +61,21 @@ pub fn the_renderers_of_a_script_are_led_to<D, M>()
     ensures stands { (columns : ℕ → Option ℕ) (decoration : Decoration D M) (r : Renderer D M (List M)) →
         (led : IsLed columns decoration r) → led.first.options.pad_block_width ≡ false →
         Stands columns r (acts_brought columns decoration led.acts led.first) }
+    ensures written { (columns : ℕ → Option ℕ) (decoration : Decoration D M) (r : Renderer D M (List M)) →
+        (led : IsLed columns decoration r) →
+        IsWrittenSoFar columns r (acts_brought columns decoration led.acts led.first) }
 {}
 
-/// No visible character is lost between the blocks and cells of a script, where lines aren't padded, no block has 2^64
-/// lines, and nothing overhangs in a block, a cell or the script where that ends. What came to a renderer up to any
+/// No visible character is lost between the blocks and cells of a script, and no marker before one, where no block has
+/// 2^64 lines, and nothing overhangs in a block, a cell or the script where that ends. What came to a renderer up to any
 /// line, and what comes to it later, is in the lines of the text, or in front of their borders: its visible characters,
-/// in order, each under an annotation of its call. Prefixes, borders and what came to other renderers may be between
-/// them. In a script whose cells span one row each nothing overhangs.
+/// each under an annotation of its call, and its markers, all in one order. Only markers may lack after which no visible
+/// character comes to that renderer. Prefixes, borders and what came to other renderers may be between them. In a script
+/// whose cells span one row each nothing overhangs.
 pub fn no_visible_character_of_a_script_is_lost<D, M>()
     ensures first { (columns : ℕ → Option ℕ) (decoration : Decoration D M) → columns 32 ≡ Some 1 →
         (opening : Opening) (decorator : D) → 0 < opening.width → opening.options.wrap_width ≢ Some 0 →
-        opening.options.pad_block_width ≡ false → KeepsAll columns decoration (started {M = M} opening decorator) }
+        KeepsAll columns decoration (started {M = M} opening decorator) }
     ensures line { (columns : ℕ → Option ℕ) (decoration : Decoration D M) (p next : Progress D M (List M))
         (number : ℕ) (line : List ℕ) → KeepsAll columns decoration p → EndsWhole (line ∷ []) p →
         after_line columns decoration number line p ≡ Ok next → KeepsAll columns decoration next }
@@ -77,7 +83,7 @@ pub fn no_visible_character_of_a_script_is_lost<D, M>()
         (lines : List (List ℕ)) (text : List ℕ) (r : Renderer D M (List M)) → KeepsAll columns decoration p →
         ((front back : List (List ℕ)) (there : Progress D M (List M)) → lines ≡ front ++ back →
         LinesDo columns decoration p number front there → IsShort columns decoration there × EndsWhole back there) →
-        top_of p.stack ≡ Some r → (led : IsLed columns decoration r) → led.first.options.pad_block_width ≡ false →
+        top_of p.stack ≡ Some r → (led : IsLed columns decoration r) →
         rendered_on columns decoration number lines p ≡ Ok text → (commands : List Command) × AskFor lines commands
         × TextKeeps columns decoration (p.stack.links ++ link_targets commands) text
         (acts_brought columns decoration led.acts led.first) }
