@@ -2,18 +2,15 @@
 use Rattle.std.proofs.Common.{◌≡◌, ◌<◌, ◌+◌, inl, ℕ, false, Option, Some, Ok, List, [], ◌∷◌, ◌++◌, length, append-nil, ◌≢◌, refl, ap, sym, ◌∙◌, subst, arith}
 use Rattle.std.specs.List.{AllByRecursion as Each}
 use Rattle.tbr_model.specs.Run.{Entry}
-use Rattle.tbr_model.specs.Hard.{visible_glyphs}
 use Rattle.tbr_tagged.specs.Outcome.{done}
 use Rattle.tbr_decor.specs.Decoration.{Decoration}
-use Rattle.text_block_renderer.specs.Line.{Line, text, border}
 use Rattle.text_block_renderer.specs.Renderer.{Renderer}
 use Rattle.text_block_renderer.specs.Decorated.{sub_renderer}
-use Rattle.text_block_renderer.specs.Calls.{text_of_lines, Shows}
+use Rattle.text_block_renderer.specs.MarkersStand.{Stands}
 use Rattle.text_block_renderer.specs.Acts.{Act, after_act, act_brought, acts_brought}
-use Rattle.text_block_renderer.specs.Taken.{StandWithin, text_before, written, NothingOverhangs}
-use Rattle.text_block_renderer.proofs.TakenLines.{all_within}
-use Rattle.text_block_renderer.proofs.VisibleCharacters.{all_handed_out}
-use Rattle.text_block_renderer.proofs.Within.{within_on, two_within, itself_within, after_within}
+use Rattle.text_block_renderer.specs.Taken.{NothingOverhangs}
+use Rattle.text_block_renderer.proofs.DrawnBorders.{none_among}
+use Rattle.text_block_renderer.proofs.TakenLines.{brought_within}
 use Rattle.tbr_stack.specs.Stack.{top_of}
 use Rattle.tbr_commands.specs.Command.{Command, sub, cell}
 use Rattle.tbr_program.specs.Progress.{Progress}
@@ -31,7 +28,7 @@ use Rattle.text_block_renderer.proofs.ActSteps.{one_act}
 use Rattle.tbr_renderer.specs.declared.RenderOptions.{RenderOptions}
 use Rattle.tbr_commands.specs.declared.opening.Opening.{Opening}
 use Rattle.tbr_program.specs.Commands.{started}
-use Rattle.tbr_runner.proofs.ShownTexts.{led_shows}
+use Rattle.tbr_runner.proofs.ShownTexts.{led_stands}
 use Rattle.tbr_runner.proofs.LedRenderers.{led_on, led_sound, inside_led, line_keeps, sized, of_first, at_end, closed_led, started_led}
 use Rattle.tbr_runner.proofs.CameToRenderers.{HasStill, IsIn, only_on_stack, only_one, first_has, gives_on, command_has}
 use Rattle.tbr_runner.proofs.ScriptLevels.{Shape, Opens, line_shape}
@@ -40,12 +37,6 @@ module _ {X : Type 0} where
   each_weaker : {P Q : X → Type 0} → ((x : X) → P x → Q x) → (xs : List X) → Each P xs → Each Q xs
   each_weaker f [] h = tt
   each_weaker f (x ∷ xs) h = (f x h.0, each_weaker f xs h.1)
-
--- text is written
-texts_written : {T : Type 0} (columns : ℕ → Option ℕ) (ls : List (Line T)) → StandWithin (visible_glyphs columns (text_of_lines ls)) (visible_glyphs columns (written ls))
-texts_written columns [] = tt
-texts_written columns (text is ∷ ls) = two_within columns is (text_of_lines ls) is (written ls) (itself_within columns is) (texts_written columns ls)
-texts_written columns (border b ∷ ls) = after_within columns (text_before b) (text_of_lines ls) (written ls) (texts_written columns ls)
 
 module _ {D M : Type 0} (columns : ℕ → Option ℕ) (decoration : Decoration D M) where
   -- ---- renderers that don't pad
@@ -124,17 +115,13 @@ module _ {D M : Type 0} (columns : ℕ → Option ℕ) (decoration : Decoration 
       let (of, gives_it) = closed_led columns decoration there.stack.links top bytes led_last closed_is in
       let gave = gives_on columns decoration led.first es top _ led_last.live ((at lines [] there (sym (append-nil lines)) end.lead).1 tt top is) gives_it (only_one columns decoration led.first es there.stack.levels top is (omega (arith, kept.levels, ap length none_open)) (only_on_stack columns decoration led.first es there none_open none_wait has)) in
       let origin : IsLed columns decoration gave.origin = record { first = led.first; fresh = led.fresh; sound = led.sound; acts = gave.still.acts; leads = gave.still.bring.0; live = gave.live } in
-      let shows = subst (Shows columns gave.origin) (sym gave.still.bring.1) (led_shows columns decoration gave.origin origin unpadded) in
+      let stands = subst (Stands columns gave.origin) (sym gave.still.bring.1) (led_stands columns decoration gave.origin origin unpadded) in
+      let own = let q = gave.origin in q.lines in
       let steps = lines_step columns decoration number lines end.commands p there end.ask end.lead in
       let same = targets_come columns decoration (stack_calls end.commands) p.stack there.stack steps in
-      let inside = gave.inside in
-      let texts = visible_glyphs columns (text_of_lines inside) in
-      let last = let m = of.renderer in m.lines in
       let kept_text : TextKeeps columns decoration there.stack.links bytes es = record {
         of = of;
         more = gave.still.more;
-        shown = texts;
-        each = all_handed_out columns gave.origin (es ++ gave.still.more) inside (led_sound columns decoration gave.origin origin) shows gave.gives;
-        stand = within_on texts (visible_glyphs columns (written inside)) (visible_glyphs columns (written last)) (texts_written columns inside) (all_within columns decoration gave.depth inside last gave.chain);
+        all = brought_within columns decoration gave.depth gave.origin [] (es ++ gave.still.more) gave.inside (let m = of.renderer in m.lines) (led_sound columns decoration gave.origin origin) (own, none_among own, stands) gave.gives gave.chain;
       } in
       (end.commands, end.ask, subst (λ targets. TextKeeps columns decoration targets bytes es) same kept_text)

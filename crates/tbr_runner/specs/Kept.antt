@@ -1,14 +1,13 @@
--- Scripts of which no visible character is lost.
+-- Scripts of which no visible character and no marker is lost.
 use Rattle.std.specs.Prelude.{◌≡◌, ℕ, ◌+◌, ◌<◌, ◌^◌, false, Option, Some, List, [], ◌∷◌, ◌++◌, length}
-use Rattle.std.specs.List.{AllZip, AllByRecursion as Each}
+use Rattle.std.specs.List.{AllByRecursion as Each}
 use Rattle.tbr_model.specs.Run.{Entry}
-use Rattle.tbr_model.specs.Hard.{IsShown, visible_glyphs, visible_entries}
 use Rattle.tbr_tagged.specs.Outcome.{done}
 use Rattle.tbr_decor.specs.Decoration.{Decoration}
 use Rattle.text_block_renderer.specs.Line.{Line}
 use Rattle.text_block_renderer.specs.Renderer.{Renderer}
 use Rattle.text_block_renderer.specs.Appended.{handed_out}
-use Rattle.text_block_renderer.specs.Taken.{StandWithin, written, NothingOverhangs}
+use Rattle.text_block_renderer.specs.Taken.{AreWrittenIn, NothingOverhangs}
 use Rattle.tbr_stack.specs.Stack.{top_of}
 use Rattle.tbr_commands.specs.Command.{Command, append, cell, end_cell}
 use Rattle.tbr_commands.specs.Syntax.{IsCommand}
@@ -77,11 +76,10 @@ module _ {D M : Type 0} (columns : ℕ → Option ℕ) (decoration : Decoration 
       (r : Renderer D M (List M)) (lines : List (Line (List M))) → top_of p.stack ≡ Some r →
       handed_out columns r ≡ done lines → length lines < 2 ^ 64
 
-  -- A text is that of a renderer's lines, with footnotes after them. In these lines the visible characters of what came
-  -- to a renderer before, and of what came to it later, are in order, each under an annotation of its call.
+  -- A text is that of a renderer's lines, with footnotes after them. In these lines the visible characters and the
+  -- markers of what came to a renderer before, and of what came to it later, are in order, each character under an
+  -- annotation of its call. Only markers may lack after which no visible character came to that renderer.
   pub record TextKeeps (targets : List (List ℕ)) (text : List ℕ) (came : List (Entry (List M))) : Type 0 where
     pub of : IsTextOfLed columns decoration targets text
     pub more : List (Entry (List M))
-    pub shown : List (ℕ × List M)
-    pub each : AllZip (IsShown (λ a b. a ≡ b)) shown (visible_entries columns (came ++ more))
-    pub stand : StandWithin shown (visible_glyphs columns (written (let m = of.renderer in m.lines)))
+    pub all : AreWrittenIn columns (came ++ more) (let m = of.renderer in m.lines)
