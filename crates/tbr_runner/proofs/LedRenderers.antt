@@ -62,9 +62,8 @@ use Rattle.text_block_renderer.specs.Calls.{Call, new_line, start_block, begin, 
 use Rattle.text_block_renderer.specs.Decorated.{sub_renderer}
 use Rattle.text_block_renderer.specs.Acts.{Act, call, row as row_of_cells, fmt_links, finalise, after_act, acts_brought, IsBetweenRuns}
 use Rattle.text_block_renderer.proofs.ActSteps.{acts_then, between_then}
-use Rattle.text_block_renderer.proofs.Moves.{sound_alike, flushed_none}
-use Rattle.text_block_renderer.proofs.ActParts.{acts_along}
-use Rattle.text_block_renderer.proofs.SoundRenderers.{new_sound, inside_sound}
+use Rattle.text_block_renderer.proofs.Moves.{flushed_none}
+use Rattle.text_block_renderer.proofs.SoundRenderers.{new_sound, inside_sound, acts_sound}
 use Rattle.text_block_renderer.proofs.LinkNumbers.{targets_come}
 use Rattle.tbr_runner.specs.StackCalls.{stack_calls, link_targets, AskFor, AskAfterFirst, LinesDo}
 use Rattle.tbr_runner.proofs.RenderedLines.{line_command}
@@ -103,7 +102,7 @@ module _ {D M : Type 0} (columns : ℕ → Option ℕ) (decoration : Decoration 
 
   -- such a renderer is sound
   pub led_sound : (r : Top) → Led r → IsSound columns r
-  led_sound r k = let along = acts_along columns decoration k.acts k.first r k.sound k.leads in sound_alike columns k.first r along.width along.options k.sound
+  led_sound r k = acts_sound columns decoration k.acts k.first r k.sound k.leads
 
   -- ---- renderers to which nothing has come
 

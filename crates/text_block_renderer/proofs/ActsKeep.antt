@@ -78,7 +78,7 @@ module _ {D A : Type 0} (columns : ℕ → Option ℕ) (kind : Kind) (P : Render
         let all = row_keeps m puts.row before still (flushed_none columns r m (row_flushes columns r m flushed)) sound_there stay first in
         subst (λ fs. P s (before ++ fs)) (sym is) (subst (λ (q : Renderer D A (List A)). P q (before ++ laid_entries (joined puts.row.lines))) (sym puts.is) all)
 
-    pub acts_keep : (acts : List (Act A)) (r s : Renderer D A (List A)) (before : List (Entry (List A))) → IsSound columns r → MayRule kind r → AreBetweenRuns columns decoration acts r → after_acts columns decoration acts r ≡ done s → P r before →
+    acts_keep : (acts : List (Act A)) (r s : Renderer D A (List A)) (before : List (Entry (List A))) → IsSound columns r → MayRule kind r → AreBetweenRuns columns decoration acts r → after_acts columns decoration acts r ≡ done s → P r before →
         P s (before ++ brought_by columns decoration acts r)
     acts_keep [] r s before sound may between h k = subst (λ (q : Renderer D A (List A)). P q (before ++ [])) (sym (one_done r s h)) (subst (P r) (sym (append-nil before)) k)
     acts_keep (act ∷ acts) r s before sound may between h k =

@@ -2,17 +2,17 @@
 use Rattle.std.proofs.Common.{◌≡◌, ◌≢◌, ◌<◌, ℕ, zero, suc, Bool, true, false, Option, None, Some, List, ap, refl, arith}
 use Rattle.std.proofs.Math.Dec.{leb-suc-zero}
 use Rattle.std.specs.Prelude.{nat_le, if◌then◌else◌}
-use Rattle.std.specs.Cmp.Lexicographic.{pointwise}
 use Rattle.tbr_tagged.specs.Outcome.{done}
 use Rattle.tbr_decor.specs.Decoration.{Decoration}
 use Rattle.tbr_renderer.specs.declared.options.RenderOptions.{RenderOptions}
-use Rattle.tbr_renderer.specs.Renderer.{Renderer, Settings, new_renderer, least, IsSound}
+use Rattle.tbr_renderer.specs.Renderer.{Renderer, new_renderer, least, IsSound}
 use Rattle.tbr_renderer.specs.Calls.{Call, Steps, brought}
 use Rattle.tbr_renderer.specs.Decorated.{sub_renderer}
-use Rattle.tbr_renderer.specs.Rows.{GivenCell, after_row}
+use Rattle.tbr_renderer.specs.Outcomes.{run}
+use Rattle.text_block_renderer.specs.Acts.{Act, after_act}
 use Rattle.text_block_renderer.proofs.Moves.{any, sound_alike, path_width, path_options}
 use Rattle.text_block_renderer.proofs.CallMoves.{calls_move}
-use Rattle.text_block_renderer.proofs.RowsOfCells.{row_laid, settings_stay}
+use Rattle.text_block_renderer.proofs.ActParts.{acts_along}
 
 some_columns : (width : ℕ) (wrap : Option ℕ) → 0 < width → wrap ≢ Some 0 → 0 < least width wrap
 some_columns width None wide some = wide
@@ -44,7 +44,5 @@ module _ {D A : Type 0} (columns : ℕ → Option ℕ) where
       let path = calls_move columns any decoration calls r s (brought columns decoration calls r) tt (h, refl) in
       sound_alike columns r s (path_width columns any r s _ _ path) (path_options columns any r s _ _ path) sound
 
-  pub row_sound : (decoration : Decoration D A) (collapses : Bool) (cells : List (GivenCell (List A))) (r s : Renderer D A (List A)) → IsSound columns r → after_row (pointwise decoration.same) columns collapses cells r ≡ done s → IsSound columns s
-  row_sound decoration collapses cells r s sound h =
-      let same = settings_stay columns r s (row_laid (pointwise decoration.same) columns collapses cells r s h) in
-      sound_alike columns r s (ap (λ (x : Settings D A). x.kept.width) same) (ap (λ (x : Settings D A). x.kept.options) same) sound
+  pub acts_sound : (decoration : Decoration D A) (acts : List (Act A)) (r s : Renderer D A (List A)) → IsSound columns r → run (after_act columns decoration) acts r ≡ done s → IsSound columns s
+  acts_sound decoration acts r s sound h = let along = acts_along columns decoration acts r s sound h in sound_alike columns r s along.width along.options sound

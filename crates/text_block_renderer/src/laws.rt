@@ -4,9 +4,8 @@ pub mod headline;
 pub mod links;
 pub mod rows;
 
-ghost use Rattle.std.specs.Prelude.{◌≡◌, ◌≢◌, ◌<◌, ℕ, Bool, ◌⊎◌, Option, Some, List, [], ◌++◌, flat_map};
+ghost use Rattle.std.specs.Prelude.{◌≡◌, ◌≢◌, ◌<◌, ℕ, ◌⊎◌, Option, Some, List, [], ◌++◌, flat_map};
 ghost use Rattle.std.specs.List.{AllByRecursion as Each};
-ghost use Rattle.std.specs.Cmp.Lexicographic.{pointwise};
 ghost use Rattle.tbr_border.specs.Cell.{Cell};
 ghost use Rattle.tbr_kept_lines.specs.Line.{Line};
 ghost use Rattle.tbr_renderer.specs.Renderer.{Open, Renderer, new_renderer, settings_of, open_run, IsSound};
@@ -14,13 +13,14 @@ ghost use Rattle.tbr_renderer.specs.declared.options.RenderOptions.{RenderOption
 ghost use Rattle.tbr_tagged.specs.Outcome.{done};
 ghost use Rattle.tbr_renderer.specs.Flush.{after_flush};
 ghost use Rattle.tbr_renderer.specs.Decorated.{sub_renderer};
-ghost use Rattle.tbr_renderer.specs.Rows.{GivenCell, after_row};
+ghost use Rattle.tbr_renderer.specs.Outcomes.{run};
 ghost use Rattle.tbr_renderer.specs.Calls.{Call, Does, Steps, Brings, Shows};
 ghost use Rattle.text_block_renderer.specs.Settings.{settled};
 ghost use Rattle.text_block_renderer.specs.Drawn.{WithoutDrawnBorders, CameWithoutDrawnBorders, borders_added, borders_drawn, DrawNone};
 ghost use Rattle.text_block_renderer.specs.MarkersStand.{Stands, FlushStands, WaitForText};
 ghost use Rattle.text_block_renderer.specs.Stretches.{StandsAsStretch, StaysOpen, EndsAsStretch, ComesInParts, borders_of_part, added_of_part, AppendsNothing, IsOwnPart};
 ghost use Rattle.text_block_renderer.specs.Added.{calls_add};
+ghost use Rattle.text_block_renderer.specs.Acts.{Act, after_act};
 ghost use Rattle.tbr_model.specs.Run.{Entry};
 ghost use Rattle.tbr_decor.specs.Decoration.{Decoration};
 
@@ -38,8 +38,8 @@ pub fn a_call_changes_its_own_settings_alone<D, A>()
         Does columns decoration call r s → settings_of s ≡ settings_of (settled decoration call r) }
 {}
 
-/// Renderers are sound, as the laws ask: new ones and those for a block inside have columns, and no call or row takes
-/// these.
+/// Renderers are sound, as the laws ask: new ones and those for a block inside have columns, and no call, row or
+/// footnote takes these.
 pub fn renderers_stay_sound<D, A>()
     ensures new { (columns : ℕ → Option ℕ) → columns 32 ≡ Some 1 → (width : ℕ) (options : RenderOptions)
         (decorator : D) → 0 < width → options.wrap_width ≢ Some 0 →
@@ -49,9 +49,9 @@ pub fn renderers_stay_sound<D, A>()
     ensures calls { (columns : ℕ → Option ℕ) (decoration : Decoration D A) (calls : List (Call (List A)))
         (r s : Renderer D A (List A)) →
         IsSound columns r → Steps columns decoration calls r s → IsSound columns s }
-    ensures row { (columns : ℕ → Option ℕ) (decoration : Decoration D A) (collapses : Bool)
-        (cells : List (GivenCell (List A))) (r s : Renderer D A (List A)) → IsSound columns r →
-        after_row (pointwise decoration.same) columns collapses cells r ≡ done s → IsSound columns s }
+    ensures acts { (columns : ℕ → Option ℕ) (decoration : Decoration D A) (acts : List (Act A))
+        (r s : Renderer D A (List A)) → IsSound columns r → run (after_act columns decoration) acts r ≡ done s →
+        IsSound columns s }
 {}
 
 /// After any calls the visible characters of what they brought are in the lines of text, but for those of the open run.
