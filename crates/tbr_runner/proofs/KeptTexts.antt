@@ -1,5 +1,5 @@
 -- What came to a renderer of a script is in the lines of its text.
-use Rattle.std.proofs.Common.{◌≡◌, ◌<◌, ◌+◌, inl, ℕ, false, Option, Some, Ok, List, [], ◌∷◌, ◌++◌, length, append-nil, ◌≢◌, refl, ap, sym, ◌∙◌, subst, arith}
+use Rattle.std.proofs.Common.{◌≡◌, ◌<◌, ◌+◌, inl, ℕ, Option, Some, Ok, List, [], ◌∷◌, ◌++◌, length, append-nil, ◌≢◌, refl, ap, sym, subst, arith}
 use Rattle.std.specs.List.{AllByRecursion as Each}
 use Rattle.tbr_model.specs.Run.{Entry}
 use Rattle.tbr_decor.specs.Decoration.{Decoration}
