@@ -8,7 +8,7 @@ use Rattle.tbr_c_lines.specs.declared.fault.Fault.{Fault}
 use Rattle.tbr_c_lines.specs.declared.fault.Fault.TheVariants.{OutOfMemory, TooNarrow, NotACommand, NothingToEnd, RowDoesNotFit, NotUtf8, BadWidth, BadArgument, StillOpen, NoLine, NoPiece, BufferTooSmall, NotFinished}
 use Rattle.tbr_c_lines.specs.declared.fault.Fault.TheVariants as fault
 use Rattle.tbr_c.specs.declared.state.State.{State}
-use Rattle.tbr_c.specs.declared.state.State.TheVariants.{Plain, Trivial, Rich, Finished, Refused}
+use Rattle.tbr_c.specs.declared.state.State.TheVariants.{Finished}
 use Rattle.tbr_c.specs.State.{TakesLine}
 use Rattle.tbr_c.specs.Answers.{GivesNext}
 
