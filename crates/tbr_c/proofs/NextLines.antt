@@ -8,9 +8,9 @@ use Rattle.tbr_c_lines.specs.declared.fault.Fault.{Fault}
 use Rattle.tbr_c_lines.specs.declared.fault.Fault.TheVariants.{OutOfMemory, TooNarrow, NotACommand, NothingToEnd, RowDoesNotFit, NotUtf8, BadWidth, BadArgument, StillOpen, NoLine, NoPiece, BufferTooSmall, NotFinished}
 use Rattle.tbr_c_lines.specs.declared.fault.Fault.TheVariants as fault
 use Rattle.tbr_c.specs.declared.state.State.{State}
-use Rattle.tbr_c.specs.declared.state.State.TheVariants.{Plain, Trivial, Rich, Finished, Refused}
+use Rattle.tbr_c.specs.declared.state.State.TheVariants.{Finished}
 use Rattle.tbr_c.specs.State.{TakesLine}
-use Rattle.tbr_c.specs.Answers.{IsSizeOfNext}
+use Rattle.tbr_c.specs.Answers.{GivesNext}
 
 -- the line that is taken last now, if it is the first of those before
 pub taken_line : (old next : Lines) (result : Result LineSize Fault) →
@@ -41,19 +41,10 @@ some_code NoLine is = omega (arith, is)
 some_code NoPiece is = omega (arith, is)
 some_code BufferTooSmall is = omega (arith, is)
 
-size_of_next : (old next : State) (size : LineSize) → TakesLine old next size → IsSizeOfNext old size
-size_of_next (Finished lines) next size takes = (takes.0, takes.1, takes.2, takes.4)
-size_of_next (Refused e) next size takes = absurd takes
-size_of_next (Plain program) next size takes = absurd takes
-size_of_next (Trivial program) next size takes = absurd takes
-size_of_next (Rich program) next size takes = absurd takes
-
--- the size that C is answered, where the status is 0
-pub size_answered : (old next : State) (result : Result LineSize Fault) (done : Result (Unit {0}) Fault) (before after : LineSize) (status : ℕ) →
+-- what C is given, where the status is 0
+pub next_given : (old next : State) (result : Result LineSize Fault) (done : Result (Unit {0}) Fault) (before after : LineSize) (back : Option State) (status : ℕ) →
     IfOk result (λ size. TakesLine old next size) →
     MatchResult result (λ size. (done ≡ Ok tt) × (after ≡ size)) (λ e. (done ≡ Err e) × (after ≡ before)) →
-    status ≡ status_of done → status ≡ 0 → IsSizeOfNext old after
-size_answered old next (Ok size) done before after status takes written is well =
-    subst (IsSizeOfNext old) (sym written.1) (size_of_next old next size takes)
-size_answered old next (Err e) done before after status takes written is well =
-    absurd (some_code e (sym (ap status_of written.0) ∙ sym is ∙ well))
+    back ≡ Some next → status ≡ status_of done → status ≡ 0 → GivesNext old back after
+next_given old next (Ok size) done before after back status takes written given is well = (next, subst (TakesLine old next) (sym written.1) takes, given)
+next_given old next (Err e) done before after back status takes written given is well = absurd (some_code e (sym (ap status_of written.0) ∙ sym is ∙ well))

@@ -1,38 +1,86 @@
 -- What is answered to C.
-use Rattle.std.specs.Prelude.{◌≡◌, ◌≢◌, ℕ, Result, OnOk, IfErr, List}
+use Rattle.std.specs.Prelude.{◌≡◌, ◌≢◌, ℕ, Option, Some, Result, Ok, Err, OnOk, IfOk, IfErr, MatchResult, List, length}
 use Rattle.tbr_commands.specs.Command.{Command}
+use Rattle.tbr_commands.specs.declared.opening.Opening.{Opening}
 use Rattle.tbr_c_lines.specs.Status.{status_of}
-use Rattle.tbr_c_lines.specs.Line.{Line, size_of}
-use Rattle.tbr_c_lines.specs.Lines.{NoneLeft, TakesFirst}
+use Rattle.tbr_c_lines.specs.Lines.{NoneLeft}
 use Rattle.tbr_c_lines.specs.declared.fault.Fault.{Fault}
 use Rattle.tbr_c_lines.specs.declared.fault.Fault.TheVariants as fault
 use Rattle.tbr_c_lines.specs.declared.line.LineSize.{LineSize}
-use Rattle.tbr_c_lines.specs.declared.lines.Rest.{Rest}
 use Rattle.tbr_c.specs.declared.state.State.{State}
 use Rattle.tbr_c.specs.declared.state.State.TheVariants.{Finished}
-use Rattle.tbr_c.specs.State.{HasEnded, Does, Refuses, CopiesRest}
+use Rattle.tbr_c.specs.State.{Begins, HasEnded, IsKept, Keeps, Does, Refuses, refused_as, EndsAs, EndsIn, RefusesEnd, HasText, TakesLine, CopiesRest}
 
--- What is answered to a command, but where memory is refused: it was done, or is refused as in a script.
-pub record IsAnswer (state : State) (command : Command) (done : Result (Unit {0}) Fault) : Type 0 where
-  pub ended : HasEnded state done
-  pub does : OnOk done ((next : State) × Does state command next)
-  pub refused : IfErr done (λ f. f ≢ fault.OutOfMemory → Refuses state command f)
+-- It does what arguments ask for, as a script does.
+abbrev pub DoesAsked : State → Result Command Fault → State → Type 0
+DoesAsked before (Ok command) after = Does before command after
+DoesAsked before (Err why) after = ⊥
 
--- The status is that of an answer to this command.
-abbrev pub HasStatus : State → Command → ℕ → Type 0
-HasStatus state command status =
-    (done : Result (Unit {0}) Fault) × IsAnswer state command done × (status ≡ status_of done)
+-- With what it refuses that, but where memory is refused.
+abbrev pub RefusesAsked : State → Result Command Fault → Fault → Type 0
+RefusesAsked before (Ok command) f = Refuses before command f
+RefusesAsked before (Err why) f = f ≡ refused_as before why
+
+-- What is answered to arguments that ask for this command, or for none, and what the renderer holds then. It was done,
+-- or is refused as in a script. `OutOfMemory` and `TooNarrow` are kept, and each other refusal leaves what was there.
+pub record IsAnswer (before : State) (asked : Result Command Fault) (done : Result (Unit {0}) Fault) (after : State) :
+    Type 0 where
+  pub ended : HasEnded before done
+  pub does : OnOk done (DoesAsked before asked after)
+  pub refused : IfErr done (λ f. f ≢ fault.OutOfMemory → RefusesAsked before asked f)
+  pub kept : IfErr done (λ f. IsKept f → Keeps after f)
+  pub left : IfErr done (λ f. (IsKept f → ⊥) → after ≡ before)
+
+-- C is given this back, and the status of an answer.
+abbrev pub Gives : State → Result Command Fault → Option State → ℕ → Type 0
+Gives before asked back status =
+    (done : Result (Unit {0}) Fault) × (after : State) × IsAnswer before asked done after
+    × (back ≡ Some after) × (status ≡ status_of done)
+
+-- What is refused at the end, and what the renderer holds then.
+pub record IsEnd {X : Type 0} (before : State) (done : Result X Fault) (after : State) : Type 0 where
+  pub ended : HasEnded before done
+  pub refused : IfErr done (λ f. f ≢ fault.OutOfMemory → RefusesEnd before f)
+  pub kept : IfErr done (λ f. IsKept f → Keeps after f)
+  pub left : IfErr done (λ f. (IsKept f → ⊥) → after ≡ before)
+
+-- C is given back lines, and the status of the end.
+abbrev pub GivesEnd : State → Option State → ℕ → Type 0
+GivesEnd before back status =
+    (done : Result (Unit {0}) Fault) × (after : State) × OnOk done (EndsIn before after) × IsEnd before done after
+    × (back ≡ Some after) × (status ≡ status_of done)
+
+-- The text of the end has this many bytes, and is what the renderer holds.
+abbrev pub HasLength : State → State → ℕ → Type 0
+HasLength before after count =
+    (text : List ℕ) × EndsAs before (Ok text) × HasText after text × (count ≡ length text)
+
+-- The same where its text is all that can be taken, whose length is answered.
+abbrev pub GivesText : State → Option State → ℕ → ℕ → ℕ → Type 0
+GivesText before back old new status =
+    (done : Result ℕ Fault) × (after : State) × IfOk done (HasLength before after) × IsEnd before done after
+    × (back ≡ Some after) × MatchResult done (λ count. new ≡ count) (λ _. new ≡ old) × (status ≡ status_of done)
+
+-- A new renderer, or why there is none.
+abbrev pub IsMade : Result Opening Fault → Result State Fault → Type 0
+IsMade asked made =
+    MatchResult made (λ state. (opening : Opening) × (asked ≡ Ok opening) × Begins opening state)
+    (λ f. f ≢ fault.OutOfMemory → asked ≡ Err f)
+
+-- C is given a new renderer where one is made, and the status of that.
+abbrev pub GivesNew : Result Opening Fault → Option State → Option State → ℕ → Type 0
+GivesNew asked before back status =
+    (made : Result State Fault) × IsMade asked made × MatchResult made (λ state. back ≡ Some state) (λ _. back ≡ before)
+    × (status ≡ status_of made)
 
 -- The status is that of an answer to a question for the text.
 abbrev pub IsRestCopied : State → List ℕ → List ℕ → ℕ → ℕ → Type 0
 IsRestCopied state before after needed status =
     (done : Result (Unit {0}) Fault) × CopiesRest state before after needed done × (status ≡ status_of done)
 
--- A line of this size is the first of those that weren't taken.
-abbrev pub IsSizeOfNext : State → LineSize → Type 0
-IsSizeOfNext (Finished lines) size =
-    (line : Line) × (rest : Rest) × TakesFirst lines.rest line rest × (size ≡ size_of line)
-IsSizeOfNext other size = ⊥
+-- C is given back what has the first line that wasn't taken as the one that was taken last, and its size.
+abbrev pub GivesNext : State → Option State → LineSize → Type 0
+GivesNext before back size = (after : State) × TakesLine before after size × (back ≡ Some after)
 
 -- None is left of the lines.
 abbrev pub HasNone : State → Type 0

@@ -1,12 +1,14 @@
 -- How far a renderer is that C holds.
-use Rattle.std.specs.Prelude.{◌≡◌, ◌≢◌, ℕ, Option, None, Some, Result, Ok, Err, List, [], chars}
+use Rattle.std.specs.Prelude.{◌≡◌, ◌≢◌, ℕ, Option, None, Some, Result, Ok, Err, List, [], chars, encode_utf8_all}
 use Rattle.tbr_tagged.specs.UnicodeColumns.{unicode_columns}
 use Rattle.tbr_decor.specs.Style.{style_of}
 use Rattle.tbr_script.specs.declared.error.RunError.{RunError}
 use Rattle.tbr_commands.specs.Command.{Command}
+use Rattle.tbr_commands.specs.declared.opening.Decorator.TheVariants as decorator
+use Rattle.tbr_commands.specs.declared.opening.Opening.{Opening}
 use Rattle.tbr_program.specs.Progress.{GoesOn, progress_meant}
 use Rattle.tbr_program.specs.Decorations.{plain_decoration, trivial_decoration, rich_decoration}
-use Rattle.tbr_program.specs.Commands.{after_command, ended}
+use Rattle.tbr_program.specs.Commands.{after_command, ended, started}
 use Rattle.tbr_c_lines.specs.Copied.{IsCopied}
 use Rattle.tbr_c_lines.specs.Status.{fault_of, fault_of_command, status_of}
 use Rattle.tbr_c_lines.specs.Line.{Line, size_of}
@@ -26,6 +28,13 @@ CanGoOn (Rich program) = GoesOn program
 CanGoOn (Finished lines) = Unit {0}
 CanGoOn (Refused e) = Unit {0}
 
+-- Nothing was called yet after this first command of a script.
+abbrev pub Begins : Opening → State → Type 0
+Begins opening (Plain program) = (opening.decorator ≡ decorator.Plain) × (program ≡ started opening (record {}))
+Begins opening (Trivial program) = (opening.decorator ≡ decorator.Trivial) × (program ≡ started opening (record {}))
+Begins opening (Rich program) = (opening.decorator ≡ decorator.Rich) × (program ≡ started opening (record {}))
+Begins opening other = ⊥
+
 -- calls go in, no level is open, and no cell waits
 abbrev pub MayFinish : State → Type 0
 MayFinish (Plain program) = (program.opened ≡ []) × (program.pending.cells ≡ [])
@@ -39,6 +48,11 @@ abbrev pub IsKept : Fault → Type 0
 IsKept fault.OutOfMemory = Unit {0}
 IsKept fault.TooNarrow = Unit {0}
 IsKept other = ⊥
+
+-- It keeps this refusal.
+abbrev pub Keeps : State → Fault → Type 0
+Keeps (Refused e) f = f ≡ fault_of e
+Keeps other f = ⊥
 
 -- What is finished, or keeps a refusal, answers that.
 abbrev pub HasEnded : {X : Type 0} → State → Result X Fault → Type 0
@@ -78,6 +92,14 @@ Refuses (Rich p) command f =
 Refuses (Finished lines) command f = f ≡ fault.Finished
 Refuses (Refused e) command f = f ≡ fault_of e
 
+-- With what arguments are refused that are no command. What is finished, or keeps a refusal, answers that.
+abbrev pub refused_as : State → Fault → Fault
+refused_as (Finished lines) why = fault.Finished
+refused_as (Refused e) why = fault_of e
+refused_as (Plain program) why = why
+refused_as (Trivial program) why = why
+refused_as (Rich program) why = why
+
 -- ---- the end
 
 -- What the end gives, as that of a script: its text, with the footnotes of its links, or a refusal.
@@ -87,6 +109,19 @@ EndsAs (Trivial p) outcome = ended unicode_columns trivial_decoration 0 (progres
 EndsAs (Rich p) outcome = ended unicode_columns rich_decoration 0 (progress_meant style_of p) ≡ outcome
 EndsAs (Finished lines) outcome = ⊥
 EndsAs (Refused e) outcome = ⊥
+
+-- Its lines are those of the end, and none was taken.
+abbrev pub EndsIn : State → State → Type 0
+EndsIn before (Finished lines) = EndsAs before (Ok (encode_utf8_all (text_of lines.rest))) × (lines.current ≡ None)
+EndsIn before other = ⊥
+
+-- With what the end is refused, but where memory is refused: as that of a script, whose lines don't count here.
+abbrev pub RefusesEnd : State → Fault → Type 0
+RefusesEnd (Finished lines) f = f ≡ fault.Finished
+RefusesEnd (Refused e) f = f ≡ fault_of e
+RefusesEnd (Plain p) f = (e : RunError) × EndsAs (Plain p) (Err e) × (f ≡ fault_of_command e)
+RefusesEnd (Trivial p) f = (e : RunError) × EndsAs (Trivial p) (Err e) × (f ≡ fault_of_command e)
+RefusesEnd (Rich p) f = (e : RunError) × EndsAs (Rich p) (Err e) × (f ≡ fault_of_command e)
 
 -- ---- its lines
 

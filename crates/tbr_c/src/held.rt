@@ -1,14 +1,18 @@
 //! What C holds.
-ghost use Rattle.std.specs.Prelude.{◌≡◌, ◌≢◌, ◌<◌, ℕ, List, None, Some, Ok, IfOk, IfErr, OnOk, MatchResult, length};
-ghost use Rattle.tbr_c.specs.State.{CanGoOn, MayFinish, HasEnded, Does, Refuses, IsKept, EndsAs, HasText, HasNoNext, TakesLine, current_of, CopiesRest};
+ghost use Rattle.std.specs.Prelude.{◌≡◌, ◌≢◌, ◌<◌, ℕ, List, None, Some, Result, IfOk, IfErr, OnOk, MatchResult};
+ghost use Rattle.tbr_c.specs.Answers.{IsAnswer, IsEnd, HasLength};
+ghost use Rattle.tbr_c.specs.Arguments.{Reads};
+ghost use Rattle.tbr_c.specs.State.{CanGoOn, Begins, MayFinish, EndsIn, HasNoNext, TakesLine, current_of, CopiesRest};
+ghost use Rattle.tbr_c.specs.declared.state.State.TheVariants as S;
 ghost use Rattle.tbr_c_lines.specs.Status.{fault_of};
+ghost use Rattle.tbr_c_lines.specs.declared.fault.Fault.{Fault as Refusal};
 ghost use Rattle.tbr_c_lines.specs.declared.fault.Fault.TheVariants as F;
-ghost use Rattle.tbr_commands.specs.Command.{command_of, IsSized};
+ghost use Rattle.tbr_commands.specs.Command.{Command as Asked, command_of, IsSized};
 
 use crate::state::{Facts, State};
 use std::alloc::Global;
 use std::marker::Model;
-use std::{mem, str};
+use std::mem;
 use tbr_c_lines::{Fault, Line, LineSize, Lines, Rest};
 use tbr_commands::{Command, Opening};
 use tbr_decor::DecoratorPrefix;
@@ -38,42 +42,35 @@ impl Held {
     pub fn new(alloc: Global, opening: Opening) -> Result<Held, Fault>
         requires width { 0 < opening.width }
         requires wrap_width { opening.options.wrap_width ≢ Some 0 }
+        ensures begins { IfOk result (λ held. Begins opening held) }
+        ensures memory { IfErr result (λ fault. fault ≡ F.OutOfMemory) }
     {
         let state = State::new(alloc, opening)?;
         Ok(Held { alloc, state })
     }
 
-    /// Does what a command asks for.
+    /// Does what arguments ask for, or refuses those that are no command.
     ///
     /// `OutOfMemory` and `TooNarrow` are kept, and each other refusal leaves the renderer as it was. One that keeps a
     /// refusal answers that, and one that is finished `Finished`.
-    pub fn run(&mut self, command: &Command) -> Result<(), Fault>
-        requires { IsSized (command_of command.now) }
-        ensures done { OnOk result (Does self.old (command_of command.now) self.new) }
-        ensures refused { IfErr result (λ fault. fault ≢ F.OutOfMemory →
-            Refuses self.old (command_of command.now) fault) }
-        ensures ended { HasEnded self.old result }
-        ensures left { IfErr result (λ fault. (IsKept fault → ⊥) → self.new ≡ self.old) }
+    pub fn run(&mut self, read: &Result<Command, Fault>) -> Result<(), Fault>
+        requires { IfOk read.now (λ command. IsSized (command_of command)) }
+        ensures { (asked : Result Asked Refusal) → Reads command_of asked read.now →
+            IsAnswer self.old asked result self.new }
     {
-        let done = self.state.run(self.alloc, command);
-        self.state.keep(done)
-    }
-
-    /// A copy of a text to fill the renderer with. It refuses as `run` does, and by `NotUtf8`.
-    pub fn text(&mut self, bytes: &[u8]) -> Result<String, Fault> {
-        self.state.facts()?;
-        let Ok(text) = str::from_utf8(bytes) else {
-            return Err(Fault::NotUtf8);
+        let done = match read {
+            Ok(command) => self.state.run(self.alloc, command),
+            Err(fault) => Err(self.state.refused_as(*fault)),
         };
-        let copy = String::from_str(self.alloc, text).map_err(|_| Fault::OutOfMemory);
-        self.state.keep(copy)
+        self.state.keep(done)
     }
 
     /// Ends the last line. The lines can then be taken.
     ///
     /// `StillOpen` where a level is open or cells wait. It refuses as `run` does.
     pub fn finish(&mut self) -> Result<(), Fault>
-        ensures { HasEnded self.old result }
+        ensures lines { OnOk result (EndsIn self.old self.new) }
+        ensures end { IsEnd self.old result self.new }
     {
         match self.take_closed()?.into_lines() {
             Ok(lines) => {
@@ -89,9 +86,8 @@ impl Held {
     ///
     /// It refuses as `finish` does.
     pub fn finish_text(&mut self) -> Result<usize, Fault>
-        ensures text { IfOk result (λ count. (text : List ℕ) × EndsAs self.old (Ok text) × HasText self.new text
-            × (count ≡ length text)) }
-        ensures ended { HasEnded self.old result }
+        ensures text { IfOk result (λ count. HasLength self.old self.new count) }
+        ensures end { IsEnd self.old result self.new }
     {
         match self.take_closed()?.into_text() {
             Ok(text) => {
@@ -107,7 +103,7 @@ impl Held {
     fn take_closed(&mut self) -> Result<State, Fault>
         ensures taken { IfOk result (λ state. (state ≡ self.old) × CanGoOn state × MayFinish state) }
         ensures left { IfErr result (λ _. self.new ≡ self.old) }
-        ensures ended { HasEnded self.old result }
+        ensures end { IsEnd self.old result self.new }
     {
         let facts = self.state.facts()?;
         if facts.open_levels > 0 || facts.waiting_cells > 0 {
@@ -118,7 +114,8 @@ impl Held {
 
     /// Keeps a refusal.
     fn refuse(&mut self, e: Error) -> Fault
-        ensures { result ≡ fault_of e }
+        ensures refusal { result ≡ fault_of e }
+        ensures kept { self.new ≡ S.Refused e }
     {
         self.state = State::Refused(e);
         Fault::from(e)
@@ -148,7 +145,9 @@ impl Held {
     }
 
     /// The text of a prefix of the decorator.
-    pub fn prefix(&mut self, prefix: DecoratorPrefix) -> Result<String, Fault> {
+    pub fn prefix(&mut self, prefix: DecoratorPrefix) -> Result<String, Fault>
+        ensures { self.new ≡ self.old }
+    {
         self.state.prefix(prefix)
     }
 

@@ -1,5 +1,6 @@
 //! What C tells a new renderer.
-ghost use Rattle.std.specs.Prelude.{◌≢◌, ◌<◌, Some, IfOk};
+ghost use Rattle.std.specs.Prelude.{◌≡◌, ◌≢◌, ◌<◌, Some, IfOk};
+ghost use Rattle.tbr_c.specs.Arguments.{decorator_named, images_named, opening_asked};
 
 use tbr_c_lines::Fault;
 use tbr_commands::{Decorator, Opening};
@@ -27,15 +28,18 @@ impl Options {
     /// It answers `BadWidth` where the width is 0. It answers `BadArgument` where the number of the decorator, or that
     /// of what images show, names nothing.
     pub fn opening(&self) -> Result<Opening, Fault>
+        ensures asked { result ≡ opening_asked self.now }
         ensures width { IfOk result (λ opening. 0 < opening.width) }
         ensures wrap_width { IfOk result (λ opening. opening.options.wrap_width ≢ Some 0) }
     {
         if self.width == 0 {
             return Err(Fault::BadWidth);
         }
+        let decorator = decorator(self.decorator)?;
+        let img_mode = images(self.images)?;
         Ok(Opening {
             width: self.width,
-            decorator: decorator(self.decorator)?,
+            decorator,
             options: RenderOptions {
                 wrap_width: (self.wrap_width > 0).then_some(self.wrap_width),
                 allow_width_overflow: self.overflow,
@@ -44,7 +48,7 @@ impl Options {
                 wrap_links: self.wrap_links,
                 include_link_footnotes: self.footnotes,
                 use_unicode_strikeout: self.strikeout_strokes,
-                img_mode: images(self.images)?,
+                img_mode,
                 ..RenderOptions::default()
             },
         })
@@ -52,7 +56,9 @@ impl Options {
 }
 
 /// The decorator that a number names.
-fn decorator(number: u32) -> Result<Decorator, Fault> {
+fn decorator(number: u32) -> Result<Decorator, Fault>
+    ensures { result ≡ decorator_named number }
+{
     match number {
         0 => Ok(Decorator::Plain),
         1 => Ok(Decorator::Trivial),
@@ -62,7 +68,9 @@ fn decorator(number: u32) -> Result<Decorator, Fault> {
 }
 
 /// What images without a title show, by its number.
-fn images(number: u32) -> Result<ImageRenderMode, Fault> {
+fn images(number: u32) -> Result<ImageRenderMode, Fault>
+    ensures { result ≡ images_named number }
+{
     match number {
         0 => Ok(ImageRenderMode::IgnoreEmpty),
         1 => Ok(ImageRenderMode::ShowAlways),

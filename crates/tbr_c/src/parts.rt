@@ -17,6 +17,16 @@ impl<T, A: Allocator> Model for Parts<T, A> {
 }
 
 impl<T, A: Allocator> Parts<T, A> {
+    /// What this box is made of.
+    pub fn of(whole: Box<T, A>) -> Parts<T, A>
+    where
+        T: Drop,
+        ensures { result.value ≡ whole.value }
+    {
+        let (ptr, alloc) = Box::into_raw_with_allocator(whole);
+        Parts { ptr, alloc }
+    }
+
     /// The box that they make.
     pub fn into_box(self) -> Box<T, A>
         ensures { result.value ≡ self.value }

@@ -1,12 +1,15 @@
-//! Questions to a renderer that is filled.
+//! Questions to a renderer that is filled. None changes it.
+ghost use Rattle.std.specs.Prelude.{◌≡◌, Some};
 
-use crate::handle::{Handle, hand_back};
+use crate::handle::{Handle, Returned, hand_back};
 use crate::state::Facts;
 use tbr_c_lines::{Fault, answer, copy_out, status};
 use tbr_decor::DecoratorPrefix;
 
 /// What a renderer answers of its innermost level.
-fn facts(renderer: Handle, back: &mut *mut u8) -> Result<Facts, Fault> {
+fn facts(renderer: Handle, back: &mut Returned) -> Result<Facts, Fault>
+    ensures same { back.new.value ≡ Some renderer.value }
+{
     let held = renderer.open();
     let facts = held.facts();
     hand_back(held, back);
@@ -14,7 +17,9 @@ fn facts(renderer: Handle, back: &mut *mut u8) -> Result<Facts, Fault> {
 }
 
 #[unsafe(no_mangle)]
-pub extern "C" fn tbr1_refusal(renderer: Handle, back: &mut *mut u8) -> u32 {
+pub extern "C" fn tbr1_refusal(renderer: Handle, back: &mut Returned) -> u32
+    ensures same { back.new.value ≡ Some renderer.value }
+{
     let held = renderer.open();
     let kept = held.refusal();
     hand_back(held, back);
@@ -22,7 +27,9 @@ pub extern "C" fn tbr1_refusal(renderer: Handle, back: &mut *mut u8) -> u32 {
 }
 
 #[unsafe(no_mangle)]
-pub extern "C" fn tbr1_is_empty(renderer: Handle, is_empty: &mut bool, back: &mut *mut u8) -> u32 {
+pub extern "C" fn tbr1_is_empty(renderer: Handle, is_empty: &mut bool, back: &mut Returned) -> u32
+    ensures same { back.new.value ≡ Some renderer.value }
+{
     status(answer(facts(renderer, back).map(|facts| facts.is_empty), is_empty))
 }
 
@@ -30,8 +37,10 @@ pub extern "C" fn tbr1_is_empty(renderer: Handle, is_empty: &mut bool, back: &mu
 pub extern "C" fn tbr1_has_overhang(
     renderer: Handle,
     has_overhang: &mut bool,
-    back: &mut *mut u8,
-) -> u32 {
+    back: &mut Returned,
+) -> u32
+    ensures same { back.new.value ≡ Some renderer.value }
+{
     let held = renderer.open();
     let hangs = held.has_overhang();
     hand_back(held, back);
@@ -39,7 +48,9 @@ pub extern "C" fn tbr1_has_overhang(
 }
 
 #[unsafe(no_mangle)]
-pub extern "C" fn tbr1_width(renderer: Handle, columns: &mut usize, back: &mut *mut u8) -> u32 {
+pub extern "C" fn tbr1_width(renderer: Handle, columns: &mut usize, back: &mut Returned) -> u32
+    ensures same { back.new.value ≡ Some renderer.value }
+{
     status(answer(facts(renderer, back).map(|facts| facts.width), columns))
 }
 
@@ -49,8 +60,10 @@ pub extern "C" fn tbr1_width_minus(
     prefix: usize,
     least: usize,
     columns: &mut usize,
-    back: &mut *mut u8,
-) -> u32 {
+    back: &mut Returned,
+) -> u32
+    ensures same { back.new.value ≡ Some renderer.value }
+{
     let held = renderer.open();
     let left = held.width_minus(prefix, least);
     hand_back(held, back);
@@ -58,12 +71,16 @@ pub extern "C" fn tbr1_width_minus(
 }
 
 #[unsafe(no_mangle)]
-pub extern "C" fn tbr1_open_levels(renderer: Handle, count: &mut usize, back: &mut *mut u8) -> u32 {
+pub extern "C" fn tbr1_open_levels(renderer: Handle, count: &mut usize, back: &mut Returned) -> u32
+    ensures same { back.new.value ≡ Some renderer.value }
+{
     status(answer(facts(renderer, back).map(|facts| facts.open_levels), count))
 }
 
 #[unsafe(no_mangle)]
-pub extern "C" fn tbr1_open_links(renderer: Handle, count: &mut usize, back: &mut *mut u8) -> u32 {
+pub extern "C" fn tbr1_open_links(renderer: Handle, count: &mut usize, back: &mut Returned) -> u32
+    ensures same { back.new.value ≡ Some renderer.value }
+{
     status(answer(facts(renderer, back).map(|facts| facts.open_links), count))
 }
 
@@ -71,8 +88,10 @@ pub extern "C" fn tbr1_open_links(renderer: Handle, count: &mut usize, back: &mu
 pub extern "C" fn tbr1_waiting_cells(
     renderer: Handle,
     count: &mut usize,
-    back: &mut *mut u8,
-) -> u32 {
+    back: &mut Returned,
+) -> u32
+    ensures same { back.new.value ≡ Some renderer.value }
+{
     status(answer(
         facts(renderer, back).map(|facts| facts.waiting_cells),
         count,
@@ -85,8 +104,10 @@ fn prefix(
     prefix: DecoratorPrefix,
     out: &mut [u8],
     length: &mut usize,
-    back: &mut *mut u8,
-) -> u32 {
+    back: &mut Returned,
+) -> u32
+    ensures same { back.new.value ≡ Some renderer.value }
+{
     let mut held = renderer.open();
     let text = held.prefix(prefix);
     hand_back(held, back);
@@ -98,8 +119,10 @@ pub extern "C" fn tbr1_quote_prefix(
     renderer: Handle,
     out: &mut [u8],
     length: &mut usize,
-    back: &mut *mut u8,
-) -> u32 {
+    back: &mut Returned,
+) -> u32
+    ensures same { back.new.value ≡ Some renderer.value }
+{
     prefix(renderer, DecoratorPrefix::Quote, out, length, back)
 }
 
@@ -108,8 +131,10 @@ pub extern "C" fn tbr1_item_prefix(
     renderer: Handle,
     out: &mut [u8],
     length: &mut usize,
-    back: &mut *mut u8,
-) -> u32 {
+    back: &mut Returned,
+) -> u32
+    ensures same { back.new.value ≡ Some renderer.value }
+{
     prefix(renderer, DecoratorPrefix::Item, out, length, back)
 }
 
@@ -119,8 +144,10 @@ pub extern "C" fn tbr1_ordered_item_prefix(
     number: i64,
     out: &mut [u8],
     length: &mut usize,
-    back: &mut *mut u8,
-) -> u32 {
+    back: &mut Returned,
+) -> u32
+    ensures same { back.new.value ≡ Some renderer.value }
+{
     prefix(
         renderer,
         DecoratorPrefix::OrderedItem(number),
@@ -136,7 +163,9 @@ pub extern "C" fn tbr1_header_prefix(
     level: usize,
     out: &mut [u8],
     length: &mut usize,
-    back: &mut *mut u8,
-) -> u32 {
+    back: &mut Returned,
+) -> u32
+    ensures same { back.new.value ≡ Some renderer.value }
+{
     prefix(renderer, DecoratorPrefix::Header(level), out, length, back)
 }

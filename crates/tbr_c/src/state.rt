@@ -1,5 +1,5 @@
 //! How far a renderer is that C holds: filled, finished or refused.
-ghost use Rattle.std.specs.Prelude.{◌≡◌, ◌≢◌, ◌<◌, [], Some, Ok, Err, IfOk, IfErr, OnOk, MatchResult, string_bytes};
+ghost use Rattle.std.specs.Prelude.{◌≡◌, ◌≢◌, ◌<◌, ◌⊎◌, [], Some, Ok, Err, IfOk, IfErr, OnOk, MatchResult, flat_map, string_bytes, encode_utf8_all};
 ghost use Rattle.tbr_tagged.specs.declared.Error.TheVariants as Refusal;
 ghost use Rattle.tbr_tagged.specs.UnicodeColumns.{unicode_columns};
 ghost use Rattle.tbr_decor.specs.Decoration.{decoration_of};
@@ -7,20 +7,22 @@ ghost use Rattle.tbr_script.specs.declared.error.RunError.{RunError as Unrun};
 ghost use Rattle.tbr_script.specs.declared.error.RunError.TheVariants as script;
 ghost use Rattle.tbr_commands.specs.Command.{command_of, IsSized};
 ghost use Rattle.tbr_program.specs.Progress.{GoesOn, progress_meant};
-ghost use Rattle.tbr_program.specs.Commands.{after_command, ended};
+ghost use Rattle.tbr_program.specs.Commands.{after_command, ended, started as begun};
 ghost use Rattle.tbr_c_lines.specs.Status.{fault_of_command};
-ghost use Rattle.tbr_c.specs.State.{CanGoOn, MayFinish, IsKept, HasEnded, Does, Refuses, EndsAs, HasNoLines, TakesLine, HasNoNext, CopiesRest};
+ghost use Rattle.tbr_c_lines.specs.Lines.{line_text};
+ghost use Rattle.tbr_c.specs.State.{CanGoOn, Begins, MayFinish, IsKept, Keeps, HasEnded, Does, Refuses, refused_as, EndsAs, EndsIn, RefusesEnd, HasNoLines, TakesLine, HasNoNext, CopiesRest};
 ghost use Rattle.tbr_c.specs.declared.state.State.TheVariants as S;
 ghost use Rattle.tbr_c_lines.specs.declared.fault.Fault.TheVariants as F;
 
 use std::alloc::Global;
 use std::collections::VecDeque;
+use tbr_annotations::Annotations;
 use tbr_c_lines::{Fault, LineSize, Lines, Rest, of_command};
 use tbr_commands::{Command, Decorator, Opening};
 use tbr_decor::{DecoratorPrefix, PlainDecorator, RichDecorator, TextDecorator, TrivialDecorator};
-use tbr_lines::{Error, UnicodeColumns};
+use tbr_lines::{Error, RenderLine, UnicodeColumns};
 use tbr_program::Program;
-use tbr_renderer::{RenderOptions, Renderer};
+use tbr_renderer::Renderer;
 use tbr_script::RunError;
 
 /// How far a renderer is.
@@ -58,21 +60,18 @@ impl State {
     pub fn new(alloc: Global, opening: Opening) -> Result<State, Fault>
         requires width { 0 < opening.width }
         requires wrap_width { opening.options.wrap_width ≢ Some 0 }
-        ensures { IfOk result (λ state. CanGoOn state) }
+        ensures goes_on { IfOk result (λ state. CanGoOn state) }
+        ensures begins { IfOk result (λ state. Begins opening state) }
+        ensures memory { IfErr result (λ fault. fault ≡ F.OutOfMemory) }
     {
-        let Opening {
-            width,
-            decorator,
-            options,
-        } = opening;
-        Ok(match decorator {
-            Decorator::Plain => {
-                State::Plain(started(alloc, width, options, PlainDecorator::new())?)
-            }
-            Decorator::Trivial => {
-                State::Trivial(started(alloc, width, options, TrivialDecorator::new())?)
-            }
-            Decorator::Rich => State::Rich(started(alloc, width, options, RichDecorator::new())?),
+        Ok(match opening.decorator {
+            Decorator::Plain => State::Plain(started(alloc, &opening, PlainDecorator::new())?),
+            Decorator::Trivial => State::Trivial(started(
+                alloc,
+                &opening,
+                TrivialDecorator::new(),
+            )?),
+            Decorator::Rich => State::Rich(started(alloc, &opening, RichDecorator::new())?),
         })
     }
 
@@ -97,11 +96,26 @@ impl State {
         }
     }
 
+    /// With what it refuses arguments that are no command.
+    pub fn refused_as(&self, fault: Fault) -> Fault
+        ensures { result ≡ refused_as self.now fault }
+    {
+        match self {
+            State::Finished(_) => Fault::Finished,
+            State::Refused(e) => Fault::from(*e),
+            _ => fault,
+        }
+    }
+
     /// What it answers while it is filled.
     pub fn facts(&self) -> Result<Facts, Fault>
         requires { CanGoOn self.now }
         ensures ended { HasEnded self.now result }
         ensures closed { IfOk result (λ facts. facts.open_levels ≡ 0 → facts.waiting_cells ≡ 0 → MayFinish self.now) }
+        ensures open { IfOk result (λ facts. (0 < facts.open_levels) ⊎ (0 < facts.waiting_cells) →
+            RefusesEnd self.now F.StillOpen) }
+        ensures refused { IfErr result (λ fault. RefusesEnd self.now fault) }
+        ensures kept { IfErr result (λ fault. IsKept fault → Keeps self.now fault) }
     {
         match self {
             State::Plain(program) => Ok(facts_of(program)),
@@ -159,17 +173,19 @@ impl State {
     pub fn into_lines(self) -> Result<Lines, Error>
         requires goes_on { CanGoOn self }
         requires closed { MayFinish self }
+        ensures lines { IfOk result (λ lines. EndsIn self (S.Finished lines)) }
+        ensures too_narrow { result ≡ Err Refusal.TooNarrow → RefusesEnd self F.TooNarrow }
     {
         match self {
-            State::Plain(program) => Ok(Lines::new(Rest::Bare(VecDeque::from_vec(
-                program.finish_lines()?,
-            )))),
-            State::Trivial(program) => Ok(Lines::new(Rest::Bare(VecDeque::from_vec(
-                program.finish_lines()?,
-            )))),
-            State::Rich(program) => Ok(Lines::new(Rest::Rich(VecDeque::from_vec(
-                program.finish_lines()?,
-            )))),
+            State::Plain(program) => Ok(Lines::new(Rest::Bare(VecDeque::from_vec(lines_of(
+                program,
+            )?)))),
+            State::Trivial(program) => Ok(Lines::new(Rest::Bare(VecDeque::from_vec(lines_of(
+                program,
+            )?)))),
+            State::Rich(program) => Ok(Lines::new(Rest::Rich(VecDeque::from_vec(lines_of(
+                program,
+            )?)))),
             State::Finished(_) | State::Refused(_) => unreachable!(),
         }
     }
@@ -179,7 +195,7 @@ impl State {
         requires goes_on { CanGoOn self }
         requires closed { MayFinish self }
         ensures text { IfOk result (λ text. EndsAs self (Ok (string_bytes text))) }
-        ensures too_narrow { result ≡ Err Refusal.TooNarrow → EndsAs self (Err script.TooNarrow) }
+        ensures too_narrow { result ≡ Err Refusal.TooNarrow → RefusesEnd self F.TooNarrow }
     {
         match self {
             State::Plain(program) => text_of(program),
@@ -243,6 +259,7 @@ impl State {
         ensures done { result ≡ done }
         ensures left { MatchResult done (λ _. self.new ≡ self.old)
             (λ fault. (IsKept fault → ⊥) → self.new ≡ self.old) }
+        ensures kept { IfErr done (λ fault. IsKept fault → Keeps self.new fault) }
     {
         match done {
             Err(Fault::OutOfMemory) => *self = State::Refused(Error::OutOfMemory),
@@ -256,15 +273,16 @@ impl State {
 /// A program in which nothing was called yet. It refuses only where memory is refused.
 fn started<D: TextDecorator>(
     alloc: Global,
-    width: usize,
-    options: RenderOptions,
+    opening: &Opening,
     decorator: D,
 ) -> Result<Program<D, UnicodeColumns>, Fault>
-    requires width { 0 < width }
-    requires wrap_width { options.wrap_width ≢ Some 0 }
-    ensures { IfOk result (λ program. GoesOn program) }
+    requires width { 0 < opening.now.width }
+    requires wrap_width { opening.now.options.wrap_width ≢ Some 0 }
+    ensures program { IfOk result (λ program. program ≡ begun opening.now decorator) }
+    ensures goes_on { IfOk result (λ program. GoesOn program) }
+    ensures memory { IfErr result (λ fault. fault ≡ F.OutOfMemory) }
 {
-    match Program::new(alloc, width, options, decorator) {
+    match Program::new(alloc, opening.width, opening.options, decorator) {
         Ok(program) => Ok(program),
         Err(e) => Err(of_command(e)),
     }
@@ -310,11 +328,28 @@ fn text_of<D: TextDecorator>(program: Program<D, UnicodeColumns>) -> Result<Stri
     }
 }
 
+/// The same as lines, where no level is open and no cell waits.
+fn lines_of<D: TextDecorator>(
+    program: Program<D, UnicodeColumns>,
+) -> Result<Vec<RenderLine<Annotations<D::Annotation>>>, Error>
+    requires goes_on { GoesOn program }
+    requires opened { program.opened ≡ [] }
+    requires cells { program.pending.cells ≡ [] }
+    ensures lines { IfOk result (λ lines. ended unicode_columns (decoration_of D.TextDecorator) 0
+        (progress_meant D.meaning program) ≡ Ok (encode_utf8_all (flat_map line_text lines.items))) }
+    ensures too_narrow { result ≡ Err Refusal.TooNarrow → ended unicode_columns (decoration_of D.TextDecorator) 0
+        (progress_meant D.meaning program) ≡ Err script.TooNarrow }
+{
+    program.finish_lines()
+}
+
 /// What a program answers of its innermost level.
 fn facts_of<D: TextDecorator>(program: &Program<D, UnicodeColumns>) -> Facts
     requires { GoesOn program.now }
     ensures closed { result.open_levels ≡ 0 → program.now.opened ≡ [] }
     ensures cells { result.waiting_cells ≡ 0 → program.now.pending.cells ≡ [] }
+    ensures open { (0 < result.open_levels) ⊎ (0 < result.waiting_cells) → ended unicode_columns
+        (decoration_of D.TextDecorator) 0 (progress_meant D.meaning program.now) ≡ Err (script.NotACommand 0) }
 {
     let top = program.top();
     Facts {

@@ -5,9 +5,9 @@ ghost use Rattle.tbr_c_lines.specs.Line.{Line as Shown, placed, marked};
 ghost use Rattle.tbr_c_lines.specs.Status.{status_of};
 ghost use Rattle.tbr_c_lines.specs.declared.line.PiecePlace.{PiecePlace as Place};
 ghost use Rattle.tbr_c.specs.State.{current_of};
-ghost use Rattle.tbr_c.specs.Answers.{IsRestCopied, IsSizeOfNext, HasNone};
+ghost use Rattle.tbr_c.specs.Answers.{IsRestCopied, GivesNext, HasNone};
 
-use crate::handle::{Handle, hand_back};
+use crate::handle::{Handle, Returned, hand_back};
 use crate::held::Held;
 use tbr_c_lines::{
     AnnotationKind, Fault, LineSize, PiecePlace, answer, copy_out, kind, status, target,
@@ -18,7 +18,7 @@ pub extern "C" fn tbr1_text(
     renderer: Handle,
     out: &mut [u8],
     needed: &mut usize,
-    back: &mut *mut u8,
+    back: &mut Returned,
 ) -> u32
     ensures text { IsRestCopied renderer.value out.old out.new needed.new result }
     ensures unwritten { result ≢ 0 → out.new ≡ out.old }
@@ -30,8 +30,8 @@ pub extern "C" fn tbr1_text(
 }
 
 #[unsafe(no_mangle)]
-pub extern "C" fn tbr1_next_line(renderer: Handle, line: &mut LineSize, back: &mut *mut u8) -> u32
-    ensures taken { result ≡ 0 → IsSizeOfNext renderer.value line.new }
+pub extern "C" fn tbr1_next_line(renderer: Handle, line: &mut LineSize, back: &mut Returned) -> u32
+    ensures taken { result ≡ 0 → GivesNext renderer.value back.new.value line.new }
     ensures none { result ≡ 12 → HasNone renderer.value }
     ensures left { result ≢ 0 → line.new ≡ line.old }
 {
@@ -46,10 +46,11 @@ pub extern "C" fn tbr1_line_text(
     renderer: Handle,
     out: &mut [u8],
     needed: &mut usize,
-    back: &mut *mut u8,
+    back: &mut Returned,
 ) -> u32
     ensures text { IfSome (current_of renderer.value) (λ line. IsCopied line.text out.old out.new needed.new result) }
     ensures none { current_of renderer.value ≡ None → (result ≢ 0) × (out.new ≡ out.old) }
+    ensures same { back.new.value ≡ Some renderer.value }
 {
     let held = renderer.open();
     let done = line_text(&held, out, needed);
@@ -70,10 +71,11 @@ pub extern "C" fn tbr1_get_piece(
     renderer: Handle,
     place: usize,
     piece: &mut PiecePlace,
-    back: &mut *mut u8,
+    back: &mut Returned,
 ) -> u32
     ensures piece { (line : Shown) (p : Place) → current_of renderer.value ≡ Some line →
         placed (slice_get line.pieces place) ≡ Ok p → (result ≡ 0) × (piece.new ≡ p) }
+    ensures same { back.new.value ≡ Some renderer.value }
 {
     let held = renderer.open();
     let done = get_piece(&held, place, piece);
@@ -96,10 +98,11 @@ pub extern "C" fn tbr1_marker_name(
     place: usize,
     out: &mut [u8],
     needed: &mut usize,
-    back: &mut *mut u8,
+    back: &mut Returned,
 ) -> u32
-    ensures { (line : Shown) (name : List ℕ) → current_of renderer.value ≡ Some line →
+    ensures name { (line : Shown) (name : List ℕ) → current_of renderer.value ≡ Some line →
         marked (slice_get line.pieces place) ≡ Some name → IsCopied name out.old out.new needed.new result }
+    ensures same { back.new.value ≡ Some renderer.value }
 {
     let held = renderer.open();
     let done = marker_name(&held, place, out, needed);
@@ -121,8 +124,10 @@ pub extern "C" fn tbr1_get_annotation(
     piece: usize,
     place: usize,
     annotation: &mut AnnotationKind,
-    back: &mut *mut u8,
-) -> u32 {
+    back: &mut Returned,
+) -> u32
+    ensures same { back.new.value ≡ Some renderer.value }
+{
     let held = renderer.open();
     let done = get_annotation(&held, piece, place, annotation);
     hand_back(held, back);
@@ -146,8 +151,10 @@ pub extern "C" fn tbr1_annotation_target(
     place: usize,
     out: &mut [u8],
     needed: &mut usize,
-    back: &mut *mut u8,
-) -> u32 {
+    back: &mut Returned,
+) -> u32
+    ensures same { back.new.value ≡ Some renderer.value }
+{
     let held = renderer.open();
     let done = annotation_target(&held, piece, place, out, needed);
     hand_back(held, back);

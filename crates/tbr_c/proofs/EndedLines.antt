@@ -1,0 +1,46 @@
+-- Lines at the end of a program.
+use Rattle.std.proofs.Common.{◌≡◌, ℕ, Option, List, [], ◌∷◌, ◌++◌, map, flat_map, Ok, Err, encode_utf8_all, refl, ap, ◌∙◌}
+use Rattle.tbr_model.specs.Codes.{newline_character}
+use Rattle.tbr_border.specs.Border.{shown}
+use Rattle.tbr_border.specs.declared.RenderLine.{RenderLine}
+use Rattle.tbr_border.specs.declared.RenderLine.TheVariants.{Text, Line as Rule}
+use Rattle.tbr_tagged.specs.Elements.{items_of}
+use Rattle.tbr_tagged.specs.Outcome.{Outcome, done, refused}
+use Rattle.tbr_tagged.specs.Walks.{item_characters}
+use Rattle.tbr_tagged.specs.declared.Error.TheVariants as block
+use Rattle.tbr_decor.specs.Decoration.{Decoration}
+use Rattle.text_block_renderer.specs.Line.{Line, line_seen}
+use Rattle.text_block_renderer.specs.Meant.{map_line, meant}
+use Rattle.text_block_renderer.specs.Outcomes.{changed}
+use Rattle.text_block_renderer.specs.Tags.{tag_meant}
+use Rattle.text_block_renderer.specs.Text.{lines_text}
+use Rattle.text_block_renderer.specs.Top.{OfTop}
+use Rattle.tbr_renderer.proofs.LineTexts.{lines_same}
+use Rattle.tbr_script.specs.declared.error.RunError.TheVariants.{TooNarrow}
+use Rattle.tbr_program.specs.Progress.{Progress, progress_meant}
+use Rattle.tbr_program.specs.Closing.{closed}
+use Rattle.tbr_program.specs.Commands.{ended, answered}
+use Rattle.tbr_program.proofs.MadeCommands.{text_given}
+use Rattle.tbr_c_lines.specs.Lines.{line_text}
+
+seen_text : {T : Type 0} (lines : List (RenderLine T)) → lines_text (map line_seen lines) ≡ flat_map line_text lines
+seen_text [] = refl
+seen_text (Text es ∷ lines) = ap (λ cs. (item_characters (items_of es) ++ newline_character ∷ []) ++ cs) (seen_text lines)
+seen_text (Rule b ∷ lines) = ap (λ cs. (item_characters (shown b.tag b) ++ newline_character ∷ []) ++ cs) (seen_text lines)
+
+module _ {D A M : Type 0} (columns : ℕ → Option ℕ) (decoration : Decoration D M) (meaning : A → M) (p : Progress D A (List A)) (no_level : p.opened ≡ []) (no_cell : p.pending.cells ≡ []) where
+  abbrev Closes : Outcome (List (Line (List M))) → Type 0
+  Closes given = OfTop (λ r. closed columns decoration (let s = p.stack in s.links) (meant meaning r) ≡ given) p.stack
+
+  ends : (given : Outcome (List (Line (List M)))) → Closes given → ended columns decoration 0 (progress_meant meaning p) ≡ answered (changed (λ lines. encode_utf8_all (lines_text lines)) given)
+  ends given (top, is, h) =
+      text_given meaning columns decoration 0 p p refl (let s = p.stack in s.links) refl top is no_level no_cell (changed (λ lines. encode_utf8_all (lines_text lines)) given)
+      (ap (changed (λ lines. encode_utf8_all (lines_text lines))) h)
+
+  pub lines_end : (lines : List (RenderLine (List A))) → Closes (done (map (map_line (tag_meant meaning)) (map line_seen lines))) →
+      ended columns decoration 0 (progress_meant meaning p) ≡ Ok (encode_utf8_all (flat_map line_text lines))
+  lines_end lines h =
+      ends _ h ∙ ap (λ cs. Ok (encode_utf8_all cs)) (lines_same (tag_meant meaning) (map line_seen lines) ∙ seen_text lines)
+
+  pub narrow_end : Closes (refused block.TooNarrow) → ended columns decoration 0 (progress_meant meaning p) ≡ Err TooNarrow
+  narrow_end h = ends (refused block.TooNarrow) h
