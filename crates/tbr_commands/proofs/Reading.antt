@@ -31,7 +31,7 @@ use Rattle.tbr_commands.specs.Opening.{name_of, AsksFor, IsOpening}
 use Rattle.tbr_commands.specs.Request.{Request, layout, begin, end, text, fragment, image, colour, border}
 use Rattle.tbr_commands.specs.Command.{Command, ask, link, sub, append, cell, row, IsSized}
 use Rattle.tbr_commands.specs.Syntax.{IsAlone, HasArgument, IsColour, IsAlignment, IsNewCell, IsWritten, IsCommand, mode_name, IsRequest}
-use Rattle.tbr_commands.specs.Read.{first_of, looked_up, after_word, names, colour_of, alignment_of, cell_of, named, argument_read, command_read, settings, setting_read, settings_read, decorator_read, options_read, asked_for, opening_words, opening_read, split_at_space, endings, name_read, colour_read, modes, request_readers, level_readers, read_by, parts_read}
+use Rattle.tbr_commands.specs.Read.{first_of, looked_up, after_word, names, colour_of, alignment_of, cell_of, argument_read, line_read, command_read, settings, setting_read, settings_read, decorator_read, options_read, asked_for, opening_words, opening_read, split_at_space, endings, name_read, colour_read, modes, request_readers, level_readers, read_by, parts_read}
 
 -- ---- choices
 
@@ -141,47 +141,55 @@ written_cell line writing command is e = go (words_of writing) refl e
 
 -- ---- commands
 
--- what comes of a line that is UTF-8
-abbrev pub read_line : List ℕ → Option Command
-read_line line = parts_read line (split_at_space line)
-
-alone_written : (line : List ℕ) (request : Request) → IsAlone line request → read_line line ≡ Some (ask request)
-alone_written line (layout StartBlock) is = ap read_line is
-alone_written line (layout other) is = ap read_line is
-alone_written line (begin (beginning.Mode Normal)) is = ap read_line is
-alone_written line (begin (beginning.Mode other)) is = ap read_line is
-alone_written line (begin other) is = ap read_line is
-alone_written line (end kind.Mode) is = ap read_line is
-alone_written line (end other) is = ap read_line is
-alone_written line (border None) is = ap read_line is
+alone_written : (line : List ℕ) (request : Request) → IsAlone line request → line_read line ≡ Some (ask request)
+alone_written line (layout StartBlock) is = ap line_read is
+alone_written line (layout other) is = ap line_read is
+alone_written line (begin (beginning.Mode Normal)) is = ap line_read is
+alone_written line (begin (beginning.Mode other)) is = ap line_read is
+alone_written line (begin other) is = ap line_read is
+alone_written line (end kind.Mode) is = ap line_read is
+alone_written line (end other) is = ap line_read is
+alone_written line (border None) is = ap line_read is
 alone_written line other is = absurd is
 
-argument_written : (line : List ℕ) (request : Request) → HasArgument line request → read_line line ≡ Some (ask request)
-argument_written line (text t) (w, is, k) = ap read_line is ∙ ap (λ o. option_map ask (option_map text o)) (text_written w t k)
-argument_written line (fragment t) (w, is, k) = ap read_line is ∙ ap (λ o. option_map ask (option_map fragment o)) (text_written w t k)
-argument_written line (image s t) (w, is, k) = ap read_line is ∙ ap (λ o. option_map ask (option_map (λ p. image p.0 p.1) o)) (texts_written w s t k)
-argument_written line (colour ground.text c) (w, is, k) = ap read_line is ∙ ap (λ o. option_map ask (option_map (colour ground.text) o)) (colour_written w c k)
-argument_written line (colour ground.background c) (w, is, k) = ap read_line is ∙ ap (λ o. option_map ask (option_map (colour ground.background) o)) (colour_written w c k)
-argument_written line (border (Some n)) (w, is, k) = ap read_line is ∙ ap (λ o. option_map ask (option_map (λ m. border (Some m)) o)) (number_written w n k)
+-- one that a word asks a renderer for
+asked_first : (o : Option Request) (request : Request) → o ≡ Some request → first_of (option_map ask o) None ≡ Some (ask request)
+asked_first o request is = ap (λ p. first_of (option_map ask p) None) is
+
+argument_written : (line : List ℕ) (request : Request) → HasArgument line request → line_read line ≡ Some (ask request)
+argument_written line (text t) (w, is, k) = ap line_read is ∙ asked_first _ (text t) (ap (option_map text) (text_written w t k))
+argument_written line (fragment t) (w, is, k) = ap line_read is ∙ asked_first _ (fragment t) (ap (option_map fragment) (text_written w t k))
+argument_written line (image s t) (w, is, k) = ap line_read is ∙ asked_first _ (image s t) (ap (option_map (λ p. image p.0 p.1)) (texts_written w s t k))
+argument_written line (colour ground.text c) (w, is, k) = ap line_read is ∙ asked_first _ (colour ground.text c) (ap (option_map (colour ground.text)) (colour_written w c k))
+argument_written line (colour ground.background c) (w, is, k) = ap line_read is ∙ asked_first _ (colour ground.background c) (ap (option_map (colour ground.background)) (colour_written w c k))
+argument_written line (border (Some n)) (w, is, k) = ap line_read is ∙ asked_first _ (border (Some n)) (ap (option_map (λ m. border (Some m))) (number_written w n k))
 argument_written line other k = absurd k
 
-command_written : (line : List ℕ) (command : Command) → IsWritten line command → read_line line ≡ Some command
+command_written : (line : List ℕ) (command : Command) → IsWritten line command → line_read line ≡ Some command
 command_written line (ask request) (inl k) = alone_written line request k
 command_written line (ask request) (inr k) = argument_written line request k
-command_written line (link t) (w, is, k) = ap read_line is ∙ ap (λ o. first_of (option_map link o) None) (text_written w t k)
-command_written line (sub n) (w, is, k) = ap read_line is ∙ ap (λ o. first_of (option_map sub o) None) (size_written w n k)
-command_written line (append s t) (w, is, k) = ap read_line is ∙ ap (λ o. first_of (option_map (λ p. append p.0 p.1) o) None) (texts_written w s t k)
-command_written line (cell width span align) (w, is, k) = ap read_line is ∙ ap (λ o. first_of o None) (cell_written w width span align k)
-command_written line (row false) is = ap read_line is
-command_written line other is = ap read_line is
+command_written line (link t) (w, is, k) = ap line_read is ∙ ap (option_map link) (text_written w t k)
+command_written line (sub n) (w, is, k) = ap line_read is ∙ ap (option_map sub) (size_written w n k)
+command_written line (append s t) (w, is, k) = ap line_read is ∙ ap (option_map (λ p. append p.0 p.1)) (texts_written w s t k)
+command_written line (cell width span align) (w, is, k) = ap line_read is ∙ cell_written w width span align k
+command_written line (row false) is = ap line_read is
+command_written line other is = ap line_read is
 
 -- a name alone is that of its command
 written_name : (name : List ℕ) (command : Command) → name_read name ≡ Some command → IsWritten name command
-written_name name command e = go (after_word (codes "end") name) refl e
-  where
-    go : (o : Option (List ℕ)) → after_word (codes "end") name ≡ o → named name o ≡ Some command → IsWritten name command
-    go None is reads = found IsWritten names (search rules) name command reads
-    go (Some rest) is reads = subst (λ n. IsWritten n command) (sym (after_is (codes "end") name rest is)) (found (λ writing c. IsWritten (codes "end" ++ writing) c) endings (search rules) rest command reads)
+written_name name command e =
+    elim (either (looked_up endings name) (looked_up names name) command e) [
+      | inl ends ↦ found IsWritten endings (search rules) name command ends
+      | inr other ↦ found IsWritten names (search rules) name command other
+    ]
+
+-- a name alone has no space
+pub name_is_line : (name : List ℕ) (command : Command) → name_read name ≡ Some command → line_read name ≡ Some command
+name_is_line name command e =
+    elim (either (looked_up endings name) (looked_up names name) command e) [
+      | inl ends ↦ found (λ w c. line_read w ≡ Some c) endings (search rules) name command ends
+      | inr other ↦ found (λ w c. line_read w ≡ Some c) names (search rules) name command other
+    ]
 
 -- what was made of what was read
 from_made : {X Y : Type 0} (make : X → Y) (o : Option X) (P : Y → Type 0) → ((x : X) → o ≡ Some x → P (make x)) → (y : Y) → option_map make o ≡ Some y → P y
@@ -214,13 +222,13 @@ requests_read = (
 
 levels_read : Each (λ (entry : List ℕ × (List ℕ → Option Command)). Reads IsWritten entry.0 entry.1) level_readers
 levels_read = (
-  λ w c e. written_cell (codes "cell " ++ w) w c refl e,
+  λ w. from_made link (text_read w) _ (λ t e. (w, refl, written_text w t e)),
   (
-    λ w. from_made link (text_read w) _ (λ t e. (w, refl, written_text w t e)),
+    λ w. from_made sub (size_read w) _ (λ n e. (w, refl, written_size w n e)),
     (
-      λ w. from_made sub (size_read w) _ (λ n e. (w, refl, written_size w n e)),
+      λ w. from_made (λ (p : List ℕ × List ℕ). append p.0 p.1) (texts_read w) _ (λ p e. (w, refl, written_texts w p.0 p.1 e)),
       (
-        λ w. from_made (λ (p : List ℕ × List ℕ). append p.0 p.1) (texts_read w) _ (λ p e. (w, refl, written_texts w p.0 p.1 e)),
+        λ w c e. written_cell (codes "cell " ++ w) w c refl e,
         (λ w. found (λ x c. IsWritten (codes "row " ++ x) c) ((codes "collapse", row true) ∷ []) (refl, tt) w, tt),
       ),
     ),
@@ -235,12 +243,12 @@ by_reader P readers each word w x e =
 
 written_argument : (word w : List ℕ) (command : Command) → argument_read word w ≡ Some command → IsWritten (word ++ (codes " " ++ w)) command
 written_argument word w command e =
-    elim (either (read_by level_readers word w) (option_map ask (read_by request_readers word w)) command e) [
-      | inl level ↦ by_reader IsWritten level_readers levels_read word w command level
-      | inr asks ↦ from_made ask (read_by request_readers word w) (IsWritten (word ++ (codes " " ++ w))) (λ r. by_reader IsRequest request_readers requests_read word w r) command asks
+    elim (either (option_map ask (read_by request_readers word w)) (read_by level_readers word w) command e) [
+      | inl asks ↦ from_made ask (read_by request_readers word w) (IsWritten (word ++ (codes " " ++ w))) (λ r. by_reader IsRequest request_readers requests_read word w r) command asks
+      | inr other ↦ by_reader IsWritten level_readers levels_read word w command other
     ]
 
-written_command : (line : List ℕ) (command : Command) → read_line line ≡ Some command → IsWritten line command
+written_command : (line : List ℕ) (command : Command) → line_read line ≡ Some command → IsWritten line command
 written_command line command e = go (split_at_space line) refl e
   where
     go : (o : Option (List ℕ × List ℕ)) → split_at_space line ≡ o → parts_read line o ≡ Some command → IsWritten line command
@@ -249,13 +257,13 @@ written_command line command e = go (split_at_space line) refl e
 
 module _ (line : List ℕ) (command : Command) where
   pub command_is_read : IsCommand line command → command_read line ≡ Some command
-  command_is_read is = if_so (is_utf8 line) (read_line line) None (is_utf8-from_IsUtf8 line is.utf8) ∙ command_written line command is.writes
+  command_is_read is = if_so (is_utf8 line) (line_read line) None (is_utf8-from_IsUtf8 line is.utf8) ∙ command_written line command is.writes
 
   pub read_command : command_read line ≡ Some command → IsCommand line command
   read_command e =
       test (is_utf8 line)
-      (λ so. record { utf8 = IsUtf8-from_is_utf8 line so; writes = written_command line command (sym (if_so (is_utf8 line) (read_line line) None so) ∙ e) })
-      (λ so. absurd (no_some command (sym (if_not (is_utf8 line) (read_line line) None so) ∙ e)))
+      (λ so. record { utf8 = IsUtf8-from_is_utf8 line so; writes = written_command line command (sym (if_so (is_utf8 line) (line_read line) None so) ∙ e) })
+      (λ so. absurd (no_some command (sym (if_not (is_utf8 line) (line_read line) None so) ∙ e)))
 
 -- widths and spans are at least 1
 pub sized : (line : List ℕ) (command : Command) → command_read line ≡ Some command → IsSized command

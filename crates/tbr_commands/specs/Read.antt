@@ -51,34 +51,29 @@ split_at_space (b ∷ bs) =
 
 -- ---- commands that are a name alone
 
--- those that begin with `end`, by what comes after it
+-- those that begin with `end`, by their names
 abbrev pub endings : List (List ℕ × Command)
 endings =
-    (codes "block", ask (layout EndBlock)) ∷ (codes "cell", end_cell) ∷ (codes "link", end_link)
-    ∷ (codes "em", ask (end kind.Emphasis)) ∷ (codes "strong", ask (end kind.Strong))
-    ∷ (codes "strike", ask (end kind.Strikeout)) ∷ (codes "code", ask (end kind.Code))
-    ∷ (codes "super", ask (end kind.Superscript)) ∷ (codes "pre", ask (end kind.Preformat))
-    ∷ (codes "ws", ask (end kind.Mode)) ∷ (codes "colour", ask (end kind.Colour))
-    ∷ (codes "bg", ask (end kind.Background)) ∷ []
+    (codes "endlink", end_link) ∷ (codes "endcell", end_cell) ∷ (codes "endblock", ask (layout EndBlock))
+    ∷ (codes "endws", ask (end kind.Mode)) ∷ (codes "endpre", ask (end kind.Preformat))
+    ∷ (codes "endem", ask (end kind.Emphasis)) ∷ (codes "endstrong", ask (end kind.Strong))
+    ∷ (codes "endstrike", ask (end kind.Strikeout)) ∷ (codes "endcode", ask (end kind.Code))
+    ∷ (codes "endsuper", ask (end kind.Superscript)) ∷ (codes "endcolour", ask (end kind.Colour))
+    ∷ (codes "endbg", ask (end kind.Background)) ∷ []
 
 -- the others, by their names
 abbrev pub names : List (List ℕ × Command)
 names =
-    (codes "block", ask (layout StartBlock)) ∷ (codes "row", row false) ∷ (codes "line", ask (layout NewLine))
+    (codes "block", ask (layout StartBlock)) ∷ (codes "table", ask (layout StartTable))
+    ∷ (codes "line", ask (layout NewLine)) ∷ (codes "hardline", ask (layout HardNewLine))
+    ∷ (codes "empty", ask (layout EmptyLine)) ∷ (codes "pre", ask (begin beginning.Preformat))
     ∷ (codes "em", ask (begin beginning.Emphasis)) ∷ (codes "strong", ask (begin beginning.Strong))
     ∷ (codes "strike", ask (begin beginning.Strikeout)) ∷ (codes "code", ask (begin beginning.Code))
-    ∷ (codes "super", ask (begin beginning.Superscript)) ∷ (codes "pre", ask (begin beginning.Preformat))
-    ∷ (codes "hardline", ask (layout HardNewLine)) ∷ (codes "empty", ask (layout EmptyLine))
-    ∷ (codes "table", ask (layout StartTable)) ∷ (codes "vrow", vertical_row)
-    ∷ (codes "border", ask (border None)) ∷ []
-
--- by what comes after `end`, if it begins with that
-abbrev pub named : List ℕ → Option (List ℕ) → Option Command
-named name None = looked_up names name
-named name (Some rest) = looked_up endings rest
+    ∷ (codes "super", ask (begin beginning.Superscript)) ∷ (codes "border", ask (border None))
+    ∷ (codes "row", row false) ∷ (codes "vrow", vertical_row) ∷ []
 
 abbrev pub name_read : List ℕ → Option Command
-name_read name = named name (after_word (codes "end") name)
+name_read name = first_of (looked_up endings name) (looked_up names name)
 
 -- ---- commands of a word and an argument
 
@@ -126,9 +121,9 @@ request_readers =
 -- and for the others
 abbrev pub level_readers : List (List ℕ × (List ℕ → Option Command))
 level_readers =
-    (codes "cell", λ w. cell_of (words_of w)) ∷ (codes "link", λ w. option_map link (text_read w))
-    ∷ (codes "sub", λ w. option_map sub (size_read w))
+    (codes "link", λ w. option_map link (text_read w)) ∷ (codes "sub", λ w. option_map sub (size_read w))
     ∷ (codes "append", λ w. option_map (λ p. append p.0 p.1) (texts_read w))
+    ∷ (codes "cell", λ w. cell_of (words_of w))
     ∷ (codes "row", λ w. looked_up ((codes "collapse", row true) ∷ []) w) ∷ []
 
 -- by a word and its argument
@@ -137,7 +132,7 @@ read_by readers word argument = option_and_then (λ read. read argument) (looked
 
 abbrev pub argument_read : List ℕ → List ℕ → Option Command
 argument_read word argument =
-    first_of (read_by level_readers word argument) (option_map ask (read_by request_readers word argument))
+    first_of (option_map ask (read_by request_readers word argument)) (read_by level_readers word argument)
 
 -- ---- the command that a line is, if it is one
 
@@ -146,8 +141,12 @@ abbrev pub parts_read : List ℕ → Option (List ℕ × List ℕ) → Option Co
 parts_read line None = name_read line
 parts_read line (Some parts) = argument_read parts.0 parts.1
 
+-- of one that is UTF-8
+abbrev pub line_read : List ℕ → Option Command
+line_read line = parts_read line (split_at_space line)
+
 abbrev pub command_read : List ℕ → Option Command
-command_read line = if is_utf8 line then parts_read line (split_at_space line) else None
+command_read line = if is_utf8 line then line_read line else None
 
 -- ---- the first command
 

@@ -1,9 +1,9 @@
 //! What a line of a script asks for.
-ghost use Rattle.std.specs.Prelude.{◌≡◌, Some, IfOk, IfSome};
+ghost use Rattle.std.specs.Prelude.{◌≡◌, Some, None, IfOk, IfSome};
 ghost use Rattle.std.specs.Option.{option_map};
 ghost use Rattle.tbr_commands.specs.Command as asked;
 ghost use Rattle.tbr_commands.specs.Command.{command_of};
-ghost use Rattle.tbr_commands.specs.Read.{looked_up, endings, names, name_read, level_readers, read_by, argument_read, command_read};
+ghost use Rattle.tbr_commands.specs.Read.{looked_up, endings, names, name_read, level_readers, read_by, argument_read, line_read, command_read};
 ghost use Rattle.tbr_commands.specs.Request as requests;
 
 use crate::command::new_cell::NewCell;
@@ -66,9 +66,20 @@ impl Command {
         let Ok(line) = str::from_utf8(line) else {
             return Ok(None);
         };
+        match Command::named(line) {
+            Some(command) => Ok(Some(command)),
+            None => Command::of_words(alloc, line),
+        }
+    }
+
+    /// The command that a line is which is no name alone.
+    fn of_words(alloc: Global, line: &str) -> Result<Option<Command>, AllocError>
+        requires { name_read line.now ≡ None }
+        ensures { IfOk result (λ found. option_map command_of found ≡ line_read line.now) }
+    {
         match split_at_space(line) {
             Some((word, argument)) => Command::with_argument(alloc, word, argument),
-            None => Ok(Command::named(line)),
+            None => Ok(None),
         }
     }
 
@@ -76,52 +87,52 @@ impl Command {
     fn named(name: &str) -> Option<Command>
         ensures { option_map command_of result ≡ name_read name.now }
     {
-        match name.strip_prefix("end") {
-            Some(rest) => Command::ending(rest),
+        match Command::ending(name) {
+            Some(command) => Some(command),
             None => Command::beginning(name),
         }
     }
 
-    /// The command that `end` and this are.
-    fn ending(rest: &str) -> Option<Command>
-        ensures { option_map command_of result ≡ looked_up endings rest.now }
+    /// The command that is a name alone, which begins with `end`.
+    fn ending(name: &str) -> Option<Command>
+        ensures { option_map command_of result ≡ looked_up endings name.now }
     {
-        match rest {
-            "block" => Some(Command::Ask(Request::Layout(Layout::EndBlock))),
-            "cell" => Some(Command::EndCell),
-            "link" => Some(Command::EndLink),
-            "em" => Some(Command::Ask(Request::End(Kind::Emphasis))),
-            "strong" => Some(Command::Ask(Request::End(Kind::Strong))),
-            "strike" => Some(Command::Ask(Request::End(Kind::Strikeout))),
-            "code" => Some(Command::Ask(Request::End(Kind::Code))),
-            "super" => Some(Command::Ask(Request::End(Kind::Superscript))),
-            "pre" => Some(Command::Ask(Request::End(Kind::Preformat))),
-            "ws" => Some(Command::Ask(Request::End(Kind::Mode))),
-            "colour" => Some(Command::Ask(Request::End(Kind::Colour))),
-            "bg" => Some(Command::Ask(Request::End(Kind::Background))),
+        match name {
+            "endlink" => Some(Command::EndLink),
+            "endcell" => Some(Command::EndCell),
+            "endblock" => Some(Command::Ask(Request::Layout(Layout::EndBlock))),
+            "endws" => Some(Command::Ask(Request::End(Kind::Mode))),
+            "endpre" => Some(Command::Ask(Request::End(Kind::Preformat))),
+            "endem" => Some(Command::Ask(Request::End(Kind::Emphasis))),
+            "endstrong" => Some(Command::Ask(Request::End(Kind::Strong))),
+            "endstrike" => Some(Command::Ask(Request::End(Kind::Strikeout))),
+            "endcode" => Some(Command::Ask(Request::End(Kind::Code))),
+            "endsuper" => Some(Command::Ask(Request::End(Kind::Superscript))),
+            "endcolour" => Some(Command::Ask(Request::End(Kind::Colour))),
+            "endbg" => Some(Command::Ask(Request::End(Kind::Background))),
             _ => None,
         }
     }
 
-    /// The command that a name is which doesn't begin with `end`.
+    /// The command that is another name alone.
     fn beginning(name: &str) -> Option<Command>
         ensures { option_map command_of result ≡ looked_up names name.now }
     {
         match name {
             "block" => Some(Command::Ask(Request::Layout(Layout::StartBlock))),
-            "row" => Some(Command::Row { collapse: false }),
+            "table" => Some(Command::Ask(Request::Layout(Layout::StartTable))),
             "line" => Some(Command::Ask(Request::Layout(Layout::NewLine))),
+            "hardline" => Some(Command::Ask(Request::Layout(Layout::HardNewLine))),
+            "empty" => Some(Command::Ask(Request::Layout(Layout::EmptyLine))),
+            "pre" => Some(Command::Ask(Request::Begin(Beginning::Preformat))),
             "em" => Some(Command::Ask(Request::Begin(Beginning::Emphasis))),
             "strong" => Some(Command::Ask(Request::Begin(Beginning::Strong))),
             "strike" => Some(Command::Ask(Request::Begin(Beginning::Strikeout))),
             "code" => Some(Command::Ask(Request::Begin(Beginning::Code))),
             "super" => Some(Command::Ask(Request::Begin(Beginning::Superscript))),
-            "pre" => Some(Command::Ask(Request::Begin(Beginning::Preformat))),
-            "hardline" => Some(Command::Ask(Request::Layout(Layout::HardNewLine))),
-            "empty" => Some(Command::Ask(Request::Layout(Layout::EmptyLine))),
-            "table" => Some(Command::Ask(Request::Layout(Layout::StartTable))),
-            "vrow" => Some(Command::VerticalRow),
             "border" => Some(Command::Ask(Request::Border(None))),
+            "row" => Some(Command::Row { collapse: false }),
+            "vrow" => Some(Command::VerticalRow),
             _ => None,
         }
     }
@@ -134,21 +145,21 @@ impl Command {
     ) -> Result<Option<Command>, AllocError>
         ensures { IfOk result (λ found. option_map command_of found ≡ argument_read word.now argument.now) }
     {
-        match Command::of_levels(alloc, word, argument)? {
-            Some(command) => Ok(Some(command)),
-            None => Ok(Request::with_argument(alloc, word, argument)?.map(Command::Ask)),
+        match Request::with_argument(alloc, word, argument)? {
+            Some(request) => Ok(Some(Command::Ask(request))),
+            None => Command::of_levels(alloc, word, argument),
         }
     }
 
-    /// A cell, a link, a block or a row.
+    /// The same of a link, a block, a cell or a row.
     fn of_levels(alloc: Global, word: &str, argument: &str) -> Result<Option<Command>, AllocError>
         ensures { IfOk result (λ found. option_map command_of found ≡ read_by level_readers word.now argument.now) }
     {
         match word {
-            "cell" => Ok(NewCell::parse(argument).map(Command::Cell)),
             "link" => Ok(unescape(alloc, argument)?.map(Command::Link)),
             "sub" => Ok(parse_size(argument).map(Command::Sub)),
             "append" => Ok(TextPair::parse(alloc, argument)?.map(Command::Append)),
+            "cell" => Ok(NewCell::parse(argument).map(Command::Cell)),
             "row" if argument == "collapse" => Ok(Some(Command::Row { collapse: true })),
             _ => Ok(None),
         }
