@@ -190,11 +190,6 @@ module _ {D M : Type 0} (columns : ℕ → Option ℕ) (decoration : Decoration 
     on_first (level ∷ levels) r e (inl h) = inl (subst Has (let same : level.renderer ≡ r = cc in same) h)
     on_first (level ∷ levels) r e (inr h) = inr h
 
-    -- another renderer on top
-    top_has : (q : Top) (levels : List (Level Top)) → Has q → OnStack levels → OnStack (in_first (λ level. record level { renderer = q }) levels)
-    top_has q [] has h = absurd h
-    top_has q (level ∷ levels) has h = inl has
-
     others_have : (q : Top) (levels : List (Level Top)) → OnStack (drop 1 levels) → OnStack (in_first (λ level. record level { renderer = q }) levels)
     others_have q [] h = absurd h
     others_have q (level ∷ levels) h = inr h
@@ -203,10 +198,6 @@ module _ {D M : Type 0} (columns : ℕ → Option ℕ) (decoration : Decoration 
     linked_has change same [] h = absurd h
     linked_has change same (l ∷ ls) (inl h) = inl (subst Has (sym (same l)) h)
     linked_has change same (l ∷ ls) (inr h) = inr h
-
-    under_first : (levels : List (Level Top)) → OnStack (drop 1 levels) → OnStack levels
-    under_first [] h = absurd h
-    under_first (level ∷ levels) h = inr h
 
     some_top : (q : Top) (s : Stack Top) (r : Top) → top_of s ≡ Some r → Has q → OnStack (let t = with_top s q in t.levels)
     some_top q s r is has = go s.levels is

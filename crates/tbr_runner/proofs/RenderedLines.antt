@@ -62,10 +62,6 @@ module _ {D M : Type 0} (columns : ℕ → Option ℕ) (decoration : Decoration 
 -- ---- the first command
 
 module _ (columns : ℕ → Option ℕ) (number : ℕ) where
-  pub nothing_begun : (rest : List ℕ) → true ≡ (length rest == 0) → rendered_from columns number (lines_of rest) ≡ Err (NotACommand number)
-  nothing_begun [] none = refl
-  nothing_begun (b ∷ bs) none = absurd (no_length (length bs) none)
-
   pub first_read : (rest line after : List ℕ) (found : Option Opening) → false ≡ (length line == 0) → lines_of rest ≡ line ∷ lines_of after → found ≡ opening_read line → rendered_from columns number (lines_of rest) ≡ rendered_by columns found number (lines_of after)
   first_read rest [] after found some are is = absurd (false≢true some)
   first_read rest (b ∷ bs) after found some are is = ap (rendered_from columns number) are ∙ ap (λ o. rendered_by columns o number (lines_of after)) (sym is)

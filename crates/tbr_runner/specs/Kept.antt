@@ -78,7 +78,7 @@ module _ {D M : Type 0} (columns : ℕ → Option ℕ) (decoration : Decoration 
 
   -- A text is that of a renderer's lines, with footnotes after them. In these lines the visible characters and the
   -- markers of what came to a renderer before, and of what came to it later, are in order, each character under an
-  -- annotation of its call. Only markers may lack after which no visible character came to that renderer.
+  -- annotation of its call. Only markers may be missing after which none came to that renderer.
   pub record TextKeeps (targets : List (List ℕ)) (text : List ℕ) (came : List (Entry (List M))) : Type 0 where
     pub of : IsTextOfLed columns decoration targets text
     pub more : List (Entry (List M))

@@ -69,8 +69,8 @@ pub fn the_renderers_of_a_script_are_led_to<D, M>()
 /// No visible character is lost between the blocks and cells of a script, and no marker before one, where no block has
 /// 2^64 lines, and nothing overhangs in a block, a cell or the script where that ends. What came to a renderer up to any
 /// line, and what comes to it later, is in the lines of the text, or in front of their borders: its visible characters,
-/// each under an annotation of its call, and its markers, all in one order. Only markers may lack after which no visible
-/// character comes to that renderer. Prefixes, borders and what came to other renderers may be between them. In a script
+/// each under an annotation of its call, and its markers, all in one order. Only markers may be missing after which none
+/// comes to that renderer. Prefixes, borders and what came to other renderers may be between them. In a script
 /// whose cells span one row each nothing overhangs.
 pub fn no_visible_character_of_a_script_is_lost<D, M>()
     ensures first { (columns : ℕ → Option ℕ) (decoration : Decoration D M) → columns 32 ≡ Some 1 →

@@ -224,7 +224,7 @@ module _ {D A : Type 0} (columns : ℕ → Option ℕ) where
         let here = subst (λ (ls : List (Line (List A))). StandWithin k.shown (seen columns ls)) (sym is) k.stand in
         subst (λ (fs : List (Entry (List A))). AreWrittenIn columns fs outside) came (record {
           shown = k.shown;
-          lack = s.waiting;
+          missing = s.waiting;
           order = k.order;
           last = last_shown columns k.shown s.waiting k.ended k.order;
           stand = within_on k.shown (seen columns inside) (seen columns outside) here (all_within depth inside outside h);

@@ -10,7 +10,6 @@ use Rattle.tbr_tagged.specs.Elements.{element_items}
 use Rattle.tbr_kept_lines.specs.Line.{Line, text, border}
 use Rattle.tbr_model.specs.Markers.{marker_items}
 use Rattle.tbr_renderer.specs.Renderer.{Renderer, line_padding}
-use Rattle.tbr_renderer.specs.Calls.{text_of_lines}
 use Rattle.text_block_renderer.specs.Acts.{StaysLine}
 use Rattle.text_block_renderer.specs.Stretches.{padded_line, lines_laid}
 use Rattle.text_block_renderer.specs.Taken.{StandWithin, text_before, written, to_show}
@@ -33,12 +32,6 @@ module _ {T : Type 0} where
   stays_written (border b ∷ ls) (border c ∷ ms) h = ap (λ (hs : List (Hole T)). flat_map (λ (h : Hole T). element_items h.element) hs ++ written ms) h.0.1 ∙ ap (λ ks. text_before b ++ ks) (stays_written ls ms h.1)
 
   module _ (columns : ℕ → Option ℕ) where
-    -- texts alone
-    pub texts_written : (ls : List (Line T)) → StandWithin (to_show columns (text_of_lines ls)) (to_show columns (written ls))
-    texts_written [] = tt
-    texts_written (text is ∷ ls) = two_within columns is (text_of_lines ls) is (written ls) (itself_within columns is) (texts_written ls)
-    texts_written (border b ∷ ls) = after_within columns (text_before b) (text_of_lines ls) (written ls) (texts_written ls)
-
     -- a border shows the text in front of it
     holes_shown : (tag : T) (cells : List Cell) (at : ℕ) (hs : List (Hole T)) → StandWithin (to_show columns (flat_map (λ (h : Hole T). element_items h.element) hs)) (to_show columns (shown_from tag cells at hs))
     holes_shown tag cells at [] = tt

@@ -39,13 +39,13 @@ abbrev pub to_show : {T : Type 0} → (ℕ → Option ℕ) → List (Item T) →
 to_show columns is = filter (is_visible_or_marker columns) is
 
 -- Lines have the visible characters and the markers of what came, once and in order, with others between. Only some
--- of the markers that no visible character follows may lack.
+-- of the markers that no visible character follows may be missing.
 pub record AreWrittenIn {T : Type 0} (columns : ℕ → Option ℕ) (es : List (Entry T))
     (lines : List (Line T)) : Type 0 where
   pub shown : List (Item T)
-  pub lack : List (List ℕ)
-  pub order : AllZip (ShowsEntry (λ a b. a ≡ b)) (shown ++ marker_items lack) (filter (is_entry_to_show columns) es)
-  pub last : AreLastOf lack (names_after (is_visible columns) es)
+  pub missing : List (List ℕ)
+  pub order : AllZip (ShowsEntry (λ a b. a ≡ b)) (shown ++ marker_items missing) (filter (is_entry_to_show columns) es)
+  pub last : AreLastOf missing (names_after (is_visible columns) es)
   pub stand : StandWithin shown (to_show columns (written lines))
 
 -- Of the entries that came, those of the open run are in no line yet. The visible characters and the markers of the

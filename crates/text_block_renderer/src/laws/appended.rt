@@ -92,8 +92,8 @@ pub fn handed_out_lines_have_all_characters<D, A>()
 /// Renderers take lines from one another, after as many prefixes or as cells, among any calls and rows, and hand out
 /// their own, to any depth. The rows that a cell spans all come, or nothing overhangs in the end. Then the visible
 /// characters and the markers of the first lines are in the last, in order, also those in front of borders. So are
-/// those of all that was brought to a renderer that handed out the first. Of these only markers behind the last visible
-/// character may lack.
+/// those of all that was brought to a renderer that handed out the first. Of these only markers after the last visible
+/// character may be missing.
 pub fn nothing_visible_is_lost_to_any_depth<D, A>()
     ensures lines { (columns : ℕ → Option ℕ) (decoration : Decoration D A) (depth : ℕ)
         (inside outside : List (Line (List A))) → AreTakenIn columns decoration depth inside outside →
