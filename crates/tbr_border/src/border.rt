@@ -369,17 +369,25 @@ impl<T> BorderHoriz<T> {
     pub fn to_text(&self) -> Result<String, OutOfMemory>
         ensures { IfOk result (λ text. chars_of text ≡ item_characters (shown self.now.tag self.now)) }
     {
+        let mut text = String::new(*self.shape.segments.allocator());
+        self.append_to(&mut text)?;
+        Ok(text)
+    }
+
+    /// Appends the border's text to `text`. Where memory is refused, part of it may have been appended.
+    pub fn append_to(&self, text: &mut String) -> Result<(), OutOfMemory>
+        ensures { OnOk result
+            (chars_of text.new ≡ chars_of text.old ++ item_characters (shown self.now.tag self.now)) }
+    {
         let shape = &*self.shape;
         let cells = shape.segments.as_slice();
-        let mut text = String::new(*shape.segments.allocator());
         let mut at = 0;
         for span in &shape.holes {
-            draw(&mut text, &cells[at..span.place])?;
+            draw(text, &cells[at..span.place])?;
             text.push_str(span.element.as_str())?;
             at = span.place + span.width;
         }
-        draw(&mut text, &cells[at..])?;
-        Ok(text)
+        draw(text, &cells[at..])
     }
 }
 

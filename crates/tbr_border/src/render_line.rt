@@ -36,10 +36,7 @@ impl<T> RenderLine<T> {
     {
         match self {
             RenderLine::Text(line) => line.append_to(text),
-            RenderLine::Line(border) => {
-                text.push_str(border.to_text()?.as_str())?;
-                Ok(())
-            }
+            RenderLine::Line(border) => border.append_to(text),
         }
     }
 

@@ -15,9 +15,8 @@ use tbr_tagged::{OutOfMemory, spaces, text_width};
 /// While fewer bytes than these were taken, they stay in memory.
 const FEW: usize = 1024;
 
-/// The bytes of the least block that the C library gives. A text with room for them takes no more memory than one of a
-/// byte, and growing up to them needs no request.
-const LEAST_ROOM: usize = 24;
+/// The room of a text that is taken, beyond its own bytes. A prefix or padding then mostly needs no request.
+const SPARE_ROOM: usize = 24;
 
 /// A text that is taken from its front. What is taken is forgotten. A contract sees the characters that are left.
 #[derive(Drop)]
@@ -183,7 +182,7 @@ impl TextQueue {
     {
         let text = self.as_str();
         let bytes = bytes_of(text, count);
-        let mut taken = String::with_capacity(*self.text.allocator(), bytes.max(LEAST_ROOM))?;
+        let mut taken = String::with_capacity(*self.text.allocator(), bytes.saturating_add(SPARE_ROOM))?;
         taken.push_str(front(text, count, bytes))?;
         self.forget(count, bytes);
         Ok(taken)

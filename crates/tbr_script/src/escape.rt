@@ -11,7 +11,7 @@ use std::alloc::{AllocError, Global};
 pub fn unescape(alloc: Global, writing: &str) -> Result<Option<String>, AllocError>
     ensures { IfOk result (λ found. option_map string_bytes found ≡ text_read writing.now) }
 {
-    let mut text = String::new(alloc);
+    let mut text = String::with_capacity(alloc, writing.len())?;
     let mut rest = writing;
     while let Some((before, after)) = rest.split_once('\\') {
         let Some((c, later)) = escape(after) else {

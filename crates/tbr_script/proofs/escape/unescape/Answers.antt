@@ -9,7 +9,7 @@ use Rattle.tbr_script.proofs.escape.unescape.Goals as goal
 pub loop-before-init : goal.loop-before-init
 loop-before-init c =
     let means = text_read c.args.writing.now in
-    record { utf8 = search rules; text = subst (λ (text : List ℕ). means ≡ option_map (λ more. text ++ more) means) (sym c.new-text.ensures.bytes) (sym (option_map_id means)) }
+    record { utf8 = search rules; text = subst (λ (text : List ℕ). means ≡ option_map (λ more. text ++ more) means) (sym c.in_ok-text.ensures.bytes) (sym (option_map_id means)) }
 
 pub returns-in_default-escape : goal.returns-in_default-escape
 returns-in_default-escape c =

@@ -4,11 +4,11 @@ use Rattle.tbr_tagged.specs.Walks.{item_characters}
 use Rattle.tbr_border.specs.Cell.{cell_of}
 use Rattle.tbr_border.specs.Border.{Hole, AreInOrder, shown_from}
 use Rattle.tbr_border.specs.BorderView.{hole_of}
-use Rattle.tbr_border.proofs.border.BorderHoriz.to_text.Given as goal
+use Rattle.tbr_border.proofs.border.BorderHoriz.append_to.Given as goal
 
 abbrev pub invariant-loop-span : goal.invariant-loop-span
 invariant-loop-span g l = record {
   text : (rest : List (Hole g.row.T.Denot)) → chars (string_bytes l.text) ++ item_characters (shown_from l.self.tag (map cell_of l.cells) l.at rest)
-      ≡ item_characters (shown_from l.self.tag (map cell_of l.cells) 0 (map hole_of (take l.span-index l.span-items) ++ rest));
+      ≡ chars (string_bytes l.fn.text) ++ item_characters (shown_from l.self.tag (map cell_of l.cells) 0 (map hole_of (take l.span-index l.span-items) ++ rest));
   fit : AreInOrder l.at (map hole_of (drop l.span-index l.span-items)) (length l.cells);
 }
