@@ -137,6 +137,14 @@ ascii_bytes text n within ascii =
     let first : take n (chars text) ≡ front = ap (λ cs. take n cs) whole ∙ ap (λ m. take m (front ++ chars (drop n text))) (sym long) ∙ take-append_seam front (chars (drop n text)) in
     sym long ∙ ap length (sym (encodes-IsAscii front ascii)) ∙ ap (λ cs. length (encodes cs)) (sym first)
 
+-- each takes one where they take as many as they are
+pub bytes_each : (cs : List ℕ) (n : ℕ) → length (encodes cs) ≡ length cs → n ≤ length cs → n ≡ length (encodes (take n cs))
+bytes_each cs n same within =
+    let front = take n cs in let back = drop n cs in
+    let parts : length (encodes cs) ≡ length (encodes front) + length (encodes back) =
+    ap (λ ds. length (encodes ds)) (sym (take-append-drop n cs)) ∙ ap length (encodes-append front back) ∙ length-append (encodes front) (encodes back) in
+    omega (arith, parts, same, length-le-encodes front, length-le-encodes back, length-take-le n cs within, length-drop n cs)
+
 -- ---- what calls on a text leave
 
 pub left_short : (bytes : List ℕ) (i n : ℕ) → IsLeft bytes i n → n ≤ length bytes

@@ -166,9 +166,22 @@ impl TextQueue {
     {
         let text = self.as_str();
         let count = blanks_in_front(text, most);
-        let bytes = bytes_of(text, count);
+        let bytes = self.front_bytes(count);
         self.forget(count, bytes);
         count
+    }
+
+    /// How many bytes the first `count` characters take.
+    fn front_bytes(&self, count: usize) -> usize
+        requires { count ≤ length self.now }
+        ensures { result ≡ length (encodes (take count self.now)) }
+    {
+        let left = self.as_str();
+        // Where there are as many bytes as characters, each takes one.
+        if left.len() == self.len {
+            return count;
+        }
+        bytes_of(left, count)
     }
 
     /// Takes the first `count` characters. It takes the time of going over them.
@@ -181,8 +194,9 @@ impl TextQueue {
         ensures err { OnErr result (self.new ≡ self.old) }
     {
         let text = self.as_str();
-        let bytes = bytes_of(text, count);
-        let mut taken = String::with_capacity(*self.text.allocator(), bytes.saturating_add(SPARE_ROOM))?;
+        let bytes = self.front_bytes(count);
+        let room = bytes.saturating_add(SPARE_ROOM);
+        let mut taken = String::with_capacity(*self.text.allocator(), room)?;
         taken.push_str(front(text, count, bytes))?;
         self.forget(count, bytes);
         Ok(taken)
@@ -198,7 +212,7 @@ impl TextQueue {
         ensures err { OnErr result (self.new ≡ self.old) }
     {
         let left = self.as_str();
-        let bytes = bytes_of(left, count);
+        let bytes = self.front_bytes(count);
         text.push_str(front(left, count, bytes))?;
         self.forget(count, bytes);
         Ok(())
