@@ -1,24 +1,26 @@
 -- What the code finds is what is read.
-use Rattle.std.proofs.Common.{◌≡◌, ◌≢◌, ℕ, suc, ◌<◌, ◌==◌, if◌then◌else◌, List, [], ◌∷◌, ◌++◌, length, get_or, Option, Some, None, MatchResult, Result, Ok, Err, IfSome, codes, lit<, arith, rules, refl, sym, ap, ◌∙◌, subst, inr}
+use Rattle.std.proofs.Common.{◌≡◌, ◌≢◌, ℕ, zero, suc, Bool, true, false, ◌||◌, ◌<◌, ◌==◌, if◌then◌else◌, List, [], ◌∷◌, ◌++◌, length, get_or, Option, Some, None, MatchResult, Result, Ok, Err, IfSome, codes, lit<, arith, rules, refl, sym, ap, ◌∙◌, subst, inr}
 use Rattle.std.specs.Borrow.{Bor}
+use Rattle.std.specs.List.{list_any}
 use Rattle.std.specs.Option.{option_map}
 use Rattle.std.specs.Result.{result_ok}
 use Rattle.std.specs.Str.{IsUtf8, is_utf8}
 use Rattle.std.proofs.lemmas.Str.{IsUtf8-append, IsUtf8-from_ascii, IsUtf8-from_is_utf8, is_utf8-from_IsUtf8}
 use Rattle.std.proofs.lemmas.Str.Pattern.{IsSplitOnceResult, split_parts}
+use Rattle.tbr_script.specs.Script.{backslash}
 use Rattle.tbr_script.proofs.Texts.{plain_all}
 use Rattle.tbr_script.proofs.Reading.{test, if_so, if_not, written_text}
 use Rattle.tbr_commands.specs.Request.{text}
 use Rattle.tbr_commands.specs.Command.{ask}
-use Rattle.tbr_commands.specs.Read.{split_at_space, command_read}
-use Rattle.tbr_commands.proofs.Reading.{no_space, split, command_is_read}
+use Rattle.tbr_commands.specs.Read.{split_at_space, command_read, as_written, plain_read}
+use Rattle.tbr_commands.proofs.Reading.{no_byte, split, command_is_read}
 
 -- ---- lines
 
 unsplit : (bs : List ℕ) → ((i : ℕ) → i < length bs → get_or bs i 0 ≢ 32) → split_at_space bs ≡ None
 unsplit [] none = refl
 unsplit (b ∷ bs) none =
-    if_not (b == 32) _ _ (no_space b (none 0 (omega arith))) ∙ ap (option_map (λ (p : List ℕ × List ℕ). (b ∷ p.0, p.1))) (unsplit bs (λ i lt. none (suc i) (omega arith)))
+    if_not (b == 32) _ _ (no_byte b 32 (none 0 (omega arith))) ∙ ap (option_map (λ (p : List ℕ × List ℕ). (b ∷ p.0, p.1))) (unsplit bs (λ i lt. none (suc i) (omega arith)))
 
 pub split_is : (bs : List ℕ) (r : Option (Bor (List ℕ) × Bor (List ℕ))) → IsSplitOnceResult 32 bs r → option_map (λ p. (p.0.now, p.1.now)) r ≡ split_at_space bs
 split_is bs None h = sym (unsplit bs (split_parts 32 bs None h (lit< tt)))
@@ -34,6 +36,36 @@ unread read line other =
     test (is_utf8 line) (λ so. absurd (other (IsUtf8-from_is_utf8 line so))) (λ so. sym (if_not (is_utf8 line) (read line) None so))
 
 -- ---- a text as it is written
+
+-- a line that begins with its word
+pub plain_is : (line bytes : List ℕ) → line ≡ codes "text " ++ bytes → as_written bytes ≡ plain_read line
+plain_is line bytes is = ap plain_read (sym is)
+
+any_backslash : (bytes : List ℕ) (i : ℕ) → i < length bytes → get_or bytes i 0 ≡ 92 → list_any (λ b. b == backslash) bytes ≡ true
+any_backslash [] i lt is = absurd (omega (arith, lt))
+any_backslash (b ∷ bytes) zero lt is = ap (λ c. (c == backslash) || list_any (λ d. d == backslash) bytes) is
+any_backslash (b ∷ bytes) (suc i) lt is = ap (λ c. (b == backslash) || c) (any_backslash bytes i (omega (arith, lt)) is) ∙ go (b == backslash)
+  where
+    go : (c : Bool) → (c || true) ≡ true
+    go true = refl
+    go false = refl
+
+no_backslash : (bytes : List ℕ) → ((i : ℕ) → i < length bytes → get_or bytes i 0 ≢ 92) → list_any (λ b. b == backslash) bytes ≡ false
+no_backslash [] none = refl
+no_backslash (b ∷ bytes) none = ap (λ c. c || list_any (λ d. d == backslash) bytes) (no_byte b backslash (none 0 (omega arith))) ∙ no_backslash bytes (λ i lt. none (suc i) (omega (arith, lt)))
+
+-- a writing with a backslash
+pub escaped : (bytes : List ℕ) (i : ℕ) → i < length bytes → get_or bytes i 0 ≡ 92 → None ≡ as_written bytes
+escaped bytes i lt is = sym (if_so (list_any (λ b. b == backslash) bytes) _ _ (any_backslash bytes i lt is))
+
+-- and one without
+pub as_it_is : {E : Type 0} (Q : E → Type 0) (bytes : List ℕ) (r : Result (Bor (List ℕ)) E) → ((i : ℕ) → i < length bytes → get_or bytes i 0 ≢ 92) → MatchResult r (λ s. (s.now ≡ bytes) × IsUtf8 bytes) (λ e. (IsUtf8 bytes → ⊥) × Q e) →
+    option_map (λ s. s.now) (result_ok r) ≡ as_written bytes
+as_it_is {E} Q bytes r none h = go r h ∙ sym (if_not (list_any (λ b. b == backslash) bytes) _ _ (no_backslash bytes none))
+  where
+    go : (r : Result (Bor (List ℕ)) E) → MatchResult r (λ s. (s.now ≡ bytes) × IsUtf8 bytes) (λ e. (IsUtf8 bytes → ⊥) × Q e) → option_map (λ s. s.now) (result_ok r) ≡ (if is_utf8 bytes then Some bytes else None)
+    go (Ok s) h = ap Some h.0 ∙ sym (if_so (is_utf8 bytes) (Some bytes) None (is_utf8-from_IsUtf8 bytes h.1))
+    go (Err e) h = unread Some bytes h.0
 
 -- without a backslash a text means itself
 plain_command : (line bytes : List ℕ) → line ≡ codes "text " ++ bytes → IsUtf8 bytes → ((i : ℕ) → i < length bytes → get_or bytes i 0 ≢ 92) → command_read line ≡ Some (ask (text bytes))

@@ -63,13 +63,13 @@ after_is (w ∷ ws) (b ∷ bs) rest e =
 
 -- ---- the first space
 
-pub no_space : (b : ℕ) → b ≢ 32 → (b == 32) ≡ false
-no_space b other = grind (arith, nat_tests, other)
+pub no_byte : (b k : ℕ) → b ≢ k → (b == k) ≡ false
+no_byte b k other = grind (arith, nat_tests, other)
 
 pub split : (word rest : List ℕ) → ((i : ℕ) → i < length word → get_or word i 0 ≢ 32) → split_at_space (word ++ 32 ∷ rest) ≡ Some (word, rest)
 split [] rest none = refl
 split (b ∷ bs) rest none =
-    if_not (b == 32) _ _ (no_space b (none 0 (omega arith))) ∙ ap (option_map (λ (p : List ℕ × List ℕ). (b ∷ p.0, p.1))) (split bs rest (λ i lt. none (suc i) (omega arith)))
+    if_not (b == 32) _ _ (no_byte b 32 (none 0 (omega arith))) ∙ ap (option_map (λ (p : List ℕ × List ℕ). (b ∷ p.0, p.1))) (split bs rest (λ i lt. none (suc i) (omega arith)))
 
 -- what is split is what was put together
 parts_are : (bs : List ℕ) (parts : List ℕ × List ℕ) → split_at_space bs ≡ Some parts → bs ≡ parts.0 ++ (codes " " ++ parts.1)

@@ -1,6 +1,7 @@
 -- The command that a line is, read from how it is written.
 use Rattle.std.specs.Prelude.{ℕ, ◌==◌, true, false, if◌then◌else◌, Option, None, Some, List, [], ◌∷◌, codes, fold}
 use Rattle.std.specs.Option.{option_map, option_and_then}
+use Rattle.std.specs.List.{list_any}
 use Rattle.std.specs.Str.{bytes_eq, is_utf8}
 use Rattle.tbr_model.specs.Codes.{space_character}
 use Rattle.tbr_model.specs.declared.white_space.WhiteSpace.{WhiteSpace}
@@ -12,7 +13,7 @@ use Rattle.tbr_decor.specs.declared.colour.Colour.{Colour}
 use Rattle.tbr_renderer.specs.Options.{default_options}
 use Rattle.tbr_renderer.specs.declared.RenderOptions.{RenderOptions}
 use Rattle.tbr_renderer.specs.declared.ImageRenderMode.TheVariants.{IgnoreEmpty, ShowAlways, Filename}
-use Rattle.tbr_script.specs.Script.{words_of}
+use Rattle.tbr_script.specs.Script.{words_of, backslash}
 use Rattle.tbr_script.specs.Read.{number_read, size_read, byte_read, text_read, texts_read}
 use Rattle.tbr_commands.specs.declared.options.Setting.{Setting}
 use Rattle.tbr_commands.specs.declared.options.Setting.TheVariants.{Wrap, Overflow, Pad, NoBorders, NoWrapLinks, Footnotes, NoStrike, Images}
@@ -147,6 +148,17 @@ line_read line = parts_read line (split_at_space line)
 
 abbrev pub command_read : List ℕ → Option Command
 command_read line = if is_utf8 line then line_read line else None
+
+-- ---- texts that are written as they are
+
+-- a writing in UTF-8 without a backslash
+abbrev pub as_written : List ℕ → Option (List ℕ)
+as_written writing =
+    if list_any (λ b. b == backslash) writing then None else if is_utf8 writing then Some writing else None
+
+-- the text of a line that is written so after its word
+abbrev pub plain_read : List ℕ → Option (List ℕ)
+plain_read line = option_and_then as_written (after_word (codes "text ") line)
 
 -- ---- the first command
 

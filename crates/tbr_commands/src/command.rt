@@ -3,7 +3,7 @@ ghost use Rattle.std.specs.Prelude.{◌≡◌, Some, None, IfOk, IfSome};
 ghost use Rattle.std.specs.Option.{option_map};
 ghost use Rattle.tbr_commands.specs.Command as asked;
 ghost use Rattle.tbr_commands.specs.Command.{command_of};
-ghost use Rattle.tbr_commands.specs.Read.{looked_up, endings, names, name_read, level_readers, read_by, argument_read, line_read, command_read};
+ghost use Rattle.tbr_commands.specs.Read.{looked_up, endings, names, name_read, level_readers, read_by, argument_read, line_read, command_read, plain_read};
 ghost use Rattle.tbr_commands.specs.Request as requests;
 
 use crate::command::new_cell::NewCell;
@@ -49,7 +49,8 @@ impl Command {
     /// The text that a line asks for, where it is written without a backslash: what comes after the word and a space.
     /// `None` of any other line. It takes no memory.
     pub fn plain_text(line: &[u8]) -> Option<&str>
-        ensures { IfSome result (λ text. command_read line.now ≡ Some (asked.ask (requests.text text.now))) }
+        ensures value { option_map (λ text. text.now) result ≡ plain_read line.now }
+        ensures asked { IfSome result (λ text. command_read line.now ≡ Some (asked.ask (requests.text text.now))) }
     {
         let writing = line.strip_prefix(b"text ")?;
         match memchr(b'\\', writing) {
