@@ -29,7 +29,7 @@ returns-in-Some g c =
     let line = c.args.line.now in
     record {
       runs = runs_as meaning (after_command columns decoration c.args.number command) (after_line columns decoration c.args.number line) c.args.self.now _ c.add_text.result
-          (commanded columns decoration c.args.number (progress_meant meaning c.args.self.now) line command c.if-is_empty.ensures c.in-Some.ensures) (c.add_text.ensures.runs c.args.number);
+          (commanded columns decoration c.args.number (progress_meant meaning c.args.self.now) line command c.if-is_empty.ensures c.in-Some.ensures.asked) (c.add_text.ensures.runs c.args.number);
     }
 
 pub returns-in-None : goal.returns-in-None
