@@ -18,9 +18,9 @@ use Rattle.text_block_renderer.specs.Renderer.{Renderer}
 use Rattle.text_block_renderer.specs.Rows.{spots_of, GivenCell, next_align, cell_given, cells_given, after_row}
 use Rattle.text_block_renderer.specs.Appended.{handed_out}
 use Rattle.text_block_renderer.specs.Calls.{Call, new_line, begin, finish, add_inline_text, append_subrender, append_vert_row, after}
-use Rattle.text_block_renderer.specs.Acts.{Act, call, row as row_of_cells, after_act, act_brought, acts_brought, ActsBring, IsBetweenRuns, AreBetweenRuns}
+use Rattle.text_block_renderer.specs.Acts.{Act, call, row as row_of_cells, after_act, act_brought, act_comes, acts_come}
 use Rattle.text_block_renderer.specs.Taken.{Takes, NothingOverhangs, TakesIn, AreTakenIn}
-use Rattle.text_block_renderer.proofs.ActSteps.{acts_then, between_then}
+use Rattle.text_block_renderer.proofs.ActSteps.{acts_then}
 use Rattle.tbr_script.specs.declared.error.RunError.{RunError}
 use Rattle.tbr_script.specs.declared.error.RunError.TheVariants.{NothingToEnd, RowDoesNotFit}
 use Rattle.tbr_stack.specs.Stack.{Level, Stack, first_renderer, top_of, below, in_first, with_top}
@@ -85,8 +85,8 @@ module _ {D M : Type 0} (columns : ℕ → Option ℕ) (decoration : Decoration 
     pub record HasStill (r : Top) : Type 0 where
       pub acts : List (Act M)
       pub more : List (Entry (List M))
-      pub bring : ActsBring columns decoration acts first (es ++ more) r
-      pub between : AreBetweenRuns columns decoration acts first
+      pub leads : run (after_act columns decoration) acts first ≡ done r
+      pub came : es ++ more ≡ acts_come columns decoration acts first []
 
     -- the lines that it handed out were taken, again and again
     pub record Gave (lines : Lines) : Type 0 where
@@ -112,19 +112,14 @@ module _ {D M : Type 0} (columns : ℕ → Option ℕ) (decoration : Decoration 
     abbrev pub Has : Top → Type 0
     Has r = HasStill r ⊎ HasTaken r
 
-    has_on : (act : Act M) (r s : Top) → IsBetweenRuns columns decoration act r → after_act columns decoration act r ≡ done s → Has r → Has s
-    has_on act r s between does (inl h) =
+    -- by acts that put what they bring last
+    has_on : (act : Act M) (r s : Top) → ((fs : List (Entry (List M))) → act_comes columns decoration act r fs ≡ fs ++ act_brought columns decoration act r) → after_act columns decoration act r ≡ done s → Has r → Has s
+    has_on act r s last does (inl h) =
         let more = act_brought columns decoration act r in
-        let bring = acts_then columns decoration h.acts act first r s (es ++ h.more) h.bring does in
-        inl (record {
-          acts = h.acts ++ act ∷ [];
-          more = h.more ++ more;
-          bring = subst (λ fs. ActsBring columns decoration (h.acts ++ act ∷ []) first fs s) (append_assoc es h.more more) bring;
-          between = between_then columns decoration h.acts act first r h.between h.bring.0 between;
-        })
-    has_on act r s between does (inr h) =
-        let all = h.before ++ h.taking_it ∷ h.later in
-        let leads = acts_then columns decoration all act h.start_of r s (acts_brought columns decoration all h.start_of) (h.leads, refl) does in
+        let (leads, came) = acts_then columns decoration h.acts act first r s [] h.leads does in
+        inl (record { acts = h.acts ++ act ∷ []; more = h.more ++ more; leads = leads; came = sym (append_assoc es h.more more) ∙ ap (λ fs. fs ++ more) h.came ∙ sym (last (acts_come columns decoration h.acts first [])) ∙ sym came })
+    has_on act r s last does (inr h) =
+        let leads = (acts_then columns decoration (h.before ++ h.taking_it ∷ h.later) act h.start_of r s [] h.leads does).0 in
         inr (record {
           lines = h.lines;
           gave = h.gave;
@@ -132,7 +127,7 @@ module _ {D M : Type 0} (columns : ℕ → Option ℕ) (decoration : Decoration 
           before = h.before;
           taking_it = h.taking_it;
           later = h.later ++ act ∷ [];
-          leads = subst (λ acts. run (after_act columns decoration) acts h.start_of ≡ done s) (append_assoc h.before (h.taking_it ∷ h.later) (act ∷ [])) leads.0;
+          leads = subst (λ acts. run (after_act columns decoration) acts h.start_of ≡ done s) (append_assoc h.before (h.taking_it ∷ h.later) (act ∷ [])) leads;
           span = h.span;
           takes = h.takes;
         })
@@ -140,15 +135,13 @@ module _ {D M : Type 0} (columns : ℕ → Option ℕ) (decoration : Decoration 
     pub gives_on : (r : Top) (lines : Lines) → r.failure ≡ None → NothingOverhangs r → handed_out columns r ≡ done lines → Has r → Gave lines
     gives_on r lines live none gives (inl h) = record { origin = r; still = h; live = live; inside = lines; gives = gives; depth = 0; chain = refl }
     gives_on r lines live none gives (inr h) =
-        let all = h.before ++ h.taking_it ∷ h.later in
         let takes : TakesIn columns decoration h.lines lines = record {
           first = h.start_of;
           last = r;
           before = h.before;
           taking = h.taking_it;
           after = h.later;
-          es = acts_brought columns decoration all h.start_of;
-          bring = (h.leads, refl);
+          leads = h.leads;
           span = h.span;
           takes = h.takes;
           come = inr none;
@@ -165,7 +158,7 @@ module _ {D M : Type 0} (columns : ℕ → Option ℕ) (decoration : Decoration 
           before = led.acts;
           taking_it = act;
           later = [];
-          leads = (acts_then columns decoration led.acts act led.first r s (acts_brought columns decoration led.acts led.first) (led.leads, refl) does).0;
+          leads = (acts_then columns decoration led.acts act led.first r s [] led.leads does).0;
           span = span;
           takes = takes;
         })
@@ -291,7 +284,7 @@ module _ {D M : Type 0} (columns : ℕ → Option ℕ) (decoration : Decoration 
         go before next top step (inr (inr later)) = inr (inr later)
 
     called : (c : Call (List M)) (r s : Top) → after columns decoration c r ≡ done s → Has r → Has s
-    called c r s h = has_on (call c) r s tt h
+    called c r s h = has_on (call c) r s (λ fs. refl) h
 
     link_ended : (k : Option ℕ) (r s : Top) → after_end_with columns decoration k r ≡ done s → Has r → Has s
     link_ended None r s e h = called (finish end.link) r s e h
@@ -366,7 +359,7 @@ module _ {D M : Type 0} (columns : ℕ → Option ℕ) (decoration : Decoration 
         let (fits, lays) = if_so (row_fits top.hanging (spots_of columns p.pending.cells)) (RowDoesNotFit number) _ (Ok q) (λ no. no) tt made in
         let row = after_row (pointwise decoration.same) columns collapse in
         cells_taken p q (row_made columns decoration p.pending collapse)
-        (λ r s is_top e k. let (m, cells, flushed, gives, does) = taken (after columns decoration new_line) (cells_waiting columns decoration p.pending) row r s e in has_on (row_of_cells collapse cells) r s tt does k)
+        (λ r s is_top e k. let (m, cells, flushed, gives, does) = taken (after columns decoration new_line) (cells_waiting columns decoration p.pending) row r s e in has_on (row_of_cells collapse cells) r s (λ fs. refl) does k)
         (λ r s is_top e wait.
         let (m, cells, flushed, gives, does) = taken (after columns decoration new_line) (cells_waiting columns decoration p.pending) row r s e in
         let (lines, gave, span, into) = cells_give p.pending.cells p.pending.aligns cells gives led.waiting keeps.waiting wait in

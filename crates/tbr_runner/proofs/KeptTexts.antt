@@ -4,7 +4,7 @@ use Rattle.std.specs.List.{AllByRecursion as Each}
 use Rattle.tbr_model.specs.Run.{Entry}
 use Rattle.tbr_decor.specs.Decoration.{Decoration}
 use Rattle.text_block_renderer.specs.Renderer.{Renderer}
-use Rattle.text_block_renderer.specs.Acts.{acts_brought}
+use Rattle.text_block_renderer.specs.Acts.{acts_come}
 use Rattle.text_block_renderer.specs.Taken.{IsWrittenSoFar, NothingOverhangs}
 use Rattle.text_block_renderer.proofs.TakenLines.{brought_within}
 use Rattle.tbr_stack.specs.Stack.{top_of}
@@ -76,20 +76,20 @@ module _ {D M : Type 0} (columns : ℕ → Option ℕ) (decoration : Decoration 
   -- what came to the renderer on top, and later, is in the lines of the text
   pub text_keeps : (p : Progress D M (List M)) (number : ℕ) (lines : List (List ℕ)) (bytes : List ℕ) (r : Renderer D M (List M)) → KeepsAll columns decoration p → ((front back : List (List ℕ)) (there : Progress D M (List M)) → lines ≡ front ++ back → LinesDo columns decoration p number front there → IsShort columns decoration there × EndsWhole back there) →
       top_of p.stack ≡ Some r → (led : IsLed columns decoration r) → rendered_on columns decoration number lines p ≡ Ok bytes →
-      (commands : List Command) × AskFor lines commands × TextKeeps columns decoration (p.stack.links ++ link_targets commands) bytes (acts_brought columns decoration led.acts led.first)
+      (commands : List Command) × AskFor lines commands × TextKeeps columns decoration (p.stack.links ++ link_targets commands) bytes (acts_come columns decoration led.acts led.first [])
   text_keeps p number lines bytes r keeps at is_top led gives =
-      let es = acts_brought columns decoration led.acts led.first in
+      let es = acts_come columns decoration led.acts led.first [] in
       let end = lines_end columns decoration p number lines bytes gives in
       let there = end.there in
-      let still : HasStill columns decoration led.first es r = record { acts = led.acts; more = []; bring = (led.leads, append-nil es); between = led.between } in
+      let still : HasStill columns decoration led.first es r = record { acts = led.acts; more = []; leads = led.leads; came = append-nil es } in
       let (kept, has) = lines_keep led.first es number lines p there keeps at end.lead (inl (first_has columns decoration led.first es p.stack.levels r is_top still)) in
       let (top, is, closed_is, none_open, none_wait) = at_end columns decoration end.last there bytes end.ends in
       let led_there = kept.renderers in
       let led_last = of_first columns decoration there.stack.levels top is led_there.on_stack in
       let (of, gives_it) = closed_led columns decoration there.stack.links top bytes led_last closed_is in
       let gave = gives_on columns decoration led.first es top _ led_last.live ((at lines [] there (sym (append-nil lines)) end.lead).1 tt top is) gives_it (only_one columns decoration led.first es there.stack.levels top is (omega (arith, kept.levels, ap length none_open)) (only_on_stack columns decoration led.first es there none_open none_wait has)) in
-      let origin : IsLed columns decoration gave.origin = record { first = led.first; fresh = led.fresh; sound = led.sound; acts = gave.still.acts; leads = gave.still.bring.0; between = gave.still.between; live = gave.live } in
-      let so_far = subst (IsWrittenSoFar columns gave.origin) (sym gave.still.bring.1) (led_writes columns decoration gave.origin origin) in
+      let origin : IsLed columns decoration gave.origin = record { first = led.first; fresh = led.fresh; sound = led.sound; acts = gave.still.acts; leads = gave.still.leads; live = gave.live } in
+      let so_far = subst (IsWrittenSoFar columns gave.origin) (sym gave.still.came) (led_writes columns decoration gave.origin origin) in
       let steps = lines_step columns decoration number lines end.commands p there end.ask end.lead in
       let same = targets_come columns decoration (stack_calls end.commands) p.stack there.stack steps in
       let kept_text : TextKeeps columns decoration there.stack.links bytes es = record {

@@ -60,8 +60,8 @@ use Rattle.tbr_program.proofs.CommandParts.{one_ok, unless, if_so, none_are, som
 use Rattle.text_block_renderer.specs.Renderer.{Open, Renderer, IsSound, new_renderer, with_line, has_content}
 use Rattle.text_block_renderer.specs.Calls.{Call, new_line, start_block, begin, finish, add_inline_text, append_subrender, append_vert_row, after}
 use Rattle.text_block_renderer.specs.Decorated.{sub_renderer}
-use Rattle.text_block_renderer.specs.Acts.{Act, call, row as row_of_cells, fmt_links, finalise, after_act, acts_brought, IsBetweenRuns}
-use Rattle.text_block_renderer.proofs.ActSteps.{acts_then, between_then}
+use Rattle.text_block_renderer.specs.Acts.{Act, call, row as row_of_cells, fmt_links, finalise, after_act}
+use Rattle.text_block_renderer.proofs.ActSteps.{acts_then}
 use Rattle.text_block_renderer.proofs.Moves.{flushed_none}
 use Rattle.text_block_renderer.proofs.SoundRenderers.{new_sound, inside_sound, acts_sound}
 use Rattle.text_block_renderer.proofs.LinkNumbers.{targets_come}
@@ -89,14 +89,13 @@ module _ {D M : Type 0} (columns : ℕ → Option ℕ) (decoration : Decoration 
       let q : Top = record r { decorator = decoration.after r.decorator (change.finalise (listed r.options targets)) } in
       ap (λ (t : Top). t.failure) (one_done q s (live_done r.failure (done q) s h).1)
 
-  pub led_on : (act : Act M) (r s : Top) → IsBetweenRuns columns decoration act r → after_act columns decoration act r ≡ done s → Led r → Led s
-  led_on act r s between h k = record {
+  pub led_on : (act : Act M) (r s : Top) → after_act columns decoration act r ≡ done s → Led r → Led s
+  led_on act r s h k = record {
     first = k.first;
     fresh = k.fresh;
     sound = k.sound;
     acts = k.acts ++ act ∷ [];
-    leads = (acts_then columns decoration k.acts act k.first r s (acts_brought columns decoration k.acts k.first) (k.leads, refl) h).0;
-    between = between_then columns decoration k.acts act k.first r k.between k.leads between;
+    leads = (acts_then columns decoration k.acts act k.first r s [] k.leads h).0;
     live = act_live act r s h ∙ k.live;
   }
 
@@ -107,7 +106,7 @@ module _ {D M : Type 0} (columns : ℕ → Option ℕ) (decoration : Decoration 
   -- ---- renderers to which nothing has come
 
   pub nothing_came : (r : Top) → IsFresh r → IsSound columns r → r.failure ≡ None → Led r
-  nothing_came r fresh sound live = record { first = r; fresh = fresh; sound = sound; acts = []; leads = refl; between = tt; live = live }
+  nothing_came r fresh sound live = record { first = r; fresh = fresh; sound = sound; acts = []; leads = refl; live = live }
 
   pub inside_led : (width : ℕ) (r : Top) → 0 < width → Led r → Led (sub_renderer decoration width r)
   inside_led width r wide k = nothing_came (sub_renderer decoration width r) (record { lines = refl; block = refl; waiting = refl; hanging = refl }) (inside_sound columns decoration width r wide (led_sound r k)) refl
@@ -244,9 +243,9 @@ module _ {D M : Type 0} (columns : ℕ → Option ℕ) (decoration : Decoration 
         command_led number command p next h (asks command is) laid makes
 
   -- what all acts keep
-  pub line_keeps : (Is : Top → Type 0) (Wide : ℕ → Type 0) → ((act : Act M) (r s : Top) → IsBetweenRuns columns decoration act r → after_act columns decoration act r ≡ done s → Is r → Is s) → ((width : ℕ) (r : Top) → Wide width → Is r → Is (sub_renderer decoration width r)) →
+  pub line_keeps : (Is : Top → Type 0) (Wide : ℕ → Type 0) → ((act : Act M) (r s : Top) → after_act columns decoration act r ≡ done s → Is r → Is s) → ((width : ℕ) (r : Top) → Wide width → Is r → Is (sub_renderer decoration width r)) →
       (p : Progress D M (List M)) → AllAre Is p → (number : ℕ) (line : List ℕ) (next : Progress D M (List M)) → ((command : Command) → IsCommand line command → Asks Wide command) → after_line columns decoration number line p ≡ Ok next → AllAre Is next
-  line_keeps Is Wide on inside p h number line next asks does = line_goes Is Wide (λ c r s. on (call c) r s tt) inside p h number line next asks (λ collapse cells gives r s. on (row_of_cells collapse cells) r s tt) does
+  line_keeps Is Wide on inside p h number line next asks does = line_goes Is Wide (λ c r s. on (call c) r s) inside p h number line next asks (λ collapse cells gives r s. on (row_of_cells collapse cells) r s) does
 
   -- ---- such renderers
 
@@ -300,20 +299,13 @@ module _ {D M : Type 0} (columns : ℕ → Option ℕ) (decoration : Decoration 
   notes_stay targets (t ∷ ts) r = notes_stay targets ts (with_line columns r t)
 
   -- footnotes after a flush
-  begun_closed : (r : Top) → r.block ≡ None → (block_started columns r).block ≡ None
-  begun_closed r none = go (has_content r)
-    where
-      go : (b : Bool) → (let q = if b then with_empty_line columns r else record r { block_ended = false } in q.block) ≡ None
-      go true = none
-      go false = none
-
   noted_led : (notes : List (List (Element M))) (r : Top) → r.block ≡ None → Led r → Led (with_notes columns notes r)
   noted_led [] r none k = k
   noted_led (note ∷ notes) r none k =
       let q : Top = block_started columns r in
       let starts : after columns decoration start_block r ≡ done q = live_goes r.failure (after_block_start columns r) k.live ∙ ap (λ (o : Option (Open (List M))). changed (block_started columns) (after_block columns r o)) none in
-      let begun = led_on (call start_block) r q tt starts k in
-      led_on (fmt_links (note ∷ notes)) q (with_footnotes columns q (note ∷ notes)) (begun_closed r none) (live_goes q.failure (done (with_footnotes columns q (note ∷ notes))) begun.live) begun
+      let begun = led_on (call start_block) r q starts k in
+      led_on (fmt_links (note ∷ notes)) q (with_footnotes columns q (note ∷ notes)) (live_goes q.failure (done (with_footnotes columns q (note ∷ notes))) begun.live) begun
 
   pub closed_led : (targets : List (List ℕ)) (r : Top) (text : List ℕ) → Led r → closed_text columns decoration targets r ≡ done text → (of : IsTextOfLed columns decoration targets text) × (handed_out columns r ≡ done (let m = of.renderer in m.lines))
   closed_led targets r text k h =
@@ -323,7 +315,7 @@ module _ {D M : Type 0} (columns : ℕ → Option ℕ) (decoration : Decoration 
       let (s, ended, are) = done_before (λ (q : Top). let t = with_notes columns notes q in t.lines) (after_flush columns (with_decorator d r)) lines made in
       let (m, first, same) = done_before (with_decorator d) (after_flush columns r) s (sym (block_alike d r r.block) ∙ ended) in
       let stay = flush_keeps columns r m (footnotes_of columns decoration targets) (λ texts names. notes_stay targets texts (record r { block = None })) first in
-      let led = led_on (call new_line) r m tt (live_goes r.failure (after_flush columns r) k.live ∙ first) k in
+      let led = led_on (call new_line) r m (live_goes r.failure (after_flush columns r) k.live ∙ first) k in
       let whole = flushed_none columns r m (flushes columns r m first) in (
         record {
           renderer = m;

@@ -89,8 +89,7 @@ module _ {D M : Type 0} (columns : ℕ → Option ℕ) (decoration : Decoration 
 
   call_none : (c : Call (List M)) (r s : Top) → after columns decoration c r ≡ done s → NothingOverhangs r → NothingOverhangs s
   call_none c r s does none =
-      let es = entries_brought columns decoration c r in
-      subst (Each HasNone) (sym (path_hanging columns any r s es _ (calls_move columns any decoration (c ∷ []) r s es tt (alone columns decoration c r s es does refl)))) none
+      subst (Each HasNone) (sym (path_hanging columns any r s _ _ (calls_move columns any decoration (c ∷ []) r s _ tt (alone columns decoration c r s does)))) none
 
   row_none : (collapse : Bool) (cells : List (GivenCell (List M))) → Each (λ (c : GivenCell (List M)). c.span ≡ 1) cells → (r s : Top) → after_act columns decoration (row_of_cells collapse cells) r ≡ done s → NothingOverhangs r → NothingOverhangs s
   row_none collapse cells one r s does none =

@@ -43,7 +43,7 @@ use Rattle.text_block_renderer.specs.Rows.{spots_of, GivenCell, next_align, cell
 use Rattle.tbr_renderer.proofs.GivenCells.{cell_of}
 use Rattle.text_block_renderer.specs.Calls.{Call, new_line, begin, finish, add_inline_text, append_subrender, append_vert_row, made, after}
 use Rattle.text_block_renderer.specs.Decorated.{sub_renderer}
-use Rattle.text_block_renderer.specs.Acts.{Act, call, after_act, IsBetweenRuns}
+use Rattle.text_block_renderer.specs.Acts.{Act, call, after_act}
 use Rattle.text_block_renderer.specs.Headline.{TakeTwoAtMost}
 use Rattle.text_block_renderer.proofs.ActParts.{acts_along}
 use Rattle.text_block_renderer.proofs.TwoColumns.{act_fits}
@@ -70,11 +70,11 @@ module _ {D M : Type 0} (columns : ℕ → Option ℕ) (decoration : Decoration 
   abbrev Two : Top columns decoration → Type 0
   Two r = Led columns decoration r × (2 ≤ block_width r)
 
-  two_on : (act : Act M) (r s : Top columns decoration) → IsBetweenRuns columns decoration act r → after_act columns decoration act r ≡ done s → Two r → Two s
-  two_on act r s between h k =
+  two_on : (act : Act M) (r s : Top columns decoration) → after_act columns decoration act r ≡ done s → Two r → Two s
+  two_on act r s h k =
       let along = acts_along columns decoration (act ∷ []) r s (led_sound columns decoration r k.0) (run_last (after_act columns decoration) act r s h) in
       let same : block_width s ≡ block_width r = ap (λ w. least w s.options.wrap_width) along.width ∙ ap (λ (o : RenderOptions). least r.width o.wrap_width) along.options in
-      (led_on columns decoration act r s between h k.0, subst (λ n. 2 ≤ n) (sym same) k.1)
+      (led_on columns decoration act r s h k.0, subst (λ n. 2 ≤ n) (sym same) k.1)
 
   two_inside : (width : ℕ) (r : Top columns decoration) → 2 ≤ width → Two r → Two (sub_renderer decoration width r)
   two_inside width r wide k = (inside_led columns decoration width r (omega (arith, wide)) k.0, wraps_two width r.width r.options.wrap_width wide k.1)
@@ -147,7 +147,7 @@ module _ {D M : Type 0} (columns : ℕ → Option ℕ) (decoration : Decoration 
   no_end (Some k) r two h =
       elim (refused_first (after columns decoration (finish end.link) r) (after columns decoration (add_inline_text (link_number k))) E.TooNarrow h) [
         | inl first ↦ no_call (finish end.link) r two first
-        | inr later ↦ no_call (add_inline_text (link_number k)) later.0 (two_on (call (finish end.link)) r later.0 tt later.1 two) later.2
+        | inr later ↦ no_call (add_inline_text (link_number k)) later.0 (two_on (call (finish end.link)) r later.0 later.1 two) later.2
       ]
 
   -- ---- commands and lines

@@ -5,7 +5,7 @@ use Rattle.tbr_tagged.specs.Outcome.{done}
 use Rattle.tbr_decor.specs.Decoration.{Decoration}
 use Rattle.tbr_renderer.specs.Outcomes.{run}
 use Rattle.text_block_renderer.specs.Renderer.{Renderer, IsSound}
-use Rattle.text_block_renderer.specs.Acts.{Act, after_act, AreBetweenRuns}
+use Rattle.text_block_renderer.specs.Acts.{Act, after_act}
 use Rattle.text_block_renderer.specs.Text.{lines_text}
 use Rattle.tbr_commands.specs.Command.{Command, sub, cell}
 use Rattle.tbr_commands.specs.Syntax.{IsCommand}
@@ -31,14 +31,13 @@ pub record AllAre {D A T : Type 0} (Is : Renderer D A T → Type 0) (p : Progres
   pub below : Each (λ o. CellsAre Is o.below) p.opened
 
 module _ {D M : Type 0} (columns : ℕ → Option ℕ) (decoration : Decoration D M) where
-  -- Calls and rows led to a renderer from a sound one to which nothing had come, and footnotes between runs.
+  -- Calls, rows and footnotes led to a renderer from a sound one to which nothing had come.
   pub record IsLed (r : Renderer D M (List M)) : Type 0 where
     pub first : Renderer D M (List M)
     pub fresh : IsFresh first
     pub sound : IsSound columns first
     pub acts : List (Act M)
     pub leads : run (after_act columns decoration) acts first ≡ done r
-    pub between : AreBetweenRuns columns decoration acts first
     pub live : r.failure ≡ None
 
   abbrev pub AreLed : Progress D M (List M) → Type 0

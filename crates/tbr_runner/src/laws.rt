@@ -8,7 +8,7 @@ ghost use Rattle.text_block_renderer.specs.Renderer.{Renderer, least};
 ghost use Rattle.text_block_renderer.specs.Calls.{Shows};
 ghost use Rattle.text_block_renderer.specs.MarkersStand.{Stands};
 ghost use Rattle.text_block_renderer.specs.Taken.{IsWrittenSoFar};
-ghost use Rattle.text_block_renderer.specs.Acts.{acts_brought};
+ghost use Rattle.text_block_renderer.specs.Acts.{acts_come};
 ghost use Rattle.text_block_renderer.specs.Headline.{Headline, TakeTwoAtMost};
 ghost use Rattle.tbr_program.specs.Progress.{Progress};
 ghost use Rattle.tbr_program.specs.Commands.{after_command, after_line, started};
@@ -57,13 +57,13 @@ pub fn the_renderers_of_a_script_are_led_to<D, M>()
         (led : IsLed columns decoration r) → Headline columns decoration led.acts led.first r }
     ensures shows { (columns : ℕ → Option ℕ) (decoration : Decoration D M) (r : Renderer D M (List M)) →
         (led : IsLed columns decoration r) → led.first.options.pad_block_width ≡ false →
-        Shows columns r (acts_brought columns decoration led.acts led.first) }
+        Shows columns r (acts_come columns decoration led.acts led.first []) }
     ensures stands { (columns : ℕ → Option ℕ) (decoration : Decoration D M) (r : Renderer D M (List M)) →
         (led : IsLed columns decoration r) → led.first.options.pad_block_width ≡ false →
-        Stands columns r (acts_brought columns decoration led.acts led.first) }
+        Stands columns r (acts_come columns decoration led.acts led.first []) }
     ensures written { (columns : ℕ → Option ℕ) (decoration : Decoration D M) (r : Renderer D M (List M)) →
         (led : IsLed columns decoration r) →
-        IsWrittenSoFar columns r (acts_brought columns decoration led.acts led.first) }
+        IsWrittenSoFar columns r (acts_come columns decoration led.acts led.first []) }
 {}
 
 /// No visible character is lost between the blocks and cells of a script, and no marker before one, where no block has
@@ -86,7 +86,7 @@ pub fn no_visible_character_of_a_script_is_lost<D, M>()
         top_of p.stack ≡ Some r → (led : IsLed columns decoration r) →
         rendered_on columns decoration number lines p ≡ Ok text → (commands : List Command) × AskFor lines commands
         × TextKeeps columns decoration (p.stack.links ++ link_targets commands) text
-        (acts_brought columns decoration led.acts led.first) }
+        (acts_come columns decoration led.acts led.first []) }
     ensures begins { (opening : Opening) (decorator : D) → OverhangsNowhere {T = List M} (started opening decorator) }
     ensures one_row { (columns : ℕ → Option ℕ) (decoration : Decoration D M) (p there : Progress D M (List M))
         (number : ℕ) (front back : List (List ℕ)) → KeepsAll columns decoration p → OverhangsNowhere p →

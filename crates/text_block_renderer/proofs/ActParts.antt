@@ -25,11 +25,11 @@ use Rattle.tbr_renderer.proofs.OutcomeParts.{one_done, done_first}
 use Rattle.tbr_renderer.proofs.SettingsStay.{Steady, lines_added}
 use Rattle.text_block_renderer.specs.Added.{Added, text_laid, row_put, flush_ends, call_adds, calls_add}
 use Rattle.text_block_renderer.specs.Stretches.{Part, ended, laid, ruled, lines_laid, IsPart, ComesInParts}
-use Rattle.text_block_renderer.specs.Acts.{Act, call, row, fmt_links, finalise, rows_of, beside_footnotes, after_act, act_brought, act_enters, acts_enter, Piece, part, put, noted, cells_in, rows_in, border_lines_of, lines_of_piece, entries_of_piece, added_of_piece, act_adds, acts_add, IsPiece, StaysLine, ComesInPieces}
+use Rattle.text_block_renderer.specs.Acts.{Act, call, row, fmt_links, finalise, rows_of, after_act, act_enters, acts_enter, Piece, part, put, noted, cells_in, rows_in, border_lines_of, lines_of_piece, entries_of_piece, added_of_piece, act_adds, acts_add, IsPiece, StaysLine, ComesInPieces}
 use Rattle.text_block_renderer.proofs.Moves.{any, Frame, frame, frame_of_lines, sound_alike, flushed_none, path_width, path_options, path_hanging}
 use Rattle.text_block_renderer.proofs.CallMoves.{calls_move}
 use Rattle.text_block_renderer.proofs.LineParts.{brings_parts}
-use Rattle.text_block_renderer.proofs.LaidTexts.{laid_lines}
+use Rattle.text_block_renderer.proofs.AddedLines.{laid_lines}
 use Rattle.text_block_renderer.proofs.ActSteps.{told_then, ActStep, after_acts, act_step}
 use Rattle.text_block_renderer.proofs.RowsOfCells.{row_flushes, row_closed}
 use Rattle.text_block_renderer.proofs.LastingLines.{all_stay, stay_on, stay_append, top_put_back}
@@ -146,12 +146,12 @@ module _ {D A : Type 0} (columns : ℕ → Option ℕ) where
     -- ---- calls and rows
 
     -- as the only one of calls
-    pub alone : (c : Call (List A)) (r s : Renderer D A (List A)) (es : List (Entry (List A))) → Does columns decoration c r s → es ≡ entries_brought columns decoration c r → Brings columns decoration (c ∷ []) r es s
-    alone c r s es does is =
+    pub alone : (c : Call (List A)) (r s : Renderer D A (List A)) → Does columns decoration c r s → Brings columns decoration (c ∷ []) r (entries_brought columns decoration c r) s
+    alone c r s does =
         let first = entries_brought columns decoration c r in
-        (ap (λ o. and_then o (λ t. done t)) does, is ∙ sym (append-nil first) ∙ ap (λ o. first ++ told_by (λ t. []) o) (sym does))
+        (ap (λ o. and_then o (λ t. done t)) does, sym (append-nil first) ∙ ap (λ o. first ++ told_by (λ t. []) o) (sym does))
 
-    rows_one : (act : Act A) (acts : List (Act A)) → rows_of (act ∷ acts) ≡ rows_of (act ∷ []) ++ rows_of acts
+    pub rows_one : (act : Act A) (acts : List (Act A)) → rows_of (act ∷ acts) ≡ rows_of (act ∷ []) ++ rows_of acts
     rows_one (call c) acts = refl
     rows_one (row collapses cells) acts = refl
     rows_one (fmt_links links) acts = refl
@@ -235,14 +235,13 @@ module _ {D A : Type 0} (columns : ℕ → Option ℕ) where
         } in
         along_on [] [] (text_laid t ∷ []) (map text_laid ts) r q (fold (with_line columns) q ts) [] [] one (noted_along ts q)
 
-    act_along : (act : Act A) (r s : Renderer D A (List A)) (es : List (Entry (List A))) → IsSound columns r → ActStep columns decoration act r es s → Along (rows_of (act ∷ [])) (act_adds columns decoration act r) r (beside_footnotes act es) s
-    act_along (call c) r s es sound h = call_along c r s es sound (alone c r s es h.0 h.1)
-    act_along (fmt_links links) r s es sound h = subst (λ (q : Renderer D A (List A)). Along [] (act_adds columns decoration (fmt_links links) r) r [] q) (sym h.0) (noted_along (flat_map (footnote_lines columns r) links) r)
-    act_along (finalise targets) r s es sound h =
-        subst (λ fs. Along [] [] r fs s) (sym h.1) (subst (λ (q : Renderer D A (List A)). Along [] [] r [] q) (sym h.0) (asked_along (decoration.after r.decorator (change.finalise (listed r.options targets))) r))
-    act_along (row collapses cells) r s es sound h =
+    act_along : (act : Act A) (r s : Renderer D A (List A)) → IsSound columns r → ActStep columns decoration act r s → Along (rows_of (act ∷ [])) (act_adds columns decoration act r) r (act_enters columns decoration act r) s
+    act_along (call c) r s sound h = call_along c r s _ sound (alone c r s h)
+    act_along (fmt_links links) r s sound h = subst (λ (q : Renderer D A (List A)). Along [] (act_adds columns decoration (fmt_links links) r) r [] q) (sym h) (noted_along (flat_map (footnote_lines columns r) links) r)
+    act_along (finalise targets) r s sound h = subst (λ (q : Renderer D A (List A)). Along [] [] r [] q) (sym h) (asked_along (decoration.after r.decorator (change.finalise (listed r.options targets))) r)
+    act_along (row collapses cells) r s sound h =
         let (m, flushed, puts, is) = h in
-        let first = call_along new_line r m [] sound (alone new_line r m [] flushed refl) in
+        let first = call_along new_line r m [] sound (alone new_line r m flushed) in
         let closed = row_closed columns r s (m, flushed, puts.row, puts.is) in
         let second = row_along collapses cells m s (flushed_none columns r m (row_flushes columns r m flushed)) closed puts in
         let puts_it : List (Added D A) = row_put collapses cells ∷ [] in
@@ -254,7 +253,7 @@ module _ {D A : Type 0} (columns : ℕ → Option ℕ) where
         let (m, does, others) = done_first (after_act columns decoration act r) (after_acts columns decoration acts) s h in
         let first = act_enters columns decoration act r in
         let rest = acts_enter columns decoration acts m in
-        let here = act_along act r m (act_brought columns decoration act r) sound (act_step columns decoration act r m does) in
+        let here = act_along act r m sound (act_step columns decoration act r m does) in
         let still = sound_alike columns r m here.width here.options sound in
         let adds = act_adds columns decoration act r in
         let later = acts_add columns decoration acts m in
@@ -262,5 +261,5 @@ module _ {D A : Type 0} (columns : ℕ → Option ℕ) where
         (subst (λ fs. Along (rows_of (act ∷ acts)) (adds ++ later) r fs s) (sym (told_then (act_enters columns decoration) (after_act columns decoration) act acts r m does))
         (subst (λ xs. Along xs (adds ++ later) r (first ++ rest) s) (sym (rows_one act acts)) (along_on (rows_of (act ∷ [])) (rows_of acts) adds later r m s first rest here (acts_along acts m s still others))))
 
-    pub act_sound : (act : Act A) (r s : Renderer D A (List A)) (es : List (Entry (List A))) → IsSound columns r → ActStep columns decoration act r es s → (s.options ≡ r.options) × IsSound columns s
-    act_sound act r s es sound h = let along = act_along act r s es sound h in (along.options, sound_alike columns r s along.width along.options sound)
+    pub act_sound : (act : Act A) (r s : Renderer D A (List A)) → IsSound columns r → ActStep columns decoration act r s → (s.options ≡ r.options) × IsSound columns s
+    act_sound act r s sound h = let along = act_along act r s sound h in (along.options, sound_alike columns r s along.width along.options sound)

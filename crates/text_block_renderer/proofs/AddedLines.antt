@@ -1,11 +1,13 @@
 -- Lines only come.
-use Rattle.std.proofs.Common.{◌≡◌, ℕ, Option, Some, None, List, [], ◌∷◌, ◌++◌, fold, refl, ap, sym, ◌∙◌, append_assoc, append-nil}
+use Rattle.std.proofs.Common.{◌≡◌, ℕ, Option, Some, None, List, [], ◌∷◌, ◌++◌, map, fold, refl, ap, sym, ◌∙◌, append_assoc, append-nil}
 use Rattle.tbr_model.specs.Run.{Item}
 use Rattle.tbr_kept_lines.specs.Line.{Line}
 use Rattle.tbr_renderer.specs.Renderer.{Open, Renderer, with_line}
 use Rattle.tbr_renderer.specs.Flush.{block_lines, lines_at_end}
 use Rattle.tbr_renderer.proofs.FlushedBlocks.{FlushesBlock}
 use Rattle.tbr_decor.specs.Decoration.{Decoration}
+use Rattle.tbr_model.specs.Markers.{marker_items}
+use Rattle.text_block_renderer.specs.Stretches.{padded_line, lines_laid}
 use Rattle.tbr_renderer.specs.Calls.{Call, Steps, brought}
 use Rattle.text_block_renderer.proofs.Moves.{Move, flush, line, rule, join, turn, Makes, MakesAll, through, any}
 use Rattle.text_block_renderer.proofs.CallMoves.{calls_move}
@@ -21,6 +23,20 @@ module _ {D A : Type 0} where
   grows_on r m s g h = (g.0 ++ h.0, h.1 ∙ ap (λ ls. ls ++ h.0) g.1 ∙ append_assoc r.lines g.0 h.0)
 
 module _ {D A : Type 0} (columns : ℕ → Option ℕ) where
+  -- where no marker waits
+  pub unmarked_lines : (ts : List (List (Item (List A)))) (r : Renderer D A (List A)) → r.waiting ≡ [] → (fold (with_line columns) r ts).lines ≡ r.lines ++ map (padded_line columns r) ts
+  unmarked_lines [] r none = sym (append-nil r.lines)
+  unmarked_lines (t ∷ ts) r none =
+      unmarked_lines ts (with_line columns r t) refl
+      ∙ append_assoc r.lines (padded_line columns r (marker_items r.waiting ++ t) ∷ []) (map (padded_line columns r) ts)
+      ∙ ap (λ ns. r.lines ++ padded_line columns r (marker_items ns ++ t) ∷ map (padded_line columns r) ts) none
+
+  pub laid_lines : (ts : List (List (Item (List A)))) (r : Renderer D A (List A)) → (fold (with_line columns) r ts).lines ≡ r.lines ++ lines_laid columns r ts
+  laid_lines [] r = sym (append-nil r.lines)
+  laid_lines (t ∷ ts) r =
+      unmarked_lines ts (with_line columns r t) refl
+      ∙ append_assoc r.lines (padded_line columns r (marker_items r.waiting ++ t) ∷ []) (map (padded_line columns r) ts)
+
   one_line_grows : (r : Renderer D A (List A)) (is : List (Item (List A))) → Grows r (with_line columns r is)
   one_line_grows r is = (_, refl)
 

@@ -1,5 +1,5 @@
 -- What was brought is in the lines of text, or waits.
-use Rattle.std.proofs.Common.{◌≡◌, ℕ, inl, zero, suc, Bool, true, false, not, if◌then◌else◌, Option, Some, None, List, [], ◌∷◌, ◌++◌, filter, fold, refl, ap, sym, ◌∙◌, subst, append_assoc, append-nil}
+use Rattle.std.proofs.Common.{◌≡◌, ℕ, inl, zero, suc, Bool, true, false, not, if◌then◌else◌, Option, List, [], ◌∷◌, ◌++◌, filter, fold, refl, ap, sym, ◌∙◌, subst, append_assoc, append-nil}
 use Rattle.std.specs.List.{AllZip}
 use Rattle.std.proofs.lemmas.List.Elements.{filter-append}
 use Rattle.std.proofs.lemmas.List.Concat.{flat_map-append}
@@ -10,28 +10,30 @@ use Rattle.tbr_model.specs.Markers.{names_in_items, names_in_run, marker_items, 
 use Rattle.tbr_model.specs.Hard.{HasMode, is_visible}
 use Rattle.tbr_model.specs.declared.white_space.WhiteSpace.TheVariants.{Normal, Pre}
 use Rattle.tbr_model.specs.Shown.{without_spaces, is_visible_or_marker, is_entry_to_show, ShowsEntry}
-use Rattle.tbr_model.specs.Rule.{is_space_item, run_of, Event}
+use Rattle.tbr_model.specs.Rule.{is_space_item, run_of}
 use Rattle.tbr_model.proofs.lists.Each.{each_front, each_back}
-use Rattle.tbr_border.specs.Border.{Border, without_holes}
 use Rattle.tbr_border.specs.Cell.{Cell}
 use Rattle.tbr_tagged.specs.Elements.{text_items}
 use Rattle.tbr_tagged.specs.Padding.{spaces}
 use Rattle.tbr_wrap.specs.Runs.{IsNormal, AreLastOf, EndsRun}
 use Rattle.tbr_tagged.proofs.SameItems.{all_zip_append}
 use Rattle.tbr_decor.specs.Decoration.{Decoration}
-use Rattle.tbr_kept_lines.specs.Line.{Line}
-use Rattle.tbr_renderer.specs.Renderer.{Open, Renderer, new_renderer, open_block, open_run, with_line, with_events, block_width, may_overflow, IsSound}
+use Rattle.tbr_renderer.specs.Renderer.{Open, Renderer, new_renderer, with_line, block_width, may_overflow, IsSound}
 use Rattle.tbr_renderer.specs.declared.options.RenderOptions.{RenderOptions}
 use Rattle.tbr_renderer.specs.Flush.{block_lines, flushed, lines_at_end, names_at_end}
-use Rattle.tbr_renderer.proofs.FlushedBlocks.{FlushesBlock}
+use Rattle.tbr_renderer.proofs.FlushedBlocks.{EndsBlock}
+use Rattle.tbr_renderer.specs.Outcomes.{run}
+use Rattle.tbr_tagged.specs.Outcome.{done}
 use Rattle.tbr_renderer.specs.Appended.{with_border}
 use Rattle.tbr_renderer.specs.Calls.{Call, laid_entries, Brings, text_of_lines}
 use Rattle.text_block_renderer.specs.Drawn.{WithoutDrawnBorders, borders_drawn, DrawNone}
 use Rattle.text_block_renderer.specs.MarkersStand.{items_so_far, Stands}
-use Rattle.text_block_renderer.proofs.Moves.{Move, flush, line, rule, join, turn, SameText, brought_by, Makes, no_block, undrawn}
-use Rattle.text_block_renderer.proofs.DrawnBorders.{brings_on, calls_bring_on, border_stays}
-use Rattle.tbr_renderer.proofs.JoinedTexts.{run_joined}
-use Rattle.text_block_renderer.proofs.LineContents.{Looks, seen_line, seen_flushed, no_text_after}
+use Rattle.text_block_renderer.specs.Acts.{Act, after_act, acts_come}
+use Rattle.text_block_renderer.proofs.Moves.{Move, brought_by, Makes, undrawn}
+use Rattle.text_block_renderer.proofs.DrawnBorders.{brings_on, calls_bring_on, border_unseen}
+use Rattle.text_block_renderer.proofs.LineContents.{Looks, seen_line, seen_flushed}
+use Rattle.text_block_renderer.proofs.LastingLines.{stay_texts}
+use Rattle.text_block_renderer.proofs.EndedEntries.{Ended, GoesOn, move_on, acts_on}
 use Rattle.text_block_renderer.proofs.VisibleCharacters.{space_unseen}
 
 -- ---- three ways to look at items
@@ -224,11 +226,14 @@ module _ {T : Type 0} (columns : ℕ → Option ℕ) where
       last_after (is_kept columns) (without_spaces is) names (names_after (is_kept columns) es)
       (ap (fold (item_after (is_kept columns)) []) (sym (unspaced_before columns is names) ∙ h.kept normal) ∙ after_kept [] es)
 
--- ---- moves
+-- ---- moves and acts
 
 module _ {D A : Type 0} (columns : ℕ → Option ℕ) where
-  stands : (r : Renderer D A (List A)) (es ended : List (Entry (List A))) → ended ++ open_run r.block ≡ es → StandFor columns (items_so_far r) ended → Stands columns r es
-  stands r es ended whole h = record {
+  abbrev InLines : Renderer D A (List A) → List (Entry (List A)) → Type 0
+  InLines r es = StandFor columns (items_so_far r) es
+
+  stands : (r : Renderer D A (List A)) (es : List (Entry (List A))) → Ended InLines r es → Stands columns r es
+  stands r es (ended, whole, h) = record {
     ended = ended;
     whole = whole;
     order = h.order;
@@ -238,68 +243,39 @@ module _ {D A : Type 0} (columns : ℕ → Option ℕ) where
     waits_kept = waits_after_kept columns (text_of_lines r.lines) r.waiting ended h;
   }
 
-  pub stand : (r : Renderer D A (List A)) (es : List (Entry (List A))) → (h : Stands columns r es) → StandFor columns (items_so_far r) h.ended
-  stand r es h = record { order = h.order; names = names_before columns (text_of_lines r.lines) r.waiting ∙ h.markers; kept = h.kept }
+  less_open : (r : Renderer D A (List A)) (es : List (Entry (List A))) → Stands columns r es → Ended InLines r es
+  less_open r es h = (h.ended, h.whole, record { order = h.order; names = names_before columns (text_of_lines r.lines) r.waiting ∙ h.markers; kept = h.kept })
 
   pub new_stands : (width : ℕ) (options : RenderOptions) (decorator : D) → Stands columns (new_renderer {D = D} {A = A} width options decorator) []
-  new_stands width options decorator = stands (new_renderer width options decorator) [] [] refl (nothing_stands columns)
+  new_stands width options decorator = stands (new_renderer width options decorator) [] ([], refl, nothing_stands columns)
 
-  -- nothing more is there
-  pub as_before : (r s : Renderer D A (List A)) (es ended : List (Entry (List A))) → SeenAfter (items_so_far r) [] (items_so_far s) → ended ++ open_run s.block ≡ es → StandFor columns (items_so_far r) ended → Stands columns s es
-  as_before r s es ended seen whole h =
-      let k : StandFor columns (items_so_far s) (ended ++ []) = stand_after columns (items_so_far r) [] (items_so_far s) ended [] seen h (nothing_stands columns) in
-      stands s es ended whole (subst (λ (fs : List (Entry (List A))). StandFor columns (items_so_far s) fs) (append-nil ended) k)
+  end_stands : (r s : Renderer D A (List A)) (b : Open (List A)) (es : List (Entry (List A))) → EndsBlock columns r b s → IsSound columns r → InLines r es → InLines s (es ++ run_of b.events)
+  end_stands r s b es h sound k =
+      let texts = lines_at_end columns r b in
+      let names = names_at_end columns r b in
+      let after : Renderer D A (List A) = flushed columns r (block_lines columns r b texts) names in
+      subst (λ (q : Renderer D A (List A)). InLines q (es ++ run_of b.events)) (sym h.is)
+      (stand_after columns (items_so_far r) (joined texts ++ marker_items names) (items_so_far after) es (run_of b.events) (λ Y look looks. seen_flushed look looks columns r b texts names) k
+      (run_stands columns (block_width r) (may_overflow r) (run_of b.events) texts names (h.ends sound)))
 
-  pub same_seen : (r s : Renderer D A (List A)) → items_so_far s ≡ items_so_far r → SeenAfter (items_so_far r) [] (items_so_far s)
-  same_seen r s e Y look looks = ap look e ∙ sym (append-nil (look (items_so_far r))) ∙ ap (λ ys. look (items_so_far r) ++ ys) (sym looks.nothing)
+  -- the same text, and the same markers wait
+  same_stand : (r s : Renderer D A (List A)) (es : List (Entry (List A))) → text_of_lines s.lines ≡ text_of_lines r.lines → s.waiting ≡ r.waiting → InLines r es → InLines s es
+  same_stand r s es lines waiting k = subst (λ is. StandFor columns is es) (sym (ap (λ is. is ++ marker_items s.waiting) lines ∙ ap (λ names. text_of_lines r.lines ++ marker_items names) waiting)) k
 
-  flush_stands : (r s : Renderer D A (List A)) (o : Option (Open (List A))) (es : List (Entry (List A))) → o ≡ r.block → FlushesBlock columns r o s → IsSound columns r → Stands columns r es → Stands columns s es
-  flush_stands r s None es e h sound k = subst (λ (q : Renderer D A (List A)). Stands columns q es) (sym h) k
-  flush_stands r s (Some b) es e h sound k =
-      let after : Renderer D A (List A) = flushed columns r (block_lines columns r b (lines_at_end columns r b)) (names_at_end columns r b) in
-      let more : List (Item (List A)) = joined (lines_at_end columns r b) ++ marker_items (names_at_end columns r b) in
-      let all : StandFor columns (items_so_far after) (k.ended ++ (run_of b.events)) =
-      stand_after columns (items_so_far r) more (items_so_far after) k.ended (run_of b.events) (λ Y look looks. seen_flushed look looks columns r b (lines_at_end columns r b) (names_at_end columns r b)) (stand r es k)
-      (run_stands columns (block_width r) (may_overflow r) (run_of b.events) (lines_at_end columns r b) (names_at_end columns r b) (h.ends sound)) in
-      let nothing : open_run after.block ≡ [] = ap open_run (no_block columns (block_lines columns r b (lines_at_end columns r b)) (record r { block = None }) refl) in
-      let whole : (k.ended ++ (run_of b.events)) ++ open_run after.block ≡ es =
-      ap (λ (run : List (Entry (List A))). (k.ended ++ (run_of b.events)) ++ run) nothing ∙ append-nil (k.ended ++ (run_of b.events)) ∙ ap (λ (p : Option (Open (List A))). k.ended ++ open_run p) e ∙ k.whole in
-      subst (λ (q : Renderer D A (List A)). Stands columns q es) (sym h.is) (stands after es (k.ended ++ (run_of b.events)) whole all)
+  stands_on : GoesOn columns undrawn InLines
+  stands_on = record {
+    flushed = end_stands;
+    laid = λ r t es k. stand_after columns (items_so_far r) t (items_so_far (with_line columns r t)) es (laid_entries t) (λ Y look looks. seen_line look looks columns r t) k (laid_stand columns t);
+    ruled = λ r b es unpadded k. same_stand r (with_border columns r b) es (border_unseen columns r b unpadded) refl k;
+    stays = λ r s es stay waiting k. same_stand r s es (stay_texts r.lines s.lines stay) waiting k;
+  }
 
-  put_stands : (r s : Renderer D A (List A)) (is : List (Item (List A))) (es : List (Entry (List A))) → r.block ≡ None → s ≡ with_line columns r is → Stands columns r es → Stands columns s (es ++ laid_entries is)
-  put_stands r s is es none e k =
-      let more : List (Entry (List A)) = laid_entries is in
-      let after : Renderer D A (List A) = with_line columns r is in
-      let all : StandFor columns (items_so_far after) (k.ended ++ more) =
-      stand_after columns (items_so_far r) is (items_so_far after) k.ended more (λ Y look looks. seen_line look looks columns r is) (stand r es k) (laid_stand columns is) in
-      let nothing : k.ended ≡ es = sym (append-nil k.ended) ∙ ap (λ (o : Option (Open (List A))). k.ended ++ open_run o) (sym none) ∙ k.whole in
-      let whole : (k.ended ++ more) ++ open_run r.block ≡ es ++ more =
-      ap (λ (o : Option (Open (List A))). (k.ended ++ more) ++ open_run o) none ∙ append-nil (k.ended ++ more) ∙ ap (λ fs. fs ++ more) nothing in
-      subst (λ (q : Renderer D A (List A)). Stands columns q (es ++ more)) (sym e) (stands after (es ++ more) (k.ended ++ more) whole all)
+  move_stands : (m : Move D A) (r s : Renderer D A (List A)) (es : List (Entry (List A))) → Makes columns undrawn m r s → IsSound columns r → Stands columns r es → Stands columns s (es ++ brought_by m)
+  move_stands m r s es h sound k = stands s (es ++ brought_by m) (move_on columns undrawn InLines stands_on m r s es h sound (less_open r es k))
 
-  pub rule_stands : (r s : Renderer D A (List A)) (b : Border (List A)) (es : List (Entry (List A))) → r.options.pad_block_width ≡ false → s ≡ with_border columns r b → Stands columns r es → Stands columns s es
-  rule_stands r s b es unpadded e k =
-      let same : items_so_far (with_border columns r b) ≡ items_so_far r =
-      ap (λ l. text_of_lines (r.lines ++ l ∷ []) ++ marker_items r.waiting) (border_stays columns r b unpadded) ∙ ap (λ is. is ++ marker_items r.waiting) (no_text_after r.lines b) in
-      subst (λ (q : Renderer D A (List A)). Stands columns q es) (sym e) (as_before r (with_border columns r b) es k.ended (same_seen r (with_border columns r b) same) k.whole (stand r es k))
-
-  join_stands : (r s : Renderer D A (List A)) (more : List (Event (List A))) (es : List (Entry (List A))) → s ≡ with_events r more → Stands columns r es → Stands columns s (es ++ run_of more)
-  join_stands r s more es e k =
-      let whole : k.ended ++ run_of ((open_block r).events ++ more) ≡ es ++ run_of more =
-      ap (λ (run : List (Entry (List A))). k.ended ++ run) (run_joined r more) ∙ sym (append_assoc k.ended (open_run r.block) (run_of more)) ∙ ap (λ fs. fs ++ run_of more) k.whole in
-      subst (λ (q : Renderer D A (List A)). Stands columns q (es ++ run_of more)) (sym e) (stands (with_events r more) (es ++ run_of more) k.ended whole (stand r es k))
-
-  turn_stands : (r s : Renderer D A (List A)) (es : List (Entry (List A))) → SameText r s → Stands columns r es → Stands columns s es
-  turn_stands r s es h k =
-      let same : items_so_far s ≡ items_so_far r = ap (λ (ls : List (Line (List A))). text_of_lines ls ++ marker_items s.waiting) h.lines ∙ ap (λ ns. text_of_lines r.lines ++ marker_items ns) h.waiting in
-      as_before r s es k.ended (same_seen r s same) (ap (λ (o : Option (Open (List A))). k.ended ++ open_run o) h.block ∙ k.whole) (stand r es k)
-
-  pub move_stands : (m : Move D A) (r s : Renderer D A (List A)) (es : List (Entry (List A))) → Makes columns undrawn m r s → IsSound columns r → Stands columns r es → Stands columns s (es ++ brought_by m)
-  move_stands (flush q) r s es h sound k = subst (Stands columns s) (sym (append-nil es)) (flush_stands r s r.block es refl h.1 sound k)
-  move_stands (line is) r s es h sound k = put_stands r s is es h.1 h.2 k
-  move_stands (rule cells) r s es h sound k = subst (Stands columns s) (sym (append-nil es)) (rule_stands r s (without_holes cells r.annotations) es h.0 h.2 k)
-  move_stands (join more) r s es h sound k = join_stands r s more es h k
-  move_stands turn r s es h sound k = subst (Stands columns s) (sym (append-nil es)) (turn_stands r s es h k)
+  pub acts_stand : (decoration : Decoration D A) (acts : List (Act A)) (r s : Renderer D A (List A)) (before : List (Entry (List A))) → IsSound columns r → r.options.pad_block_width ≡ false → run (after_act columns decoration) acts r ≡ done s → Stands columns r before →
+      Stands columns s (acts_come columns decoration acts r before)
+  acts_stand decoration acts r s before sound unpadded h k = stands s _ (acts_on columns undrawn InLines stands_on decoration acts r s before sound unpadded h (less_open r before k))
 
   pub brings_stands : (decoration : Decoration D A) (calls : List (Call (List A))) (r s : Renderer D A (List A)) (borders : List (List Cell)) (before es : List (Entry (List A))) →
       IsSound columns r → Brings columns decoration calls r es s → WithoutDrawnBorders borders (λ q. Stands columns q before) r → WithoutDrawnBorders (borders ++ borders_drawn r calls) (λ q. Stands columns q (before ++ es)) s

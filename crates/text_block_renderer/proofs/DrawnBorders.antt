@@ -14,10 +14,11 @@ use Rattle.tbr_model.specs.Markers.{marker_items}
 use Rattle.tbr_renderer.specs.Flush.{block_lines, flushed, lines_at_end, names_at_end}
 use Rattle.tbr_renderer.proofs.FlushedBlocks.{FlushesBlock}
 use Rattle.tbr_renderer.specs.Appended.{border_line, with_border}
-use Rattle.tbr_renderer.specs.Calls.{laid_entries, Call, Steps, Brings, brought as all_brought}
+use Rattle.tbr_renderer.specs.Calls.{laid_entries, Call, Steps, Brings, brought as all_brought, text_of_lines}
 use Rattle.text_block_renderer.specs.Drawn.{as_it_is, drawn, line_put, not_drawn, cells_drawn, AreDrawnAmong, WithoutDrawnBorders, CameWithoutDrawnBorders, borders_drawn, DrawNone}
 use Rattle.text_block_renderer.proofs.Moves.{Kind, Fits, Move, flush, line, rule, join, turn, brought_by, brought, brought-append, ruled_by, ruled, Makes, MakesAll, makes-append, move_options, sound_moved, along, through, any, undrawn}
 use Rattle.text_block_renderer.proofs.CallMoves.{calls_move}
+use Rattle.text_block_renderer.proofs.LineContents.{no_text_after}
 
 module _ {T : Type 0} where
   put_as_they_are : (ls : List (Line T)) → ls ≡ map line_put (map as_it_is ls)
@@ -59,6 +60,9 @@ if_none_drawn false = refl
 module _ {D A : Type 0} (columns : ℕ → Option ℕ) where
   pub border_stays : (r : Renderer D A (List A)) (b : Border (List A)) → r.options.pad_block_width ≡ false → border_line columns r b ≡ border b
   border_stays r b e = rw e refl
+
+  pub border_unseen : (r : Renderer D A (List A)) (b : Border (List A)) → r.options.pad_block_width ≡ false → text_of_lines (r.lines ++ border_line columns r b ∷ []) ≡ text_of_lines r.lines
+  border_unseen r b e = ap (λ l. text_of_lines (r.lines ++ l ∷ [])) (border_stays r b e) ∙ no_text_after r.lines b
 
   abbrev line_laid : Renderer D A (List A) → List (Item (List A)) → Line (List A)
   line_laid r is = let marked = marker_items r.waiting ++ is in text (marked ++ line_padding columns r marked)

@@ -3,7 +3,6 @@ use Rattle.std.proofs.Common.{◌≡◌, ◌≤◌, ℕ, false, Option, List, []
 use Rattle.std.specs.List.{AllByRecursion as Each, zip}
 use Rattle.tbr_model.specs.Run.{Item}
 use Rattle.tbr_model.specs.Layout.{joined}
-use Rattle.tbr_model.specs.Markers.{marker_items}
 use Rattle.tbr_model.specs.Hard.{IsSpaces, is_visible, visible_glyphs}
 use Rattle.tbr_tagged.specs.Elements.{text_items}
 use Rattle.tbr_decor.specs.Decoration.{Decoration}
@@ -18,6 +17,7 @@ use Rattle.tbr_renderer.specs.Appended.{as_text, prefixed}
 use Rattle.tbr_renderer.specs.Calls.{append_subrender, Does, text_of_lines}
 use Rattle.text_block_renderer.specs.Stretches.{padded_line, lines_laid}
 use Rattle.text_block_renderer.specs.Nested.{visible_after}
+use Rattle.text_block_renderer.proofs.AddedLines.{unmarked_lines, laid_lines}
 use Rattle.text_block_renderer.proofs.VisibleCharacters.{space_unseen, glyphs-append, shown_line}
 
 -- ---- after prefixes
@@ -50,20 +50,6 @@ module _ {T : Type 0} (columns : ℕ → Option ℕ) where
 -- ---- lines
 
 module _ {D A : Type 0} (columns : ℕ → Option ℕ) where
-  -- where no marker waits
-  unmarked_lines : (ts : List (List (Item (List A)))) (r : Renderer D A (List A)) → r.waiting ≡ [] → (fold (with_line columns) r ts).lines ≡ r.lines ++ map (padded_line columns r) ts
-  unmarked_lines [] r none = sym (append-nil r.lines)
-  unmarked_lines (t ∷ ts) r none =
-      unmarked_lines ts (with_line columns r t) refl
-      ∙ append_assoc r.lines (padded_line columns r (marker_items r.waiting ++ t) ∷ []) (map (padded_line columns r) ts)
-      ∙ ap (λ ns. r.lines ++ padded_line columns r (marker_items ns ++ t) ∷ map (padded_line columns r) ts) none
-
-  pub laid_lines : (ts : List (List (Item (List A)))) (r : Renderer D A (List A)) → (fold (with_line columns) r ts).lines ≡ r.lines ++ lines_laid columns r ts
-  laid_lines [] r = sym (append-nil r.lines)
-  laid_lines (t ∷ ts) r =
-      unmarked_lines ts (with_line columns r t) refl
-      ∙ append_assoc r.lines (padded_line columns r (marker_items r.waiting ++ t) ∷ []) (map (padded_line columns r) ts)
-
   -- where lines aren't padded
   unpadded_line : (r : Renderer D A (List A)) (is : List (Item (List A))) → r.options.pad_block_width ≡ false → padded_line columns r is ≡ text is
   unpadded_line r is e = let whole : is ++ [] ≡ is = append-nil is in rw e (ap text whole)
@@ -73,7 +59,7 @@ module _ {D A : Type 0} (columns : ℕ → Option ℕ) where
   unpadded_lines r (t ∷ ts) e = ap (λ l. l ∷ map (padded_line columns r) ts) (unpadded_line r t e) ∙ ap (λ ls. text t ∷ ls) (unpadded_lines r ts e)
 
   pub plain_lines : (ts : List (List (Item (List A)))) (r : Renderer D A (List A)) → r.options.pad_block_width ≡ false → r.waiting ≡ [] → (fold (with_line columns) r ts).lines ≡ r.lines ++ map text ts
-  plain_lines ts r e none = unmarked_lines ts r none ∙ ap (λ ls. r.lines ++ ls) (unpadded_lines r ts e)
+  plain_lines ts r e none = unmarked_lines columns ts r none ∙ ap (λ ls. r.lines ++ ls) (unpadded_lines r ts e)
 
   -- where they come after a flush
   lines_after : (decoration : Decoration D A) (prefixes : List (List ℕ)) (lines : List (Line (List A))) (r s : Renderer D A (List A)) → Does columns decoration (append_subrender prefixes lines) r s →
@@ -86,7 +72,7 @@ module _ {D A : Type 0} (columns : ℕ → Option ℕ) where
       (m : Renderer D A (List A)) × (after_flush columns r ≡ done m) × (s.lines ≡ m.lines ++ lines_laid columns m (prefixed r.annotations prefixes lines))
   appended_after decoration prefixes lines r s h =
       let (m, flushed, is) = lines_after decoration prefixes lines r s h in
-      (m, flushed, ap (λ (q : Renderer D A (List A)). q.lines) is ∙ laid_lines (prefixed r.annotations prefixes lines) m)
+      (m, flushed, ap (λ (q : Renderer D A (List A)). q.lines) is ∙ laid_lines columns (prefixed r.annotations prefixes lines) m)
 
   -- ---- visible characters
 

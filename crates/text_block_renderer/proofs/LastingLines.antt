@@ -1,5 +1,5 @@
 -- Lines that stay where rows come: texts as they are, and borders with the text in front of them.
-use Rattle.std.proofs.Common.{◌≡◌, ℕ, ◌-◌, Bool, true, false, fold, if◌then◌else◌, is_some, Option, Some, None, List, [], ◌∷◌, ◌++◌, take, length, suc, refl, sym, ◌∙◌, subst, arith, append-nil}
+use Rattle.std.proofs.Common.{◌≡◌, ℕ, ◌-◌, Bool, true, false, fold, if◌then◌else◌, is_some, Option, Some, None, List, [], ◌∷◌, ◌++◌, take, length, suc, refl, ap, sym, ◌∙◌, subst, arith, append-nil}
 use Rattle.std.specs.List.{AllZip}
 use Rattle.tbr_border.specs.Border.{Border}
 use Rattle.tbr_rows.specs.declared.LineSet.{LineSet as Cell}
@@ -10,6 +10,7 @@ use Rattle.tbr_rows.specs.Rows.{border_above}
 use Rattle.tbr_kept_lines.specs.Line.{Line, text, border}
 use Rattle.tbr_kept_lines.specs.LastBorder.{without_last, last_border, before_border}
 use Rattle.tbr_renderer.specs.Rows.{border_lines}
+use Rattle.tbr_renderer.specs.Calls.{text_of_lines}
 use Rattle.text_block_renderer.specs.Acts.{KeepsText, StaysLine}
 
 module _ {T : Type 0} where
@@ -42,6 +43,16 @@ module _ {T : Type 0} where
   stay_append [] (m ∷ ms) ns os h k = elim h [ ]
   stay_append (l ∷ ls) [] ns os h k = elim h [ ]
   stay_append (l ∷ ls) (m ∷ ms) ns os h k = (h.0, stay_append ls ms ns os h.1 k)
+
+  -- the same text
+  pub stay_texts : (ls ms : List (Line T)) → AllZip StaysLine ls ms → text_of_lines ms ≡ text_of_lines ls
+  stay_texts [] [] h = refl
+  stay_texts [] (m ∷ ms) h = elim h [ ]
+  stay_texts (l ∷ ls) [] h = elim h [ ]
+  stay_texts (text is ∷ ls) (text js ∷ ms) h = ap (λ ks. ks ++ text_of_lines ms) h.0 ∙ ap (λ ks. is ++ ks) (stay_texts ls ms h.1)
+  stay_texts (text is ∷ ls) (border c ∷ ms) h = absurd h.0
+  stay_texts (border b ∷ ls) (text js ∷ ms) h = absurd h.0
+  stay_texts (border b ∷ ls) (border c ∷ ms) h = stay_texts ls ms h.1
 
   -- ---- the border above a row
 

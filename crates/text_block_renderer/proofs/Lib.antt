@@ -27,7 +27,7 @@ pub mod Lists
 pub mod OverhangingCells
 pub mod ActParts
 pub mod Headline
-pub mod ActsKeep
+pub mod EndedEntries
 pub mod WaitingUnderRows
 pub mod SoundRenderers
 pub mod ActSteps

@@ -18,7 +18,7 @@ use Rattle.text_block_renderer.specs.Stretches.{Part, ended, laid, ruled, entrie
 use Rattle.std.specs.Prelude.{⊤}
 use Rattle.std.specs.List.{AllByRecursion as Each}
 use Rattle.text_block_renderer.proofs.Moves as moves
-use Rattle.text_block_renderer.proofs.Moves.{Move, flush, line, rule, join, turn, brought_by, brought, ruled_by, added_by, Kind, any, undrawn, own, Fits, MayLay, MayRule, Makes, MakesAll, Frame, no_block, flush_frame, sound_alike}
+use Rattle.text_block_renderer.proofs.Moves.{Move, flush, line, rule, join, turn, brought_by, brought, ruled_by, added_by, Kind, any, undrawn, own, Fits, MayLay, MayRule, Makes, MakesAll, Frame, block_stays, flush_frame, sound_alike}
 use Rattle.text_block_renderer.proofs.CallMoves.{calls_move}
 use Rattle.tbr_renderer.proofs.JoinedTexts.{run_joined}
 use Rattle.text_block_renderer.proofs.RunStretches.{flush_adds}
@@ -110,7 +110,7 @@ module _ {D A : Type 0} (columns : ℕ → Option ℕ) (kind : Kind) where
       (record { width = k.width; options = k.options; block = open_block_is; are_its = refl; names = names_at_end columns q b; ends = h.ends (sound_alike columns r q k.width k.options sound) })
       (ended_kind kind q b (lines_at_end columns q b))
       (flush_adds columns q s b h)
-      (append-nil (open_run q.block) ∙ ap open_run open_block_is ∙ sym (append-nil (run_of b.events)) ∙ ap (λ o. (run_of b.events) ++ open_run o) (sym (ap (λ (p : Renderer D A (List A)). p.block) h.is ∙ no_block columns texts closed refl)))
+      (append-nil (open_run q.block) ∙ ap open_run open_block_is ∙ sym (append-nil (run_of b.events)) ∙ ap (λ o. (run_of b.events) ++ open_run o) (sym (ap (λ (p : Renderer D A (List A)). p.block) h.is ∙ block_stays columns texts closed)))
       k)
 
   flush_parts : (r q s : Renderer D A (List A)) (o : Option (Open (List A))) (es : List (Entry (List A))) (bs : List (List Cell)) (xs : List (Added D A)) → q.block ≡ o → FlushesBlock columns q o s → IsSound columns r → CameInParts r q es bs xs → CameInParts r s (es ++ []) (bs ++ []) (xs ++ flush_ends q)

@@ -142,13 +142,13 @@ abbrev pub frame : {D A : Type 0} → Renderer D A (List A) → Frame A
 frame r = record { width = r.width; options = r.options; hanging = r.hanging }
 
 module _ {D A : Type 0} (columns : ℕ → Option ℕ) where
-  pub no_block : (ts : List (List (Item (List A)))) (q : Renderer D A (List A)) → q.block ≡ None → (fold (with_line columns) q ts).block ≡ None
-  no_block [] q n = n
-  no_block (t ∷ ts) q n = no_block ts (with_line columns q t) n
+  pub block_stays : (ts : List (List (Item (List A)))) (q : Renderer D A (List A)) → (fold (with_line columns) q ts).block ≡ q.block
+  block_stays [] q = refl
+  block_stays (t ∷ ts) q = block_stays ts (with_line columns q t)
 
   closed : (r s : Renderer D A (List A)) (o : Option (Open (List A))) → o ≡ r.block → FlushesBlock columns r o s → s.block ≡ None
   closed r s None e h = ap (λ (q : Renderer D A (List A)). q.block) h ∙ sym e
-  closed r s (Some b) e h = ap (λ (q : Renderer D A (List A)). q.block) h.is ∙ no_block (block_lines columns r b (lines_at_end columns r b)) (record r { block = None }) refl
+  closed r s (Some b) e h = ap (λ (q : Renderer D A (List A)). q.block) h.is ∙ block_stays (block_lines columns r b (lines_at_end columns r b)) (record r { block = None })
 
   pub flushed_none : (r s : Renderer D A (List A)) → Flushes columns r s → s.block ≡ None
   flushed_none r s h = closed r s r.block refl h

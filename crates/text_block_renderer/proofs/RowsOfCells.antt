@@ -11,7 +11,7 @@ use Rattle.tbr_kept_lines.specs.LastBorder.{without_last, last_border, before_bo
 use Rattle.tbr_renderer.specs.Calls.{text_of_lines}
 use Rattle.tbr_renderer.specs.Rows.{GivenCell, border_lines, style_in, with_next, with_row, cells_from, row_put, placed, after_row}
 use Rattle.text_block_renderer.proofs.AddedLines.{Grows, lines_grow, moves_grow}
-use Rattle.text_block_renderer.proofs.Moves.{flush, no_block, flushed_none}
+use Rattle.text_block_renderer.proofs.Moves.{flush, block_stays, flushed_none}
 use Rattle.tbr_tagged.specs.Outcome.{done, if_live}
 use Rattle.tbr_tagged.proofs.Outcomes.{live_done}
 use Rattle.tbr_renderer.specs.Flush.{after_flush}
@@ -152,4 +152,4 @@ module _ {D A : Type 0} (columns : ℕ → Option ℕ) where
   row_closed r s h =
       let (m, flushed, row, is) = h in
       let top : Renderer D A (List A) = record m { lines = before_border m.lines ++ border_lines row.above; hanging = row.overhang } in
-      ap (λ (q : Renderer D A (List A)). q.block) is ∙ next_closed (fold (with_line columns) top row.lines) row.next (no_block columns row.lines top (flushed_none columns r m (row_flushes columns r m flushed)))
+      ap (λ (q : Renderer D A (List A)). q.block) is ∙ next_closed (fold (with_line columns) top row.lines) row.next (block_stays columns row.lines top ∙ flushed_none columns r m (row_flushes columns r m flushed))

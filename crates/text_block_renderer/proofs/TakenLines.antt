@@ -2,6 +2,8 @@
 use Rattle.std.proofs.Common.{◌≡◌, ℕ, zero, suc, ◌+◌, ◌≤◌, ◌⊎◌, inl, inr, Bool, true, false, if◌then◌else◌, Option, List, [], ◌∷◌, ◌++◌, map, flat_map, fold, length, refl, ap, sym, ◌∙◌, subst, arith, append_assoc, append-nil}
 use Rattle.std.proofs.lemmas.List.Elements.{filter-append}
 use Rattle.std.proofs.lemmas.Grind.{fold-append}
+use Rattle.std.proofs.lemmas.List.{length-append}
+use Rattle.tbr_renderer.proofs.OutcomeParts.{one_done, done_first}
 use Rattle.tbr_model.specs.Run.{Entry, Item}
 use Rattle.tbr_model.specs.Layout.{joined}
 use Rattle.tbr_model.specs.Shown.{is_visible_or_marker}
@@ -21,22 +23,22 @@ use Rattle.tbr_renderer.specs.Appended.{border_of_cells, with_border, as_text, p
 use Rattle.tbr_renderer.specs.Calls.{Call, append_subrender, append_vert_row, Does}
 use Rattle.tbr_tagged.specs.Outcome.{done, if_live}
 use Rattle.tbr_renderer.proofs.CallParts.{handed_then}
-use Rattle.text_block_renderer.specs.Acts.{Act, call, row, fmt_links, finalise, rows_of}
-use Rattle.text_block_renderer.proofs.ActSteps.{ActStep, ActSteps, steps}
-use Rattle.text_block_renderer.proofs.ActParts.{alone}
+use Rattle.text_block_renderer.specs.Acts.{Act, call, row, fmt_links, finalise, rows_of, after_act}
+use Rattle.text_block_renderer.proofs.ActSteps.{ActStep, after_acts, act_step}
+use Rattle.text_block_renderer.proofs.ActParts.{alone, rows_one}
 use Rattle.text_block_renderer.proofs.RowsOfCells.{row_flushes}
 use Rattle.text_block_renderer.proofs.Moves.{any, flush, flushed_none, Frame, frame_of_lines, flush_frame, path_hanging}
 use Rattle.text_block_renderer.proofs.CallMoves.{calls_move}
 use Rattle.text_block_renderer.proofs.VerticalRows.{cells_after}
 use Rattle.text_block_renderer.specs.Stretches.{lines_laid}
 use Rattle.text_block_renderer.proofs.BroughtEntries.{last_shown}
-use Rattle.text_block_renderer.proofs.WrittenEntries.{move_written}
+use Rattle.text_block_renderer.proofs.WrittenEntries.{flush_written}
 use Rattle.text_block_renderer.specs.Taken.{StandWithin, text_before, written, to_show, AreWrittenIn, IsWrittenSoFar, CallTakes, Takes, NothingOverhangs, AreTakenIn}
-use Rattle.text_block_renderer.proofs.AddedLines.{Grows, lines_grow, moves_grow, steps_grow}
+use Rattle.text_block_renderer.proofs.AddedLines.{Grows, lines_grow, moves_grow, steps_grow, laid_lines}
 use Rattle.text_block_renderer.proofs.CellsInRows.{items_in, Follows, row_adds, row_follows, cell_follows}
 use Rattle.text_block_renderer.proofs.Within.{within_itself, within_more, within_on, two_within, itself_within, after_within, before_within}
 use Rattle.text_block_renderer.proofs.Written.{written-append, border_shown, laid_within}
-use Rattle.text_block_renderer.proofs.LaidTexts.{laid_lines, appended_after}
+use Rattle.text_block_renderer.proofs.LaidTexts.{appended_after}
 
 -- ---- lines as text
 
@@ -144,11 +146,11 @@ module _ {D A : Type 0} (columns : ℕ → Option ℕ) where
     flush_adds : (r m : Renderer D A (List A)) → if_live r.failure (after_flush columns r) ≡ done m → MoreText r m
     flush_adds r m flushed = more_text r m (moves_grow columns (flush r ∷ []) r m (m, (refl, row_flushes columns r m flushed), refl))
 
-    act_adds : (act : Act A) (r s : Renderer D A (List A)) (es : List (Entry (List A))) → ActStep columns decoration act r es s → MoreText r s
-    act_adds (call c) r s es h = more_text r s (steps_grow columns decoration (c ∷ []) r s (alone columns decoration c r s es h.0 h.1).0)
-    act_adds (fmt_links links) r s es h = more_text r s (subst (λ (q : Renderer D A (List A)). Grows r q) (sym h.0) (lines_grow columns (flat_map (footnote_lines columns r) links) r))
-    act_adds (finalise targets) r s es h = more_text r s ([], ap (λ (q : Renderer D A (List A)). q.lines) h.0 ∙ sym (append-nil r.lines))
-    act_adds (row collapses cells) r s es (m, flushed, puts, is) =
+    act_adds : (act : Act A) (r s : Renderer D A (List A)) → ActStep columns decoration act r s → MoreText r s
+    act_adds (call c) r s h = more_text r s (steps_grow columns decoration (c ∷ []) r s (alone columns decoration c r s h).0)
+    act_adds (fmt_links links) r s h = more_text r s (subst (λ (q : Renderer D A (List A)). Grows r q) (sym h) (lines_grow columns (flat_map (footnote_lines columns r) links) r))
+    act_adds (finalise targets) r s h = more_text r s ([], ap (λ (q : Renderer D A (List A)). q.lines) h ∙ sym (append-nil r.lines))
+    act_adds (row collapses cells) r s (m, flushed, puts, is) =
         let first = flush_adds r m flushed in
         let (more, are, shows) = row_adds columns collapses cells m s puts in
         (first.0 ++ more, are ∙ ap (λ js. js ++ more) first.1 ∙ append_assoc (written r.lines) first.0 more)
@@ -158,50 +160,53 @@ module _ {D A : Type 0} (columns : ℕ → Option ℕ) where
     follows_on us n rows r s fits more same (inl h) = inl (more_within us r s more h)
     follows_on us n rows r s fits more same (inr (c, hangs, some, few, h)) = inr (c, subst (StandsAmong c) (sym same) hangs, some, omega (arith, few, fits), still_more us r s (items_in c.lines) more h)
 
-    act_follows : (us : List (Item (List A))) (act : Act A) (n rows : ℕ) (r s : Renderer D A (List A)) (es : List (Entry (List A))) → n ≤ length (rows_of (act ∷ [])) + rows → ActStep columns decoration act r es s → Follows columns us n r → Follows columns us rows s
-    act_follows us (call c) n rows r s es fits h k =
-        let path = calls_move columns any decoration (c ∷ []) r s es tt (alone columns decoration c r s es h.0 h.1) in
-        follows_on us n rows r s (omega (arith, fits)) (act_adds (call c) r s es h) (path_hanging columns any r s es _ path) k
-    act_follows us (fmt_links links) n rows r s es fits h k =
-        follows_on us n rows r s (omega (arith, fits)) (act_adds (fmt_links links) r s es h) (ap (λ (q : Renderer D A (List A)). q.hanging) h.0 ∙ ap (λ (f : Frame A). f.hanging) (frame_of_lines columns (flat_map (footnote_lines columns r) links) r)) k
-    act_follows us (finalise targets) n rows r s es fits h k = follows_on us n rows r s (omega (arith, fits)) (act_adds (finalise targets) r s es h) (ap (λ (q : Renderer D A (List A)). q.hanging) h.0) k
-    act_follows us (row collapses cells) n rows r s es fits h (inl k) = inl (more_within us r s (act_adds (row collapses cells) r s es h) k)
-    act_follows us (row collapses cells) n rows r s es fits (m, flushed, puts, is) (inr (c, hangs, some, few, k)) =
+    act_follows : (us : List (Item (List A))) (act : Act A) (n rows : ℕ) (r s : Renderer D A (List A)) → n ≤ length (rows_of (act ∷ [])) + rows → ActStep columns decoration act r s → Follows columns us n r → Follows columns us rows s
+    act_follows us (call c) n rows r s fits h k =
+        let path = calls_move columns any decoration (c ∷ []) r s _ tt (alone columns decoration c r s h) in
+        follows_on us n rows r s (omega (arith, fits)) (act_adds (call c) r s h) (path_hanging columns any r s _ _ path) k
+    act_follows us (fmt_links links) n rows r s fits h k =
+        follows_on us n rows r s (omega (arith, fits)) (act_adds (fmt_links links) r s h) (ap (λ (q : Renderer D A (List A)). q.hanging) h ∙ ap (λ (f : Frame A). f.hanging) (frame_of_lines columns (flat_map (footnote_lines columns r) links) r)) k
+    act_follows us (finalise targets) n rows r s fits h k = follows_on us n rows r s (omega (arith, fits)) (act_adds (finalise targets) r s h) (ap (λ (q : Renderer D A (List A)). q.hanging) h) k
+    act_follows us (row collapses cells) n rows r s fits h (inl k) = inl (more_within us r s (act_adds (row collapses cells) r s h) k)
+    act_follows us (row collapses cells) n rows r s fits (m, flushed, puts, is) (inr (c, hangs, some, few, k)) =
         let same : m.hanging ≡ r.hanging = ap (λ (f : Frame A). f.hanging) (flush_frame columns r m r.block (row_flushes columns r m flushed)) in
         let seated = among_seated 0 c m.hanging puts.own puts.means.cells (subst (StandsAmong c) (sym same) hangs) puts.means.seated in
         row_follows columns collapses cells m s puts us rows c seated (omega (arith, few, fits)) (still_more us r m (items_in c.lines) (flush_adds r m flushed) k)
 
     -- through calls and rows
-    acts_follow : (us : List (Item (List A))) (acts : List (Act A)) (n rows : ℕ) (r s : Renderer D A (List A)) (es : List (Entry (List A))) → n ≤ length (rows_of acts) + rows → ActSteps columns decoration acts r es s → Follows columns us n r → Follows columns us rows s
-    acts_follow us [] n rows r s es fits h k = subst (λ (q : Renderer D A (List A)). Follows columns us rows q) (sym h.0) (follows_on us n rows r r (omega (arith, fits)) ([], sym (append-nil (written r.lines))) refl k)
-    acts_follow us (call c ∷ acts) n rows r s es fits (m, first, rest, does, others, is) k = acts_follow us acts n rows m s rest fits others (act_follows us (call c) n n r m first (omega arith) does k)
-    acts_follow us (fmt_links links ∷ acts) n rows r s es fits (m, first, rest, does, others, is) k = acts_follow us acts n rows m s rest fits others (act_follows us (fmt_links links) n n r m first (omega arith) does k)
-    acts_follow us (finalise targets ∷ acts) n rows r s es fits (m, first, rest, does, others, is) k = acts_follow us acts n rows m s rest fits others (act_follows us (finalise targets) n n r m first (omega arith) does k)
-    acts_follow us (row collapses cells ∷ acts) n rows r s es fits (m, first, rest, does, others, is) k =
-        acts_follow us acts (length (rows_of acts) + rows) rows m s rest (omega arith) others (act_follows us (row collapses cells) n (length (rows_of acts) + rows) r m first (omega (arith, fits)) does k)
+    acts_follow : (us : List (Item (List A))) (acts : List (Act A)) (n rows : ℕ) (r s : Renderer D A (List A)) → n ≤ length (rows_of acts) + rows → after_acts columns decoration acts r ≡ done s → Follows columns us n r → Follows columns us rows s
+    acts_follow us [] n rows r s fits h k = subst (λ (q : Renderer D A (List A)). Follows columns us rows q) (sym (one_done r s h)) (follows_on us n rows r r (omega (arith, fits)) ([], sym (append-nil (written r.lines))) refl k)
+    acts_follow us (act ∷ acts) n rows r s fits h k =
+        let (m, does, others) = done_first (after_act columns decoration act r) (after_acts columns decoration acts) s h in
+        acts_follow us acts (length (rows_of acts) + rows) rows m s (omega arith) others
+        (act_follows us act n (length (rows_of acts) + rows) r m (omega (arith, fits, ap length (rows_one columns decoration act acts), length-append (rows_of (act ∷ [])) (rows_of acts))) (act_step columns decoration act r m does) k)
 
-    act_within : (act : Act A) (span rows : ℕ) (r s : Renderer D A (List A)) (es : List (Entry (List A))) (lines : List (Line (List A))) → Takes span lines act → span ≤ suc rows → ActStep columns decoration act r es s → Follows columns (seen columns lines) rows s
-    act_within (call c) span rows r s es lines t few h = inl (taken_within c r s lines t h.0)
-    act_within (row collapses cells) span rows r s es lines (cell, among, spans, is) few (m, flushed, puts, brings) =
+    act_within : (act : Act A) (span rows : ℕ) (r s : Renderer D A (List A)) (lines : List (Line (List A))) → Takes span lines act → span ≤ suc rows → ActStep columns decoration act r s → Follows columns (seen columns lines) rows s
+    act_within (call c) span rows r s lines t few h = inl (taken_within c r s lines t h)
+    act_within (row collapses cells) span rows r s lines (cell, among, spans, is) few (m, flushed, puts, brings) =
         subst (λ (ls : List (Line (List A))). Follows columns (seen columns ls) rows s) is (cell_follows columns collapses cells m s puts rows cell among (omega (arith, spans, few)))
-    act_within other span rows r s es lines t few h = elim t [ ]
+    act_within other span rows r s lines t few h = elim t [ ]
 
     -- where the rows of its span come, or nothing overhangs in the end, all of it stands
-    followed : (us : List (Item (List A))) (span : ℕ) (after : List (Act A)) (m s : Renderer D A (List A)) (es : List (Entry (List A))) → ActSteps columns decoration after m es s → ((rows : ℕ) → span ≤ suc rows → Follows columns us rows m) → (span ≤ 1 + length (rows_of after)) ⊎ NothingOverhangs s →
+    followed : (us : List (Item (List A))) (span : ℕ) (after : List (Act A)) (m s : Renderer D A (List A)) → after_acts columns decoration after m ≡ done s → ((rows : ℕ) → span ≤ suc rows → Follows columns us rows m) → (span ≤ 1 + length (rows_of after)) ⊎ NothingOverhangs s →
         StandWithin us (seen columns s.lines)
-    followed us span after m s es h from (inl few) =
-        elim (acts_follow us after (length (rows_of after)) 0 m s es (omega arith) h (from (length (rows_of after)) (omega (arith, few)))) [ inl k ↦ k | inr k ↦ absurd (let (c, hangs, some, none, within) = k in omega (arith, some, none)) ]
-    followed us span after m s es h from (inr none) =
-        elim (acts_follow us after span span m s es (omega arith) h (from span (omega arith))) [
+    followed us span after m s h from (inl few) =
+        elim (acts_follow us after (length (rows_of after)) 0 m s (omega arith) h (from (length (rows_of after)) (omega (arith, few)))) [ inl k ↦ k | inr k ↦ absurd (let (c, hangs, some, none, within) = k in omega (arith, some, none)) ]
+    followed us span after m s h from (inr none) =
+        elim (acts_follow us after span span m s (omega arith) h (from span (omega arith))) [
           | inl k ↦ k
           | inr k ↦ let (c, hangs, some, few, within) = k in
               subst (λ js. StandWithin us (to_show columns js)) (ap (λ ls. written s.lines ++ items_in ls) (each_among (λ (d : Overhanging (List A)). d.lines ≡ []) c s.hanging hangs none) ∙ append-nil (written s.lines)) within
         ]
 
-    steps_within : (before : List (Act A)) (act : Act A) (after : List (Act A)) (r s : Renderer D A (List A)) (es : List (Entry (List A))) (span : ℕ) (lines : List (Line (List A))) → Takes span lines act → (span ≤ 1 + length (rows_of after)) ⊎ NothingOverhangs s →
-        ActSteps columns decoration (before ++ act ∷ after) r es s → StandWithin (seen columns lines) (seen columns s.lines)
-    steps_within [] act after r s es span lines t come (m, first, rest, does, others, is) = followed (seen columns lines) span after m s rest others (λ rows few. act_within act span rows r m first lines t few does) come
-    steps_within (d ∷ before) act after r s es span lines t come (m, first, rest, does, others, is) = steps_within before act after m s rest span lines t come others
+    steps_within : (before : List (Act A)) (act : Act A) (after : List (Act A)) (r s : Renderer D A (List A)) (span : ℕ) (lines : List (Line (List A))) → Takes span lines act → (span ≤ 1 + length (rows_of after)) ⊎ NothingOverhangs s →
+        after_acts columns decoration (before ++ act ∷ after) r ≡ done s → StandWithin (seen columns lines) (seen columns s.lines)
+    steps_within [] act after r s span lines t come h =
+        let (m, does, others) = done_first (after_act columns decoration act r) (after_acts columns decoration after) s h in
+        followed (seen columns lines) span after m s others (λ rows few. act_within act span rows r m lines t few (act_step columns decoration act r m does)) come
+    steps_within (d ∷ before) act after r s span lines t come h =
+        let (m, does, others) = done_first (after_act columns decoration d r) (after_acts columns decoration (before ++ act ∷ after)) s h in
+        steps_within before act after m s span lines t come others
 
     handed_within : (us : List (Item (List A))) (r : Renderer D A (List A)) (lines : List (Line (List A))) → handed_out columns r ≡ done lines → StandWithin us (seen columns r.lines) → StandWithin us (seen columns lines)
     handed_within us r lines h k =
@@ -212,14 +217,14 @@ module _ {D A : Type 0} (columns : ℕ → Option ℕ) where
     all_within zero inside outside h = subst (λ (ls : List (Line (List A))). StandWithin (seen columns inside) (seen columns ls)) (sym h) (within_itself (seen columns inside))
     all_within (suc depth) inside outside h =
         let (between, taken, others) = h in
-        let here = handed_within (seen columns inside) taken.last between taken.gives (steps_within taken.before taken.taking taken.after taken.first taken.last taken.es taken.span inside taken.takes taken.come (steps columns decoration (taken.before ++ taken.taking ∷ taken.after) taken.first taken.last taken.es taken.bring)) in
+        let here = handed_within (seen columns inside) taken.last between taken.gives (steps_within taken.before taken.taking taken.after taken.first taken.last taken.span inside taken.takes taken.come taken.leads) in
         within_on (seen columns inside) (seen columns between) (seen columns outside) here (all_within depth between outside others)
 
     pub brought_within : (depth : ℕ) (r : Renderer D A (List A)) (es : List (Entry (List A))) (inside outside : List (Line (List A))) →
         IsSound columns r → IsWrittenSoFar columns r es → handed_out columns r ≡ done inside → AreTakenIn columns decoration depth inside outside → AreWrittenIn columns es outside
     brought_within depth r es inside outside sound so_far gives h =
         let (s, flushed, is) = handed_then columns r inside gives in
-        let k : IsWrittenSoFar columns s (es ++ []) = move_written columns (flush r) r s es (refl, flushed) sound so_far in
+        let k : IsWrittenSoFar columns s (es ++ []) = flush_written columns r s es flushed sound so_far in
         let came : k.ended ≡ es = sym (append-nil k.ended) ∙ ap (λ (o : Option (Open (List A))). k.ended ++ open_run o) (sym (flushed_none columns r s flushed)) ∙ k.whole ∙ append-nil es in
         let here = subst (λ (ls : List (Line (List A))). StandWithin k.shown (seen columns ls)) (sym is) k.stand in
         subst (λ (fs : List (Entry (List A))). AreWrittenIn columns fs outside) came (record {

@@ -20,7 +20,8 @@ use Rattle.text_block_renderer.specs.VerticalRows.{cell_lines, row_lines}
 use Rattle.tbr_renderer.proofs.SettingsStay.{Steady, lines_added, flushed_alike}
 use Rattle.text_block_renderer.proofs.DrawnBorders.{border_stays}
 use Rattle.text_block_renderer.proofs.WaitingMarkers.{none_wait}
-use Rattle.text_block_renderer.proofs.LaidTexts.{laid_lines, plain_lines}
+use Rattle.text_block_renderer.proofs.AddedLines.{laid_lines}
+use Rattle.text_block_renderer.proofs.LaidTexts.{plain_lines}
 
 module _ {D A : Type 0} (columns : ℕ → Option ℕ) where
   divider_drawn : (cell : Cell) (q : Renderer D A (List A)) → q.options.draw_borders ≡ true → with_divider columns cell q ≡ with_border columns q (border_of_cells cell q.width q)

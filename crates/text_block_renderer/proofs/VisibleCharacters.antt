@@ -1,34 +1,37 @@
 -- Visible characters are there once.
-use Rattle.std.proofs.Common.{◌≡◌, ℕ, inl, zero, suc, ◌&&◌, Bool, true, false, if◌then◌else◌, Option, Some, None, is_some, List, [], ◌∷◌, ◌++◌, map, fold, refl, ap, sym, ◌∙◌, subst, append_assoc, append-nil}
+use Rattle.std.proofs.Common.{◌≡◌, ℕ, inl, zero, suc, ◌&&◌, Bool, true, false, if◌then◌else◌, Option, None, is_some, List, [], ◌∷◌, ◌++◌, map, fold, refl, ap, sym, ◌∙◌, subst, append-nil}
 use Rattle.std.specs.List.{AllZip}
-use Rattle.tbr_model.specs.Rule.{run_of, Event}
+use Rattle.tbr_model.specs.Rule.{run_of}
 use Rattle.tbr_model.specs.Codes.{space_character}
 use Rattle.tbr_model.specs.declared.white_space.WhiteSpace.TheVariants.{Pre}
 use Rattle.tbr_model.specs.Run.{Entry, character, marker_entry, Item, glyph, marker}
 use Rattle.tbr_model.specs.Layout.{joined}
 use Rattle.tbr_model.specs.Markers.{marker_items}
 use Rattle.tbr_model.specs.Hard.{is_visible, IsShown, visible_glyphs, visible_entries}
-use Rattle.tbr_border.specs.Border.{Border, without_holes}
 use Rattle.tbr_border.specs.Cell.{Cell}
 use Rattle.tbr_tagged.specs.Elements.{text_items}
 use Rattle.tbr_tagged.specs.Padding.{spaces}
 use Rattle.tbr_wrap.specs.Wrapped.{padding_of}
 use Rattle.tbr_tagged.proofs.SameItems.{all_zip_append}
 use Rattle.tbr_kept_lines.specs.Line.{Line}
-use Rattle.tbr_renderer.specs.Renderer.{Open, Renderer, new_renderer, with_line, open_run, with_events, block_width, IsSound}
-use Rattle.tbr_renderer.specs.Flush.{block_lines, lines_at_end}
-use Rattle.tbr_renderer.proofs.FlushedBlocks.{FlushesBlock}
-use Rattle.tbr_renderer.specs.Appended.{border_line, with_border, handed_out}
+use Rattle.tbr_renderer.specs.Renderer.{Open, Renderer, new_renderer, with_line, open_run, block_width, IsSound}
+use Rattle.tbr_renderer.specs.Flush.{lines_at_end}
+use Rattle.tbr_renderer.proofs.FlushedBlocks.{EndsBlock}
+use Rattle.tbr_renderer.specs.Outcomes.{run}
+use Rattle.std.proofs.lemmas.List.{append_cancel_right}
+use Rattle.tbr_renderer.specs.Appended.{with_border, handed_out}
 use Rattle.tbr_tagged.specs.Outcome.{done}
 use Rattle.tbr_renderer.proofs.CallParts.{handed_then}
 use Rattle.tbr_renderer.specs.declared.options.RenderOptions.{RenderOptions}
 use Rattle.tbr_decor.specs.Decoration.{Decoration}
 use Rattle.tbr_renderer.specs.Calls.{Call, laid_entries, Brings, text_of_lines, Shows}
 use Rattle.text_block_renderer.specs.Drawn.{AreDrawnAmong, WithoutDrawnBorders, borders_drawn, DrawNone}
-use Rattle.text_block_renderer.proofs.Moves.{Move, flush, line, rule, join, turn, brought_by, Makes, no_block, flushed_none, undrawn}
-use Rattle.text_block_renderer.proofs.DrawnBorders.{if_drawn, if_none_drawn, moves_on, brings_on, calls_bring_on, border_stays}
-use Rattle.tbr_renderer.proofs.JoinedTexts.{run_joined}
-use Rattle.text_block_renderer.proofs.LineContents.{Looks, seen_line, seen_lines, no_text_after}
+use Rattle.text_block_renderer.specs.Acts.{Act, after_act, acts_come}
+use Rattle.text_block_renderer.proofs.Moves.{Move, flush, brought_by, Makes, flushed_none, undrawn}
+use Rattle.text_block_renderer.proofs.DrawnBorders.{if_drawn, if_none_drawn, moves_on, brings_on, calls_bring_on, border_unseen}
+use Rattle.text_block_renderer.proofs.LineContents.{Looks, seen_line, seen_lines}
+use Rattle.text_block_renderer.proofs.LastingLines.{stay_texts}
+use Rattle.text_block_renderer.proofs.EndedEntries.{Ended, GoesOn, move_on, acts_on}
 use Rattle.text_block_renderer.specs.MarkersStand.{items_so_far}
 
 -- ---- items and entries
@@ -100,71 +103,52 @@ module _ {D A : Type 0} (columns : ℕ → Option ℕ) where
       sym (on_lines (fold (with_line columns) r (map (λ is. is ++ padding_of columns b.padding width is) texts)))
       ∙ seen_lines (visible_glyphs columns) (at_visible columns) columns b width texts r ∙ ap (λ gs. gs ++ visible_glyphs columns (joined texts)) (on_lines r)
 
-  -- ---- steps
+  -- ---- moves and acts
 
-  shows_flush : (r s : Renderer D A (List A)) (o : Option (Open (List A))) (es : List (Entry (List A))) → o ≡ r.block → FlushesBlock columns r o s → IsSound columns r → Shows columns r es → Shows columns s es
-  shows_flush r s None es e h sound k = subst (λ (q : Renderer D A (List A)). Shows columns q es) (sym h) k
-  shows_flush r s (Some b) es e h sound k =
-      let after = fold (with_line columns) (record r { block = None }) (block_lines columns r b (lines_at_end columns r b)) in
-      let lines = shown_lines b (block_width r) (lines_at_end columns r b) (record r { block = None }) in
-      let both : AllZip (IsShown (λ x y. x ≡ y)) (visible_glyphs columns (text_of_lines after.lines)) (visible_entries columns (k.ended ++ (run_of b.events))) =
-      subst (λ (gs : List (ℕ × List A)). AllZip (IsShown (λ x y. x ≡ y)) gs (visible_entries columns (k.ended ++ (run_of b.events)))) (sym lines)
-      (subst (λ (fs : List (Entry (List A))). AllZip (IsShown (λ x y. x ≡ y)) (visible_glyphs columns (text_of_lines r.lines) ++ visible_glyphs columns (joined (lines_at_end columns r b))) fs) (sym (entries-append columns k.ended (run_of b.events)))
-      (all_zip_append (IsShown (λ x y. x ≡ y)) (visible_glyphs columns (text_of_lines r.lines)) (visible_glyphs columns (joined (lines_at_end columns r b))) (visible_entries columns k.ended) (visible_entries columns (run_of b.events)) k.shown (h.ends sound).shown.visible)) in
-      let nothing : open_run after.block ≡ [] = ap open_run (no_block columns (block_lines columns r b (lines_at_end columns r b)) (record r { block = None }) refl) in
-      let whole : visible_entries columns ((k.ended ++ (run_of b.events)) ++ open_run after.block) ≡ visible_entries columns es =
-      ap (λ (run : List (Entry (List A))). visible_entries columns ((k.ended ++ (run_of b.events)) ++ run)) nothing ∙ ap (visible_entries columns) (append-nil (k.ended ++ (run_of b.events)))
-      ∙ ap (λ (p : Option (Open (List A))). visible_entries columns (k.ended ++ open_run p)) e ∙ k.whole in
-      subst (λ (q : Renderer D A (List A)). Shows columns q es) (sym h.is) (record { ended = k.ended ++ (run_of b.events); shown = both; whole = whole })
+  abbrev InLines : Renderer D A (List A) → List (Entry (List A)) → Type 0
+  InLines r es = AllZip (IsShown (λ x y. x ≡ y)) (visible_glyphs columns (text_of_lines r.lines)) (visible_entries columns es)
 
-  -- laid items, put as a line where no block is open
-  shows_put : (r s : Renderer D A (List A)) (is : List (Item (List A))) (es : List (Entry (List A))) → r.block ≡ None → s ≡ with_line columns r is → Shows columns r es → Shows columns s (es ++ laid_entries is)
-  shows_put r s is es none e k =
-      let more : List (Entry (List A)) = laid_entries is in
-      let both : AllZip (IsShown (λ x y. x ≡ y)) (visible_glyphs columns (text_of_lines r.lines) ++ visible_glyphs columns is) (visible_entries columns (k.ended ++ more)) =
-      subst (λ (fs : List (Entry (List A))). AllZip (IsShown (λ x y. x ≡ y)) (visible_glyphs columns (text_of_lines r.lines) ++ visible_glyphs columns is) fs) (sym (entries-append columns k.ended more))
-      (all_zip_append (IsShown (λ x y. x ≡ y)) (visible_glyphs columns (text_of_lines r.lines)) (visible_glyphs columns is) (visible_entries columns k.ended) (visible_entries columns more) k.shown (laid_shown columns is)) in
-      let nothing : k.ended ++ open_run r.block ≡ k.ended = ap (λ (o : Option (Open (List A))). k.ended ++ open_run o) none ∙ append-nil k.ended in
-      let whole : visible_entries columns ((k.ended ++ more) ++ open_run r.block) ≡ visible_entries columns (es ++ more) =
-      ap (λ (o : Option (Open (List A))). visible_entries columns ((k.ended ++ more) ++ open_run o)) none ∙ ap (visible_entries columns) (append-nil (k.ended ++ more)) ∙ entries-append columns k.ended more
-      ∙ ap (λ fs. fs ++ visible_entries columns more) (ap (visible_entries columns) (sym nothing) ∙ k.whole) ∙ sym (entries-append columns es more) in
-      subst (λ (q : Renderer D A (List A)). Shows columns q (es ++ more)) (sym e) (record {
-        ended = k.ended ++ more;
-        shown = subst (λ (gs : List (ℕ × List A)). AllZip (IsShown (λ x y. x ≡ y)) gs (visible_entries columns (k.ended ++ more))) (sym (shown_line r is)) both;
-        whole = whole;
-      })
+  shows_more : (r s : Renderer D A (List A)) (is : List (Item (List A))) (es more : List (Entry (List A))) → visible_glyphs columns (text_of_lines s.lines) ≡ visible_glyphs columns (text_of_lines r.lines) ++ visible_glyphs columns is →
+      AllZip (IsShown (λ x y. x ≡ y)) (visible_glyphs columns is) (visible_entries columns more) → InLines r es → InLines s (es ++ more)
+  shows_more r s is es more lines shown k =
+      let old = visible_glyphs columns (text_of_lines r.lines) in
+      subst (λ gs. AllZip (IsShown (λ x y. x ≡ y)) gs (visible_entries columns (es ++ more))) (sym lines)
+      (subst (AllZip (IsShown (λ x y. x ≡ y)) (old ++ visible_glyphs columns is)) (sym (entries-append columns es more))
+      (all_zip_append (IsShown (λ x y. x ≡ y)) old (visible_glyphs columns is) (visible_entries columns es) (visible_entries columns more) k shown))
 
-  -- a border that stays one
-  pub shows_rule : (r s : Renderer D A (List A)) (b : Border (List A)) (es : List (Entry (List A))) → r.options.pad_block_width ≡ false → s ≡ with_border columns r b → Shows columns r es → Shows columns s es
-  shows_rule r s b es unpadded e k =
-      let same : text_of_lines (r.lines ++ border_line columns r b ∷ []) ≡ text_of_lines r.lines = ap (λ l. text_of_lines (r.lines ++ l ∷ [])) (border_stays columns r b unpadded) ∙ no_text_after r.lines b in
-      subst (λ (q : Renderer D A (List A)). Shows columns q es) (sym e) (record {
-        ended = k.ended;
-        shown = subst (λ is. AllZip (IsShown (λ x y. x ≡ y)) (visible_glyphs columns is) (visible_entries columns k.ended)) (sym same) k.shown;
-        whole = k.whole;
-      })
+  end_shows : (r s : Renderer D A (List A)) (b : Open (List A)) (es : List (Entry (List A))) → EndsBlock columns r b s → IsSound columns r → InLines r es → InLines s (es ++ run_of b.events)
+  end_shows r s b es h sound k =
+      let texts = lines_at_end columns r b in
+      shows_more r s (joined texts) es (run_of b.events) (ap (λ (q : Renderer D A (List A)). visible_glyphs columns (text_of_lines q.lines)) h.is ∙ shown_lines b (block_width r) texts (record r { block = None })) (h.ends sound).shown.visible k
 
-  shows_more : (r s : Renderer D A (List A)) (more : List (Event (List A))) (es : List (Entry (List A))) → s ≡ with_events r more → Shows columns r es → Shows columns s (es ++ run_of more)
-  shows_more r s more es e k = subst (λ (q : Renderer D A (List A)). Shows columns q (es ++ run_of more)) (sym e) (record {
-    ended = k.ended;
-    shown = k.shown;
-    whole = ap (λ (run : List (Entry (List A))). visible_entries columns (k.ended ++ run)) (run_joined r more) ∙ ap (visible_entries columns) (sym (append_assoc k.ended (open_run r.block) (run_of more)))
-        ∙ entries-append columns (k.ended ++ open_run r.block) (run_of more) ∙ ap (λ fs. fs ++ visible_entries columns (run_of more)) k.whole ∙ sym (entries-append columns es (run_of more));
-  })
+  same_shows : (r s : Renderer D A (List A)) (es : List (Entry (List A))) → text_of_lines s.lines ≡ text_of_lines r.lines → InLines r es → InLines s es
+  same_shows r s es lines k = subst (λ is. AllZip (IsShown (λ x y. x ≡ y)) (visible_glyphs columns is) (visible_entries columns es)) (sym lines) k
 
-  with_none : (s : Renderer D A (List A)) (es : List (Entry (List A))) → Shows columns s es → Shows columns s (es ++ [])
-  with_none s es k = subst (Shows columns s) (sym (append-nil es)) k
+  shows_on : GoesOn columns undrawn InLines
+  shows_on = record {
+    flushed = end_shows;
+    laid = λ r t es k. shows_more r (with_line columns r t) t es (laid_entries t) (shown_line r t) (laid_shown columns t) k;
+    ruled = λ r b es unpadded k. same_shows r (with_border columns r b) es (border_unseen columns r b unpadded) k;
+    stays = λ r s es stay waiting k. same_shows r s es (stay_texts r.lines s.lines stay) k;
+  }
 
-  pub shows_move : (m : Move D A) (r s : Renderer D A (List A)) (es : List (Entry (List A))) → Makes columns undrawn m r s → IsSound columns r → Shows columns r es → Shows columns s (es ++ brought_by m)
-  shows_move (flush q) r s es h sound k = with_none s es (shows_flush r s r.block es refl h.1 sound k)
-  shows_move (line is) r s es h sound k = shows_put r s is es h.1 h.2 k
-  shows_move (rule cells) r s es h sound k = with_none s es (shows_rule r s (without_holes cells r.annotations) es h.0 h.2 k)
-  shows_move (join more) r s es h sound k = shows_more r s more es h k
-  shows_move turn r s es h sound k = with_none s es (record {
-    ended = k.ended;
-    shown = subst (λ (ls : List (Line (List A))). AllZip (IsShown (λ x y. x ≡ y)) (visible_glyphs columns (text_of_lines ls)) (visible_entries columns k.ended)) (sym h.lines) k.shown;
-    whole = ap (λ (o : Option (Open (List A))). visible_entries columns (k.ended ++ open_run o)) h.block ∙ k.whole;
-  })
+  shows : (r : Renderer D A (List A)) (es fs : List (Entry (List A))) → visible_entries columns es ≡ visible_entries columns fs → Ended InLines r es → Shows columns r fs
+  shows r es fs same (ended, whole, k) = record { ended = ended; shown = k; whole = ap (visible_entries columns) whole ∙ same }
+
+  shows_move : (m : Move D A) (r s : Renderer D A (List A)) (es : List (Entry (List A))) → Makes columns undrawn m r s → IsSound columns r → Shows columns r es → Shows columns s (es ++ brought_by m)
+  shows_move m r s es h sound k =
+      let all = k.ended ++ open_run r.block in
+      shows s (all ++ brought_by m) (es ++ brought_by m) (entries-append columns all (brought_by m) ∙ ap (λ fs. fs ++ visible_entries columns (brought_by m)) k.whole ∙ sym (entries-append columns es (brought_by m)))
+      (move_on columns undrawn InLines shows_on m r s all h sound (k.ended, refl, k.shown))
+
+  pub acts_show : (decoration : Decoration D A) (acts : List (Act A)) (r s : Renderer D A (List A)) (ended : List (Entry (List A))) → IsSound columns r → r.options.pad_block_width ≡ false → run (after_act columns decoration) acts r ≡ done s →
+      (let before = ended ++ open_run r.block in Shows columns r before → Shows columns s (acts_come columns decoration acts r before))
+  acts_show decoration acts r s ended sound unpadded h k =
+      let open_one = open_run r.block in
+      let same : visible_entries columns k.ended ≡ visible_entries columns ended =
+      append_cancel_right (visible_entries columns k.ended) (visible_entries columns ended) (visible_entries columns open_one) (sym (entries-append columns k.ended open_one) ∙ k.whole ∙ entries-append columns ended open_one) in
+      let shown : InLines r ended = subst (AllZip (IsShown (λ x y. x ≡ y)) (visible_glyphs columns (text_of_lines r.lines))) same k.shown in
+      shows s _ _ refl (acts_on columns undrawn InLines shows_on decoration acts r s (ended ++ open_one) sound unpadded h (ended, refl, shown))
 
   pub brings_shown : (decoration : Decoration D A) (calls : List (Call (List A))) (r s : Renderer D A (List A)) (borders : List (List Cell)) (before es : List (Entry (List A))) →
       IsSound columns r → Brings columns decoration calls r es s → WithoutDrawnBorders borders (λ q. Shows columns q before) r → WithoutDrawnBorders (borders ++ borders_drawn r calls) (λ q. Shows columns q (before ++ es)) s
@@ -194,7 +178,7 @@ module _ {D A : Type 0} (columns : ℕ → Option ℕ) where
   all_handed_out r es lines sound k h =
       let (s, flushes, is) = handed_then columns r lines h in
       subst (λ (ls : List (Line (List A))). AllZip (IsShown (λ a b. a ≡ b)) (visible_glyphs columns (text_of_lines ls)) (visible_entries columns es)) (sym is)
-      (all_shown s es (flushed_none columns r s flushes) (shows_flush r s r.block es refl flushes sound k))
+      (all_shown s es (flushed_none columns r s flushes) (subst (Shows columns s) (append-nil es) (shows_move (flush r) r s es (refl, flushes) sound k)))
 
   pub handed_out_less : (r : Renderer D A (List A)) (borders : List (List Cell)) (es : List (Entry (List A))) (lines : List (Line (List A))) → IsSound columns r → WithoutDrawnBorders borders (λ q. Shows columns q es) r → handed_out columns r ≡ done lines →
       (rest : List (Line (List A))) × AreDrawnAmong borders lines rest × AllZip (IsShown (λ a b. a ≡ b)) (visible_glyphs columns (text_of_lines rest)) (visible_entries columns es)

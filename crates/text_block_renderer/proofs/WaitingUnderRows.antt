@@ -1,13 +1,15 @@
 -- Markers that wait, until a line of text comes by a call or a row.
 use Rattle.std.proofs.Common.{◌≡◌, ℕ, inl, false, Option, Some, None, List, [], ◌∷◌, ◌++◌, flat_map, fold, refl, ap, sym, ◌∙◌, subst, append_assoc, append-nil}
 use Rattle.std.specs.List.{AllZip}
-use Rattle.tbr_model.specs.Run.{Entry}
 use Rattle.tbr_border.specs.Border.{Border}
 use Rattle.tbr_rows.specs.Meant.{SeenRow}
 use Rattle.tbr_decor.specs.Decoration.{Decoration}
 use Rattle.tbr_kept_lines.specs.Line.{Line, text, border}
 use Rattle.tbr_kept_lines.specs.LastBorder.{before_border}
+use Rattle.tbr_tagged.specs.Outcome.{done}
 use Rattle.tbr_tagged.proofs.Outcomes.{live_done}
+use Rattle.tbr_renderer.specs.Outcomes.{run}
+use Rattle.tbr_renderer.proofs.OutcomeParts.{one_done, done_first}
 use Rattle.tbr_renderer.specs.declared.options.RenderOptions.{RenderOptions}
 use Rattle.tbr_renderer.specs.Renderer.{Renderer, with_line, IsSound}
 use Rattle.tbr_renderer.specs.Flush.{after_flush}
@@ -15,9 +17,9 @@ use Rattle.tbr_renderer.specs.Footnotes.{footnote_lines, with_footnotes}
 use Rattle.tbr_renderer.specs.Rows.{border_lines, with_next, with_row}
 use Rattle.tbr_renderer.specs.Calls.{new_line}
 use Rattle.tbr_renderer.proofs.SettingsStay.{Steady, lines_added, flushed_alike}
-use Rattle.text_block_renderer.specs.Acts.{Act, call, row, fmt_links, finalise, ActsBring, StaysLine}
+use Rattle.text_block_renderer.specs.Acts.{Act, call, row, fmt_links, finalise, after_act, StaysLine}
 use Rattle.text_block_renderer.specs.MarkersStand.{first_text, WaitForText, WaitForTextUnderRows}
-use Rattle.text_block_renderer.proofs.ActSteps.{ActStep, ActSteps, steps}
+use Rattle.text_block_renderer.proofs.ActSteps.{ActStep, act_step}
 use Rattle.text_block_renderer.proofs.LastingLines.{all_stay, stay_on, top_put_back}
 use Rattle.text_block_renderer.proofs.RowsOfCells.{under_row}
 use Rattle.text_block_renderer.proofs.WaitingMarkers.{wait_on, same_wait, lines_came, rule_waits, steps_wait_all}
@@ -87,24 +89,21 @@ module _ {D A : Type 0} (columns : ℕ → Option ℕ) where
       waits_on m top (with_row columns m seen) above (of_calls top (with_row columns m seen) (wait_on top full (with_row columns m seen) (lines_came columns seen.lines top) (below_waits full seen.next still)))
 
   module _ (decoration : Decoration D A) where
-    act_waits : (act : Act A) (r s : Renderer D A (List A)) (es : List (Entry (List A))) → r.options.pad_block_width ≡ false → ActStep columns decoration act r es s → WaitForTextUnderRows r s
-    act_waits (call c) r s es unpadded h = of_calls r s (steps_wait_all columns decoration (c ∷ []) r s (inl unpadded) (alone columns decoration c r s es h.0 h.1).0)
-    act_waits (fmt_links links) r s es unpadded h = subst (λ (q : Renderer D A (List A)). WaitForTextUnderRows r q) (sym h.0) (of_calls r (with_footnotes columns r links) (lines_came columns (flat_map (footnote_lines columns r) links) r))
-    act_waits (finalise targets) r s es unpadded h = of_calls r s (same_wait r s (ap (λ (q : Renderer D A (List A)). q.lines) h.0) (ap (λ (q : Renderer D A (List A)). q.waiting) h.0))
-    act_waits (row collapses cells) r s es unpadded h =
+    act_waits : (act : Act A) (r s : Renderer D A (List A)) → r.options.pad_block_width ≡ false → ActStep columns decoration act r s → WaitForTextUnderRows r s
+    act_waits (call c) r s unpadded h = of_calls r s (steps_wait_all columns decoration (c ∷ []) r s (inl unpadded) (alone columns decoration c r s h).0)
+    act_waits (fmt_links links) r s unpadded h = subst (λ (q : Renderer D A (List A)). WaitForTextUnderRows r q) (sym h) (of_calls r (with_footnotes columns r links) (lines_came columns (flat_map (footnote_lines columns r) links) r))
+    act_waits (finalise targets) r s unpadded h = of_calls r s (same_wait r s (ap (λ (q : Renderer D A (List A)). q.lines) h) (ap (λ (q : Renderer D A (List A)). q.waiting) h))
+    act_waits (row collapses cells) r s unpadded h =
         let (m, flushed, puts, is) = h in
-        let first = of_calls r m (steps_wait_all columns decoration (new_line ∷ []) r m (inl unpadded) (alone columns decoration new_line r m [] flushed refl).0) in
+        let first = of_calls r m (steps_wait_all columns decoration (new_line ∷ []) r m (inl unpadded) (alone columns decoration new_line r m flushed).0) in
         let still : m.options.pad_block_width ≡ false = ap (λ (x : Steady D A). x.settings.kept.options.pad_block_width) (flushed_alike columns r m (live_done r.failure (after_flush columns r) m flushed).1) ∙ unpadded in
         let stay = subst (λ (o : Option (Border (List A))). AllZip StaysLine m.lines (before_border m.lines ++ border_lines o)) (sym puts.means.upper) (top_put_back collapses puts.means.cells m.lines) in
         waits_on r m s first (subst (λ (q : Renderer D A (List A)). WaitForTextUnderRows m q) (sym puts.is) (row_waits m puts.row stay still))
 
-    all_wait : (acts : List (Act A)) (r s : Renderer D A (List A)) (es : List (Entry (List A))) → IsSound columns r → r.options.pad_block_width ≡ false → ActSteps columns decoration acts r es s → WaitForTextUnderRows r s
-    all_wait [] r s es sound unpadded h = subst (λ (q : Renderer D A (List A)). WaitForTextUnderRows r q) (sym h.0) (of_calls r r (same_wait r r refl refl))
-    all_wait (act ∷ acts) r s es sound unpadded h =
-        let (m, first, rest, does, others, is) = h in
-        let (options, sound_there) = act_sound columns decoration act r m first sound does in
-        let still : m.options.pad_block_width ≡ false = ap (λ (o : RenderOptions). o.pad_block_width) options ∙ unpadded in
-        waits_on r m s (act_waits act r m first unpadded does) (all_wait acts m s rest sound_there still others)
-
-    pub acts_wait : (acts : List (Act A)) (r s : Renderer D A (List A)) (es : List (Entry (List A))) → IsSound columns r → r.options.pad_block_width ≡ false → ActsBring columns decoration acts r es s → WaitForTextUnderRows r s
-    acts_wait acts r s es sound unpadded h = all_wait acts r s es sound unpadded (steps columns decoration acts r s es h)
+    pub acts_wait : (acts : List (Act A)) (r s : Renderer D A (List A)) → IsSound columns r → r.options.pad_block_width ≡ false → run (after_act columns decoration) acts r ≡ done s → WaitForTextUnderRows r s
+    acts_wait [] r s sound unpadded h = of_calls r s (same_wait r s (ap (λ (q : Renderer D A (List A)). q.lines) (one_done r s h)) (ap (λ (q : Renderer D A (List A)). q.waiting) (one_done r s h)))
+    acts_wait (act ∷ acts) r s sound unpadded h =
+        let (m, does, others) = done_first (after_act columns decoration act r) (run (after_act columns decoration) acts) s h in
+        let step = act_step columns decoration act r m does in
+        let (options, sound_there) = act_sound columns decoration act r m sound step in
+        waits_on r m s (act_waits act r m unpadded step) (acts_wait acts m s sound_there (ap (λ (o : RenderOptions). o.pad_block_width) options ∙ unpadded) others)

@@ -1,5 +1,5 @@
 -- Calls, rows of cells and footnotes, one after another, and what they add to a renderer's lines.
-use Rattle.std.specs.Prelude.{◌≡◌, ℕ, Bool, ⊤, Option, None, Some, List, [], ◌∷◌, ◌++◌, map, flat_map}
+use Rattle.std.specs.Prelude.{◌≡◌, ℕ, ◌-◌, Bool, Option, None, Some, List, [], ◌∷◌, ◌++◌, length, take, drop, map, flat_map}
 use Rattle.std.specs.Cmp.Lexicographic.{pointwise}
 use Rattle.std.specs.List.{AllZip, AllByRecursion as Each}
 use Rattle.tbr_model.specs.Run.{Entry, Item}
@@ -15,7 +15,7 @@ use Rattle.tbr_kept_lines.specs.Line.{Line, text, border}
 use Rattle.tbr_renderer.specs.Renderer.{Renderer, open_run}
 use Rattle.tbr_tagged.specs.Outcome.{Outcome, done, refused, if_live}
 use Rattle.tbr_tagged.specs.declared.Error.TheVariants.{TooNarrow}
-use Rattle.tbr_renderer.specs.Outcomes.{run, told_by, told}
+use Rattle.tbr_renderer.specs.Outcomes.{told_by, told}
 use Rattle.tbr_renderer.specs.Flush.{after_flush}
 use Rattle.tbr_renderer.specs.Appended.{border_line}
 use Rattle.tbr_renderer.specs.Footnotes.{listed, footnote_lines, with_footnotes}
@@ -44,6 +44,11 @@ rows_of (finalise targets ∷ acts) = rows_of acts
 abbrev pub beside_footnotes : {A : Type 0} → Act A → List (Entry (List A)) → List (Entry (List A))
 beside_footnotes (fmt_links links) es = []
 beside_footnotes other es = es
+
+-- entries, with others put before those of the open run, which are the last of them
+abbrev pub before_run : {D A : Type 0} →
+    Renderer D A (List A) → List (Entry (List A)) → List (Entry (List A)) → List (Entry (List A))
+before_run r more es = let n = length es - length (open_run r.block) in take n es ++ more ++ drop n es
 
 module _ {D A : Type 0} (columns : ℕ → Option ℕ) (decoration : Decoration D A) where
   -- what one makes of a renderer
@@ -76,24 +81,15 @@ module _ {D A : Type 0} (columns : ℕ → Option ℕ) (decoration : Decoration 
   act_brought (fmt_links links) r = laid_entries (joined (flat_map (footnote_lines columns r) links))
   act_brought (finalise targets) r = []
 
-  -- and those of acts, one after another
-  abbrev pub acts_brought : List (Act A) → Renderer D A (List A) → List (Entry (List A))
-  acts_brought acts r = told act_brought after_act acts r
+  -- What came after one, of what came before it, in the order of lines: footnotes come before the open run.
+  abbrev pub act_comes : Act A → Renderer D A (List A) → List (Entry (List A)) → List (Entry (List A))
+  act_comes (fmt_links links) r es = before_run r (act_brought (fmt_links links) r) es
+  act_comes act r es = es ++ act_brought act r
 
-  -- What acts leave, one after another, and the entries that they bring.
-  abbrev pub ActsBring :
-      List (Act A) → Renderer D A (List A) → List (Entry (List A)) → Renderer D A (List A) → Type 0
-  ActsBring acts r es s = (run after_act acts r ≡ done s) × (es ≡ acts_brought acts r)
-
-  -- The footnotes among them come where no block is open. Else their lines are before those of the open run.
-  abbrev pub IsBetweenRuns : Act A → Renderer D A (List A) → Type 0
-  IsBetweenRuns (fmt_links links) r = r.block ≡ None
-  IsBetweenRuns other r = ⊤
-
-  abbrev pub AreBetweenRuns : List (Act A) → Renderer D A (List A) → Type 0
-  AreBetweenRuns [] r = ⊤
-  AreBetweenRuns (act ∷ acts) r =
-      IsBetweenRuns act r × ((s : Renderer D A (List A)) → after_act act r ≡ done s → AreBetweenRuns acts s)
+  -- and what came after acts, one after another
+  abbrev pub acts_come : List (Act A) → Renderer D A (List A) → List (Entry (List A)) → List (Entry (List A))
+  acts_come [] r es = es
+  acts_come (act ∷ acts) r es = told_by (λ s. acts_come acts s (act_comes act r es)) (after_act act r)
 
   -- what calls and rows bring, and not footnotes
   abbrev pub act_enters : Act A → Renderer D A (List A) → List (Entry (List A))

@@ -12,11 +12,12 @@ use Rattle.tbr_tagged.specs.Elements.{element_items}
 use Rattle.tbr_kept_lines.specs.Line.{Line, text, border}
 use Rattle.tbr_renderer.specs.Renderer.{Renderer, open_run}
 use Rattle.tbr_tagged.specs.Outcome.{done}
+use Rattle.tbr_renderer.specs.Outcomes.{run}
 use Rattle.tbr_renderer.specs.Appended.{handed_out}
 use Rattle.tbr_renderer.specs.Calls.{Call, append_subrender, append_vert_row}
 use Rattle.tbr_rows.specs.CellsShown.{StandsAmong}
 use Rattle.tbr_renderer.specs.Rows.{GivenCell}
-use Rattle.text_block_renderer.specs.Acts.{Act, call, row, rows_of, ActsBring}
+use Rattle.text_block_renderer.specs.Acts.{Act, call, row, rows_of, after_act}
 
 -- They are there in order, with others between.
 abbrev pub StandWithin : {X : Type 0} → List X → List X → Type 0
@@ -85,8 +86,7 @@ pub record TakesIn {D A : Type 0} (columns : ℕ → Option ℕ) (decoration : D
   pub before : List (Act A)
   pub taking : Act A
   pub after : List (Act A)
-  pub es : List (Entry (List A))
-  pub bring : ActsBring columns decoration (before ++ taking ∷ after) first es last
+  pub leads : run (after_act columns decoration) (before ++ taking ∷ after) first ≡ done last
   pub span : ℕ
   pub takes : Takes span inside taking
   pub come : (span ≤ 1 + length (rows_of after)) ⊎ NothingOverhangs last

@@ -3,13 +3,14 @@ ghost use Rattle.std.specs.Prelude.{◌≡◌, ◌↔◌, ℕ, Bool, false, Opti
 ghost use Rattle.tbr_model.specs.Run.{Entry, Item};
 ghost use Rattle.std.specs.Cmp.Lexicographic.{pointwise};
 ghost use Rattle.tbr_decor.specs.Decoration.{Decoration};
-ghost use Rattle.tbr_renderer.specs.Renderer.{Renderer, new_renderer, settings_of, IsSound};
+ghost use Rattle.tbr_renderer.specs.Renderer.{Renderer, new_renderer, settings_of, open_run, IsSound};
 ghost use Rattle.tbr_renderer.specs.declared.options.RenderOptions.{RenderOptions};
 ghost use Rattle.tbr_renderer.specs.Calls.{text_of_lines, Shows};
 ghost use Rattle.tbr_tagged.specs.Outcome.{done};
+ghost use Rattle.tbr_renderer.specs.Outcomes.{run};
 ghost use Rattle.tbr_rows.specs.Computed.{TellsApart};
 ghost use Rattle.tbr_renderer.specs.Rows.{GivenCell, AppendsRow, after_row};
-ghost use Rattle.text_block_renderer.specs.Acts.{Act, ActsBring, AreBetweenRuns};
+ghost use Rattle.text_block_renderer.specs.Acts.{Act, after_act, acts_come};
 ghost use Rattle.text_block_renderer.specs.Taken.{IsWrittenSoFar};
 ghost use Rattle.text_block_renderer.specs.MarkersStand.{Stands, WaitForTextUnderRows};
 
@@ -36,25 +37,26 @@ pub fn a_row_changes_no_settings<D, A>()
         after_row (pointwise decoration.same) columns collapses cells r ≡ done s → settings_of s ≡ settings_of r }
 {}
 
-/// After any calls and rows, and footnotes between runs, the visible characters of what they brought are in the lines of
-/// text, but for those of the open run. They are there once and in order, each under an annotation of its call, where
-/// lines aren't padded. A row brings the texts of its lines.
+/// After any calls, rows and footnotes the visible characters of what they brought are in the lines of text, but for
+/// those of the open run. They are there once and in order, each under an annotation of its call, where lines aren't
+/// padded. A row brings the texts of its lines. Footnotes come before the run that is open.
 pub fn visible_characters_stand_once_with_rows_too<D, A>()
     ensures { (columns : ℕ → Option ℕ) (decoration : Decoration D A) (acts : List (Act A))
-        (r s : Renderer D A (List A)) (before es : List (Entry (List A))) → IsSound columns r →
-        r.options.pad_block_width ≡ false → AreBetweenRuns columns decoration acts r →
-        ActsBring columns decoration acts r es s → Shows columns r before → Shows columns s (before ++ es) }
+        (r s : Renderer D A (List A)) (ended : List (Entry (List A))) → IsSound columns r →
+        r.options.pad_block_width ≡ false → run (after_act columns decoration) acts r ≡ done s →
+        let before = ended ++ open_run r.block in
+        Shows columns r before → Shows columns s (acts_come columns decoration acts r before) }
 {}
 
-/// And what calls, rows and footnotes between runs brought is in the lines of text, or is a marker that waits, as
+/// And what calls, rows and footnotes brought is in the lines of text, or is a marker that waits, as
 /// [`what_was_brought_stands`] says it of calls, where lines aren't padded.
 ///
 /// [`what_was_brought_stands`]: super::what_was_brought_stands
 pub fn what_was_brought_stands_with_rows_too<D, A>()
     ensures { (columns : ℕ → Option ℕ) (decoration : Decoration D A) (acts : List (Act A))
-        (r s : Renderer D A (List A)) (before es : List (Entry (List A))) → IsSound columns r →
-        r.options.pad_block_width ≡ false → AreBetweenRuns columns decoration acts r →
-        ActsBring columns decoration acts r es s → Stands columns r before → Stands columns s (before ++ es) }
+        (r s : Renderer D A (List A)) (before : List (Entry (List A))) → IsSound columns r →
+        r.options.pad_block_width ≡ false → run (after_act columns decoration) acts r ≡ done s →
+        Stands columns r before → Stands columns s (acts_come columns decoration acts r before) }
 {}
 
 /// Where lines are padded too, what came is in the lines, with others between: its visible characters and its markers,
@@ -62,9 +64,9 @@ pub fn what_was_brought_stands_with_rows_too<D, A>()
 /// others.
 pub fn what_was_brought_is_written<D, A>()
     ensures acts { (columns : ℕ → Option ℕ) (decoration : Decoration D A) (acts : List (Act A))
-        (r s : Renderer D A (List A)) (before es : List (Entry (List A))) → IsSound columns r →
-        AreBetweenRuns columns decoration acts r → ActsBring columns decoration acts r es s →
-        IsWrittenSoFar columns r before → IsWrittenSoFar columns s (before ++ es) }
+        (r s : Renderer D A (List A)) (before : List (Entry (List A))) → IsSound columns r →
+        run (after_act columns decoration) acts r ≡ done s →
+        IsWrittenSoFar columns r before → IsWrittenSoFar columns s (acts_come columns decoration acts r before) }
     ensures new { (columns : ℕ → Option ℕ) (width : ℕ) (options : RenderOptions) (decorator : D) →
         IsWrittenSoFar columns (new_renderer {A = A} width options decorator) [] }
 {}
@@ -73,6 +75,6 @@ pub fn what_was_brought_is_written<D, A>()
 /// aren't padded.
 pub fn waiting_markers_begin_the_next_text_with_rows_too<D, A>()
     ensures { (columns : ℕ → Option ℕ) (decoration : Decoration D A) (acts : List (Act A))
-        (r s : Renderer D A (List A)) (es : List (Entry (List A))) → IsSound columns r →
-        r.options.pad_block_width ≡ false → ActsBring columns decoration acts r es s → WaitForTextUnderRows r s }
+        (r s : Renderer D A (List A)) → IsSound columns r → r.options.pad_block_width ≡ false →
+        run (after_act columns decoration) acts r ≡ done s → WaitForTextUnderRows r s }
 {}
