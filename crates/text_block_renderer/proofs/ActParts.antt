@@ -18,22 +18,24 @@ use Rattle.tbr_renderer.specs.Footnotes.{listed, footnote_lines}
 use Rattle.tbr_renderer.specs.Rows.{GivenCell, border_lines, with_next, with_row, PutsRow}
 use Rattle.tbr_kept_lines.specs.LastBorder.{before_border}
 use Rattle.tbr_renderer.specs.Appended.{border_line}
-use Rattle.tbr_renderer.specs.Calls.{Call, new_line, after, Does, entries_brought, Brings, laid_entries}
+use Rattle.tbr_renderer.specs.Calls.{Call, new_line, after, Does, entries_brought, Brings, laid_entries, text_of_lines}
 use Rattle.tbr_tagged.specs.Outcome.{Outcome, done, refused}
 use Rattle.tbr_renderer.specs.Outcomes.{and_then, told_by}
 use Rattle.tbr_renderer.proofs.OutcomeParts.{one_done, done_first}
 use Rattle.tbr_renderer.proofs.SettingsStay.{Steady, lines_added}
 use Rattle.text_block_renderer.specs.Added.{Added, text_laid, row_put, flush_ends, call_adds, calls_add}
-use Rattle.text_block_renderer.specs.Stretches.{Part, ended, laid, ruled, lines_laid, IsPart, ComesInParts}
+use Rattle.text_block_renderer.specs.Stretches.{Part, lines_laid, IsPart, ComesInParts}
 use Rattle.text_block_renderer.specs.Acts.{Act, call, row, fmt_links, finalise, rows_of, after_act, act_enters, acts_enter, Piece, part, put, noted, cells_in, rows_in, border_lines_of, lines_of_piece, entries_of_piece, added_of_piece, act_adds, acts_add, IsPiece, StaysLine, ComesInPieces}
-use Rattle.text_block_renderer.proofs.Moves.{any, Frame, frame, frame_of_lines, sound_alike, flushed_none, path_width, path_options, path_hanging}
+use Rattle.text_block_renderer.proofs.Moves.{any, flush, beside, sound_alike, flushed_none, path_width, path_options, path_hanging}
 use Rattle.text_block_renderer.proofs.CallMoves.{calls_move}
-use Rattle.text_block_renderer.proofs.LineParts.{brings_parts}
-use Rattle.text_block_renderer.proofs.AddedLines.{laid_lines}
+use Rattle.text_block_renderer.proofs.LineParts.{part_of_other, brings_parts}
+use Rattle.text_block_renderer.proofs.AddedLines.{moves_grow, laid_lines}
+use Rattle.text_block_renderer.proofs.LineContents.{text_of_lines-append}
 use Rattle.text_block_renderer.proofs.ActSteps.{told_then, ActStep, after_acts, act_step}
-use Rattle.text_block_renderer.proofs.RowsOfCells.{row_flushes, row_closed}
-use Rattle.text_block_renderer.proofs.LastingLines.{all_stay, stay_on, stay_append, top_put_back}
+use Rattle.text_block_renderer.proofs.RowsOfCells.{row_flushes, under_row, row_beside, row_closed}
+use Rattle.text_block_renderer.proofs.LastingLines.{all_stay, stay_on, stay_texts, top_put_back}
 use Rattle.tbr_rows.proofs.Among.{each_gives}
+use Rattle.tbr_tagged.proofs.SameItems.{all_zip_append}
 use Rattle.text_block_renderer.proofs.Lists.{flat_map_map, each_map}
 use Rattle.text_block_renderer.proofs.OverhangingCells.{Chain, chain_append}
 
@@ -58,13 +60,8 @@ module _ {D A : Type 0} (columns : ℕ → Option ℕ) where
     put_rows = ap (map cells_in) (no_rows h.parts);
   }
 
-  part_of_other : (r q : Renderer D A (List A)) → q.width ≡ r.width → q.options ≡ r.options → (p : Part D A) → IsPart columns q p → IsPart columns r p
-  part_of_other r q width options (ended t b texts) h = record { width = h.width ∙ width; options = h.options ∙ options; block = h.block; are_its = h.are_its; names = h.names; ends = h.ends }
-  part_of_other r q width options (laid t is) h = record { width = h.width ∙ width; options = h.options ∙ options; block = h.block }
-  part_of_other r q width options (ruled t cells) h = record { width = h.width ∙ width; options = h.options ∙ options; block = h.block }
-
   piece_of_other : (r q : Renderer D A (List A)) → q.width ≡ r.width → q.options ≡ r.options → (p : Piece D A columns) → IsPiece columns q p → IsPiece columns r p
-  piece_of_other r q width options (part p) h = part_of_other r q width options p h
+  piece_of_other r q width options (part p) h = part_of_other columns r q width options p h
   piece_of_other r q width options (put p) h = record { width = h.width ∙ width; options = h.options ∙ options; block = h.block }
   piece_of_other r q width options (noted t is) h = (h.0 ∙ width, h.1 ∙ options)
 
@@ -81,22 +78,13 @@ module _ {D A : Type 0} (columns : ℕ → Option ℕ) where
         pieces = h.pieces ++ k.pieces;
         are = each_append (IsPiece columns r) h.pieces k.pieces h.are (each_gives (IsPiece columns q) (IsPiece columns r) (piece_of_other r q width options) k.pieces k.are);
         lines = subst (λ ls. AllZip StaysLine ls s.lines) (append_assoc r.lines first after_them ∙ ap (λ ls. r.lines ++ ls) (sym both))
-            (stay_on ((r.lines ++ first) ++ after_them) (q.lines ++ after_them) s.lines (stay_append (r.lines ++ first) q.lines after_them after_them h.lines (all_stay after_them)) k.lines);
+            (stay_on ((r.lines ++ first) ++ after_them) (q.lines ++ after_them) s.lines (all_zip_append StaysLine (r.lines ++ first) after_them q.lines after_them h.lines (all_stay after_them)) k.lines);
         entries = sym (append_assoc (open_run r.block) es fs) ∙ ap (λ gs. gs ++ fs) h.entries ∙ append_assoc before (open_run q.block) fs ∙ ap (λ gs. before ++ gs) k.entries
             ∙ sym (append_assoc before after (open_run s.block)) ∙ ap (λ gs. gs ++ open_run s.block) (sym (flat_map-append (entries_of_piece columns) h.pieces k.pieces));
         put_rows = ap (map cells_in) (rows_append h.pieces k.pieces) ∙ map-append cells_in (rows_in h.pieces) (rows_in k.pieces) ∙ ap (λ zs. zs ++ map cells_in (rows_in k.pieces)) h.put_rows ∙ ap (λ zs. xs ++ zs) k.put_rows;
       }
 
   -- ---- a row
-
-  next_frame : (q : Renderer D A (List A)) (o : Option (Border (List A))) → frame (with_next columns q o) ≡ frame q
-  next_frame q None = refl
-  next_frame q (Some b) = refl
-
-  pub row_frame : (m : Renderer D A (List A)) (seen : SeenRow (List A)) → frame (with_row columns m seen) ≡ record (frame m) { hanging = seen.overhang }
-  row_frame m seen =
-      let top : Renderer D A (List A) = record m { lines = before_border m.lines ++ border_lines seen.above; hanging = seen.overhang } in
-      next_frame (fold (with_line columns) top seen.lines) seen.next ∙ frame_of_lines columns seen.lines top
 
   same_laid : (r : Renderer D A (List A)) (ls : List (Line (List A))) (cells : List (Cell (List A))) (ts : List (List (Item (List A)))) → lines_laid columns (record r { lines = ls; hanging = cells }) ts ≡ lines_laid columns r ts
   same_laid r ls cells [] = refl
@@ -124,6 +112,10 @@ module _ {D A : Type 0} (columns : ℕ → Option ℕ) where
       next_lines m full seen.next settings ∙ ap (λ ls. ls ++ border_lines_of columns m seen.next) (laid_lines columns seen.lines top ∙ ap (λ ls. first ++ ls) (same_laid m first seen.overhang seen.lines))
       ∙ append_assoc first laid (border_lines_of columns m seen.next)
 
+  -- lines stay where the border above a row is put in
+  pub top_stays : (collapses : Bool) (cells : List (GivenCell (List A))) (m s : Renderer D A (List A)) (puts : PutsRow columns collapses cells m s) → AllZip StaysLine m.lines (under_row m puts.row).lines
+  top_stays collapses cells m s puts = subst (λ (o : Option (Border (List A))). AllZip StaysLine m.lines (before_border m.lines ++ border_lines o)) (sym puts.means.upper) (top_put_back collapses puts.means.cells m.lines)
+
   put_piece : (collapses : Bool) (cells : List (GivenCell (List A))) (m s : Renderer D A (List A)) → m.block ≡ None → s.block ≡ None → (puts : PutsRow columns collapses cells m s) → ComesInPieces columns (cells ∷ []) m (laid_entries (joined puts.row.lines)) s
   put_piece collapses cells m s none closed puts =
       let seen = puts.row in
@@ -131,13 +123,11 @@ module _ {D A : Type 0} (columns : ℕ → Option ℕ) where
       let new = lines_laid columns m seen.lines ++ border_lines_of columns m seen.next in
       let one : Piece D A columns = put (record { before = m; after = s; collapses = collapses; cells = cells; puts = puts }) in
       let es = laid_entries (joined seen.lines) in
-      let upper : AllZip StaysLine m.lines above =
-      subst (λ (o : Option (Border (List A))). AllZip StaysLine m.lines (before_border m.lines ++ border_lines o)) (sym puts.means.upper) (top_put_back collapses puts.means.cells m.lines) in
       record {
         pieces = one ∷ [];
         are = (record { width = refl; options = refl; block = none }, tt);
         lines = subst (λ ls. AllZip StaysLine (m.lines ++ (new ++ [])) ls) (sym (ap (λ (q : Renderer D A (List A)). q.lines) puts.is ∙ row_lines m seen))
-            (subst (λ ls. AllZip StaysLine (m.lines ++ ls) (above ++ new)) (sym (append-nil new)) (stay_append m.lines above new new upper (all_stay new)));
+            (subst (λ ls. AllZip StaysLine (m.lines ++ ls) (above ++ new)) (sym (append-nil new)) (all_zip_append StaysLine m.lines new above new (top_stays collapses cells m s puts) (all_stay new)));
         entries = ap (λ (o : Option (Open (List A))). open_run o ++ es) none ∙ sym (append-nil es) ∙ sym (append-nil (es ++ [])) ∙ ap (λ (o : Option (Open (List A))). (es ++ []) ++ open_run o) (sym closed);
         put_rows = refl;
       }
@@ -150,6 +140,17 @@ module _ {D A : Type 0} (columns : ℕ → Option ℕ) where
     alone c r s does =
         let first = entries_brought columns decoration c r in
         (ap (λ o. and_then o (λ t. done t)) does, sym (append-nil first) ∙ ap (λ o. first ++ told_by (λ t. []) o) (sym does))
+
+    -- a row takes no text back
+    pub texts_only_come : (collapses : Bool) (cells : List (GivenCell (List A))) (r s : Renderer D A (List A)) → after_act columns decoration (row collapses cells) r ≡ done s → (more : List (Item (List A))) × (text_of_lines s.lines ≡ text_of_lines r.lines ++ more)
+    texts_only_come collapses cells r s h =
+        let (m, flushed, puts, is) = act_step columns decoration (row collapses cells) r s h in
+        let first = moves_grow columns (flush r ∷ []) r m (m, (refl, row_flushes columns r m flushed), refl) in
+        let new = lines_laid columns m puts.row.lines ++ border_lines_of columns m puts.row.next in (
+          text_of_lines first.0 ++ text_of_lines new,
+          ap (λ (q : Renderer D A (List A)). text_of_lines q.lines) puts.is ∙ ap text_of_lines (row_lines m puts.row) ∙ text_of_lines-append (under_row m puts.row).lines new
+              ∙ ap (λ js. js ++ text_of_lines new) (stay_texts m.lines (under_row m puts.row).lines (top_stays collapses cells m s puts) ∙ ap text_of_lines first.1 ∙ text_of_lines-append r.lines first.0) ∙ append_assoc (text_of_lines r.lines) (text_of_lines first.0) (text_of_lines new),
+        )
 
     pub rows_one : (act : Act A) (acts : List (Act A)) → rows_of (act ∷ acts) ≡ rows_of (act ∷ []) ++ rows_of acts
     rows_one (call c) acts = refl
@@ -202,13 +203,13 @@ module _ {D A : Type 0} (columns : ℕ → Option ℕ) where
     unfolding put_piece
     row_along collapses cells m s none closed puts =
         let seen = puts.row in
-        let same = ap (λ (q : Renderer D A (List A)). frame q) puts.is ∙ row_frame m seen in
+        let same = ap (λ (q : Renderer D A (List A)). beside q) puts.is ∙ row_beside columns m seen in
         record {
-          width = ap (λ (f : Frame A). f.width) same;
-          options = ap (λ (f : Frame A). f.options) same;
+          width = ap (λ (q : Renderer D A (List A)). q.width) same;
+          options = ap (λ (q : Renderer D A (List A)). q.options) same;
           came = put_piece collapses cells m s none closed puts;
           added = refl;
-          chain = (refl, refl, ap (λ (f : Frame A). f.hanging) same);
+          chain = (refl, refl, ap (λ (q : Renderer D A (List A)). q.hanging) same);
         }
 
     -- one that adds nothing, whatever it makes of the decorator

@@ -1,5 +1,5 @@
 -- Lines of other renderers, and borders, as moves.
-use Rattle.std.proofs.Common.{◌≡◌, ℕ, Bool, true, false, if◌then◌else◌, Option, Some, None, List, [], ◌∷◌, ◌++◌, map, flat_map, fold, length, replicate, ◌-◌, suc, refl, ap, sym, ◌∙◌, subst, arith, append_assoc, append-nil}
+use Rattle.std.proofs.Common.{◌≡◌, ℕ, Bool, true, false, if◌then◌else◌, Option, None, List, [], ◌∷◌, ◌++◌, map, flat_map, fold, length, replicate, ◌-◌, suc, refl, ap, sym, ◌∙◌, subst, arith, append_assoc, append-nil}
 use Rattle.std.proofs.lemmas.List.{map-append}
 use Rattle.tbr_model.specs.Run.{Entry, Item}
 use Rattle.tbr_model.specs.Layout.{joined}
@@ -9,14 +9,12 @@ use Rattle.tbr_border.specs.Cell.{Cell, horizontal, slash}
 use Rattle.tbr_renderer.specs.declared.options.RenderOptions.{RenderOptions}
 use Rattle.text_block_renderer.specs.Drawn.{row_borders}
 use Rattle.tbr_kept_lines.specs.Line.{Line}
-use Rattle.tbr_renderer.specs.Renderer.{Open, Renderer, with_line}
-use Rattle.tbr_renderer.specs.Flush.{block_lines, lines_at_end}
-use Rattle.tbr_renderer.proofs.FlushedBlocks.{FlushesBlock}
+use Rattle.tbr_renderer.specs.Renderer.{Renderer, with_line}
 use Rattle.tbr_renderer.proofs.CallParts.{FlushesThen}
 use Rattle.tbr_renderer.specs.Appended.{with_border, border_of_cells, as_text, prefixed, with_divider, with_cell, with_cell_below, with_cells}
 use Rattle.tbr_renderer.specs.Calls.{laid_entry, laid_entries}
 use Rattle.text_block_renderer.specs.Added.{Added, text_laid, border_put, flush_ends, divider_adds, cell_lays, below_adds, cells_add}
-use Rattle.text_block_renderer.proofs.Moves.{line, rule, Kind, MayLay, MayRule, Course, onward, one, flushed_first, stays, flushed_none}
+use Rattle.text_block_renderer.proofs.Moves.{line, rule, Kind, MayLay, MayRule, Course, onward, one, flushed_first, stays, beside, lines_beside, flush_beside, flushed_none}
 
 -- ---- borders of rows
 
@@ -52,24 +50,8 @@ row_is true width (c ∷ cells) =
 
 module _ {D A : Type 0} (columns : ℕ → Option ℕ) (kind : Kind) where
   -- `q` is where lines join those of `r`
-  record Joins (r q : Renderer D A (List A)) : Type 0 where
-    block : q.block ≡ None
-    width : q.width ≡ r.width
-    annotations : q.annotations ≡ r.annotations
-    options : q.options ≡ r.options
-
-  joins_line : (r q : Renderer D A (List A)) (is : List (Item (List A))) → Joins r q → Joins r (with_line columns q is)
-  joins_line r q is h = record { block = h.block; width = h.width; annotations = h.annotations; options = h.options }
-
-  joins_lines : (ts : List (List (Item (List A)))) (r q : Renderer D A (List A)) → Joins r q → Joins r (fold (with_line columns) q ts)
-  joins_lines [] r q h = h
-  joins_lines (t ∷ ts) r q h = joins_lines ts r (with_line columns q t) (joins_line r q t h)
-
-  joins_flushed : (r s : Renderer D A (List A)) (o : Option (Open (List A))) → o ≡ r.block → FlushesBlock columns r o s → Joins r s
-  joins_flushed r s None e h = subst (λ (q : Renderer D A (List A)). Joins r q) (sym h) (record { block = sym e; width = refl; annotations = refl; options = refl })
-  joins_flushed r s (Some b) e h =
-      let after = joins_lines (block_lines columns r b (lines_at_end columns r b)) r (record r { block = None }) (record { block = refl; width = refl; annotations = refl; options = refl }) in
-      subst (λ (q : Renderer D A (List A)). Joins r q) (sym h.is) (record { block = after.block; width = after.width; annotations = after.annotations; options = after.options })
+  abbrev Joins : Renderer D A (List A) → Renderer D A (List A) → Type 0
+  Joins r q = beside q ≡ record (beside r) { block = None }
 
   lines_put : (ts : List (List (Item (List A)))) (q : Renderer D A (List A)) → ((is : List (Item (List A))) → MayLay kind is) → q.block ≡ None → Course columns kind q (fold (with_line columns) q ts) (laid_entries (joined ts)) [] (map text_laid ts)
   lines_put [] q may none = stays columns kind q q refl
@@ -87,10 +69,10 @@ module _ {D A : Type 0} (columns : ℕ → Option ℕ) (kind : Kind) where
 
   pub border_added : (width : ℕ) (r s : Renderer D A (List A)) → ((q : Renderer D A (List A)) → q.options ≡ r.options → MayRule kind q) → FlushesThen columns (λ m. with_border columns m (border_of_cells horizontal width r)) r s → Course columns kind r s [] (replicate width horizontal ∷ []) (flush_ends r ++ border_put (replicate width horizontal) ∷ [])
   border_added width r s may h =
-      let joins = joins_flushed r h.0 r.block refl h.1 in
+      let joins = flush_beside columns r h.0 r.block refl h.1 in
       flushed_first columns kind r h.0 s [] h.1
       (one columns kind (rule (replicate width horizontal)) h.0 s
-      (may h.0 joins.options, joins.block, h.2 ∙ ap (λ tag. with_border columns h.0 (without_holes (replicate width horizontal) tag)) (sym joins.annotations)))
+      (may h.0 (ap (λ (p : Renderer D A (List A)). p.options) joins), flushed_none columns r h.0 h.1, h.2 ∙ ap (λ (p : Renderer D A (List A)). with_border columns h.0 (without_holes (replicate width horizontal) p.annotations)) (sym joins)))
 
   module _ (r : Renderer D A (List A)) (may_lay : (is : List (Item (List A))) → MayLay kind is) (may_rule : (q : Renderer D A (List A)) → q.options ≡ r.options → MayRule kind q) where
     abbrev divider : Cell → List (List Cell)
@@ -106,20 +88,20 @@ module _ {D A : Type 0} (columns : ℕ → Option ℕ) (kind : Kind) where
 
     divided : (cell : Cell) (q : Renderer D A (List A)) → Joins r q → Divided q (with_divider columns cell q) (divider cell) (divider_adds cell r)
     divided cell q h =
-        subst (λ (o : RenderOptions). Divided q (with_divider columns cell q) (if o.draw_borders then replicate r.width cell ∷ [] else []) (if o.draw_borders then border_put (replicate r.width cell) ∷ [] else [])) h.options
-        (subst (λ width. Divided q (with_divider columns cell q) (if q.options.draw_borders then replicate width cell ∷ [] else []) (if q.options.draw_borders then border_put (replicate width cell) ∷ [] else [])) h.width (go q.options.draw_borders))
+        subst (λ (o : RenderOptions). Divided q (with_divider columns cell q) (if o.draw_borders then replicate r.width cell ∷ [] else []) (if o.draw_borders then border_put (replicate r.width cell) ∷ [] else [])) (ap (λ (p : Renderer D A (List A)). p.options) h)
+        (subst (λ width. Divided q (with_divider columns cell q) (if q.options.draw_borders then replicate width cell ∷ [] else []) (if q.options.draw_borders then border_put (replicate width cell) ∷ [] else [])) (ap (λ (p : Renderer D A (List A)). p.width) h) (go q.options.draw_borders))
       where
         go : (drawn : Bool) → Divided q (if drawn then with_border columns q (border_of_cells cell q.width q) else q) (if drawn then replicate q.width cell ∷ [] else []) (if drawn then border_put (replicate q.width cell) ∷ [] else [])
         go false = record { path = stays columns kind q q refl; joins = h }
         go true = record {
-          path = one columns kind (rule (replicate q.width cell)) q (with_border columns q (border_of_cells cell q.width q)) (may_rule q h.options, h.block, refl);
-          joins = record { block = h.block; width = h.width; annotations = h.annotations; options = h.options };
+          path = one columns kind (rule (replicate q.width cell)) q (with_border columns q (border_of_cells cell q.width q)) (may_rule q (ap (λ (p : Renderer D A (List A)). p.options) h), ap (λ (p : Renderer D A (List A)). p.block) h, refl);
+          joins = h;
         }
 
     cell_put : (lines : List (Line (List A))) (q : Renderer D A (List A)) → Joins r q → Course columns kind q (with_cell columns q lines) (laid_entries (joined (map (as_text r.annotations) lines))) [] (cell_lays r lines)
     cell_put lines q h =
-        subst (λ (tag : List A). Course columns kind q (with_cell columns q lines) (laid_entries (joined (map (as_text tag) lines))) [] (map text_laid (map (as_text tag) lines))) h.annotations
-        (lines_put (map (as_text q.annotations) lines) q may_lay h.block)
+        subst (λ (tag : List A). Course columns kind q (with_cell columns q lines) (laid_entries (joined (map (as_text tag) lines))) [] (map text_laid (map (as_text tag) lines))) (ap (λ (p : Renderer D A (List A)). p.annotations) h)
+        (lines_put (map (as_text q.annotations) lines) q may_lay (ap (λ (p : Renderer D A (List A)). p.block) h))
 
     cells_below : (cells : List (List (Line (List A)))) (q : Renderer D A (List A)) → Joins r q → Course columns kind q (fold (with_cell_below columns) q cells) (laid_entries (joined (flat_map (map (as_text r.annotations)) cells))) (slashes cells) (flat_map (below_adds r) cells)
     cells_below [] q h = stays columns kind q q refl
@@ -130,7 +112,7 @@ module _ {D A : Type 0} (columns : ℕ → Option ℕ) (kind : Kind) where
         let s : Renderer D A (List A) = fold (with_cell_below columns) n cells in
         let texts = map (as_text r.annotations) lines in
         let rest = flat_map (map (as_text r.annotations)) cells in
-        let joins = joins_lines (map (as_text p.annotations) lines) r p d.joins in
+        let joins = lines_beside columns (map (as_text p.annotations) lines) p ∙ d.joins in
         subst (λ (es : List (Entry (List A))). Course columns kind q s es (slashes (lines ∷ cells)) (flat_map (below_adds r) (lines ∷ cells))) (sym (ap laid_entries (joined-append texts rest) ∙ map-append laid_entry (joined texts) (joined rest)))
         (subst (λ (xs : List (Added D A)). Course columns kind q s (laid_entries (joined texts) ++ laid_entries (joined rest)) (slashes (lines ∷ cells)) xs) (sym (append_assoc (divider_adds slash r) (cell_lays r lines) (flat_map (below_adds r) cells)))
         (onward columns kind q p s [] (laid_entries (joined texts) ++ laid_entries (joined rest)) d.path
@@ -141,7 +123,7 @@ module _ {D A : Type 0} (columns : ℕ → Option ℕ) (kind : Kind) where
     joins_below (lines ∷ cells) q h =
         let d = divided slash q h in
         let p : Renderer D A (List A) = with_divider columns slash q in
-        joins_below cells (with_cell columns p lines) (joins_lines (map (as_text p.annotations) lines) r p d.joins)
+        joins_below cells (with_cell columns p lines) (lines_beside columns (map (as_text p.annotations) lines) p ∙ d.joins)
 
     abbrev between : List (List (Line (List A))) → List (List Cell)
     between cells = slashes_between r.options.draw_borders r.width cells
@@ -154,7 +136,7 @@ module _ {D A : Type 0} (columns : ℕ → Option ℕ) (kind : Kind) where
         let s : Renderer D A (List A) = fold (with_cell_below columns) n cells in
         let texts = map (as_text r.annotations) lines in
         let rest = flat_map (map (as_text r.annotations)) cells in
-        let joins = joins_lines (map (as_text q.annotations) lines) r q h in (
+        let joins = lines_beside columns (map (as_text q.annotations) lines) q ∙ h in (
           subst (λ (es : List (Entry (List A))). Course columns kind q s es (slashes cells) (cells_add (lines ∷ cells) r)) (sym (ap laid_entries (joined-append texts rest) ∙ map-append laid_entry (joined texts) (joined rest)))
               (onward columns kind q n s (laid_entries (joined texts)) (laid_entries (joined rest)) (cell_put lines q h) (cells_below cells n joins)),
           joins_below cells n joins,
@@ -165,7 +147,7 @@ module _ {D A : Type 0} (columns : ℕ → Option ℕ) (kind : Kind) where
     cells_appended cells s h =
         let es = laid_entries (joined (flat_map (map (as_text r.annotations)) cells)) in
         let p : Renderer D A (List A) = with_cells columns h.0 cells in
-        let (path, joins) = cells_put cells h.0 (joins_flushed r h.0 r.block refl h.1) in
+        let (path, joins) = cells_put cells h.0 (flush_beside columns r h.0 r.block refl h.1) in
         let d = divided horizontal p joins in
         let last = subst (λ (q : Renderer D A (List A)). Course columns kind p q [] (divider horizontal) (divider_adds horizontal r)) (sym h.2) d.path in
         let adds = cells_add cells r ++ divider_adds horizontal r in

@@ -12,7 +12,7 @@ use Rattle.tbr_model.specs.declared.white_space.WhiteSpace.TheVariants.{Normal, 
 use Rattle.tbr_model.specs.Shown.{without_spaces, is_visible_or_marker, is_entry_to_show, ShowsEntry}
 use Rattle.tbr_model.specs.Rule.{is_space_item, run_of}
 use Rattle.tbr_model.proofs.lists.Each.{each_front, each_back}
-use Rattle.tbr_border.specs.Cell.{Cell}
+use Rattle.tbr_model.proofs.rule.Markers.{names_in_items-append, names_in_run-append}
 use Rattle.tbr_tagged.specs.Elements.{text_items}
 use Rattle.tbr_tagged.specs.Padding.{spaces}
 use Rattle.tbr_wrap.specs.Runs.{IsNormal, AreLastOf, EndsRun}
@@ -25,12 +25,11 @@ use Rattle.tbr_renderer.proofs.FlushedBlocks.{EndsBlock}
 use Rattle.tbr_renderer.specs.Outcomes.{run}
 use Rattle.tbr_tagged.specs.Outcome.{done}
 use Rattle.tbr_renderer.specs.Appended.{with_border}
-use Rattle.tbr_renderer.specs.Calls.{Call, laid_entries, Brings, text_of_lines}
-use Rattle.text_block_renderer.specs.Drawn.{WithoutDrawnBorders, borders_drawn, DrawNone}
+use Rattle.tbr_renderer.specs.Calls.{laid_entries, text_of_lines}
 use Rattle.text_block_renderer.specs.MarkersStand.{items_so_far, Stands}
 use Rattle.text_block_renderer.specs.Acts.{Act, after_act, acts_come}
 use Rattle.text_block_renderer.proofs.Moves.{Move, brought_by, Makes, undrawn}
-use Rattle.text_block_renderer.proofs.DrawnBorders.{brings_on, calls_bring_on, border_unseen}
+use Rattle.text_block_renderer.proofs.DrawnBorders.{border_unseen}
 use Rattle.text_block_renderer.proofs.LineContents.{Looks, seen_line, seen_flushed}
 use Rattle.text_block_renderer.proofs.LastingLines.{stay_texts}
 use Rattle.text_block_renderer.proofs.EndedEntries.{Ended, GoesOn, move_on, acts_on}
@@ -38,17 +37,12 @@ use Rattle.text_block_renderer.proofs.VisibleCharacters.{space_unseen}
 
 -- ---- three ways to look at items
 
-names-append : {T : Type 0} (is js : List (Item T)) → names_in_items (is ++ js) ≡ names_in_items is ++ names_in_items js
-names-append [] js = refl
-names-append (glyph c a ∷ is) js = names-append is js
-names-append (marker name ∷ is) js = ap (λ ns. name ∷ ns) (names-append is js)
-
 names_of_spaces : {T : Type 0} (n : ℕ) (a : T) → names_in_items (text_items (spaces n) a) ≡ []
 names_of_spaces zero a = refl
 names_of_spaces (suc n) a = names_of_spaces n a
 
 at_names : {T : Type 0} → Looks {T = T} names_in_items
-at_names = record { append = names-append; nothing = refl; spaces_unseen = names_of_spaces }
+at_names = record { append = names_in_items-append; nothing = refl; spaces_unseen = names_of_spaces }
 
 -- no space passes the test
 no_space_passes : {T : Type 0} (test : Item T → Bool) → ((a : T) → test (glyph 32 a) ≡ false) → (n : ℕ) (a : T) → filter test (text_items (spaces n) a) ≡ []
@@ -81,11 +75,6 @@ names_of_markers T [] = refl
 names_of_markers T (name ∷ names) = ap (λ ns. name ∷ ns) (names_of_markers T names)
 
 module _ {T : Type 0} (columns : ℕ → Option ℕ) where
-  names_in_run-append : (es fs : List (Entry T)) → names_in_run (es ++ fs) ≡ names_in_run es ++ names_in_run fs
-  names_in_run-append [] fs = refl
-  names_in_run-append (character c a b m ∷ es) fs = names_in_run-append es fs
-  names_in_run-append (marker_entry name ∷ es) fs = ap (λ ns. name ∷ ns) (names_in_run-append es fs)
-
   pub nothing_stands : StandFor {T = T} columns [] []
   nothing_stands = record { order = tt; names = refl; kept = λ normal. refl }
 
@@ -119,7 +108,7 @@ module _ {T : Type 0} (columns : ℕ → Option ℕ) where
   unspaced_before is names = filter-append (λ i. not (is_space_item i)) is (marker_items names) ∙ ap (λ js. without_spaces is ++ js) (unspaced_markers names)
 
   pub names_before : (is : List (Item T)) (names : List (List ℕ)) → names_in_items (is ++ marker_items names) ≡ names_in_items is ++ names
-  names_before is names = names-append is (marker_items names) ∙ ap (λ ns. names_in_items is ++ ns) (names_of_markers T names)
+  names_before is names = names_in_items-append is (marker_items names) ∙ ap (λ ns. names_in_items is ++ ns) (names_of_markers T names)
 
   -- they stand for a run of these markers alone
   pub markers_stand : (names : List (List ℕ)) → StandFor columns (marker_items names) (let es : List (Entry T) = marker_run names in es)
@@ -249,7 +238,7 @@ module _ {D A : Type 0} (columns : ℕ → Option ℕ) where
   pub new_stands : (width : ℕ) (options : RenderOptions) (decorator : D) → Stands columns (new_renderer {D = D} {A = A} width options decorator) []
   new_stands width options decorator = stands (new_renderer width options decorator) [] ([], refl, nothing_stands columns)
 
-  end_stands : (r s : Renderer D A (List A)) (b : Open (List A)) (es : List (Entry (List A))) → EndsBlock columns r b s → IsSound columns r → InLines r es → InLines s (es ++ run_of b.events)
+  pub end_stands : (r s : Renderer D A (List A)) (b : Open (List A)) (es : List (Entry (List A))) → EndsBlock columns r b s → IsSound columns r → InLines r es → InLines s (es ++ run_of b.events)
   end_stands r s b es h sound k =
       let texts = lines_at_end columns r b in
       let names = names_at_end columns r b in
@@ -270,22 +259,9 @@ module _ {D A : Type 0} (columns : ℕ → Option ℕ) where
     stays = λ r s es stay waiting k. same_stand r s es (stay_texts r.lines s.lines stay) waiting k;
   }
 
-  move_stands : (m : Move D A) (r s : Renderer D A (List A)) (es : List (Entry (List A))) → Makes columns undrawn m r s → IsSound columns r → Stands columns r es → Stands columns s (es ++ brought_by m)
+  pub move_stands : (m : Move D A) (r s : Renderer D A (List A)) (es : List (Entry (List A))) → Makes columns undrawn m r s → IsSound columns r → Stands columns r es → Stands columns s (es ++ brought_by m)
   move_stands m r s es h sound k = stands s (es ++ brought_by m) (move_on columns undrawn InLines stands_on m r s es h sound (less_open r es k))
 
   pub acts_stand : (decoration : Decoration D A) (acts : List (Act A)) (r s : Renderer D A (List A)) (before : List (Entry (List A))) → IsSound columns r → r.options.pad_block_width ≡ false → run (after_act columns decoration) acts r ≡ done s → Stands columns r before →
       Stands columns s (acts_come columns decoration acts r before)
   acts_stand decoration acts r s before sound unpadded h k = stands s _ (acts_on columns undrawn InLines stands_on decoration acts r s before sound unpadded h (less_open r before k))
-
-  pub brings_stands : (decoration : Decoration D A) (calls : List (Call (List A))) (r s : Renderer D A (List A)) (borders : List (List Cell)) (before es : List (Entry (List A))) →
-      IsSound columns r → Brings columns decoration calls r es s → WithoutDrawnBorders borders (λ q. Stands columns q before) r → WithoutDrawnBorders (borders ++ borders_drawn r calls) (λ q. Stands columns q (before ++ es)) s
-  brings_stands = brings_on columns (Stands columns) move_stands
-
-  pub new_brings_stands : (decoration : Decoration D A) (width : ℕ) (options : RenderOptions) (decorator : D) (calls : List (Call (List A))) (s : Renderer D A (List A)) (es : List (Entry (List A))) →
-      (let r : Renderer D A (List A) = new_renderer width options decorator in IsSound columns r → Brings columns decoration calls r es s → WithoutDrawnBorders (borders_drawn r calls) (λ q. Stands columns q es) s)
-  new_brings_stands decoration width options decorator calls s es sound h =
-      brings_stands decoration calls (new_renderer width options decorator) s [] [] es sound h ([], ([], refl, refl, refl), new_stands width options decorator)
-
-  pub brings_stands_all : (decoration : Decoration D A) (calls : List (Call (List A))) (r s : Renderer D A (List A)) (before es : List (Entry (List A))) →
-      IsSound columns r → DrawNone r calls → Brings columns decoration calls r es s → Stands columns r before → Stands columns s (before ++ es)
-  brings_stands_all = calls_bring_on columns undrawn (Stands columns) move_stands

@@ -1,5 +1,6 @@
 -- Calls as the moves of which they consist.
 use Rattle.std.proofs.Common.{◌≡◌, ℕ, ◌-◌, inl, inr, suc, Bool, true, false, if◌then◌else◌, Option, Some, None, List, [], ◌∷◌, ◌++◌, flat_map, fold, refl, ap, sym, ◌∙◌, subst, append-nil}
+use Rattle.std.proofs.lemmas.Bool.{cond_both}
 use Rattle.tbr_wrap.proofs.runs.BlockLaws.{entries_run}
 use Rattle.tbr_model.specs.Rule.{entry}
 use Rattle.tbr_model.specs.Run.{Entry, marker_entry, Item}
@@ -17,7 +18,7 @@ use Rattle.tbr_kept_lines.specs.LastBorder.{without_last}
 use Rattle.tbr_tagged.specs.Outcome.{done}
 use Rattle.tbr_tagged.proofs.Outcomes.{live_done}
 use Rattle.tbr_renderer.specs.Outcomes.{run, told_by}
-use Rattle.tbr_renderer.specs.Flush.{block_lines, lines_at_end, after_block}
+use Rattle.tbr_renderer.specs.Flush.{after_block}
 use Rattle.tbr_renderer.specs.Steps.{with_empty_line, block_started, text_brings, at_line_start}
 use Rattle.tbr_renderer.specs.Appended.{with_border, border_of_cells, prefixed, with_divider, with_cells}
 use Rattle.tbr_border.specs.Cell.{horizontal}
@@ -25,12 +26,12 @@ use Rattle.tbr_renderer.proofs.OutcomeParts.{one_done, done_first}
 use Rattle.tbr_renderer.proofs.FlushedBlocks.{FlushesBlock, flushes}
 use Rattle.tbr_renderer.proofs.CallParts.{FlushesThen, flushed_then, BreaksLine, break_parts, AddsTextBy, AddsText, text_parts, Closes, close_parts, open_parts, AddsImage, image_parts}
 use Rattle.tbr_renderer.specs.Image.{shown_title}
-use Rattle.tbr_renderer.specs.Decorated.{struck_from, struck_until, asked_to_close, annotated, coloured, uncoloured}
+use Rattle.tbr_renderer.specs.Decorated.{struck_from, struck_until, asked_to_close, asked_to_end, annotated, coloured, uncoloured}
 use Rattle.tbr_renderer.specs.Calls.{Call, add_empty_line, new_line, new_line_hard, start_block, start_table, end_block, add_inline_text, push_ws, pop_ws, push_preformat, pop_preformat, record_frag_start, begin, finish, start_strikeout, end_strikeout, add_image, push_colour, pop_colour, add_border, append_subrender, append_vert_row, made, after, Does, text_brought, image_brought, entries_brought, brought, Brings}
 use Rattle.text_block_renderer.specs.Drawn.{borders_added, AddsNoBorder}
 use Rattle.text_block_renderer.specs.Added.{Added, text_laid, flush_ends, empty_adds, start_lays, start_adds, text_adds, image_adds, call_adds, calls_add}
 use Rattle.text_block_renderer.specs.Stretches.{AppendsNothing}
-use Rattle.text_block_renderer.proofs.Moves.{flush, line, join, SameText, Kind, any, undrawn, own, Fits, MayLay, MayRule, Course, Path, onward, one, flushed_first, stays, turned, turned_by, path_width, path_options, flushed_none}
+use Rattle.text_block_renderer.proofs.Moves.{flush_beside, flush, line, join, SameText, Kind, any, undrawn, own, Fits, MayLay, MayRule, Course, Path, onward, one, flushed_first, stays, turned, turned_by, path_width, path_options, flushed_none}
 use Rattle.text_block_renderer.proofs.AppendedMoves.{lines_appended, border_added, cells_appended}
 
 -- ---- kinds
@@ -100,20 +101,11 @@ module _ {D A : Type 0} (columns : ℕ → Option ℕ) (kind : Kind) where
   broken r s false h = one columns kind (flush r) r s (refl, h)
 
   module _ (preformatted : D → Bool → A) where
-    entries_kept : (cs : List ℕ) (texts : List (List (Item (List A)))) (r : Renderer D A (List A)) → entries_of columns preformatted (fold (with_line columns) r texts) cs ≡ entries_of columns preformatted r cs
-    entries_kept cs [] r = refl
-    entries_kept cs (t ∷ ts) r = entries_kept cs ts (with_line columns r t)
-
-    entries_flushed : (cs : List ℕ) (r s : Renderer D A (List A)) (o : Option (Open (List A))) → FlushesBlock columns r o s → entries_of columns preformatted s cs ≡ entries_of columns preformatted r cs
-    entries_flushed cs r s None h = ap (λ (q : Renderer D A (List A)). entries_of columns preformatted q cs) h
-    entries_flushed cs r s (Some b) h = ap (λ (q : Renderer D A (List A)). entries_of columns preformatted q cs) h.is ∙ entries_kept cs (block_lines columns r b (lines_at_end columns r b)) (record r { block = None })
-
     entries_started : (cs : List ℕ) (r s : Renderer D A (List A)) → FlushesThen columns (block_started columns) r s → entries_of columns preformatted s cs ≡ entries_of columns preformatted r cs
-    entries_started cs r s h = ap (λ (q : Renderer D A (List A)). entries_of columns preformatted q cs) h.2 ∙ go (has_content h.0) refl ∙ entries_flushed cs r h.0 r.block h.1
-      where
-        go : (b : Bool) → has_content h.0 ≡ b → entries_of columns preformatted (block_started columns h.0) cs ≡ entries_of columns preformatted h.0 cs
-        go true e = rw e refl
-        go false e = rw e refl
+    entries_started cs r s h =
+        ap (λ (q : Renderer D A (List A)). entries_of columns preformatted q cs) h.2
+        ∙ cond_both (has_content h.0) (with_empty_line columns h.0) (record h.0 { block_ended = false }) (λ (q : Renderer D A (List A)). entries_of columns preformatted q cs ≡ entries_of columns preformatted h.0 cs) (λ e. refl) (λ e. refl)
+        ∙ ap (λ (q : Renderer D A (List A)). entries_of columns preformatted q cs) (flush_beside columns r h.0 r.block refl h.1)
 
     text_joined : (cs : List ℕ) (r s : Renderer D A (List A)) → s ≡ with_events r (text_brings columns preformatted cs r) → Path columns kind r s (entries_of columns preformatted r cs)
     text_joined cs r s h = subst (λ (es : List (Entry (List A))). Path columns kind r s es) (entries_run (entries_of columns preformatted r cs)) (one columns kind (join (text_brings columns preformatted cs r)) r s h)
@@ -130,21 +122,21 @@ module _ {D A : Type 0} (columns : ℕ → Option ℕ) (kind : Kind) where
   -- ---- decorated text
 
   module _ (decoration : Decoration D A) where
-    struck_from_same : (r : Renderer D A (List A)) (b : Bool) → r.options.use_unicode_strikeout ≡ b → SameText r (struck_from r)
-    struck_from_same r true e = rw e (record { lines = refl; block = refl; waiting = refl; width = refl; options = refl; hanging = refl })
-    struck_from_same r false e = rw e (record { lines = refl; block = refl; waiting = refl; width = refl; options = refl; hanging = refl })
+    all_same : (r : Renderer D A (List A)) (annotations : List A) (strikeouts : ℕ) (d : D) → SameText r (record r { annotations = annotations; strikeouts = strikeouts; decorator = d })
+    all_same r annotations strikeouts d = record { lines = refl; block = refl; waiting = refl; width = refl; options = refl; hanging = refl }
 
-    struck_until_same : (r : Renderer D A (List A)) (b : Bool) → r.options.use_unicode_strikeout ≡ b → SameText r (struck_until r)
-    struck_until_same r true e = rw e (record { lines = refl; block = refl; waiting = refl; width = refl; options = refl; hanging = refl })
-    struck_until_same r false e = rw e (record { lines = refl; block = refl; waiting = refl; width = refl; options = refl; hanging = refl })
+    struck_from_same : (r : Renderer D A (List A)) → SameText r (struck_from r)
+    struck_from_same r = cond_both r.options.use_unicode_strikeout (record r { strikeouts = suc r.strikeouts }) r (SameText r) (λ e. all_same r _ _ _) (λ e. all_same r _ _ _)
+
+    struck_until_same : (r : Renderer D A (List A)) → SameText r (struck_until r)
+    struck_until_same r = cond_both r.options.use_unicode_strikeout (record r { strikeouts = r.strikeouts - 1 }) r (SameText r) (λ e. all_same r _ _ _) (λ e. all_same r _ _ _)
 
     coloured_same : (g : Ground) (colour : Colour) (r : Renderer D A (List A)) (o : Option A) → decoration.colour_annotation r.decorator g colour ≡ o → SameText r (coloured decoration g colour r)
-    coloured_same g colour r None e = rw e (record { lines = refl; block = refl; waiting = refl; width = refl; options = refl; hanging = refl })
-    coloured_same g colour r (Some a) e = rw e (record { lines = refl; block = refl; waiting = refl; width = refl; options = refl; hanging = refl })
+    coloured_same g colour r None e = rw e (all_same r _ _ _)
+    coloured_same g colour r (Some a) e = rw e (all_same r _ _ _)
 
-    uncoloured_same : (g : Ground) (r : Renderer D A (List A)) (b : Bool) → decoration.ends_colour r.decorator g ≡ b → SameText r (uncoloured decoration g r)
-    uncoloured_same g r true e = rw e (record { lines = refl; block = refl; waiting = refl; width = refl; options = refl; hanging = refl })
-    uncoloured_same g r false e = rw e (record { lines = refl; block = refl; waiting = refl; width = refl; options = refl; hanging = refl })
+    uncoloured_same : (g : Ground) (r : Renderer D A (List A)) → SameText r (uncoloured decoration g r)
+    uncoloured_same g r = cond_both (decoration.ends_colour r.decorator g) (without_annotation (asked_to_end decoration g r)) (asked_to_end decoration g r) (SameText r) (λ e. all_same r _ _ _) (λ e. all_same r _ _ _)
 
     added : (cs : List ℕ) (r s : Renderer D A (List A)) → AddsText columns decoration.preformatted cs r s → Course columns kind r s (text_brought columns decoration cs r) [] (text_adds columns cs r)
     added cs r s h = text_added decoration.preformatted (ignores r cs) r.block_ended cs r s h
@@ -194,14 +186,14 @@ module _ {D A : Type 0} (columns : ℕ → Option ℕ) (kind : Kind) where
     made_moves start_strikeout r s fits e =
         let h = open_parts columns decoration start.strikeout (λ (q : Renderer D A (List A)). struck_from q) r s e in
         let es = text_brought columns decoration (decoration.start_text r.decorator start.strikeout) (annotated decoration start.strikeout r) in
-        turned_then r h.0 s es (opens start.strikeout r h.0 h.1) (turned_by columns kind h.0 (struck_from h.0) s (struck_from_same h.0 h.0.options.use_unicode_strikeout refl) h.2)
+        turned_then r h.0 s es (opens start.strikeout r h.0 h.1) (turned_by columns kind h.0 (struck_from h.0) s (struck_from_same h.0) h.2)
     made_moves end_strikeout r s fits h =
         let q = struck_until r in
         let es = text_brought columns decoration (decoration.end_text q.decorator end.strikeout) (asked_to_close decoration end.strikeout q) in
-        onward columns kind r q s [] es (turned_by columns kind r q q (struck_until_same r r.options.use_unicode_strikeout refl) refl) (closes end.strikeout q s (close_parts columns decoration end.strikeout q s h))
+        onward columns kind r q s [] es (turned_by columns kind r q q (struck_until_same r) refl) (closes end.strikeout q s (close_parts columns decoration end.strikeout q s h))
     made_moves (add_image source title) r s fits h = image_added source (shown_title r.options.img_mode source title) r s (image_parts columns decoration source (shown_title r.options.img_mode source title) r s h)
     made_moves (push_colour g colour) r s fits h = turned_by columns kind r (coloured decoration g colour r) s (coloured_same g colour r (decoration.colour_annotation r.decorator g colour) refl) (one_done _ s h)
-    made_moves (pop_colour g) r s fits h = turned_by columns kind r (uncoloured decoration g r) s (uncoloured_same g r (decoration.ends_colour r.decorator g) refl) (one_done _ s h)
+    made_moves (pop_colour g) r s fits h = turned_by columns kind r (uncoloured decoration g r) s (uncoloured_same g r) (one_done _ s h)
     made_moves (add_border width) r s fits h = border_added columns kind width r s (may_rule kind (add_border width) r (λ no. no) (λ no. no) fits) (flushed_then columns (λ m. with_border columns m (border_of_cells horizontal width r)) r s h)
     made_moves (append_subrender prefixes lines) r s fits h = lines_appended columns kind prefixes lines r s (may_lay kind (append_subrender prefixes lines) r (λ no. no) fits) (flushed_then columns (λ m. fold (with_line columns) m (prefixed r.annotations prefixes lines)) r s h)
     made_moves (append_vert_row cells) r s fits h = cells_appended columns kind r (may_lay kind (append_vert_row cells) r (λ no. no) fits) (may_rule kind (append_vert_row cells) r (λ no. no) (λ no. no) fits) cells s (flushed_then columns (λ m. with_divider columns horizontal (with_cells columns m cells)) r s h)

@@ -2,7 +2,7 @@
 use Rattle.std.proofs.Common.{◌≡◌, ℕ, zero, suc, ◌+◌, ◌-◌, ◌<◌, ◌≤◌, ◌/◌, ◌⊎◌, inl, inr, is_none, Bool, true, false, if◌then◌else◌, Option, Some, None, List, [], ◌∷◌, ◌++◌, map, flat_map, drop, length, refl, ap, sym, ◌∙◌, subst, arith, append_assoc, append-nil}
 use Rattle.std.specs.Prelude.{nat_lt}
 use Rattle.std.specs.List.{AllZip}
-use Rattle.std.proofs.lemmas.Bool.{ltb-true, ltb-false, le-leb}
+use Rattle.std.proofs.lemmas.Bool.{cond_both, ltb-true, ltb-false, le-leb}
 use Rattle.std.proofs.lemmas.List.{map-append, drop-drop, length-drop}
 use Rattle.std.proofs.lemmas.List.Concat.{flat_map-append}
 use Rattle.tbr_model.specs.Run.{Item, items_width, glyph}
@@ -31,14 +31,13 @@ use Rattle.tbr_kept_lines.specs.LastBorder.{before_border}
 use Rattle.tbr_kept_lines.specs.Line.{Line, text, border}
 use Rattle.tbr_renderer.specs.Renderer.{Renderer, line_padding}
 use Rattle.tbr_renderer.specs.Rows.{GivenCell, FillsCell, ComesAs, PutsRow, border_lines}
-use Rattle.text_block_renderer.specs.Acts.{border_lines_of, StaysLine}
+use Rattle.text_block_renderer.specs.Acts.{border_lines_of}
 use Rattle.text_block_renderer.specs.Stretches.{lines_laid}
 use Rattle.text_block_renderer.specs.Taken.{StandWithin, text_before, written, to_show}
 use Rattle.text_block_renderer.proofs.Within.{within_on, two_within, itself_within, middle_within, after_within, before_within}
 use Rattle.text_block_renderer.proofs.Written.{written-append, stays_written, border_shown, laid_within}
-use Rattle.text_block_renderer.proofs.LastingLines.{top_put_back}
-use Rattle.text_block_renderer.proofs.Moves.{Frame}
-use Rattle.text_block_renderer.proofs.ActParts.{row_frame, row_lines}
+use Rattle.text_block_renderer.proofs.RowsOfCells.{row_beside}
+use Rattle.text_block_renderer.proofs.ActParts.{row_lines, top_stays}
 
 -- ---- among the items of lists
 
@@ -110,19 +109,13 @@ module _ {T : Type 0} where
   unwritten : (ls : List (RenderLine T)) → items_in (as_lines (first_mergeable ls)) ≡ []
   unwritten [] = refl
   unwritten (Text es ∷ ls) = refl
-  unwritten (Rule b ∷ ls) = go (has_holes b.holes) refl
-    where
-      go : (h : Bool) → has_holes b.holes ≡ h → items_in (as_lines (if h then None else Some b)) ≡ []
-      go true e = refl
-      go false e = append-nil (text_before b) ∙ no_holes b.holes e
+  unwritten (Rule b ∷ ls) = cond_both (has_holes b.holes) None (Some b) (λ o. items_in (as_lines o) ≡ []) (λ e. refl) (λ e. append-nil (text_before b) ∙ no_holes b.holes e)
 
   nothing_if : (merges : Bool) (ls : List (RenderLine T)) → items_in (if merges then as_lines (first_mergeable ls) else []) ≡ []
-  nothing_if true ls = unwritten ls
-  nothing_if false ls = refl
+  nothing_if merges ls = cond_both merges (as_lines (first_mergeable ls)) [] (λ ms. items_in ms ≡ []) (λ e. unwritten ls) (λ e. refl)
 
   last_if : (merges : Bool) (ls : List (RenderLine T)) → items_in (if merges then as_lines (last_mergeable ls) else []) ≡ []
-  last_if true ls = unwritten (drop (length ls - 1) ls)
-  last_if false ls = refl
+  last_if merges ls = cond_both merges (as_lines (last_mergeable ls)) [] (λ ms. items_in ms ≡ []) (λ e. unwritten (drop (length ls - 1) ls)) (λ e. refl)
 
   -- so a cell and what meets the row say the same
   met_written : (m : Meeting) (c : Cell T) → items_in (met m c).lines ≡ items_in c.lines
@@ -325,14 +318,11 @@ module _ {D A : Type 0} (columns : ℕ → Option ℕ) where
   -- the border below a row says what is in front of it
   below_within : (r : Renderer D A (List A)) (o : Option (Border (List A))) → StandWithin (to_show columns (below columns r.annotations o)) (to_show columns (written (border_lines_of columns r o)))
   below_within r None = tt
-  below_within r (Some b) = go r.options.pad_block_width
-    where
-      is : List (Item (List A))
-      is = shown b.tag b
-
-      go : (pads : Bool) → StandWithin (to_show columns (text_before b)) (to_show columns (written ((if pads then text (is ++ line_padding columns r is) else border b) ∷ [])))
-      go true = before_within columns (text_before b) (is ++ line_padding columns r is) [] (before_within columns (text_before b) is (line_padding columns r is) (border_shown columns b.tag b))
-      go false = before_within columns (text_before b) (text_before b) [] (itself_within columns (text_before b))
+  below_within r (Some b) =
+      let is = shown b.tag b in
+      cond_both r.options.pad_block_width (text (is ++ line_padding columns r is)) (border b) (λ l. StandWithin (to_show columns (text_before b)) (to_show columns (written (l ∷ []))))
+      (λ e. before_within columns (text_before b) (is ++ line_padding columns r is) [] (before_within columns (text_before b) is (line_padding columns r is) (border_shown columns b.tag b)))
+      (λ e. before_within columns (text_before b) (text_before b) [] (itself_within columns (text_before b)))
 
   module _ (collapses : Bool) (cells : List (GivenCell (List A))) (m s : Renderer D A (List A)) (puts : PutsRow columns collapses cells m s) where
     -- a row writes its lines after what there was, and then what is in front of the border below
@@ -340,13 +330,11 @@ module _ {D A : Type 0} (columns : ℕ → Option ℕ) where
     row_adds =
         let row = puts.row in
         let top : List (Line (List A)) = before_border m.lines ++ border_lines row.above in
-        let upper : AllZip StaysLine m.lines top =
-        subst (λ (o : Option (Border (List A))). AllZip StaysLine m.lines (before_border m.lines ++ border_lines o)) (sym puts.means.upper) (top_put_back collapses puts.means.cells m.lines) in
         let laid = lines_laid columns m row.lines in
         let last = border_lines_of columns m row.next in
         let texts = laid_within columns m row.lines in (
           written laid ++ written last,
-          ap (λ (q : Renderer D A (List A)). written q.lines) puts.is ∙ ap written (row_lines columns m row) ∙ written-append top (laid ++ last) ∙ ap (λ is. is ++ written (laid ++ last)) (stays_written m.lines top upper)
+          ap (λ (q : Renderer D A (List A)). written q.lines) puts.is ∙ ap written (row_lines columns m row) ∙ written-append top (laid ++ last) ∙ ap (λ is. is ++ written (laid ++ last)) (stays_written m.lines top (top_stays columns collapses cells m s puts))
               ∙ ap (λ is. written m.lines ++ is) (written-append laid last),
           two_within columns (joined row.lines) (below columns m.annotations row.next) (written laid) (written last) texts (below_within m row.next),
         )
@@ -376,7 +364,7 @@ module _ {D A : Type 0} (columns : ℕ → Option ℕ) where
         go : (rest : List (RenderLine (List A))) → IsLeft columns m.annotations c.span rest puts.row.overhang → StandWithin us (to_show columns (written s.lines ++ items_in rest)) → Follows us rows s
         go rest (inl none) all = inl (subst (λ js. StandWithin us (to_show columns js)) (ap (λ ls. written s.lines ++ items_in ls) none ∙ append-nil (written s.lines)) all)
         go rest (inr (d, hangs, are, some, spans)) all =
-            let hanging : s.hanging ≡ puts.row.overhang = ap (λ (q : Renderer D A (List A)). q.hanging) puts.is ∙ ap (λ (f : Frame A). f.hanging) (row_frame columns m puts.row) in
+            let hanging : s.hanging ≡ puts.row.overhang = ap (λ (q : Renderer D A (List A)). q.hanging) puts.is ∙ ap (λ (q : Renderer D A (List A)). q.hanging) (row_beside columns m puts.row) in
             inr (d, subst (StandsAmong d) (sym hanging) hangs, some, omega (arith, spans, few), subst (λ ls. StandWithin us (to_show columns (written s.lines ++ items_in ls))) (sym are) all)
 
   -- and from where a row takes a cell

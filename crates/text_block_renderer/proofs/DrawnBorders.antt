@@ -9,10 +9,10 @@ use Rattle.tbr_border.specs.Cell.{Cell}
 use Rattle.tbr_decor.specs.Decoration.{Decoration}
 use Rattle.tbr_renderer.specs.declared.options.RenderOptions.{RenderOptions}
 use Rattle.tbr_kept_lines.specs.Line.{Line, text, border}
-use Rattle.tbr_renderer.specs.Renderer.{Open, Renderer, line_padding, with_line, IsSound}
+use Rattle.tbr_renderer.specs.Renderer.{Open, Renderer, new_renderer, line_padding, with_line, IsSound}
 use Rattle.tbr_model.specs.Markers.{marker_items}
 use Rattle.tbr_renderer.specs.Flush.{block_lines, flushed, lines_at_end, names_at_end}
-use Rattle.tbr_renderer.proofs.FlushedBlocks.{FlushesBlock}
+use Rattle.tbr_renderer.proofs.FlushedBlocks.{EndsBlock, FlushesBlock}
 use Rattle.tbr_renderer.specs.Appended.{border_line, with_border}
 use Rattle.tbr_renderer.specs.Calls.{laid_entries, Call, Steps, Brings, brought as all_brought, text_of_lines}
 use Rattle.text_block_renderer.specs.Drawn.{as_it_is, drawn, line_put, not_drawn, cells_drawn, AreDrawnAmong, WithoutDrawnBorders, CameWithoutDrawnBorders, borders_drawn, DrawNone}
@@ -140,16 +140,20 @@ module _ {D A : Type 0} (columns : ℕ → Option ℕ) where
         others = rest.others ∙ ap (on (fold (with_line columns) (with_line columns r t) ts)) (append_assoc ls (marked ∷ []) rest.more);
       }
 
+  -- a run ends alike too
+  pub end_alike : (r s : Renderer D A (List A)) (ls : List (Line (List A))) (b : Open (List A)) → EndsBlock columns r b s → (more : List (Line (List A))) × (s.lines ≡ r.lines ++ more) × EndsBlock columns (on r ls) b (on s (ls ++ more))
+  end_alike r s ls b h =
+      let alike = come_alike (block_lines columns r b (lines_at_end columns r b)) (record r { block = None }) ls in
+      let same : on s (ls ++ alike.more) ≡ flushed columns (on r ls) (block_lines columns r b (lines_at_end columns r b)) (names_at_end columns r b) =
+      ap (λ (q : Renderer D A (List A)). on q (ls ++ alike.more)) h.is ∙ sym (ap (λ (q : Renderer D A (List A)). record q { waiting = q.waiting ++ (names_at_end columns r b) }) alike.others) in
+      (alike.more, ap (λ (q : Renderer D A (List A)). q.lines) h.is ∙ alike.lines, record { fits = h.fits; ends = λ sound. h.ends (record { space = sound.space; wide = sound.wide }); is = same })
+
   flush_less : (r s : Renderer D A (List A)) (ls : List (Line (List A))) (o : Option (Open (List A))) → o ≡ r.block → FlushesBlock columns r o s → Less r s ls [] []
   flush_less r s ls None e h =
       nothing r s ls [] [] (ap (λ (q : Renderer D A (List A)). q.lines) h ∙ sym (append-nil r.lines)) (none_among []) (ap (λ (q : Renderer D A (List A)). on q ls) h)
   flush_less r s ls (Some b) e h =
-      let alike = come_alike (block_lines columns r b (lines_at_end columns r b)) (record r { block = None }) ls in
-      let same : on s (ls ++ alike.more) ≡ flushed columns (on r ls) (block_lines columns r b (lines_at_end columns r b)) (names_at_end columns r b) =
-      ap (λ (q : Renderer D A (List A)). on q (ls ++ alike.more)) h.is ∙ sym (ap (λ (q : Renderer D A (List A)). record q { waiting = q.waiting ++ (names_at_end columns r b) }) alike.others) in
-      let flushes : FlushesBlock columns (on r ls) (Some b) (on s (ls ++ alike.more)) = record { fits = h.fits; ends = λ sound. h.ends (record { space = sound.space; wide = sound.wide }); is = same } in
-      as_they_are (flush (on r ls)) r s ls alike.more (ap (λ (q : Renderer D A (List A)). q.lines) h.is ∙ alike.lines)
-      (refl, subst (λ (p : Option (Open (List A))). FlushesBlock columns (on r ls) p (on s (ls ++ alike.more))) e flushes)
+      let (more, lines, ends) = end_alike r s ls b h in
+      as_they_are (flush (on r ls)) r s ls more lines (refl, subst (λ (p : Option (Open (List A))). FlushesBlock columns (on r ls) p (on s (ls ++ more))) e ends)
 
   rule_less : (r s : Renderer D A (List A)) (ls : List (Line (List A))) (cells : List Cell) (pads : Bool) → r.options.pad_block_width ≡ pads → r.block ≡ None → s ≡ with_border columns r (without_holes cells r.annotations) → Less r s ls [] (if_drawn pads (cells ∷ []))
   rule_less r s ls cells true e none h =
@@ -226,6 +230,11 @@ module _ {D A : Type 0} (columns : ℕ → Option ℕ) where
         let path = calls_move columns any decoration calls r s es tt h in
         subst (λ bs. WithoutDrawnBorders (borders ++ if_drawn r.options.pad_block_width bs) (λ q. P q (before ++ es)) s) path.rules
         (subst (λ fs. WithoutDrawnBorders (borders ++ if_drawn r.options.pad_block_width (ruled path.moves)) (λ q. P q (before ++ fs)) s) path.brings (moves_on path.moves r s borders before sound path.makes k))
+
+    -- of new ones, of which it holds
+    pub new_brings_on : ((width : ℕ) (options : RenderOptions) (decorator : D) → P (new_renderer width options decorator) []) → (decoration : Decoration D A) (width : ℕ) (options : RenderOptions) (decorator : D) (calls : List (Call (List A))) (s : Renderer D A (List A)) (es : List (Entry (List A))) →
+        (let r : Renderer D A (List A) = new_renderer width options decorator in IsSound columns r → Brings columns decoration calls r es s → WithoutDrawnBorders (borders_drawn r calls) (λ q. P q es) s)
+    new_brings_on none decoration width options decorator calls s es sound h = brings_on decoration calls (new_renderer width options decorator) s [] [] es sound h ([], ([], refl, refl, refl), none width options decorator)
 
   module _ (R : Renderer D A (List A) → Renderer D A (List A) → Type 0)
       (same : (r s : Renderer D A (List A)) → s ≡ r → R r s) (on_from : (r q s : Renderer D A (List A)) → R r q → R q s → R r s)

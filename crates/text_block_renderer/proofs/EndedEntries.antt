@@ -7,7 +7,6 @@ use Rattle.tbr_model.specs.Rule.{run_of}
 use Rattle.tbr_model.specs.Run.{Entry, Item}
 use Rattle.tbr_model.specs.Layout.{joined}
 use Rattle.tbr_border.specs.Border.{Border, without_holes}
-use Rattle.tbr_kept_lines.specs.LastBorder.{before_border}
 use Rattle.tbr_decor.specs.Decoration.{Decoration}
 use Rattle.tbr_tagged.specs.Outcome.{done}
 use Rattle.tbr_tagged.proofs.Outcomes.{live_done}
@@ -16,7 +15,7 @@ use Rattle.tbr_renderer.specs.Appended.{with_border}
 use Rattle.tbr_renderer.specs.Flush.{after_flush}
 use Rattle.tbr_renderer.specs.Footnotes.{footnote_lines}
 use Rattle.tbr_renderer.specs.Outcomes.{run, told_by}
-use Rattle.tbr_renderer.specs.Rows.{border_lines, with_next}
+use Rattle.tbr_renderer.specs.Rows.{with_next}
 use Rattle.tbr_renderer.specs.Calls.{new_line, laid_entry, laid_entries}
 use Rattle.tbr_renderer.proofs.FlushedBlocks.{EndsBlock, FlushesBlock}
 use Rattle.tbr_renderer.proofs.JoinedTexts.{run_joined}
@@ -24,11 +23,11 @@ use Rattle.tbr_renderer.proofs.OutcomeParts.{one_done, done_first}
 use Rattle.tbr_renderer.proofs.SettingsStay.{Steady, lines_added, flushed_alike}
 use Rattle.text_block_renderer.specs.Acts.{StaysLine, Act, call, row, fmt_links, finalise, after_act, before_run, act_comes, acts_come}
 use Rattle.text_block_renderer.proofs.ActSteps.{ActStep, act_step}
-use Rattle.text_block_renderer.proofs.ActParts.{alone, act_sound}
-use Rattle.text_block_renderer.proofs.Moves.{Kind, MayRule, may_call, may_still, Move, flush, line, rule, join, turn, brought_by, Makes, flushed_none, block_stays}
+use Rattle.text_block_renderer.proofs.ActParts.{alone, act_sound, top_stays}
+use Rattle.text_block_renderer.proofs.Moves.{Kind, MayRule, may_call, may_still, Move, flush, line, rule, join, turn, brought_by, Makes, flushed_none, lines_beside}
 use Rattle.text_block_renderer.proofs.DrawnBorders.{calls_bring_on}
 use Rattle.text_block_renderer.proofs.RowsOfCells.{row_flushes, row_closed, under_row}
-use Rattle.text_block_renderer.proofs.LastingLines.{all_stay, top_put_back}
+use Rattle.text_block_renderer.proofs.LastingLines.{all_stay}
 
 -- Of the entries that came, those of the open run are the last, and something holds of the others.
 abbrev pub Ended : {D A : Type 0} → (Renderer D A (List A) → List (Entry (List A)) → Type 0) → Renderer D A (List A) → List (Entry (List A)) → Type 0
@@ -111,18 +110,17 @@ module _ {D A : Type 0} (columns : ℕ → Option ℕ) (kind : Kind) (Q : Render
         let ts = flat_map (footnote_lines columns r) links in
         let more = laid_entries (joined ts) in
         subst (λ (q : Top). Ended Q q (before_run r more es)) (sym h)
-        (ended ++ more, ap (λ (o : Option (Open (List A))). (ended ++ more) ++ open_run o) (block_stays columns ts r) ∙ placed r ended more ∙ ap (before_run r more) whole, laid_on ts r ended k)
+        (ended ++ more, ap (λ (o : Option (Open (List A))). (ended ++ more) ++ open_run o) (ap (λ (q : Top). q.block) (lines_beside columns ts r)) ∙ placed r ended more ∙ ap (before_run r more) whole, laid_on ts r ended k)
     act_on (row collapses cells) r s es sound may h k =
         let (m, flushed, puts, is) = h in
         let alike = flushed_alike columns r m (live_done r.failure (after_flush columns r) m flushed).1 in
         let first : Ended Q m es = subst (Ended Q m) (append-nil es) (calls_bring_on columns kind (Ended Q) move_on decoration (new_line ∷ []) r m es [] sound (may_call kind r new_line may) (alone columns decoration new_line r m flushed) k) in
-        let stay = subst (λ (o : Option (Border (List A))). AllZip StaysLine m.lines (before_border m.lines ++ border_lines o)) (sym puts.means.upper) (top_put_back collapses puts.means.cells m.lines) in
         let top = under_row m puts.row in
         let full = fold (with_line columns) top puts.row.lines in
         let still = may_still kind r full (ap (λ (x : Steady D A). x.settings.kept.options) (lines_added columns puts.row.lines top) ∙ ap (λ (x : Steady D A). x.settings.kept.options) alike) may in
         subst (λ fs. Ended Q s (es ++ fs)) (sym is)
         (put_on m s (laid_entries (joined puts.row.lines)) es (flushed_none columns r m (row_flushes columns r m flushed)) (row_closed columns r s (m, flushed, puts.row, puts.is))
-        (λ ended j. subst (λ (q : Top). Q q (ended ++ laid_entries (joined puts.row.lines))) (sym puts.is) (below_on full puts.row.next _ still (laid_on puts.row.lines top ended (on.stays m top ended stay refl j)))) first)
+        (λ ended j. subst (λ (q : Top). Q q (ended ++ laid_entries (joined puts.row.lines))) (sym puts.is) (below_on full puts.row.next _ still (laid_on puts.row.lines top ended (on.stays m top ended (top_stays columns collapses cells m s puts) refl j)))) first)
 
     pub acts_on : (acts : List (Act A)) (r s : Top) (es : Came) → IsSound columns r → MayRule kind r → run (after_act columns decoration) acts r ≡ done s → Ended Q r es → Ended Q s (acts_come columns decoration acts r es)
     acts_on [] r s es sound may h k = subst (λ (q : Top). Ended Q q es) (sym (one_done r s h)) k

@@ -1,5 +1,5 @@
 -- The lines of laid texts, and the visible characters there.
-use Rattle.std.proofs.Common.{◌≡◌, ◌≤◌, ℕ, false, Option, List, [], ◌∷◌, ◌++◌, map, flat_map, fold, length, refl, ap, sym, arith, ◌∙◌, append_assoc, append-nil}
+use Rattle.std.proofs.Common.{◌≡◌, ◌≤◌, ℕ, false, Option, List, [], ◌∷◌, ◌++◌, map, flat_map, fold, length, refl, ap, sym, arith, ◌∙◌, append-nil}
 use Rattle.std.specs.List.{AllByRecursion as Each, zip}
 use Rattle.tbr_model.specs.Run.{Item}
 use Rattle.tbr_model.specs.Layout.{joined}
@@ -18,7 +18,7 @@ use Rattle.tbr_renderer.specs.Calls.{append_subrender, Does, text_of_lines}
 use Rattle.text_block_renderer.specs.Stretches.{padded_line, lines_laid}
 use Rattle.text_block_renderer.specs.Nested.{visible_after}
 use Rattle.text_block_renderer.proofs.AddedLines.{unmarked_lines, laid_lines}
-use Rattle.text_block_renderer.proofs.VisibleCharacters.{space_unseen, glyphs-append, shown_line}
+use Rattle.text_block_renderer.proofs.VisibleCharacters.{space_unseen, glyphs-append, shown_texts}
 
 -- ---- after prefixes
 
@@ -76,18 +76,11 @@ module _ {D A : Type 0} (columns : ℕ → Option ℕ) where
 
   -- ---- visible characters
 
-  shown_texts : (ts : List (List (Item (List A)))) (r : Renderer D A (List A)) → visible_glyphs columns (text_of_lines (fold (with_line columns) r ts).lines) ≡ visible_glyphs columns (text_of_lines r.lines) ++ visible_glyphs columns (joined ts)
-  shown_texts [] r = sym (append-nil (visible_glyphs columns (text_of_lines r.lines)))
-  shown_texts (t ∷ ts) r =
-      let old = visible_glyphs columns (text_of_lines r.lines) in
-      shown_texts ts (with_line columns r t) ∙ ap (λ gs. gs ++ visible_glyphs columns (joined ts)) (shown_line columns r t)
-      ∙ append_assoc old (visible_glyphs columns t) (visible_glyphs columns (joined ts)) ∙ ap (λ gs. old ++ gs) (sym (glyphs-append columns t (joined ts)))
-
   pub characters_appended : (decoration : Decoration D A) (prefixes : List (List ℕ)) (lines : List (Line (List A))) (r s : Renderer D A (List A)) → Does columns decoration (append_subrender prefixes lines) r s →
       (m : Renderer D A (List A)) × (after_flush columns r ≡ done m) × (visible_glyphs columns (text_of_lines s.lines) ≡ visible_glyphs columns (text_of_lines m.lines) ++ visible_glyphs columns (joined (prefixed r.annotations prefixes lines)))
   characters_appended decoration prefixes lines r s h =
       let (m, flushed, is) = lines_after decoration prefixes lines r s h in
-      (m, flushed, ap (λ (q : Renderer D A (List A)). visible_glyphs columns (text_of_lines q.lines)) is ∙ shown_texts (prefixed r.annotations prefixes lines) m)
+      (m, flushed, ap (λ (q : Renderer D A (List A)). visible_glyphs columns (text_of_lines q.lines)) is ∙ shown_texts columns (prefixed r.annotations prefixes lines) m)
 
   pub characters_after : (decoration : Decoration D A) (prefixes : List (List ℕ)) (lines : List (Line (List A))) (r s : Renderer D A (List A)) → Does columns decoration (append_subrender prefixes lines) r s →
       (m : Renderer D A (List A)) × (after_flush columns r ≡ done m) × (visible_glyphs columns (text_of_lines s.lines) ≡ visible_glyphs columns (text_of_lines m.lines) ++ flat_map (visible_after columns r.annotations) (zip prefixes lines))

@@ -38,12 +38,6 @@ module _ {T : Type 0} where
   stay_on (l ∷ ls) (m ∷ ms) [] h k = elim k [ ]
   stay_on (l ∷ ls) (m ∷ ms) (n ∷ ns) h k = (stays_on l m n h.0 k.0, stay_on ls ms ns h.1 k.1)
 
-  pub stay_append : (ls ms ns os : List (Line T)) → AllZip StaysLine ls ms → AllZip StaysLine ns os → AllZip StaysLine (ls ++ ns) (ms ++ os)
-  stay_append [] [] ns os h k = k
-  stay_append [] (m ∷ ms) ns os h k = elim h [ ]
-  stay_append (l ∷ ls) [] ns os h k = elim h [ ]
-  stay_append (l ∷ ls) (m ∷ ms) ns os h k = (h.0, stay_append ls ms ns os h.1 k)
-
   -- the same text
   pub stay_texts : (ls ms : List (Line T)) → AllZip StaysLine ls ms → text_of_lines ms ≡ text_of_lines ls
   stay_texts [] [] h = refl

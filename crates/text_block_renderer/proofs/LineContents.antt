@@ -40,6 +40,13 @@ module _ {A Y : Type 0} (look : List (Item (List A)) → List Y) (looks : Looks 
   pub before_padding : (o : Option (List A)) (width : ℕ) (is js : List (Item (List A))) → look (is ++ padding_of columns o width js) ≡ look is
   before_padding o width is js = looks.append is (padding_of columns o width js) ∙ ap (λ ys. look is ++ ys) (padding_unseen o width js) ∙ append-nil (look is)
 
+  -- so it is not seen in texts
+  pub unpadded : (o : Option (List A)) (width : ℕ) (ts : List (List (Item (List A)))) → look (joined (map (λ is. is ++ padding_of columns o width is) ts)) ≡ look (joined ts)
+  unpadded o width [] = refl
+  unpadded o width (t ∷ ts) =
+      let others = joined (map (λ is. is ++ padding_of columns o width is) ts) in
+      looks.append (t ++ padding_of columns o width t) others ∙ ap (λ ys. ys ++ look others) (before_padding o width t t) ∙ ap (λ ys. look t ++ ys) (unpadded o width ts) ∙ sym (looks.append t (joined ts))
+
 module _ {D A Y : Type 0} (look : List (Item (List A)) → List Y) (looks : Looks look) (columns : ℕ → Option ℕ) where
   -- one line more
   pub seen_line : (r : Renderer D A (List A)) (t : List (Item (List A))) → look (items_so_far (with_line columns r t)) ≡ look (items_so_far r) ++ look t
@@ -53,15 +60,11 @@ module _ {D A Y : Type 0} (look : List (Item (List A)) → List Y) (looks : Look
       ∙ ap look (sym (append_assoc (text_of_lines r.lines) (marker_items r.waiting) t))
       ∙ looks.append (items_so_far r) t
 
-  -- the padded texts of a block
-  pub seen_lines : (b : Open (List A)) (width : ℕ) (texts : List (List (Item (List A)))) (r : Renderer D A (List A)) →
-      look (items_so_far (fold (with_line columns) r (map (λ is. is ++ padding_of columns b.padding width is) texts))) ≡ look (items_so_far r) ++ look (joined texts)
-  seen_lines b width [] r = sym (append-nil (look (items_so_far r))) ∙ ap (λ ys. look (items_so_far r) ++ ys) (sym looks.nothing)
-  seen_lines b width (t ∷ ts) r =
-      let full : List (Item (List A)) = t ++ padding_of columns b.padding width t in
-      seen_lines b width ts (with_line columns r full)
-      ∙ ap (λ ys. ys ++ look (joined ts)) (seen_line r full ∙ ap (λ ys. look (items_so_far r) ++ ys) (before_padding look looks columns b.padding width t t))
-      ∙ append_assoc (look (items_so_far r)) (look t) (look (joined ts))
+  -- and several
+  pub seen_texts : (ts : List (List (Item (List A)))) (r : Renderer D A (List A)) → look (items_so_far (fold (with_line columns) r ts)) ≡ look (items_so_far r) ++ look (joined ts)
+  seen_texts [] r = sym (append-nil (look (items_so_far r))) ∙ ap (λ ys. look (items_so_far r) ++ ys) (sym looks.nothing)
+  seen_texts (t ∷ ts) r =
+      seen_texts ts (with_line columns r t) ∙ ap (λ ys. ys ++ look (joined ts)) (seen_line r t) ∙ append_assoc (look (items_so_far r)) (look t) (look (joined ts))
       ∙ ap (λ ys. look (items_so_far r) ++ ys) (sym (looks.append t (joined ts)))
 
   -- the end of a run
@@ -72,6 +75,6 @@ module _ {D A Y : Type 0} (look : List (Item (List A)) → List Y) (looks : Look
       ap (λ is. look (text_of_lines s.lines ++ is)) (marker_items-append s.waiting names)
       ∙ ap look (sym (append_assoc (text_of_lines s.lines) (marker_items s.waiting) (marker_items names)))
       ∙ looks.append (items_so_far s) (marker_items names)
-      ∙ ap (λ ys. ys ++ look (marker_items names)) (seen_lines b (block_width r) texts (record r { block = None }))
+      ∙ ap (λ ys. ys ++ look (marker_items names)) (seen_texts (block_lines columns r b texts) (record r { block = None }) ∙ ap (λ ys. look (items_so_far r) ++ ys) (unpadded look looks columns b.padding (block_width r) texts))
       ∙ append_assoc (look (items_so_far r)) (look (joined texts)) (look (marker_items names))
       ∙ ap (λ ys. look (items_so_far r) ++ ys) (sym (looks.append (joined texts) (marker_items names)))

@@ -141,25 +141,21 @@ pub record Frame (A : Type 0) : Type 0 where
 abbrev pub frame : {D A : Type 0} → Renderer D A (List A) → Frame A
 frame r = record { width = r.width; options = r.options; hanging = r.hanging }
 
-module _ {D A : Type 0} (columns : ℕ → Option ℕ) where
-  pub block_stays : (ts : List (List (Item (List A)))) (q : Renderer D A (List A)) → (fold (with_line columns) q ts).block ≡ q.block
-  block_stays [] q = refl
-  block_stays (t ∷ ts) q = block_stays ts (with_line columns q t)
+-- a renderer but for its lines and the markers that wait
+abbrev pub beside : {D A : Type 0} → Renderer D A (List A) → Renderer D A (List A)
+beside r = record r { lines = []; waiting = [] }
 
-  closed : (r s : Renderer D A (List A)) (o : Option (Open (List A))) → o ≡ r.block → FlushesBlock columns r o s → s.block ≡ None
-  closed r s None e h = ap (λ (q : Renderer D A (List A)). q.block) h ∙ sym e
-  closed r s (Some b) e h = ap (λ (q : Renderer D A (List A)). q.block) h.is ∙ block_stays (block_lines columns r b (lines_at_end columns r b)) (record r { block = None })
+module _ {D A : Type 0} (columns : ℕ → Option ℕ) where
+  pub lines_beside : (ts : List (List (Item (List A)))) (q : Renderer D A (List A)) → beside (fold (with_line columns) q ts) ≡ beside q
+  lines_beside [] q = refl
+  lines_beside (t ∷ ts) q = lines_beside ts (with_line columns q t)
+
+  pub flush_beside : (r s : Renderer D A (List A)) (o : Option (Open (List A))) → o ≡ r.block → FlushesBlock columns r o s → beside s ≡ record (beside r) { block = None }
+  flush_beside r s None e h = ap (λ (q : Renderer D A (List A)). beside q) h ∙ ap (λ (o : Option (Open (List A))). record (beside r) { block = o }) (sym e)
+  flush_beside r s (Some b) e h = ap (λ (q : Renderer D A (List A)). beside q) h.is ∙ lines_beside (block_lines columns r b (lines_at_end columns r b)) (record r { block = None })
 
   pub flushed_none : (r s : Renderer D A (List A)) → Flushes columns r s → s.block ≡ None
-  flushed_none r s h = closed r s r.block refl h
-
-  pub frame_of_lines : (ts : List (List (Item (List A)))) (q : Renderer D A (List A)) → frame (fold (with_line columns) q ts) ≡ frame q
-  frame_of_lines [] q = refl
-  frame_of_lines (t ∷ ts) q = frame_of_lines ts (with_line columns q t)
-
-  pub flush_frame : (r s : Renderer D A (List A)) (o : Option (Open (List A))) → FlushesBlock columns r o s → frame s ≡ frame r
-  flush_frame r s None h = ap (λ (q : Renderer D A (List A)). frame q) h
-  flush_frame r s (Some b) h = ap (λ (q : Renderer D A (List A)). frame q) h.is ∙ frame_of_lines (block_lines columns r b (lines_at_end columns r b)) (record r { block = None })
+  flushed_none r s h = ap (λ (q : Renderer D A (List A)). q.block) (flush_beside r s r.block refl h)
 
 module _ {D A : Type 0} (columns : ℕ → Option ℕ) (kind : Kind) where
   abbrev pub Makes : Move D A → Renderer D A (List A) → Renderer D A (List A) → Type 0
@@ -236,7 +232,7 @@ module _ {D A : Type 0} (columns : ℕ → Option ℕ) (kind : Kind) where
   -- ---- width, options, and the cells that overhang
 
   move_frame : (m : Move D A) (r s : Renderer D A (List A)) → Makes m r s → frame s ≡ frame r
-  move_frame (flush q) r s h = flush_frame columns r s r.block h.1
+  move_frame (flush q) r s h = ap (λ (p : Renderer D A (List A)). frame p) (flush_beside columns r s r.block refl h.1)
   move_frame (line is) r s h = ap (λ (q : Renderer D A (List A)). frame q) h.2
   move_frame (rule cells) r s h = ap (λ (q : Renderer D A (List A)). frame q) h.2
   move_frame (join es) r s h = ap (λ (q : Renderer D A (List A)). frame q) h

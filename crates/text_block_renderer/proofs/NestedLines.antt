@@ -15,7 +15,7 @@ use Rattle.tbr_renderer.proofs.FlushedBlocks.{FlushesBlock}
 use Rattle.tbr_renderer.proofs.CallParts.{flushed_then, handed_then}
 use Rattle.tbr_renderer.specs.Appended.{as_text, prefixed}
 use Rattle.text_block_renderer.specs.Nested.{Level, nested, IsFront, shortest, HandsOn, HandOn}
-use Rattle.text_block_renderer.proofs.Moves.{block_stays}
+use Rattle.text_block_renderer.proofs.Moves.{lines_beside}
 use Rattle.text_block_renderer.proofs.LaidTexts.{plain_lines}
 
 module _ {T : Type 0} where
@@ -71,7 +71,7 @@ module _ {D A : Type 0} (columns : ℕ → Option ℕ) (decoration : Decoration 
       let (t, last_flushed, gives) = handed_then columns h.last lines h.gives in
       let same : m ≡ h.first = nothing_flushed h.first m h.first.block h.no_block flushed in
       let last : h.last ≡ fold (with_line columns) h.first texts = is ∙ ap (λ (q : Renderer D A (List A)). fold (with_line columns) q texts) same in
-      let closed : h.last.block ≡ None = ap (λ (q : Renderer D A (List A)). q.block) last ∙ block_stays columns texts h.first ∙ h.no_block in
+      let closed : h.last.block ≡ None = ap (λ (q : Renderer D A (List A)). q.block) last ∙ ap (λ (q : Renderer D A (List A)). q.block) (lines_beside columns texts h.first) ∙ h.no_block in
       let out : t ≡ h.last = nothing_flushed h.last t h.last.block closed last_flushed in
       gives ∙ ap (λ (q : Renderer D A (List A)). q.lines) (out ∙ last) ∙ plain_lines columns texts h.first h.unpadded h.no_marker ∙ ap (λ ls. ls ++ map text texts) h.no_line
       ∙ ap (λ tag. map text (prefixed tag level.prefixes inside)) h.annotations

@@ -1,7 +1,7 @@
 -- The lines of a run are together, and no legal layout is ahead of them.
-use Rattle.std.proofs.Common.{◌≡◌, ℕ, ◌==◌, ◌⊎◌, inl, inr, nat_lt, Bool, true, false, not, if◌then◌else◌, Option, Some, None, unwrap_or, List, [], ◌∷◌, ◌++◌, map, flat_map, fold, length, take, drop, refl, ap, sym, ◌∙◌, subst, arith, append_assoc, append-nil}
+use Rattle.std.proofs.Common.{◌≡◌, ℕ, ◌==◌, ◌⊎◌, inl, inr, nat_lt, Bool, true, false, not, Option, Some, None, unwrap_or, List, [], ◌∷◌, ◌++◌, map, flat_map, length, take, drop, refl, ap, sym, ◌∙◌, subst, arith, append_assoc, append-nil}
 use Rattle.std.specs.List.{AllByRecursion as Each}
-use Rattle.std.proofs.lemmas.Bool.{eqb-true}
+use Rattle.std.proofs.lemmas.Bool.{cond_both, eqb-true}
 use Rattle.std.proofs.lemmas.List.{length-map, map-append, take-map, take-append-drop}
 use Rattle.std.proofs.lemmas.List.Elements.{filter-append}
 use Rattle.tbr_model.proofs.rule.HardLines.{run_of-append}
@@ -14,19 +14,19 @@ use Rattle.tbr_model.proofs.lists.Joined.{joined-append}
 use Rattle.tbr_model.proofs.words.Items.{break_lost}
 use Rattle.tbr_model.proofs.words.KeptItems.{words_hold}
 use Rattle.tbr_wrap.specs.Runs.{EndsRun}
-use Rattle.tbr_wrap.specs.Wrapped.{padding_of, HasBestLines}
+use Rattle.tbr_wrap.specs.Wrapped.{HasBestLines}
 use Rattle.tbr_decor.specs.Decoration.{Decoration}
 use Rattle.tbr_renderer.specs.declared.options.RenderOptions.{RenderOptions}
 use Rattle.tbr_kept_lines.specs.Line.{Line}
-use Rattle.tbr_renderer.specs.Renderer.{Open, Renderer, new_block, least, overflows, with_line, with_events, with_more, block_width, may_overflow, IsSound}
+use Rattle.tbr_renderer.specs.Renderer.{Open, Renderer, new_block, least, overflows, with_events, with_more, block_width, may_overflow, IsSound}
 use Rattle.tbr_tagged.specs.Outcome.{done}
 use Rattle.tbr_renderer.specs.Flush.{block_lines, lines_at_end, names_at_end, after_flush}
 use Rattle.tbr_renderer.proofs.FlushedBlocks.{flushes, EndsBlock, FlushesBlock, Flushes}
 use Rattle.tbr_renderer.specs.Calls.{Call, Steps, Brings}
-use Rattle.text_block_renderer.specs.Stretches.{line_of_text, stretch, items_on, NoneIsAhead, StandsAsStretch, StaysOpen, EndsAsStretch}
+use Rattle.text_block_renderer.specs.Stretches.{line_of_text, stretch, items_on, NoneIsAhead, StandsAsStretch, StaysOpen, EndsAsStretch, padded_line, lines_laid}
 use Rattle.text_block_renderer.proofs.Moves.{Move, flush, line, rule, join, turn, SameText, brought, MakesAll, any, sound_alike}
 use Rattle.text_block_renderer.proofs.CallMoves.{calls_move}
-use Rattle.text_block_renderer.proofs.AddedLines.{moves_grow, steps_grow}
+use Rattle.text_block_renderer.proofs.AddedLines.{moves_grow, steps_grow, laid_lines}
 
 -- ---- items of lines
 
@@ -84,11 +84,7 @@ module _ {T : Type 0} (columns : ℕ → Option ℕ) where
   kept_no_spaces : (run : List (Entry T)) → Each IsNoSpace (kept_items columns run)
   kept_no_spaces [] = tt
   kept_no_spaces (marker_entry name ∷ es) = (refl, kept_no_spaces es)
-  kept_no_spaces (character c a b m ∷ es) = go (is_kept columns c) refl (kept_no_spaces es)
-    where
-      go : (k : Bool) → is_kept columns c ≡ k → Each IsNoSpace (kept_items columns es) → Each IsNoSpace ((if k then glyph c a ∷ [] else []) ++ kept_items columns es)
-      go true e rest = (kept_no_space c a e, rest)
-      go false e rest = rest
+  kept_no_spaces (character c a b m ∷ es) = cond_both (is_kept columns c) (glyph c a ∷ []) [] (λ is. Each IsNoSpace (is ++ kept_items columns es)) (λ e. (kept_no_space c a e, kept_no_spaces es)) (λ e. kept_no_spaces es)
 
   within : (wider : Bool) (is : List (Item T)) → Each IsNoSpace is → Each (λ s. IsNoSpace s.item) (map (slot_of columns wider None false) is)
   within wider [] h = tt
@@ -121,18 +117,14 @@ module _ {T : Type 0} (columns : ℕ → Option ℕ) where
 -- ---- the lines that a run adds
 
 module _ {D A : Type 0} (columns : ℕ → Option ℕ) where
-  other_lines : (b : Open (List A)) (ts : List (List (Item (List A)))) (r : Renderer D A (List A)) → r.waiting ≡ [] → (fold (with_line columns) r (block_lines columns r b ts)).lines ≡ r.lines ++ map (λ is. line_of_text columns r b [] is) ts
-  other_lines b [] r none = sym (append-nil r.lines)
-  other_lines b (t ∷ ts) r none =
-      other_lines b ts (with_line columns r (t ++ padding_of columns b.padding (block_width r) t)) refl
-      ∙ append_assoc r.lines (line_of_text columns r b r.waiting t ∷ []) (map (λ is. line_of_text columns r b [] is) ts)
-      ∙ ap (λ ns. r.lines ++ line_of_text columns r b ns t ∷ map (λ is. line_of_text columns r b [] is) ts) none
-
-  lines_added : (b : Open (List A)) (ts : List (List (Item (List A)))) (r : Renderer D A (List A)) → (fold (with_line columns) r (block_lines columns r b ts)).lines ≡ r.lines ++ stretch columns r b ts
-  lines_added b [] r = sym (append-nil r.lines)
-  lines_added b (t ∷ ts) r =
-      other_lines b ts (with_line columns r (t ++ padding_of columns b.padding (block_width r) t)) refl
-      ∙ append_assoc r.lines (line_of_text columns r b r.waiting t ∷ []) (map (λ is. line_of_text columns r b [] is) ts)
+  -- a run's texts are laid after their padding
+  stretch_laid : (r : Renderer D A (List A)) (b : Open (List A)) (ts : List (List (Item (List A)))) → lines_laid columns r (block_lines columns r b ts) ≡ stretch columns r b ts
+  stretch_laid r b [] = refl
+  stretch_laid r b (t ∷ ts) = ap (λ ls. line_of_text columns r b r.waiting t ∷ ls) (others ts)
+    where
+      others : (us : List (List (Item (List A)))) → map (padded_line columns r) (block_lines columns r b us) ≡ map (λ is. line_of_text columns r b [] is) us
+      others [] = refl
+      others (u ∷ us) = ap (λ ls. line_of_text columns r b [] u ∷ ls) (others us)
 
   -- the same lines come of renderers and blocks that pad alike, and of which the same markers wait
   same_stretch : (r q : Renderer D A (List A)) (b c : Open (List A)) (ts : List (List (Item (List A)))) → q.width ≡ r.width → q.options ≡ r.options → q.annotations ≡ r.annotations → q.waiting ≡ r.waiting → c.padding ≡ b.padding →
@@ -149,8 +141,8 @@ module _ {D A : Type 0} (columns : ℕ → Option ℕ) where
 
   pub flush_adds : (r q : Renderer D A (List A)) (b : Open (List A)) → (h : EndsBlock columns r b q) → q.lines ≡ r.lines ++ stretch columns r b (lines_at_end columns r b)
   flush_adds r q b h =
-      ap (λ (p : Renderer D A (List A)). p.lines) h.is ∙ lines_added b (lines_at_end columns r b) (record r { block = None })
-      ∙ ap (λ ls. r.lines ++ ls) (same_stretch r (record r { block = None }) b b (lines_at_end columns r b) refl refl refl refl refl)
+      ap (λ (p : Renderer D A (List A)). p.lines) h.is ∙ laid_lines columns (block_lines columns r b (lines_at_end columns r b)) (record r { block = None })
+      ∙ ap (λ ls. r.lines ++ ls) (stretch_laid (record r { block = None }) b (lines_at_end columns r b) ∙ same_stretch r (record r { block = None }) b b (lines_at_end columns r b) refl refl refl refl refl)
 
   as_stretch : (r q s : Renderer D A (List A)) (b : Open (List A)) → EndsBlock columns r b q → IsSound columns r → (more : List (Line (List A))) × (s.lines ≡ q.lines ++ more) → StandsAsStretch columns r b s.lines
   as_stretch r q s b h sound grows = record {

@@ -1,13 +1,13 @@
 -- A call changes no settings but its own.
 use Rattle.std.proofs.Common.{◌≡◌, ℕ, suc, ◌-◌, if◌then◌else◌, Bool, true, false, Option, Some, None, List, [], ◌∷◌, map, fold, refl, ap, sym, ◌∙◌}
+use Rattle.std.proofs.lemmas.Bool.{cond_both}
 use Rattle.tbr_model.specs.Run.{Item}
 use Rattle.tbr_decor.specs.Start as start
 use Rattle.tbr_decor.specs.End as end
 use Rattle.tbr_decor.specs.Ground.{Ground}
-use Rattle.tbr_decor.specs.declared.colour.Colour.{Colour}
 use Rattle.tbr_decor.specs.Decoration.{Decoration}
 use Rattle.tbr_renderer.specs.Image.{shown_title}
-use Rattle.tbr_renderer.specs.Decorated.{struck_from, struck_until, annotated, coloured, uncoloured, after_start, after_titled}
+use Rattle.tbr_renderer.specs.Decorated.{struck_from, struck_until, annotated, asked_for_colour, asked_to_end, coloured_by, uncoloured, after_start, after_titled}
 use Rattle.tbr_kept_lines.specs.Line.{Line}
 use Rattle.tbr_renderer.specs.Renderer.{Renderer, settings_of, with_line, without_annotation}
 use Rattle.tbr_decor.specs.Start.{Start}
@@ -34,11 +34,7 @@ module _ {D A : Type 0} (columns : ℕ → Option ℕ) where
       ap (λ (q : Renderer D A (List A)). steady q) is ∙ same m ∙ flushed_alike columns r m flush
 
   divided : (cell : Cell) (r : Renderer D A (List A)) → steady (with_divider columns cell r) ≡ steady r
-  divided cell r = go r.options.draw_borders
-    where
-      go : (drawn : Bool) → (let s = if drawn then with_border columns r (border_of_cells cell r.width r) else r in steady s) ≡ steady r
-      go true = refl
-      go false = refl
+  divided cell r = cond_both r.options.draw_borders (with_border columns r (border_of_cells cell r.width r)) r (λ (q : Renderer D A (List A)). steady q ≡ steady r) (λ e. refl) (λ e. refl)
 
   cell_added : (r : Renderer D A (List A)) (lines : List (Line (List A))) → steady (with_cell columns r lines) ≡ steady r
   cell_added r lines = lines_added columns (map (as_text r.annotations) lines) r
@@ -115,41 +111,32 @@ module _ {D A : Type 0} (columns : ℕ → Option ℕ) where
     preformats_after other n = n
 
     -- neither is changed
-    Beside : Renderer D A (List A) → Renderer D A (List A) → Type 0
+    abbrev Beside : Renderer D A (List A) → Renderer D A (List A) → Type 0
     Beside r s = (s.failure ≡ r.failure) × (s.preformatted ≡ r.preformatted)
 
-    struck_from_beside : (r : Renderer D A (List A)) (b : Bool) → r.options.use_unicode_strikeout ≡ b → Beside r (struck_from r)
-    unfolding Beside
-    struck_from_beside r true e = rw e (refl, refl)
-    struck_from_beside r false e = rw e (refl, refl)
+    struck_from_beside : (r : Renderer D A (List A)) → Beside r (struck_from r)
+    struck_from_beside r = cond_both r.options.use_unicode_strikeout (record r { strikeouts = suc r.strikeouts }) r (Beside r) (λ e. (refl, refl)) (λ e. (refl, refl))
 
-    struck_until_beside : (r : Renderer D A (List A)) (b : Bool) → r.options.use_unicode_strikeout ≡ b → Beside r (struck_until r)
-    unfolding Beside
-    struck_until_beside r true e = rw e (refl, refl)
-    struck_until_beside r false e = rw e (refl, refl)
+    struck_until_beside : (r : Renderer D A (List A)) → Beside r (struck_until r)
+    struck_until_beside r = cond_both r.options.use_unicode_strikeout (record r { strikeouts = r.strikeouts - 1 }) r (Beside r) (λ e. (refl, refl)) (λ e. (refl, refl))
 
-    coloured_beside : (g : Ground) (colour : Colour) (r : Renderer D A (List A)) (o : Option A) → decoration.colour_annotation r.decorator g colour ≡ o → Beside r (coloured decoration g colour r)
-    unfolding Beside
-    coloured_beside g colour r None e = rw e (refl, refl)
-    coloured_beside g colour r (Some a) e = rw e (refl, refl)
+    coloured_beside : (o : Option A) (r : Renderer D A (List A)) → Beside r (coloured_by decoration o r)
+    coloured_beside None r = (refl, refl)
+    coloured_beside (Some a) r = (refl, refl)
 
-    uncoloured_beside : (g : Ground) (r : Renderer D A (List A)) (b : Bool) → decoration.ends_colour r.decorator g ≡ b → Beside r (uncoloured decoration g r)
-    unfolding Beside
-    uncoloured_beside g r true e = rw e (refl, refl)
-    uncoloured_beside g r false e = rw e (refl, refl)
+    uncoloured_beside : (g : Ground) (r : Renderer D A (List A)) → Beside r (uncoloured decoration g r)
+    uncoloured_beside g r = cond_both (decoration.ends_colour r.decorator g) (without_annotation (asked_to_end decoration g r)) (asked_to_end decoration g r) (Beside r) (λ e. (refl, refl)) (λ e. (refl, refl))
 
     image_beside : (source : List ℕ) (title : Option (List ℕ)) (r : Renderer D A (List A)) → Beside r (settled_by_image decoration source title r)
-    unfolding Beside
     image_beside source None r = (refl, refl)
     image_beside source (Some title) r = (refl, refl)
 
     settled_beside : (call : Call (List A)) (r : Renderer D A (List A)) → (let s = settled decoration call r in (s.failure ≡ r.failure) × (s.preformatted ≡ preformats_after call r.preformatted))
-    unfolding Beside
-    settled_beside start_strikeout r = struck_from_beside (annotated decoration start.strikeout r) r.options.use_unicode_strikeout refl
-    settled_beside end_strikeout r = struck_until_beside r r.options.use_unicode_strikeout refl
+    settled_beside start_strikeout r = struck_from_beside (annotated decoration start.strikeout r)
+    settled_beside end_strikeout r = struck_until_beside r
     settled_beside (add_image source title) r = image_beside source (shown_title r.options.img_mode source title) r
-    settled_beside (push_colour g colour) r = coloured_beside g colour r (decoration.colour_annotation r.decorator g colour) refl
-    settled_beside (pop_colour g) r = uncoloured_beside g r (decoration.ends_colour r.decorator g) refl
+    settled_beside (push_colour g colour) r = coloured_beside (decoration.colour_annotation r.decorator g colour) (asked_for_colour decoration g colour r)
+    settled_beside (pop_colour g) r = uncoloured_beside g r
     settled_beside call r = (refl, refl)
 
     pub call_beside : (call : Call (List A)) (r s : Renderer D A (List A)) → Does columns decoration call r s → (s.failure ≡ r.failure) × (s.preformatted ≡ preformats_after call r.preformatted)

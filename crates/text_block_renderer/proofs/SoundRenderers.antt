@@ -1,5 +1,6 @@
 -- Renderers stay sound.
-use Rattle.std.proofs.Common.{◌≡◌, ◌≢◌, ◌<◌, ℕ, zero, suc, Bool, true, false, Option, None, Some, List, ap, refl, arith}
+use Rattle.std.proofs.Common.{◌≡◌, ◌≢◌, ◌<◌, ℕ, zero, suc, Bool, Option, None, Some, List, ap, refl, arith}
+use Rattle.std.proofs.lemmas.Bool.{cond_both}
 use Rattle.std.proofs.Math.Dec.{leb-suc-zero}
 use Rattle.std.specs.Prelude.{nat_le, if◌then◌else◌}
 use Rattle.tbr_tagged.specs.Outcome.{done}
@@ -17,11 +18,7 @@ use Rattle.text_block_renderer.proofs.ActParts.{acts_along}
 some_columns : (width : ℕ) (wrap : Option ℕ) → 0 < width → wrap ≢ Some 0 → 0 < least width wrap
 some_columns width None wide some = wide
 some_columns width (Some zero) wide some = absurd (some refl)
-some_columns width (Some (suc n)) wide some = go (nat_le width (suc n))
-  where
-    go : (less : Bool) → 0 < (if less then width else suc n)
-    go true = wide
-    go false = omega arith
+some_columns width (Some (suc n)) wide some = cond_both (nat_le width (suc n)) width (suc n) (λ w. 0 < w) (λ e. wide) (λ e. omega arith)
 
 not_zero : (width : ℕ) (wrap : Option ℕ) → 0 < least width wrap → wrap ≢ Some 0
 not_zero width None wide is = cc

@@ -1,5 +1,6 @@
 -- Visible characters and markers of lines that renderers take from one another.
-use Rattle.std.proofs.Common.{◌≡◌, ℕ, zero, suc, ◌+◌, ◌≤◌, ◌⊎◌, inl, inr, Bool, true, false, if◌then◌else◌, Option, List, [], ◌∷◌, ◌++◌, map, flat_map, fold, length, refl, ap, sym, ◌∙◌, subst, arith, append_assoc, append-nil}
+use Rattle.std.proofs.Common.{◌≡◌, ℕ, zero, suc, ◌+◌, ◌≤◌, ◌⊎◌, inl, inr, Option, List, [], ◌∷◌, ◌++◌, map, flat_map, fold, length, refl, ap, sym, ◌∙◌, subst, arith, append_assoc, append-nil}
+use Rattle.std.proofs.lemmas.Bool.{cond_both}
 use Rattle.std.proofs.lemmas.List.Elements.{filter-append}
 use Rattle.std.proofs.lemmas.Grind.{fold-append}
 use Rattle.std.proofs.lemmas.List.{length-append}
@@ -27,7 +28,7 @@ use Rattle.text_block_renderer.specs.Acts.{Act, call, row, fmt_links, finalise, 
 use Rattle.text_block_renderer.proofs.ActSteps.{ActStep, after_acts, act_step}
 use Rattle.text_block_renderer.proofs.ActParts.{alone, rows_one}
 use Rattle.text_block_renderer.proofs.RowsOfCells.{row_flushes}
-use Rattle.text_block_renderer.proofs.Moves.{any, flush, flushed_none, Frame, frame_of_lines, flush_frame, path_hanging}
+use Rattle.text_block_renderer.proofs.Moves.{any, flush, flushed_none, lines_beside, flush_beside, path_hanging}
 use Rattle.text_block_renderer.proofs.CallMoves.{calls_move}
 use Rattle.text_block_renderer.proofs.VerticalRows.{cells_after}
 use Rattle.text_block_renderer.specs.Stretches.{lines_laid}
@@ -93,14 +94,9 @@ module _ {D A : Type 0} (columns : ℕ → Option ℕ) where
   still_within us r s grows h = more_within us r s (more_text r s grows) h
 
   divider_keeps : (us : List (Item (List A))) (cell : Cell) (r : Renderer D A (List A)) → StandWithin us (seen columns r.lines) → StandWithin us (seen columns (with_divider columns cell r).lines)
-  divider_keeps us cell r h = go r.options.draw_borders
-    where
-      b : Renderer D A (List A)
-      b = with_border columns r (border_of_cells cell r.width r)
-
-      go : (drawn : Bool) → StandWithin us (let s = if drawn then b else r in seen columns s.lines)
-      go true = still_within us r (with_border columns r (border_of_cells cell r.width r)) (_, refl) h
-      go false = h
+  divider_keeps us cell r h =
+      let s : Renderer D A (List A) = with_border columns r (border_of_cells cell r.width r) in
+      cond_both r.options.draw_borders s r (λ (q : Renderer D A (List A)). StandWithin us (seen columns q.lines)) (λ e. still_within us r s (_, refl) h) (λ e. h)
 
   -- laid texts are written after what there was
   laid_after : (us : List (Item (List A))) (ts : List (List (Item (List A)))) (r s : Renderer D A (List A)) → s.lines ≡ r.lines ++ lines_laid columns r ts → StandWithin us (to_show columns (joined ts)) → StandWithin us (seen columns s.lines)
@@ -165,11 +161,11 @@ module _ {D A : Type 0} (columns : ℕ → Option ℕ) where
         let path = calls_move columns any decoration (c ∷ []) r s _ tt (alone columns decoration c r s h) in
         follows_on us n rows r s (omega (arith, fits)) (act_adds (call c) r s h) (path_hanging columns any r s _ _ path) k
     act_follows us (fmt_links links) n rows r s fits h k =
-        follows_on us n rows r s (omega (arith, fits)) (act_adds (fmt_links links) r s h) (ap (λ (q : Renderer D A (List A)). q.hanging) h ∙ ap (λ (f : Frame A). f.hanging) (frame_of_lines columns (flat_map (footnote_lines columns r) links) r)) k
+        follows_on us n rows r s (omega (arith, fits)) (act_adds (fmt_links links) r s h) (ap (λ (q : Renderer D A (List A)). q.hanging) h ∙ ap (λ (q : Renderer D A (List A)). q.hanging) (lines_beside columns (flat_map (footnote_lines columns r) links) r)) k
     act_follows us (finalise targets) n rows r s fits h k = follows_on us n rows r s (omega (arith, fits)) (act_adds (finalise targets) r s h) (ap (λ (q : Renderer D A (List A)). q.hanging) h) k
     act_follows us (row collapses cells) n rows r s fits h (inl k) = inl (more_within us r s (act_adds (row collapses cells) r s h) k)
     act_follows us (row collapses cells) n rows r s fits (m, flushed, puts, is) (inr (c, hangs, some, few, k)) =
-        let same : m.hanging ≡ r.hanging = ap (λ (f : Frame A). f.hanging) (flush_frame columns r m r.block (row_flushes columns r m flushed)) in
+        let same : m.hanging ≡ r.hanging = ap (λ (q : Renderer D A (List A)). q.hanging) (flush_beside columns r m r.block refl (row_flushes columns r m flushed)) in
         let seated = among_seated 0 c m.hanging puts.own puts.means.cells (subst (StandsAmong c) (sym same) hangs) puts.means.seated in
         row_follows columns collapses cells m s puts us rows c seated (omega (arith, few, fits)) (still_more us r m (items_in c.lines) (flush_adds r m flushed) k)
 

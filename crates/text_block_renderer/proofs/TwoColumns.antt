@@ -1,5 +1,6 @@
 -- Two columns are enough for characters that take two at most.
-use Rattle.std.proofs.Common.{unwrap_or, IfSome, ◌≡◌, ℕ, ◌≤◌, inl, inr, Bool, true, false, if◌then◌else◌, Option, Some, None, List, [], ◌∷◌, fold, refl, ap, sym, subst, arith}
+use Rattle.std.proofs.Common.{◌-◌, unwrap_or, IfSome, ◌≡◌, ℕ, ◌≤◌, inl, inr, Bool, true, false, if◌then◌else◌, Option, Some, None, List, [], ◌∷◌, fold, refl, ap, sym, subst, arith}
+use Rattle.std.proofs.lemmas.Bool.{cond_both}
 use Rattle.tbr_model.specs.Rule.{run_of}
 use Rattle.tbr_model.specs.Run.{Entry, character, marker_entry}
 use Rattle.tbr_wrap.specs.Runs.{CharactersFit}
@@ -71,11 +72,7 @@ module _ {D A : Type 0} (columns : ℕ → Option ℕ) (one : columns 32 ≡ Som
         go false false e = join_fits cs r wide e
 
   struck_width : (r : Renderer D A (List A)) → block_width (struck_until r) ≡ block_width r
-  struck_width r = go r.options.use_unicode_strikeout refl
-    where
-      go : (b : Bool) → r.options.use_unicode_strikeout ≡ b → block_width (struck_until r) ≡ block_width r
-      go true e = rw e refl
-      go false e = rw e refl
+  struck_width r = cond_both r.options.use_unicode_strikeout (record r { strikeouts = r.strikeouts - 1 }) r (λ (q : Renderer D A (List A)). block_width q ≡ block_width r) (λ e. refl) (λ e. refl)
 
   module _ (decoration : Decoration D A) where
     start_fits : (s : start.Start) (r : Renderer D A (List A)) → 2 ≤ block_width r → after_start columns decoration s r ≡ refused TooNarrow → ⊥

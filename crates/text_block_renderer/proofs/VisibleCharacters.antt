@@ -1,35 +1,36 @@
 -- Visible characters are there once.
-use Rattle.std.proofs.Common.{◌≡◌, ℕ, inl, zero, suc, ◌&&◌, Bool, true, false, if◌then◌else◌, Option, None, is_some, List, [], ◌∷◌, ◌++◌, map, fold, refl, ap, sym, ◌∙◌, subst, append-nil}
+use Rattle.std.proofs.Common.{◌≡◌, ℕ, inl, zero, suc, Bool, true, false, if◌then◌else◌, Option, None, List, [], ◌∷◌, ◌++◌, filter, fold, refl, ap, sym, ◌∙◌, subst, append-nil}
+use Rattle.std.proofs.Math.Bool.{and-false}
 use Rattle.std.specs.List.{AllZip}
 use Rattle.tbr_model.specs.Rule.{run_of}
 use Rattle.tbr_model.specs.Codes.{space_character}
 use Rattle.tbr_model.specs.declared.white_space.WhiteSpace.TheVariants.{Pre}
-use Rattle.tbr_model.specs.Run.{Entry, character, marker_entry, Item, glyph, marker}
+use Rattle.tbr_model.specs.Run.{Entry, character, Item, glyph, marker}
 use Rattle.tbr_model.specs.Layout.{joined}
 use Rattle.tbr_model.specs.Markers.{marker_items}
-use Rattle.tbr_model.specs.Hard.{is_visible, IsShown, visible_glyphs, visible_entries}
+use Rattle.tbr_model.specs.Hard.{glyphs_of, is_visible, is_visible_entry, IsShown, visible_glyphs, visible_entries}
+use Rattle.tbr_model.proofs.words.Items.{glyphs_of-append}
+use Rattle.std.proofs.lemmas.List.Elements.{filter-append}
 use Rattle.tbr_border.specs.Cell.{Cell}
 use Rattle.tbr_tagged.specs.Elements.{text_items}
 use Rattle.tbr_tagged.specs.Padding.{spaces}
-use Rattle.tbr_wrap.specs.Wrapped.{padding_of}
 use Rattle.tbr_tagged.proofs.SameItems.{all_zip_append}
 use Rattle.tbr_kept_lines.specs.Line.{Line}
-use Rattle.tbr_renderer.specs.Renderer.{Open, Renderer, new_renderer, with_line, open_run, block_width, IsSound}
-use Rattle.tbr_renderer.specs.Flush.{lines_at_end}
+use Rattle.tbr_renderer.specs.Renderer.{Open, Renderer, with_line, open_run, block_width, IsSound}
+use Rattle.tbr_renderer.specs.Flush.{block_lines, lines_at_end}
 use Rattle.tbr_renderer.proofs.FlushedBlocks.{EndsBlock}
 use Rattle.tbr_renderer.specs.Outcomes.{run}
 use Rattle.std.proofs.lemmas.List.{append_cancel_right}
 use Rattle.tbr_renderer.specs.Appended.{with_border, handed_out}
 use Rattle.tbr_tagged.specs.Outcome.{done}
 use Rattle.tbr_renderer.proofs.CallParts.{handed_then}
-use Rattle.tbr_renderer.specs.declared.options.RenderOptions.{RenderOptions}
 use Rattle.tbr_decor.specs.Decoration.{Decoration}
-use Rattle.tbr_renderer.specs.Calls.{Call, laid_entries, Brings, text_of_lines, Shows}
-use Rattle.text_block_renderer.specs.Drawn.{AreDrawnAmong, WithoutDrawnBorders, borders_drawn, DrawNone}
+use Rattle.tbr_renderer.specs.Calls.{laid_entries, text_of_lines, Shows}
+use Rattle.text_block_renderer.specs.Drawn.{AreDrawnAmong, WithoutDrawnBorders}
 use Rattle.text_block_renderer.specs.Acts.{Act, after_act, acts_come}
 use Rattle.text_block_renderer.proofs.Moves.{Move, flush, brought_by, Makes, flushed_none, undrawn}
-use Rattle.text_block_renderer.proofs.DrawnBorders.{if_drawn, if_none_drawn, moves_on, brings_on, calls_bring_on, border_unseen}
-use Rattle.text_block_renderer.proofs.LineContents.{Looks, seen_line, seen_lines}
+use Rattle.text_block_renderer.proofs.DrawnBorders.{if_drawn, if_none_drawn, moves_on, border_unseen}
+use Rattle.text_block_renderer.proofs.LineContents.{Looks, unpadded, seen_line, seen_texts}
 use Rattle.text_block_renderer.proofs.LastingLines.{stay_texts}
 use Rattle.text_block_renderer.proofs.EndedEntries.{Ended, GoesOn, move_on, acts_on}
 use Rattle.text_block_renderer.specs.MarkersStand.{items_so_far}
@@ -37,32 +38,14 @@ use Rattle.text_block_renderer.specs.MarkersStand.{items_so_far}
 -- ---- items and entries
 
 pub space_unseen : (columns : ℕ → Option ℕ) → is_visible columns space_character ≡ false
-space_unseen columns = go (is_some (columns space_character))
-  where
-    go : (k : Bool) → (k && false) && false ≡ false
-    go true = refl
-    go false = refl
+space_unseen columns = and-false _
 
 module _ {T : Type 0} (columns : ℕ → Option ℕ) where
   pub glyphs-append : (is js : List (Item T)) → visible_glyphs columns (is ++ js) ≡ visible_glyphs columns is ++ visible_glyphs columns js
-  glyphs-append [] js = refl
-  glyphs-append (marker name ∷ is) js = glyphs-append is js
-  glyphs-append (glyph c a ∷ is) js = go (is_visible columns c) (glyphs-append is js)
-    where
-      go : (v : Bool) (rest : visible_glyphs columns (is ++ js) ≡ visible_glyphs columns is ++ visible_glyphs columns js) →
-          (let gs : List (ℕ × T) = if v then (c, a) ∷ visible_glyphs columns (is ++ js) else visible_glyphs columns (is ++ js) in gs) ≡ (if v then (c, a) ∷ visible_glyphs columns is else visible_glyphs columns is) ++ visible_glyphs columns js
-      go true rest = ap (λ (gs : List (ℕ × T)). (c, a) ∷ gs) rest
-      go false rest = rest
+  glyphs-append is js = ap (filter (λ g. is_visible columns g.0)) (glyphs_of-append is js) ∙ filter-append (λ (g : ℕ × T). is_visible columns g.0) (glyphs_of is) (glyphs_of js)
 
   entries-append : (es fs : List (Entry T)) → visible_entries columns (es ++ fs) ≡ visible_entries columns es ++ visible_entries columns fs
-  entries-append [] fs = refl
-  entries-append (marker_entry name ∷ es) fs = entries-append es fs
-  entries-append (character c a b m ∷ es) fs = go (is_visible columns c) (entries-append es fs)
-    where
-      go : (v : Bool) (rest : visible_entries columns (es ++ fs) ≡ visible_entries columns es ++ visible_entries columns fs) →
-          (let rs : List (Entry T) = if v then character c a b m ∷ visible_entries columns (es ++ fs) else visible_entries columns (es ++ fs) in rs) ≡ (if v then character c a b m ∷ visible_entries columns es else visible_entries columns es) ++ visible_entries columns fs
-      go true rest = ap (λ (rs : List (Entry T)). character c a b m ∷ rs) rest
-      go false rest = rest
+  entries-append es fs = filter-append (is_visible_entry columns) es fs
 
   spaces_unseen : (n : ℕ) (a : T) → visible_glyphs columns (text_items (spaces n) a) ≡ []
   spaces_unseen zero a = refl
@@ -94,14 +77,11 @@ module _ {D A : Type 0} (columns : ℕ → Option ℕ) where
       glyphs-append columns (text_of_lines r.lines) (marker_items r.waiting) ∙ ap (λ gs. visible_glyphs columns (text_of_lines r.lines) ++ gs) (markers_unseen columns r.waiting (marker_items r.waiting) refl)
       ∙ append-nil (visible_glyphs columns (text_of_lines r.lines))
 
-  pub shown_line : (r : Renderer D A (List A)) (t : List (Item (List A))) → visible_glyphs columns (text_of_lines (with_line columns r t).lines) ≡ visible_glyphs columns (text_of_lines r.lines) ++ visible_glyphs columns t
+  shown_line : (r : Renderer D A (List A)) (t : List (Item (List A))) → visible_glyphs columns (text_of_lines (with_line columns r t).lines) ≡ visible_glyphs columns (text_of_lines r.lines) ++ visible_glyphs columns t
   shown_line r t = sym (on_lines (with_line columns r t)) ∙ seen_line (visible_glyphs columns) (at_visible columns) columns r t ∙ ap (λ gs. gs ++ visible_glyphs columns t) (on_lines r)
 
-  shown_lines : (b : Open (List A)) (width : ℕ) (texts : List (List (Item (List A)))) (r : Renderer D A (List A)) →
-      visible_glyphs columns (text_of_lines (fold (with_line columns) r (map (λ is. is ++ padding_of columns b.padding width is) texts)).lines) ≡ visible_glyphs columns (text_of_lines r.lines) ++ visible_glyphs columns (joined texts)
-  shown_lines b width texts r =
-      sym (on_lines (fold (with_line columns) r (map (λ is. is ++ padding_of columns b.padding width is) texts)))
-      ∙ seen_lines (visible_glyphs columns) (at_visible columns) columns b width texts r ∙ ap (λ gs. gs ++ visible_glyphs columns (joined texts)) (on_lines r)
+  pub shown_texts : (ts : List (List (Item (List A)))) (r : Renderer D A (List A)) → visible_glyphs columns (text_of_lines (fold (with_line columns) r ts).lines) ≡ visible_glyphs columns (text_of_lines r.lines) ++ visible_glyphs columns (joined ts)
+  shown_texts ts r = sym (on_lines (fold (with_line columns) r ts)) ∙ seen_texts (visible_glyphs columns) (at_visible columns) columns ts r ∙ ap (λ gs. gs ++ visible_glyphs columns (joined ts)) (on_lines r)
 
   -- ---- moves and acts
 
@@ -119,7 +99,10 @@ module _ {D A : Type 0} (columns : ℕ → Option ℕ) where
   end_shows : (r s : Renderer D A (List A)) (b : Open (List A)) (es : List (Entry (List A))) → EndsBlock columns r b s → IsSound columns r → InLines r es → InLines s (es ++ run_of b.events)
   end_shows r s b es h sound k =
       let texts = lines_at_end columns r b in
-      shows_more r s (joined texts) es (run_of b.events) (ap (λ (q : Renderer D A (List A)). visible_glyphs columns (text_of_lines q.lines)) h.is ∙ shown_lines b (block_width r) texts (record r { block = None })) (h.ends sound).shown.visible k
+      let lines : visible_glyphs columns (text_of_lines s.lines) ≡ visible_glyphs columns (text_of_lines r.lines) ++ visible_glyphs columns (joined texts) =
+      ap (λ (q : Renderer D A (List A)). visible_glyphs columns (text_of_lines q.lines)) h.is ∙ shown_texts (block_lines columns r b texts) (record r { block = None })
+      ∙ ap (λ gs. visible_glyphs columns (text_of_lines r.lines) ++ gs) (unpadded (visible_glyphs columns) (at_visible columns) columns b.padding (block_width r) texts) in
+      shows_more r s (joined texts) es (run_of b.events) lines (h.ends sound).shown.visible k
 
   same_shows : (r s : Renderer D A (List A)) (es : List (Entry (List A))) → text_of_lines s.lines ≡ text_of_lines r.lines → InLines r es → InLines s es
   same_shows r s es lines k = subst (λ is. AllZip (IsShown (λ x y. x ≡ y)) (visible_glyphs columns is) (visible_entries columns es)) (sym lines) k
@@ -135,7 +118,7 @@ module _ {D A : Type 0} (columns : ℕ → Option ℕ) where
   shows : (r : Renderer D A (List A)) (es fs : List (Entry (List A))) → visible_entries columns es ≡ visible_entries columns fs → Ended InLines r es → Shows columns r fs
   shows r es fs same (ended, whole, k) = record { ended = ended; shown = k; whole = ap (visible_entries columns) whole ∙ same }
 
-  shows_move : (m : Move D A) (r s : Renderer D A (List A)) (es : List (Entry (List A))) → Makes columns undrawn m r s → IsSound columns r → Shows columns r es → Shows columns s (es ++ brought_by m)
+  pub shows_move : (m : Move D A) (r s : Renderer D A (List A)) (es : List (Entry (List A))) → Makes columns undrawn m r s → IsSound columns r → Shows columns r es → Shows columns s (es ++ brought_by m)
   shows_move m r s es h sound k =
       let all = k.ended ++ open_run r.block in
       shows s (all ++ brought_by m) (es ++ brought_by m) (entries-append columns all (brought_by m) ∙ ap (λ fs. fs ++ visible_entries columns (brought_by m)) k.whole ∙ sym (entries-append columns es (brought_by m)))
@@ -149,20 +132,6 @@ module _ {D A : Type 0} (columns : ℕ → Option ℕ) where
       append_cancel_right (visible_entries columns k.ended) (visible_entries columns ended) (visible_entries columns open_one) (sym (entries-append columns k.ended open_one) ∙ k.whole ∙ entries-append columns ended open_one) in
       let shown : InLines r ended = subst (AllZip (IsShown (λ x y. x ≡ y)) (visible_glyphs columns (text_of_lines r.lines))) same k.shown in
       shows s _ _ refl (acts_on columns undrawn InLines shows_on decoration acts r s (ended ++ open_one) sound unpadded h (ended, refl, shown))
-
-  pub brings_shown : (decoration : Decoration D A) (calls : List (Call (List A))) (r s : Renderer D A (List A)) (borders : List (List Cell)) (before es : List (Entry (List A))) →
-      IsSound columns r → Brings columns decoration calls r es s → WithoutDrawnBorders borders (λ q. Shows columns q before) r → WithoutDrawnBorders (borders ++ borders_drawn r calls) (λ q. Shows columns q (before ++ es)) s
-  brings_shown = brings_on columns (Shows columns) shows_move
-
-  pub new_brings_shown : (decoration : Decoration D A) (width : ℕ) (options : RenderOptions) (decorator : D) (calls : List (Call (List A))) (s : Renderer D A (List A)) (es : List (Entry (List A))) →
-      (let r : Renderer D A (List A) = new_renderer width options decorator in IsSound columns r → Brings columns decoration calls r es s → WithoutDrawnBorders (borders_drawn r calls) (λ q. Shows columns q es) s)
-  new_brings_shown decoration width options decorator calls s es sound h =
-      let nothing : Shows columns (new_renderer {D = D} width options decorator) [] = record { ended = []; shown = tt; whole = refl } in
-      brings_shown decoration calls (new_renderer width options decorator) s [] [] es sound h ([], ([], refl, refl, refl), nothing)
-
-  pub brings_shown_all : (decoration : Decoration D A) (calls : List (Call (List A))) (r s : Renderer D A (List A)) (before es : List (Entry (List A))) →
-      IsSound columns r → DrawNone r calls → Brings columns decoration calls r es s → Shows columns r before → Shows columns s (before ++ es)
-  brings_shown_all = calls_bring_on columns undrawn (Shows columns) shows_move
 
   -- ---- lines that are handed out
 

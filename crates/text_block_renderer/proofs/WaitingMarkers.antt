@@ -1,5 +1,6 @@
 -- Markers that wait, where a run ends and until a line of text comes.
 use Rattle.std.proofs.Common.{◌≡◌, ℕ, ◌&&◌, ◌||◌, nat_lt, Bool, true, false, Option, Some, None, List, [], ◌∷◌, ◌++◌, map, fold, refl, ap, sym, ◌∙◌, subst, arith, append_assoc, append-nil}
+use Rattle.std.proofs.Math.Bool.{and-false}
 use Rattle.tbr_model.specs.Rule.{run_of}
 use Rattle.tbr_model.specs.Run.{Entry, Item, is_kept, items_of, kept_items, first_of, blank_of, has_character, is_break_entry, Reading, start, works, read, trailing}
 use Rattle.tbr_model.specs.Layout.{slots_of, line_text, joined, HasNoEmptyLine}
@@ -17,22 +18,18 @@ use Rattle.tbr_tagged.specs.Outcome.{done}
 use Rattle.tbr_renderer.specs.Flush.{block_lines, flushed, lines_at_end, names_at_end, after_flush}
 use Rattle.tbr_renderer.proofs.FlushedBlocks.{flushes, FlushesBlock, EndsBlock}
 use Rattle.tbr_renderer.specs.Appended.{with_border}
-use Rattle.tbr_renderer.specs.Calls.{Call, Steps}
+use Rattle.tbr_renderer.specs.Calls.{Call, Steps, text_of_lines}
 use Rattle.text_block_renderer.specs.Drawn.{CameWithoutDrawnBorders, borders_drawn, DrawNone}
 use Rattle.text_block_renderer.specs.MarkersStand.{items_so_far, FlushStands, first_text, WaitForText}
 use Rattle.text_block_renderer.proofs.Moves.{Move, flush, line, rule, join, turn, Makes, undrawn}
-use Rattle.text_block_renderer.proofs.DrawnBorders.{steps_on, steps_on_all, border_stays}
+use Rattle.text_block_renderer.proofs.DrawnBorders.{end_alike, steps_on, steps_on_all, border_stays}
 use Rattle.text_block_renderer.proofs.LineContents.{marker_items-append, seen_flushed}
-use Rattle.text_block_renderer.proofs.BroughtEntries.{StandFor, at_unspaced, stand_after, markers_stand, run_stands, waits_after, waits_after_kept}
+use Rattle.text_block_renderer.proofs.BroughtEntries.{end_stands, StandFor, at_unspaced, markers_stand, run_stands, waits_after, waits_after_kept}
 
 -- ---- a run without a kept character
 
 no_width_works : {T : Type 0} (columns : ℕ → Option ℕ) (r : Reading T) (e : Entry T) → has_character r.items ≡ false → works columns r e ≡ false
-no_width_works columns r e none = ap (λ n. is_break_entry e && nat_lt 0 n) (no_character_no_width columns r.items none) ∙ go (is_break_entry e)
-  where
-    go : (b : Bool) → b && false ≡ false
-    go true = refl
-    go false = refl
+no_width_works columns r e none = ap (λ n. is_break_entry e && nat_lt 0 n) (no_character_no_width columns r.items none) ∙ and-false (is_break_entry e)
 
 no_word_read : {T : Type 0} (columns : ℕ → Option ℕ) (es : List (Entry T)) (r : Reading T) → r.words ≡ [] → has_character r.items ≡ false → has_character (kept_items columns es) ≡ false →
     ((fold (read columns) r es).words ≡ []) × (has_character (fold (read columns) r es).items ≡ false)
@@ -91,23 +88,9 @@ module _ {D A : Type 0} (columns : ℕ → Option ℕ) where
 
   -- what waited counts as the first of the run
   stand_flushed : (r s : Renderer D A (List A)) (b : Open (List A)) → EndsBlock columns r b s → IsSound columns r → (is : List (Item (List A))) × StandFor columns (is ++ marker_items s.waiting) (marker_run r.waiting ++ (run_of b.events))
-  stand_flushed r s b h sound = go (lines_at_end columns r b) refl
-    where
-      all : StandFor columns (marker_items r.waiting ++ (joined (lines_at_end columns r b) ++ marker_items (names_at_end columns r b))) (marker_run r.waiting ++ (run_of b.events))
-      all =
-          stand_after columns (marker_items r.waiting) (joined (lines_at_end columns r b) ++ marker_items (names_at_end columns r b)) (marker_items r.waiting ++ (joined (lines_at_end columns r b) ++ marker_items (names_at_end columns r b))) (marker_run r.waiting) (run_of b.events)
-          (λ Y look looks. looks.append (marker_items r.waiting) (joined (lines_at_end columns r b) ++ marker_items (names_at_end columns r b))) (markers_stand columns r.waiting)
-          (run_stands columns (block_width r) (may_overflow r) (run_of b.events) (lines_at_end columns r b) (names_at_end columns r b) (h.ends sound))
-
-      go : (ts : List (List (Item (List A)))) → (lines_at_end columns r b) ≡ ts → (is : List (Item (List A))) × StandFor columns (is ++ marker_items s.waiting) (marker_run r.waiting ++ (run_of b.events))
-      go [] e =
-          let same : marker_items r.waiting ++ (joined (lines_at_end columns r b) ++ marker_items (names_at_end columns r b)) ≡ marker_items s.waiting =
-          ap (λ (ls : List (List (Item (List A)))). marker_items r.waiting ++ (joined ls ++ marker_items (names_at_end columns r b))) e ∙ sym (marker_items-append r.waiting (names_at_end columns r b)) ∙ ap (λ (q : Renderer D A (List A)). marker_items q.waiting) (sym (bare_flush r s b h e)) in
-          ([], subst (λ (is : List (Item (List A))). StandFor columns is (marker_run r.waiting ++ (run_of b.events))) same all)
-      go (t ∷ ts) e =
-          let same : marker_items r.waiting ++ (joined (lines_at_end columns r b) ++ marker_items (names_at_end columns r b)) ≡ (marker_items r.waiting ++ joined (lines_at_end columns r b)) ++ marker_items s.waiting =
-          sym (append_assoc (marker_items r.waiting) (joined (lines_at_end columns r b)) (marker_items (names_at_end columns r b))) ∙ ap (λ ns. (marker_items r.waiting ++ joined (lines_at_end columns r b)) ++ marker_items ns) (sym (full_flush r s b t ts h e)) in
-          (marker_items r.waiting ++ joined (lines_at_end columns r b), subst (λ (is : List (Item (List A))). StandFor columns is (marker_run r.waiting ++ (run_of b.events))) same all)
+  stand_flushed r s b h sound =
+      let (more, lines, ends) = end_alike columns r s [] b h in
+      (text_of_lines more, end_stands columns (record r { lines = [] }) (record s { lines = more }) b (marker_run r.waiting) ends (record { space = sound.space; wide = sound.wide }) (markers_stand columns r.waiting))
 
   trails : (r s : Renderer D A (List A)) (b : Open (List A)) → EndsBlock columns r b s → IsSound columns r → may_overflow r ≡ false → IsNormal (run_of b.events) → has_character (kept_items columns (run_of b.events)) ≡ true → marker_items s.waiting ≡ trailing columns (run_of b.events)
   trails r s b h sound narrow normal some = go (lines_at_end columns r b) refl

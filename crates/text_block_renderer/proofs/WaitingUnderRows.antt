@@ -5,7 +5,6 @@ use Rattle.tbr_border.specs.Border.{Border}
 use Rattle.tbr_rows.specs.Meant.{SeenRow}
 use Rattle.tbr_decor.specs.Decoration.{Decoration}
 use Rattle.tbr_kept_lines.specs.Line.{Line, text, border}
-use Rattle.tbr_kept_lines.specs.LastBorder.{before_border}
 use Rattle.tbr_tagged.specs.Outcome.{done}
 use Rattle.tbr_tagged.proofs.Outcomes.{live_done}
 use Rattle.tbr_renderer.specs.Outcomes.{run}
@@ -14,16 +13,16 @@ use Rattle.tbr_renderer.specs.declared.options.RenderOptions.{RenderOptions}
 use Rattle.tbr_renderer.specs.Renderer.{Renderer, with_line, IsSound}
 use Rattle.tbr_renderer.specs.Flush.{after_flush}
 use Rattle.tbr_renderer.specs.Footnotes.{footnote_lines, with_footnotes}
-use Rattle.tbr_renderer.specs.Rows.{border_lines, with_next, with_row}
+use Rattle.tbr_renderer.specs.Rows.{with_next, with_row}
 use Rattle.tbr_renderer.specs.Calls.{new_line}
 use Rattle.tbr_renderer.proofs.SettingsStay.{Steady, lines_added, flushed_alike}
 use Rattle.text_block_renderer.specs.Acts.{Act, call, row, fmt_links, finalise, after_act, StaysLine}
 use Rattle.text_block_renderer.specs.MarkersStand.{first_text, WaitForText, WaitForTextUnderRows}
 use Rattle.text_block_renderer.proofs.ActSteps.{ActStep, act_step}
-use Rattle.text_block_renderer.proofs.LastingLines.{all_stay, stay_on, top_put_back}
+use Rattle.text_block_renderer.proofs.LastingLines.{all_stay, stay_on}
 use Rattle.text_block_renderer.proofs.RowsOfCells.{under_row}
 use Rattle.text_block_renderer.proofs.WaitingMarkers.{wait_on, same_wait, lines_came, rule_waits, steps_wait_all}
-use Rattle.text_block_renderer.proofs.ActParts.{alone, act_sound}
+use Rattle.text_block_renderer.proofs.ActParts.{alone, act_sound, top_stays}
 
 module _ {T : Type 0} where
   same_first : (ls ms : List (Line T)) → AllZip StaysLine ls ms → first_text ms ≡ first_text ls
@@ -97,8 +96,7 @@ module _ {D A : Type 0} (columns : ℕ → Option ℕ) where
         let (m, flushed, puts, is) = h in
         let first = of_calls r m (steps_wait_all columns decoration (new_line ∷ []) r m (inl unpadded) (alone columns decoration new_line r m flushed).0) in
         let still : m.options.pad_block_width ≡ false = ap (λ (x : Steady D A). x.settings.kept.options.pad_block_width) (flushed_alike columns r m (live_done r.failure (after_flush columns r) m flushed).1) ∙ unpadded in
-        let stay = subst (λ (o : Option (Border (List A))). AllZip StaysLine m.lines (before_border m.lines ++ border_lines o)) (sym puts.means.upper) (top_put_back collapses puts.means.cells m.lines) in
-        waits_on r m s first (subst (λ (q : Renderer D A (List A)). WaitForTextUnderRows m q) (sym puts.is) (row_waits m puts.row stay still))
+        waits_on r m s first (subst (λ (q : Renderer D A (List A)). WaitForTextUnderRows m q) (sym puts.is) (row_waits m puts.row (top_stays columns collapses cells m s puts) still))
 
     pub acts_wait : (acts : List (Act A)) (r s : Renderer D A (List A)) → IsSound columns r → r.options.pad_block_width ≡ false → run (after_act columns decoration) acts r ≡ done s → WaitForTextUnderRows r s
     acts_wait [] r s sound unpadded h = of_calls r s (same_wait r s (ap (λ (q : Renderer D A (List A)). q.lines) (one_done r s h)) (ap (λ (q : Renderer D A (List A)). q.waiting) (one_done r s h)))

@@ -1,5 +1,5 @@
 -- What came is in the lines, with others between, whether they are padded or not.
-use Rattle.std.proofs.Common.{◌≡◌, ℕ, Option, None, List, [], ◌∷◌, ◌++◌, map, filter, fold, refl, ap, sym, ◌∙◌, subst, append_assoc, append-nil}
+use Rattle.std.proofs.Common.{◌≡◌, ℕ, Option, None, List, [], ◌∷◌, ◌++◌, filter, fold, refl, ap, sym, ◌∙◌, subst, append_assoc, append-nil}
 use Rattle.std.specs.List.{AllZip}
 use Rattle.std.proofs.lemmas.List.Elements.{filter-append}
 use Rattle.tbr_model.specs.Run.{Entry, Item}
@@ -10,7 +10,6 @@ use Rattle.tbr_model.specs.Shown.{is_visible_or_marker, is_entry_to_show, ShowsE
 use Rattle.tbr_border.specs.Border.{Border}
 use Rattle.tbr_tagged.specs.Outcome.{done}
 use Rattle.tbr_tagged.proofs.SameItems.{all_zip_append}
-use Rattle.tbr_wrap.specs.Wrapped.{padding_of}
 use Rattle.tbr_decor.specs.Decoration.{Decoration}
 use Rattle.tbr_kept_lines.specs.Line.{text}
 use Rattle.tbr_renderer.specs.Renderer.{Open, Renderer, line_padding, with_line, block_width, IsSound}
@@ -23,7 +22,7 @@ use Rattle.text_block_renderer.specs.Acts.{Act, after_act, acts_come, StaysLine}
 use Rattle.text_block_renderer.specs.Taken.{StandWithin, written, to_show, IsWrittenSoFar}
 use Rattle.text_block_renderer.proofs.Within.{within_both, within_more, itself_within, before_within}
 use Rattle.text_block_renderer.proofs.Written.{written-append, stays_written}
-use Rattle.text_block_renderer.proofs.LineContents.{before_padding, marker_items-append}
+use Rattle.text_block_renderer.proofs.LineContents.{unpadded, marker_items-append}
 use Rattle.text_block_renderer.proofs.BroughtEntries.{at_shown, shown_markers, laid_stand}
 use Rattle.text_block_renderer.proofs.Moves.{flush, any}
 use Rattle.text_block_renderer.proofs.EndedEntries.{Ended, GoesOn, move_on, acts_on}
@@ -42,15 +41,6 @@ module _ {A : Type 0} (columns : ℕ → Option ℕ) where
   show_both is js es fs h k =
       subst (AllZip (ShowsEntry (λ a b. a ≡ b)) (is ++ js)) (sym (filter-append (is_entry_to_show columns) es fs))
       (all_zip_append (ShowsEntry (λ a b. a ≡ b)) is js (filter (is_entry_to_show columns) es) (filter (is_entry_to_show columns) fs) h k)
-
-  -- the padding of a block's lines isn't seen
-  padding_unseen : (o : Option (List A)) (width : ℕ) (ts : List (List (Item (List A)))) → seen (joined (map (λ is. is ++ padding_of columns o width is) ts)) ≡ seen (joined ts)
-  padding_unseen o width [] = refl
-  padding_unseen o width (t ∷ ts) =
-      let padded = t ++ padding_of columns o width t in
-      two_seen padded (joined (map (λ is. is ++ padding_of columns o width is) ts))
-      ∙ ap (λ is. is ++ seen (joined (map (λ js. js ++ padding_of columns o width js) ts))) (before_padding (filter (is_visible_or_marker columns)) (at_shown columns) columns o width t t)
-      ∙ ap (λ is. seen t ++ is) (padding_unseen o width ts) ∙ sym (two_seen t (joined ts))
 
 module _ {D A : Type 0} (columns : ℕ → Option ℕ) where
   -- These items are in the lines, but for the markers that wait.
@@ -95,7 +85,7 @@ module _ {D A : Type 0} (columns : ℕ → Option ℕ) where
       let after : InLines (flushed columns r padded names) (all ++ new) = record {
         shown = k.shown;
         whole = ap (λ is. k.shown ++ is) (marker_items-append laid.waiting names) ∙ sym (append_assoc k.shown (marker_items laid.waiting) (marker_items names))
-            ∙ ap (λ is. is ++ marker_items names) (k.whole ∙ ap (λ is. all ++ is) (padding_unseen columns b.padding (block_width r) texts)) ∙ append_assoc all (seen columns (joined texts)) (marker_items names);
+            ∙ ap (λ is. is ++ marker_items names) (k.whole ∙ ap (λ is. all ++ is) (unpadded (seen columns) (at_shown columns) columns b.padding (block_width r) texts)) ∙ append_assoc all (seen columns (joined texts)) (marker_items names);
         stand = k.stand;
       } in
       (all ++ new, show_both columns all new es (run_of b.events) order (h.ends sound).order, subst (λ (q : Renderer D A (List A)). InLines q (all ++ new)) (sym h.is) after)
