@@ -1,5 +1,5 @@
 -- Where in a script is what came to one of its renderers: in it, or in lines that others took from it.
-use Rattle.std.proofs.Common.{◌≡◌, ◌≤◌, ◌<◌, ◌^◌, ◌+◌, ◌⊎◌, inl, inr, ℕ, zero, suc, Bool, Option, None, Some, Result, Ok, List, [], ◌∷◌, ◌++◌, drop, length, take, replicate, chars, refl, ap, sym, subst, arith, append_assoc}
+use Rattle.std.proofs.Common.{◌∙◌, ◌≡◌, ◌≤◌, ◌<◌, ◌^◌, ◌+◌, ◌⊎◌, inl, inr, ℕ, zero, suc, Bool, Option, None, Some, Result, Ok, List, [], ◌∷◌, ◌++◌, drop, length, take, replicate, chars, refl, ap, sym, subst, arith, append_assoc}
 use Rattle.std.specs.List.{AllByRecursion as Each}
 use Rattle.std.specs.Cmp.Lexicographic.{pointwise}
 use Rattle.std.proofs.lemmas.List.{length-take, length-replicate}
@@ -8,6 +8,7 @@ use Rattle.tbr_tagged.specs.Outcome.{Outcome, done}
 use Rattle.tbr_tagged.specs.declared.CellAlign.{CellAlign}
 use Rattle.tbr_rows.specs.Cells.{row_fits}
 use Rattle.tbr_rows.specs.CellsShown.{StandsAmong}
+use Rattle.tbr_rows.proofs.Among.{among_front}
 use Rattle.tbr_decor.specs.Decoration.{Decoration}
 use Rattle.tbr_decor.specs.Start as start
 use Rattle.tbr_decor.specs.End as end
@@ -39,7 +40,7 @@ use Rattle.tbr_program.specs.Commands.{with_stack, level_opened, block_made, blo
 use Rattle.tbr_program.proofs.CommandParts.{one_ok, unless, if_so, some_are, of_top, stack_done, opens, Ends, block_ends, cell_ends}
 use Rattle.tbr_runner.specs.Led.{IsLed, AllAre}
 use Rattle.tbr_runner.specs.Kept.{EndsOne, KeepsAll, IsShort}
-use Rattle.tbr_runner.proofs.LedRenderers.{first_led, others_led}
+use Rattle.tbr_runner.proofs.ScriptLevels.{first_led, others_led}
 
 -- ---- some of a list
 
@@ -56,9 +57,6 @@ module _ {X : Type 0} where
   some_before P [] ys h = absurd h
   some_before P (x ∷ xs) ys (inl h) = inl h
   some_before P (x ∷ xs) ys (inr h) = inr (some_before P xs ys h)
-
-  among_more : (x y : X) (ys : List X) → StandsAmong x ys → StandsAmong x (y ∷ ys)
-  among_more x y ys (front, rest, is) = (y ∷ front, rest, ap (λ zs. y ∷ zs) is)
 
 -- as many prefixes as lines
 enough : {X : Type 0} (x y : X) (n k : ℕ) → n ≤ k + 1 → n ≤ length (take n (x ∷ replicate k y))
@@ -240,7 +238,7 @@ module _ {D M : Type 0} (columns : ℕ → Option ℕ) (decoration : Decoration 
               all,
               gave,
               span,
-              λ collapse. let (taken_cell, among, spans, are) = takes collapse in (taken_cell, subst (StandsAmong taken_cell) (sym is_all) (among_more taken_cell x xs among), spans, are),
+              λ collapse. let (taken_cell, among, spans, are) = takes collapse in (taken_cell, subst (StandsAmong taken_cell) (sym is_all) (among_front taken_cell x xs among), spans, are),
             )
 
     all_give : (cells : List (Top × ℕ)) (given : List Lines) → gathered (handed_out columns) (renderers_of cells) ≡ done given → Each (λ (c : Top × ℕ). IsLed columns decoration c.0) cells → Each (λ (c : Top × ℕ). NothingOverhangs c.0) cells → Waits cells → (lines : Lines) × Gave lines × StandsAmong lines given
@@ -254,7 +252,7 @@ module _ {D M : Type 0} (columns : ℕ → Option ℕ) (decoration : Decoration 
         go : ((others : List Lines) → gathered (handed_out columns) (renderers_of cells) ≡ done others → Waits cells → (all : Lines) × Gave all × StandsAmong all others) → Waits (c ∷ cells) → (lines : Lines) (lss : List Lines) → handed_out columns c.0 ≡ done lines → gathered (handed_out columns) (renderers_of cells) ≡ done lss → given ≡ lines ∷ lss → (all : Lines) × Gave all × StandsAmong all given
         go others_give (inl has) lines lss here there is_all = (lines, gives_on c.0 lines (let l = led.0 in l.live) none.0 here has, ([], lss, is_all))
         go others_give (inr later) lines lss here there is_all =
-            let (all, gave, among) = others_give lss there later in (all, gave, subst (StandsAmong all) (sym is_all) (among_more all lines lss among))
+            let (all, gave, among) = others_give lss there later in (all, gave, subst (StandsAmong all) (sym is_all) (among_front all lines lss among))
 
     -- ---- commands
 

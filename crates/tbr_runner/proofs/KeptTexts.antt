@@ -1,5 +1,5 @@
 -- What came to a renderer of a script is in the lines of its text.
-use Rattle.std.proofs.Common.{◌≡◌, ◌<◌, ◌+◌, inl, ℕ, Option, Some, Ok, List, [], ◌∷◌, ◌++◌, length, append-nil, ◌≢◌, refl, ap, sym, subst, arith}
+use Rattle.std.proofs.Common.{true, ◌≡◌, ◌<◌, ◌+◌, inl, ℕ, Option, Some, Ok, List, [], ◌∷◌, ◌++◌, length, append-nil, ◌≢◌, refl, ap, sym, subst, arith}
 use Rattle.std.specs.List.{AllByRecursion as Each}
 use Rattle.tbr_model.specs.Run.{Entry}
 use Rattle.tbr_decor.specs.Decoration.{Decoration}
@@ -21,33 +21,27 @@ use Rattle.tbr_runner.proofs.StackCalls.{lines_step, lines_end}
 use Rattle.text_block_renderer.proofs.LinkNumbers.{targets_come}
 use Rattle.tbr_commands.specs.declared.opening.Opening.{Opening}
 use Rattle.tbr_program.specs.Commands.{started}
+use Rattle.tbr_rows.proofs.Among.{each_gives}
 use Rattle.tbr_runner.proofs.ShownTexts.{led_writes}
-use Rattle.tbr_runner.proofs.LedRenderers.{led_on, led_sound, inside_led, line_keeps, sized, of_first, at_end, closed_led, started_led}
+use Rattle.tbr_runner.proofs.LedRenderers.{led_on, led_sound, inside_led, sized, of_first, at_end, closed_led, started_led}
 use Rattle.tbr_runner.proofs.CameToRenderers.{HasStill, IsIn, only_on_stack, only_one, first_has, gives_on, command_has}
-use Rattle.tbr_runner.proofs.ScriptLevels.{Shape, Opens, line_shape}
-
-module _ {X : Type 0} where
-  each_weaker : {P Q : X → Type 0} → ((x : X) → P x → Q x) → (xs : List X) → Each P xs → Each Q xs
-  each_weaker f [] h = tt
-  each_weaker f (x ∷ xs) h = (f x h.0, each_weaker f xs h.1)
+use Rattle.tbr_runner.proofs.ScriptLevels.{Fits, opens_any, line_fits, line_keeps}
 
 module _ {D M : Type 0} (columns : ℕ → Option ℕ) (decoration : Decoration D M) where
   pub line_keeps_all : (p next : Progress D M (List M)) (number : ℕ) (line : List ℕ) → KeepsAll columns decoration p → EndsWhole (line ∷ []) p → after_line columns decoration number line p ≡ Ok next → KeepsAll columns decoration next
   line_keeps_all p next number line keeps whole makes =
       let Waits = λ (c : Renderer D M (List M) × ℕ). NothingOverhangs c.0 in
-      let here : Shape (λ by. Unit {0}) Waits p = record { levels = keeps.levels; waiting = keeps.waiting; opened = each_weaker (λ level wait. tt) p.opened keeps.below; below_them = keeps.below } in
-      let shape = line_shape columns decoration (λ by. Unit {0}) Waits number line p next (λ command is. (opens_any command, λ ends r top span align by. whole (command, is, ends) r top)) makes here in
+      let renderers = keeps.renderers in
+      let here : Fits columns decoration true (λ r. Unit {0}) (λ by. Unit {0}) Waits p = record { on_stack = each_gives _ _ (λ l led. tt) p.stack.levels renderers.on_stack; levels = keeps.levels; waiting = keeps.waiting; opened = each_gives _ _ (λ level wait. tt) p.opened keeps.below; below = keeps.below } in
+      let shape =
+      line_fits columns decoration true (λ r. Unit {0}) (λ width. 0 < width) (λ by. Unit {0}) Waits (λ c r s e k. tt) (λ width r wide k. tt) p here number line next
+      (λ command is. (sized columns decoration line command is, opens_any columns decoration command, λ ends r top k span align by. whole (command, is, ends) r top)) (λ collapse cells gives r s e k. tt) makes in
       record {
         renderers = line_keeps columns decoration (IsLed columns decoration) (λ width. 0 < width) (led_on columns decoration) (inside_led columns decoration) p keeps.renderers number line next (sized columns decoration line) makes;
         levels = shape.levels;
         waiting = shape.waiting;
-        below = shape.below_them;
+        below = shape.below;
       }
-    where
-      opens_any : (command : Command) → Opens (λ by. Unit {0}) command
-      opens_any (sub width) = tt
-      opens_any (cell width span align) = tt
-      opens_any other = tt
 
   pub started_keeps_all : columns 32 ≡ Some 1 → (opening : Opening) (decorator : D) → 0 < opening.width → opening.options.wrap_width ≢ Some 0 → KeepsAll columns decoration (started {M = M} opening decorator)
   started_keeps_all space opening decorator wide some = record { renderers = started_led columns decoration space opening decorator wide some; levels = refl; waiting = tt; below = tt }

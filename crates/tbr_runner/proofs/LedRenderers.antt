@@ -62,11 +62,11 @@ use Rattle.text_block_renderer.specs.Calls.{Call, new_line, start_block, begin, 
 use Rattle.text_block_renderer.specs.Decorated.{sub_renderer}
 use Rattle.text_block_renderer.specs.Acts.{Act, call, row as row_of_cells, fmt_links, finalise, after_act}
 use Rattle.text_block_renderer.proofs.ActSteps.{acts_then}
-use Rattle.text_block_renderer.proofs.Moves.{flushed_none}
+use Rattle.text_block_renderer.proofs.Moves.{lines_beside, flushed_none}
 use Rattle.text_block_renderer.proofs.SoundRenderers.{new_sound, inside_sound, acts_sound}
 use Rattle.text_block_renderer.proofs.LinkNumbers.{targets_come}
 use Rattle.tbr_runner.specs.StackCalls.{stack_calls, link_targets, AskFor, AskAfterFirst, LinesDo}
-use Rattle.tbr_runner.proofs.RenderedLines.{line_command}
+use Rattle.tbr_runner.proofs.ScriptLevels.{first_led, Asks, line_keeps}
 use Rattle.tbr_runner.proofs.StackCalls.{lines_step, lines_end}
 use Rattle.tbr_runner.specs.Led.{IsFresh, IsLed, CellsAre, AllAre, AreLed, IsTextOfLed, IsTextOfScript}
 
@@ -111,154 +111,18 @@ module _ {D M : Type 0} (columns : ℕ → Option ℕ) (decoration : Decoration 
   pub inside_led : (width : ℕ) (r : Top) → 0 < width → Led r → Led (sub_renderer decoration width r)
   inside_led width r wide k = nothing_came (sub_renderer decoration width r) (record { lines = refl; block = refl; waiting = refl; hanging = refl }) (inside_sound columns decoration width r wide (led_sound r k)) refl
 
-  -- ---- levels
-
-  module _ (Is : Top → Type 0) where
-    abbrev pub AllOf : List (Level Top) → Type 0
-    AllOf ls = Each (λ (l : Level Top). Is l.renderer) ls
-
-    pub first_led : (ls : List (Level Top)) (r : Top) → first_renderer ls ≡ Some r → AllOf ls → Is r
-    first_led [] r e h = cc
-    first_led (l ∷ ls) r e h = subst Is (let same : l.renderer ≡ r = cc in same) h.0
-
-    pub others_led : (ls : List (Level Top)) → AllOf ls → AllOf (drop 1 ls)
-    others_led [] h = tt
-    others_led (l ∷ ls) h = h.1
-
-    top_led : (q : Top) (ls : List (Level Top)) → Is q → AllOf ls → AllOf (in_first (λ l. record l { renderer = q }) ls)
-    top_led q [] k h = tt
-    top_led q (l ∷ ls) k h = (k, h.1)
-
-    linked_led : (change : Level Top → Level Top) → ((l : Level Top) → (change l).renderer ≡ l.renderer) → (ls : List (Level Top)) → AllOf ls → AllOf (in_first change ls)
-    linked_led change same [] h = tt
-    linked_led change same (l ∷ ls) h = (subst Is (sym (same l)) h.0, h.1)
-
-    -- a change of the top that leads on
-    changed_led : (change : Top → Outcome Top) → ((r q : Top) → change r ≡ done q → Is r → Is q) → (s t : Stack Top) → in_top change s ≡ done t → AllOf s.levels → AllOf t.levels
-    changed_led change leads s t e h = go (top_of s) refl e
-      where
-        go : (o : Option Top) → top_of s ≡ o → in_top_of change s o ≡ done t → AllOf t.levels
-        go None is made = cc
-        go (Some r) is made =
-            let (q, does, whole) = done_before (with_top s) (change r) t made in
-            subst (λ (x : Stack Top). AllOf x.levels) (sym whole) (top_led q s.levels (leads r q does (first_led s.levels r is h)) h)
-
-  -- whether a block or a cell that a command opens is wide enough
-  abbrev pub Asks : (ℕ → Type 0) → Command → Type 0
-  Asks Wide (sub width) = Wide width
-  Asks Wide (cell width span align) = Wide width
-  Asks Wide other = Unit {0}
-
-  -- ---- what calls keep, and blocks inside have
-
-  module _ (Is : Top → Type 0) (Wide : ℕ → Type 0) (called : (c : Call (List M)) (r s : Top) → after columns decoration c r ≡ done s → Is r → Is s)
-      (inside : (width : ℕ) (r : Top) → Wide width → Is r → Is (sub_renderer decoration width r)) where
-    -- the end of a link, and perhaps its number
-    link_ended : (k : Option ℕ) (r q : Top) → after_end_with columns decoration k r ≡ done q → Is r → Is q
-    link_ended None r q e h = called (finish end.link) r q e h
-    link_ended (Some k) r q e h =
-        let (m, first, next) = done_first (after columns decoration (finish end.link) r) (after columns decoration (add_inline_text (link_number k))) q e in
-        called (add_inline_text (link_number k)) m q next (called (finish end.link) r m first h)
-
-    -- ---- commands
-
-    abbrev Waits : Pending D M (List M) → Type 0
-    Waits pending = CellsAre Is pending
-
-    abbrev WaitBelow : List (Opened D M (List M)) → Type 0
-    WaitBelow os = Each (λ (o : Opened D M (List M)). Waits o.below) os
-
-    -- what takes what others give
-    taken_led : {X : Type 0} (given : Outcome X) (take : X → Top → Outcome Top) → ((x : X) → given ≡ done x → (r q : Top) → take x r ≡ done q → Is r → Is q) → (r q : Top) → taking (after columns decoration new_line) given take r ≡ done q → Is r → Is q
-    taken_led given take leads r q takes k =
-        let (m, x, flushed, gives, does) = taken (after columns decoration new_line) given take r q takes in leads x gives r q does k
-
-    -- a change of the renderer on top, whatever is pending then
-    on_top_led : (p next : Progress D M (List M)) → AllAre Is p → (left : Pending D M (List M)) → Waits left → (make : Top → Outcome Top) → ((r q : Top) → make r ≡ done q → Is r → Is q) → with_stack columns decoration (record p { pending = left }) (in_top make p.stack) ≡ Ok next → AllAre Is next
-    on_top_led p next h left waits make leads is =
-        let (s, made, same) = stack_done columns decoration (record p { pending = left }) (in_top make p.stack) next is in
-        subst (AllAre Is) (sym same) (record { on_stack = changed_led Is make leads p.stack s made h.on_stack; waiting = waits; below = h.below })
-
-    level_led : (by : Opener) (width : ℕ) (p next : Progress D M (List M)) → AllAre Is p → Wide width → level_opened columns decoration by width p ≡ Ok next → AllAre Is next
-    level_led by width p next h wide is =
-        let (r, top, same) = opens columns decoration by width p next is in
-        subst (AllAre Is) (sym same) (record { on_stack = (inside width r wide (first_led Is p.stack.levels r top h.on_stack), h.on_stack); waiting = tt; below = (h.waiting, h.below) })
-
-    -- the levels that are left where one ends
-    ended_led : (make : Top → Progress D M (List M) → Result (Progress D M (List M)) RunError) (by : Opener) (p next : Progress D M (List M)) → AllAre Is p → (ends : Ends columns decoration make p by p.opened (Ok next)) →
-        Is ends.inside × AllAre Is (record { stack = below p.stack; pending = ends.pending; opened = ends.others })
-    ended_led make by p next h ends =
-        let both = subst WaitBelow ends.opened h.below in (
-          first_led Is p.stack.levels ends.inside ends.top h.on_stack,
-          record { on_stack = others_led Is p.stack.levels h.on_stack; waiting = both.0; below = both.1 },
-        )
-
-    -- what the rows of the cells that wait keep
-    abbrev RowsKeep : Progress D M (List M) → Type 0
-    RowsKeep p =
-        (collapse : Bool) (cells : List (GivenCell (List M))) → cells_waiting columns decoration p.pending ≡ done cells → (r s : Top) → after_act columns decoration (row_of_cells collapse cells) r ≡ done s → Is r → Is s
-
-    command_led : (number : ℕ) (command : Command) (p next : Progress D M (List M)) → AllAre Is p → Asks Wide command → RowsKeep p → after_command columns decoration number command p ≡ Ok next → AllAre Is next
-    command_led number (ask request) p next h asks laid is =
-        let (some, made) = unless (ends_nothing p.pending.begun request) (NothingToEnd number) _ (Ok next) (λ no. no) tt is in
-        on_top_led p next h (record p.pending { begun = counted p.pending.begun request }) h.waiting (request_made columns decoration request) (λ r q e k. called (call_of r.width request) r q e k) made
-    command_led number (link target) p next h asks laid is =
-        let (s, made, same) = stack_done columns decoration p _ next is in
-        subst (AllAre Is) (sym same) (record {
-          on_stack = changed_led Is (after columns decoration (begin (start.link (chars target)))) (λ r q e k. called (begin (start.link (chars target))) r q e k) (with_link (chars target) p.stack) s made (linked_led Is _ (λ l. refl) p.stack.levels h.on_stack);
-          waiting = h.waiting;
-          below = h.below;
-        })
-    command_led number end_link p next h asks laid is =
-        let shown = λ (r : Top). shown_number r (open_links p.stack) in
-        let (s, made, same) = stack_done columns decoration p _ next (some_are (open_links p.stack) (NothingToEnd number) _ (Ok next) (λ no. no) tt is) in
-        let (m, ended, whole) = done_before _ (in_top (λ r. after_end_with columns decoration (shown r) r) p.stack) s made in
-        let there = changed_led Is (λ r. after_end_with columns decoration (shown r) r) (λ r q e k. link_ended (shown r) r q e k) p.stack m ended h.on_stack in
-        subst (AllAre Is) (sym same) (record { on_stack = subst (λ (x : Stack Top). AllOf Is x.levels) (sym whole) (linked_led Is closed (λ l. refl) m.levels there); waiting = h.waiting; below = h.below })
-    command_led number (sub width) p next h asks laid is = level_led Sub width p next h asks is
-    command_led number (append first others) p next h asks laid is =
-        let ends = block_ends columns decoration number p p.opened (Ok next) tt first others is in
-        let (of_it, left) = ended_led (block_joined columns decoration first others) Sub p next h ends in
-        on_top_led (record { stack = below p.stack; pending = ends.pending; opened = ends.others }) next left ends.pending left.waiting (block_made columns decoration first others ends.inside)
-        (taken_led (handed_out columns ends.inside) _ (λ lines gives r q e k. called (append_subrender (prefixes first others (length lines)) lines) r q e k)) ends.makes
-    command_led number (cell width span align) p next h asks laid is = level_led (Cell span align) width p next h asks is
-    command_led number end_cell p next h asks laid is =
-        let (span, align, ends) = cell_ends columns decoration number p p.opened (Ok next) tt is in
-        let (of_it, left) = ended_led _ (Cell span align) p next h ends in
-        subst (AllAre Is) (sym (one_ok _ next ends.makes))
-        (record { on_stack = left.on_stack; waiting = each_append (λ (c : Top × ℕ). Is c.0) ends.pending.cells ((ends.inside, span) ∷ []) left.waiting (of_it, tt); below = left.below })
-    command_led number (row collapse) p next h asks laid is =
-        let (top, there, made) = of_top (top_of p.stack) _ (Ok next) tt is in
-        let (fits, lays) = if_so (row_fits top.hanging (spots_of columns p.pending.cells)) (RowDoesNotFit number) _ (Ok next) (λ no. no) tt made in
-        on_top_led p next h (without_cells p.pending) tt (row_made columns decoration p.pending collapse)
-        (taken_led (cells_waiting columns decoration p.pending) _ (laid collapse)) lays
-    command_led number vertical_row p next h asks laid is =
-        on_top_led p next h (without_cells p.pending) tt (vertical_made columns decoration p.pending)
-        (taken_led (gathered (handed_out columns) (renderers_of p.pending.cells)) _ (λ cells gives r q e k. called (append_vert_row cells) r q e k)) is
-
-    pub line_goes : (p : Progress D M (List M)) → AllAre Is p → (number : ℕ) (line : List ℕ) (next : Progress D M (List M)) → ((command : Command) → IsCommand line command → Asks Wide command) → RowsKeep p → after_line columns decoration number line p ≡ Ok next → AllAre Is next
-    line_goes p h number [] next asks laid e = subst (AllAre Is) (sym (one_ok p next e)) h
-    line_goes p h number (b ∷ bs) next asks laid e =
-        let (command, is, makes) = line_command columns decoration number p (Ok next) tt b bs e in
-        command_led number command p next h (asks command is) laid makes
-
-  -- what all acts keep
-  pub line_keeps : (Is : Top → Type 0) (Wide : ℕ → Type 0) → ((act : Act M) (r s : Top) → after_act columns decoration act r ≡ done s → Is r → Is s) → ((width : ℕ) (r : Top) → Wide width → Is r → Is (sub_renderer decoration width r)) →
-      (p : Progress D M (List M)) → AllAre Is p → (number : ℕ) (line : List ℕ) (next : Progress D M (List M)) → ((command : Command) → IsCommand line command → Asks Wide command) → after_line columns decoration number line p ≡ Ok next → AllAre Is next
-  line_keeps Is Wide on inside p h number line next asks does = line_goes Is Wide (λ c r s. on (call c) r s) inside p h number line next asks (λ collapse cells gives r s. on (row_of_cells collapse cells) r s) does
-
   -- ---- such renderers
 
-  pub sized : (line : List ℕ) (command : Command) → IsCommand line command → Asks (λ width. 0 < width) command
+  pub sized : (line : List ℕ) (command : Command) → IsCommand line command → Asks columns decoration (λ width. 0 < width) command
   sized line (sub width) is = is.writes.2.2
   sized line (cell width span align) is = is.writes.2.4.2
   sized line other is = tt
 
   pub line_led : (p next : Progress D M (List M)) (number : ℕ) (line : List ℕ) → AreLed columns decoration p → after_line columns decoration number line p ≡ Ok next → AreLed columns decoration next
-  line_led p next number line h does = line_keeps Led (λ width. 0 < width) led_on inside_led p h number line next (sized line) does
+  line_led p next number line h does = line_keeps columns decoration Led (λ width. 0 < width) led_on inside_led p h number line next (sized line) does
 
   pub of_first : (ls : List (Level Top)) (r : Top) → first_renderer ls ≡ Some r → Each (λ (l : Level Top). Led l.renderer) ls → Led r
-  of_first ls r top h = first_led Led ls r top h
+  of_first ls r top h = first_led columns decoration Led ls r top h
 
   -- ---- the text
 
@@ -294,10 +158,6 @@ module _ {D M : Type 0} (columns : ℕ → Option ℕ) (decoration : Decoration 
       ap (λ (q : Top). let s = with_footnotes columns q (note ∷ notes) in s.lines) (begun_alike d r)
       ∙ ap (λ (s : Top). s.lines) (lines_alike d (flat_map (footnote_lines columns (block_started columns r)) (note ∷ notes)) (block_started columns r))
 
-  notes_stay : (targets : List (List ℕ)) (ts : List (List (Item (List M)))) (r : Top) → footnotes_of columns decoration targets (fold (with_line columns) r ts) ≡ footnotes_of columns decoration targets r
-  notes_stay targets [] r = refl
-  notes_stay targets (t ∷ ts) r = notes_stay targets ts (with_line columns r t)
-
   -- footnotes after a flush
   noted_led : (notes : List (List (Element M))) (r : Top) → r.block ≡ None → Led r → Led (with_notes columns notes r)
   noted_led [] r none k = k
@@ -314,7 +174,7 @@ module _ {D M : Type 0} (columns : ℕ → Option ℕ) (decoration : Decoration 
       let (lines, made, is) = done_before (λ ls. encode_utf8_all (lines_text ls)) (lines_closed columns decoration targets r) text h in
       let (s, ended, are) = done_before (λ (q : Top). let t = with_notes columns notes q in t.lines) (after_flush columns (with_decorator d r)) lines made in
       let (m, first, same) = done_before (with_decorator d) (after_flush columns r) s (sym (block_alike d r r.block) ∙ ended) in
-      let stay = flush_keeps columns r m (footnotes_of columns decoration targets) (λ texts names. notes_stay targets texts (record r { block = None })) first in
+      let stay = flush_keeps columns r m (footnotes_of columns decoration targets) (λ texts names. ap (λ (q : Top). footnotes_of columns decoration targets q) (lines_beside columns texts (record r { block = None }))) first in
       let led = led_on (call new_line) r m (live_goes r.failure (after_flush columns r) k.live ∙ first) k in
       let whole = flushed_none columns r m (flushes columns r m first) in (
         record {

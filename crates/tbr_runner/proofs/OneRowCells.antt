@@ -26,9 +26,10 @@ use Rattle.text_block_renderer.specs.Calls.{Call, after, entries_brought}
 use Rattle.text_block_renderer.specs.Taken.{NothingOverhangs}
 use Rattle.text_block_renderer.specs.Rows.{GivenCell, next_align, cell_given, cells_given, ComesAs}
 use Rattle.text_block_renderer.specs.Acts.{row as row_of_cells, after_act}
-use Rattle.text_block_renderer.proofs.Moves.{any, Frame, path_hanging}
+use Rattle.text_block_renderer.proofs.Moves.{any, path_hanging}
+use Rattle.text_block_renderer.proofs.RowsOfCells.{row_beside}
 use Rattle.text_block_renderer.proofs.CallMoves.{calls_move}
-use Rattle.text_block_renderer.proofs.ActParts.{alone, row_frame}
+use Rattle.text_block_renderer.proofs.ActParts.{alone}
 use Rattle.text_block_renderer.proofs.ActSteps.{act_step}
 use Rattle.tbr_commands.specs.Command.{Command, sub, cell}
 use Rattle.tbr_commands.specs.declared.opening.Opening.{Opening}
@@ -36,8 +37,8 @@ use Rattle.tbr_program.specs.Progress.{Progress}
 use Rattle.tbr_program.specs.Commands.{after_line, started}
 use Rattle.tbr_runner.specs.Kept.{EndsWhole, IsOfOneRow, OverhangsNowhere, AsksForOneRow, LineAsksForOneRow, KeepsAll}
 use Rattle.tbr_runner.specs.StackCalls.{LinesDo}
-use Rattle.tbr_runner.proofs.LedRenderers.{first_led, line_goes, sized}
-use Rattle.tbr_runner.proofs.ScriptLevels.{Shape, Opens, line_shape}
+use Rattle.tbr_runner.proofs.LedRenderers.{sized}
+use Rattle.tbr_runner.proofs.ScriptLevels.{first_led, Opens, Fits, line_fits, line_goes}
 
 -- ---- a row of such cells
 
@@ -98,7 +99,7 @@ module _ {D M : Type 0} (columns : ℕ → Option ℕ) (decoration : Decoration 
       let before = each_gives HasNone LeavesNone (λ c e. inr e) m.hanging (subst (Each HasNone) (sym (flush_hangs columns r m (live_done r.failure (after_flush columns r) m flushed).1)) none) in
       let seats = each_seated LeavesNone (λ place width. inl refl) 0 m.hanging puts.own means.cells before (own_of_one columns m.annotations cells puts.own puts.come one) means.seated in
       let height = row_height (columns_shown collapse (cells_under collapse (last_border m.lines) means.cells)) in
-      subst (Each HasNone) (sym (ap (λ (q : Top). q.hanging) puts.is ∙ ap (λ (f : Frame M). f.hanging) (row_frame columns m puts.row) ∙ means.rest
+      subst (Each HasNone) (sym (ap (λ (q : Top). q.hanging) puts.is ∙ ap (λ (q : Top). q.hanging) (row_beside columns m puts.row) ∙ means.rest
       ∙ ap (λ shown. overhang m.options.draw_borders (cells_left (row_height shown) shown)) means.shown_is))
       (none_overhang m.options.draw_borders height collapse m.lines means.cells seats)
 
@@ -116,21 +117,24 @@ module _ {D M : Type 0} (columns : ℕ → Option ℕ) (decoration : Decoration 
   abbrev IsOne : Top × ℕ → Type 0
   IsOne c = c.1 ≡ 1
 
-  opens_one : (command : Command) → AsksForOneRow command → Opens IsOfOneRow command
+  opens_one : (command : Command) → AsksForOneRow command → Opens columns decoration IsOfOneRow command
   opens_one (sub width) one = tt
   opens_one (cell width span align) one = one
   opens_one other one = tt
 
   line_none : (number : ℕ) (line : List ℕ) (p next : Progress D M (List M)) → LineAsksForOneRow line → after_line columns decoration number line p ≡ Ok next → OverhangsNowhere p → length p.stack.levels ≡ length p.opened + 1 → OverhangsNowhere next × (length next.stack.levels ≡ length next.opened + 1)
   line_none number line p next one does none levels =
-      let before : Shape IsOfOneRow IsOne p = record { levels = levels; waiting = none.waiting; opened = none.opened; below_them = none.below } in
-      let shape = line_shape columns decoration IsOfOneRow IsOne number line p next (λ command is. (opens_one command (one command is), λ ends r top span align of_one. of_one)) does before in (
+      let renderers = none.renderers in
+      let before : Fits columns decoration true (λ r. Unit {0}) IsOfOneRow IsOne p = record { on_stack = each_gives _ _ (λ l none. tt) p.stack.levels renderers.on_stack; levels = levels; waiting = none.waiting; opened = none.opened; below = none.below } in
+      let shape =
+      line_fits columns decoration true (λ r. Unit {0}) (λ width. 0 < width) IsOfOneRow IsOne (λ c r s e k. tt) (λ width r wide k. tt) p before number line next
+      (λ command is. (sized columns decoration line command is, opens_one command (one command is), λ ends r top k span align of_one. of_one)) (λ collapse cells gives r s e k. tt) does in (
         record {
           renderers = line_goes columns decoration NothingOverhangs (λ width. 0 < width) call_none (λ width r wide hangs. tt) p none.renderers number line next (sized columns decoration line)
               (λ collapse cells gives. row_none collapse cells (given_one p.pending.cells p.pending.aligns cells gives none.waiting)) does;
           waiting = shape.waiting;
           opened = shape.opened;
-          below = shape.below_them;
+          below = shape.below;
         },
         shape.levels,
       )

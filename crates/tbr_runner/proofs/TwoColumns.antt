@@ -50,7 +50,8 @@ use Rattle.text_block_renderer.proofs.TwoColumns.{act_fits}
 use Rattle.tbr_runner.specs.Scripts.{rendered_on}
 use Rattle.tbr_runner.specs.Led.{AllAre, LineAsksForTwo}
 use Rattle.tbr_runner.proofs.RenderedLines.{Parts, line_parts, line_command}
-use Rattle.tbr_runner.proofs.LedRenderers.{Top, Led, with_decorator, led_on, led_sound, nothing_came, inside_led, first_led, others_led, line_keeps}
+use Rattle.tbr_runner.proofs.LedRenderers.{Top, Led, with_decorator, led_on, led_sound, nothing_came, inside_led}
+use Rattle.tbr_runner.proofs.ScriptLevels.{first_led, others_led, line_keeps}
 
 -- ---- the lesser of two widths
 
