@@ -3,13 +3,13 @@ use Rattle.std.specs.Prelude.{◌≡◌, ◌≢◌, ℕ, Option, Some, Result, O
 use Rattle.tbr_commands.specs.Command.{Command}
 use Rattle.tbr_commands.specs.declared.opening.Opening.{Opening}
 use Rattle.tbr_c_lines.specs.Status.{status_of}
-use Rattle.tbr_c_lines.specs.Lines.{NoneLeft}
 use Rattle.tbr_c_lines.specs.declared.fault.Fault.{Fault}
 use Rattle.tbr_c_lines.specs.declared.fault.Fault.TheVariants as fault
 use Rattle.tbr_c_lines.specs.declared.line.LineSize.{LineSize}
 use Rattle.tbr_c.specs.declared.state.State.{State}
 use Rattle.tbr_c.specs.declared.state.State.TheVariants.{Finished}
-use Rattle.tbr_c.specs.State.{Begins, HasEnded, IsKept, Keeps, Does, Refuses, refused_as, EndsAs, EndsIn, RefusesEnd, HasText, TakesLine, CopiesRest}
+use Rattle.tbr_c.specs.State.{Begins, HasEnded, IsKept, Keeps, Does, Refuses, refused_as, EndsAs, EndsIn, RefusesEnd, HasText, TakesLine, HasNoNext, CopiesRest}
+use Rattle.tbr_c.specs.Questions.{Puts}
 
 -- It does what arguments ask for, as a script does.
 abbrev pub DoesAsked : State → Result Command Fault → State → Type 0
@@ -59,7 +59,7 @@ HasLength before after count =
 abbrev pub GivesText : State → Option State → ℕ → ℕ → ℕ → Type 0
 GivesText before back old new status =
     (done : Result ℕ Fault) × (after : State) × IfOk done (HasLength before after) × IsEnd before done after
-    × (back ≡ Some after) × MatchResult done (λ count. new ≡ count) (λ _. new ≡ old) × (status ≡ status_of done)
+    × (back ≡ Some after) × Puts done old new status
 
 -- A new renderer, or why there is none.
 abbrev pub IsMade : Result Opening Fault → Result State Fault → Type 0
@@ -73,16 +73,23 @@ GivesNew asked before back status =
     (made : Result State Fault) × IsMade asked made × MatchResult made (λ state. back ≡ Some state) (λ _. back ≡ before)
     × (status ≡ status_of made)
 
--- The status is that of an answer to a question for the text.
-abbrev pub IsRestCopied : State → List ℕ → List ℕ → ℕ → ℕ → Type 0
-IsRestCopied state before after needed status =
-    (done : Result (Unit {0}) Fault) × CopiesRest state before after needed done × (status ≡ status_of done)
+-- A question for the text of all lines that weren't taken is answered, and C is given back what the renderer holds then.
+-- Where memory is refused that is kept.
+abbrev pub GivesRest : State → Option State → List ℕ → List ℕ → ℕ → ℕ → Type 0
+GivesRest state back before after needed status =
+    (done : Result (Unit {0}) Fault) × (next : State) × CopiesRest state before after needed done
+    × IfErr done (λ f. IsKept f → Keeps next f) × MatchResult done (λ _. next ≡ state) (λ f. (IsKept f → ⊥) → next ≡ state)
+    × (back ≡ Some next) × (status ≡ status_of done)
 
--- C is given back what has the first line that wasn't taken as the one that was taken last, and its size.
-abbrev pub GivesNext : State → Option State → LineSize → Type 0
-GivesNext before back size = (after : State) × TakesLine before after size × (back ≡ Some after)
+-- The first line that wasn't taken is taken, or it is refused why there is none. `OutOfMemory` is kept.
+pub record IsNext (before : State) (done : Result LineSize Fault) (after : State) : Type 0 where
+  pub taken : IfOk done (TakesLine before after)
+  pub none : IfErr done (λ f. f ≢ fault.OutOfMemory → HasNoNext before f)
+  pub kept : IfErr done (λ f. IsKept f → Keeps after f)
+  pub left : IfErr done (λ f. (IsKept f → ⊥) → after ≡ before)
 
--- None is left of the lines.
-abbrev pub HasNone : State → Type 0
-HasNone (Finished lines) = NoneLeft lines.rest
-HasNone other = ⊥
+-- C is given its size, and back what the renderer holds then.
+abbrev pub GivesNext : State → Option State → LineSize → LineSize → ℕ → Type 0
+GivesNext before back old new status =
+    (done : Result LineSize Fault) × (after : State) × IsNext before done after × (back ≡ Some after)
+    × Puts done old new status

@@ -2,3 +2,4 @@ pub mod Answers
 pub mod Arguments
 pub mod Owned
 pub mod State
+pub mod Questions

@@ -151,11 +151,6 @@ TakesLine (Plain program) next size = ⊥
 TakesLine (Trivial program) next size = ⊥
 TakesLine (Rich program) next size = ⊥
 
--- the line that was taken last, if one was
-abbrev pub current_of : State → Option Line
-current_of (Finished lines) = lines.current
-current_of other = None
-
 -- Its lines have these bytes, each with a newline, and none was taken yet.
 abbrev pub HasText : State → List ℕ → Type 0
 HasText (Finished lines) bytes = (chars bytes ≡ text_of lines.rest) × (lines.current ≡ None)

@@ -15,12 +15,13 @@ ghost use Rattle.tbr_c.specs.Answers.{Gives, GivesNew, GivesEnd, GivesText};
 ghost use Rattle.tbr_c.specs.Arguments.{ReadsCommand, with_text, with_texts, mode_asked, sub_asked, cell_asked, opening_asked};
 ghost use Rattle.tbr_c.specs.State.{Begins};
 
+use crate::answers::put;
 use crate::arguments;
 use crate::handle::{Handle, Returned, hand_back};
 use crate::held::Held;
 use crate::options::Options;
 use std::alloc::Global;
-use tbr_c_lines::{Fault, answer, status};
+use tbr_c_lines::{Fault, status};
 use tbr_commands::{Beginning, Command, Kind, Layout, Request};
 use tbr_decor::Colour;
 
@@ -418,5 +419,5 @@ pub extern "C" fn tbr1_finish_text(renderer: Handle, length: &mut usize, back: &
     let mut held = renderer.open();
     let count = held.finish_text();
     hand_back(held, back);
-    status(answer(count, length))
+    put(count, length)
 }

@@ -1,9 +1,11 @@
 //! What C holds.
-ghost use Rattle.std.specs.Prelude.{◌≡◌, ◌≢◌, ◌<◌, ℕ, List, None, Some, Result, IfOk, IfErr, OnOk, MatchResult};
-ghost use Rattle.tbr_c.specs.Answers.{IsAnswer, IsEnd, HasLength};
+ghost use Rattle.std.specs.Prelude.{◌≡◌, ◌≢◌, ◌<◌, ℕ, List, None, Some, Result, Ok, Err, IfOk, IfErr, OnOk, MatchResult, string_bytes};
+ghost use Rattle.tbr_c.specs.Answers.{IsAnswer, IsEnd, HasLength, IsNext};
 ghost use Rattle.tbr_c.specs.Arguments.{Reads};
-ghost use Rattle.tbr_c.specs.State.{CanGoOn, Begins, MayFinish, EndsIn, HasNoNext, TakesLine, current_of, CopiesRest};
+ghost use Rattle.tbr_c.specs.State.{CanGoOn, Begins, MayFinish, EndsIn, CopiesRest, IsKept, Keeps};
+ghost use Rattle.tbr_c.specs.Questions.{facts_of, width_left, prefix_of, refusal_of, line_taken};
 ghost use Rattle.tbr_c.specs.declared.state.State.TheVariants as S;
+ghost use Rattle.tbr_decor.specs.Prefix.{asked_prefix};
 ghost use Rattle.tbr_c_lines.specs.Status.{fault_of};
 ghost use Rattle.tbr_c_lines.specs.declared.fault.Fault.{Fault as Refusal};
 ghost use Rattle.tbr_c_lines.specs.declared.fault.Fault.TheVariants as F;
@@ -122,7 +124,9 @@ impl Held {
     }
 
     /// The refusal that is kept, if there is one.
-    pub fn refusal(&self) -> Result<(), Fault> {
+    pub fn refusal(&self) -> Result<(), Fault>
+        ensures { result ≡ refusal_of self.now }
+    {
         match &self.state {
             State::Refused(e) => Err(Fault::from(*e)),
             _ => Ok(()),
@@ -130,23 +134,24 @@ impl Held {
     }
 
     /// What it answers while it is filled. A refusal of this isn't kept, nor one of the questions below.
-    pub fn facts(&self) -> Result<Facts, Fault> {
+    pub fn facts(&self) -> Result<Facts, Fault>
+        ensures { result ≡ facts_of self.now }
+    {
         self.state.facts()
     }
 
-    /// Whether cells overhang from the rows before in the innermost level.
-    pub fn has_overhang(&self) -> Result<bool, Fault> {
-        self.state.has_overhang()
-    }
-
     /// The columns of the innermost level that are left after a prefix of `prefix` columns, but at least `least`.
-    pub fn width_minus(&self, prefix: usize, least: usize) -> Result<usize, Fault> {
+    pub fn width_minus(&self, prefix: usize, least: usize) -> Result<usize, Fault>
+        ensures { result ≡ width_left prefix least self.now }
+    {
         self.state.width_minus(prefix, least)
     }
 
     /// The text of a prefix of the decorator.
     pub fn prefix(&mut self, prefix: DecoratorPrefix) -> Result<String, Fault>
-        ensures { self.new ≡ self.old }
+        ensures text { IfOk result (λ text. prefix_of (asked_prefix prefix) self.old ≡ Ok (string_bytes text)) }
+        ensures refused { IfErr result (λ f. f ≢ F.OutOfMemory → prefix_of (asked_prefix prefix) self.old ≡ Err f) }
+        ensures left { self.new ≡ self.old }
     {
         self.state.prefix(prefix)
     }
@@ -154,9 +159,7 @@ impl Held {
     /// Takes the next line, and answers its size. `NotFinished` where the renderer isn't finished, `NoLine` where none
     /// is left. `OutOfMemory` is kept.
     pub fn next_line(&mut self) -> Result<LineSize, Fault>
-        ensures taken { IfOk result (λ size. TakesLine self.old self.new size) }
-        ensures none { IfErr result (λ fault. fault ≢ F.OutOfMemory → fault ≢ F.TooNarrow →
-            HasNoNext self.old fault × (self.new ≡ self.old)) }
+        ensures { IsNext self.old result self.new }
     {
         let size = self.state.next_line(self.alloc);
         self.state.keep(size)
@@ -164,7 +167,7 @@ impl Held {
 
     /// The line that was taken last. `NotFinished` where the renderer isn't finished, `NoLine` where none was taken.
     pub fn line(&self) -> Result<&Line, Fault>
-        ensures { MatchResult result (λ line. current_of self.now ≡ Some line.now) (λ _. current_of self.now ≡ None) }
+        ensures { MatchResult result (λ line. line_taken self.now ≡ Ok line.now) (λ f. line_taken self.now ≡ Err f) }
     {
         self.state.lines()?.current()
     }
@@ -174,6 +177,8 @@ impl Held {
     pub fn copy_text(&mut self, out: &mut [u8], needed: &mut usize) -> Result<(), Fault>
         ensures text { CopiesRest self.old out.old out.new needed.new result }
         ensures unwritten { IfErr result (λ _. out.new ≡ out.old) }
+        ensures kept { IfErr result (λ f. IsKept f → Keeps self.new f) }
+        ensures left { MatchResult result (λ _. self.new ≡ self.old) (λ f. (IsKept f → ⊥) → self.new ≡ self.old) }
     {
         let done = self.state.copy_text(self.alloc, out, needed);
         self.state.keep(done)

@@ -2,6 +2,7 @@
 //! what is exported here, says what each does.
 #![tactic(auto)]
 
+mod answers;
 mod arguments;
 mod calls;
 mod handle;

@@ -1,13 +1,19 @@
 //! Questions to a renderer that is filled. None changes it.
-ghost use Rattle.std.specs.Prelude.{◌≡◌, Some};
+ghost use Rattle.std.specs.Prelude.{◌≡◌, ◌≢◌, Some};
+ghost use Rattle.tbr_decor.specs.Prefix.{asked_prefix};
+ghost use Rattle.tbr_decor.specs.Prefix as prefixes;
+ghost use Rattle.tbr_c_lines.specs.Status.{status_of};
+ghost use Rattle.tbr_c.specs.Questions.{Puts, Copies, facts_of, fact_of, width_left, prefix_of, refusal_of};
 
+use crate::answers::{copy, put};
 use crate::handle::{Handle, Returned, hand_back};
 use crate::state::Facts;
-use tbr_c_lines::{Fault, answer, copy_out, status};
+use tbr_c_lines::{Fault, status};
 use tbr_decor::DecoratorPrefix;
 
 /// What a renderer answers of its innermost level.
 fn facts(renderer: Handle, back: &mut Returned) -> Result<Facts, Fault>
+    ensures facts { result ≡ facts_of renderer.value }
     ensures same { back.new.value ≡ Some renderer.value }
 {
     let held = renderer.open();
@@ -18,6 +24,7 @@ fn facts(renderer: Handle, back: &mut Returned) -> Result<Facts, Fault>
 
 #[unsafe(no_mangle)]
 pub extern "C" fn tbr1_refusal(renderer: Handle, back: &mut Returned) -> u32
+    ensures refusal { result ≡ status_of (refusal_of renderer.value) }
     ensures same { back.new.value ≡ Some renderer.value }
 {
     let held = renderer.open();
@@ -28,9 +35,10 @@ pub extern "C" fn tbr1_refusal(renderer: Handle, back: &mut Returned) -> u32
 
 #[unsafe(no_mangle)]
 pub extern "C" fn tbr1_is_empty(renderer: Handle, is_empty: &mut bool, back: &mut Returned) -> u32
+    ensures fact { Puts (fact_of (λ facts. facts.is_empty) renderer.value) is_empty.old is_empty.new result }
     ensures same { back.new.value ≡ Some renderer.value }
 {
-    status(answer(facts(renderer, back).map(|facts| facts.is_empty), is_empty))
+    put(facts(renderer, back).map(|facts| facts.is_empty), is_empty)
 }
 
 #[unsafe(no_mangle)]
@@ -39,19 +47,22 @@ pub extern "C" fn tbr1_has_overhang(
     has_overhang: &mut bool,
     back: &mut Returned,
 ) -> u32
+    ensures fact { Puts (fact_of (λ facts. facts.has_overhang) renderer.value)
+        has_overhang.old has_overhang.new result }
     ensures same { back.new.value ≡ Some renderer.value }
 {
-    let held = renderer.open();
-    let hangs = held.has_overhang();
-    hand_back(held, back);
-    status(answer(hangs, has_overhang))
+    put(
+        facts(renderer, back).map(|facts| facts.has_overhang),
+        has_overhang,
+    )
 }
 
 #[unsafe(no_mangle)]
 pub extern "C" fn tbr1_width(renderer: Handle, columns: &mut usize, back: &mut Returned) -> u32
+    ensures fact { Puts (fact_of (λ facts. facts.width) renderer.value) columns.old columns.new result }
     ensures same { back.new.value ≡ Some renderer.value }
 {
-    status(answer(facts(renderer, back).map(|facts| facts.width), columns))
+    put(facts(renderer, back).map(|facts| facts.width), columns)
 }
 
 #[unsafe(no_mangle)]
@@ -62,26 +73,29 @@ pub extern "C" fn tbr1_width_minus(
     columns: &mut usize,
     back: &mut Returned,
 ) -> u32
+    ensures left { Puts (width_left prefix least renderer.value) columns.old columns.new result }
     ensures same { back.new.value ≡ Some renderer.value }
 {
     let held = renderer.open();
     let left = held.width_minus(prefix, least);
     hand_back(held, back);
-    status(answer(left, columns))
+    put(left, columns)
 }
 
 #[unsafe(no_mangle)]
 pub extern "C" fn tbr1_open_levels(renderer: Handle, count: &mut usize, back: &mut Returned) -> u32
+    ensures fact { Puts (fact_of (λ facts. facts.open_levels) renderer.value) count.old count.new result }
     ensures same { back.new.value ≡ Some renderer.value }
 {
-    status(answer(facts(renderer, back).map(|facts| facts.open_levels), count))
+    put(facts(renderer, back).map(|facts| facts.open_levels), count)
 }
 
 #[unsafe(no_mangle)]
 pub extern "C" fn tbr1_open_links(renderer: Handle, count: &mut usize, back: &mut Returned) -> u32
+    ensures fact { Puts (fact_of (λ facts. facts.open_links) renderer.value) count.old count.new result }
     ensures same { back.new.value ≡ Some renderer.value }
 {
-    status(answer(facts(renderer, back).map(|facts| facts.open_links), count))
+    put(facts(renderer, back).map(|facts| facts.open_links), count)
 }
 
 #[unsafe(no_mangle)]
@@ -90,15 +104,16 @@ pub extern "C" fn tbr1_waiting_cells(
     count: &mut usize,
     back: &mut Returned,
 ) -> u32
+    ensures fact { Puts (fact_of (λ facts. facts.waiting_cells) renderer.value) count.old count.new result }
     ensures same { back.new.value ≡ Some renderer.value }
 {
-    status(answer(
+    put(
         facts(renderer, back).map(|facts| facts.waiting_cells),
         count,
-    ))
+    )
 }
 
-/// Writes a prefix of the decorator.
+/// Copies a prefix of the decorator.
 fn prefix(
     renderer: Handle,
     prefix: DecoratorPrefix,
@@ -106,12 +121,18 @@ fn prefix(
     length: &mut usize,
     back: &mut Returned,
 ) -> u32
+    ensures text { result ≢ 1 →
+        Copies (prefix_of (asked_prefix prefix) renderer.value) out.old out.new length.new result }
+    ensures unwritten { result ≢ 0 → out.new ≡ out.old }
     ensures same { back.new.value ≡ Some renderer.value }
 {
     let mut held = renderer.open();
     let text = held.prefix(prefix);
     hand_back(held, back);
-    status(text.and_then(|text| copy_out(text.as_bytes(), out, length)))
+    match &text {
+        Ok(text) => copy(Ok(text.as_str()), out, length),
+        Err(fault) => fault.code(),
+    }
 }
 
 #[unsafe(no_mangle)]
@@ -121,6 +142,8 @@ pub extern "C" fn tbr1_quote_prefix(
     length: &mut usize,
     back: &mut Returned,
 ) -> u32
+    ensures text { result ≢ 1 → Copies (prefix_of prefixes.quote renderer.value) out.old out.new length.new result }
+    ensures unwritten { result ≢ 0 → out.new ≡ out.old }
     ensures same { back.new.value ≡ Some renderer.value }
 {
     prefix(renderer, DecoratorPrefix::Quote, out, length, back)
@@ -133,6 +156,9 @@ pub extern "C" fn tbr1_item_prefix(
     length: &mut usize,
     back: &mut Returned,
 ) -> u32
+    ensures text { result ≢ 1 →
+        Copies (prefix_of prefixes.unordered_item renderer.value) out.old out.new length.new result }
+    ensures unwritten { result ≢ 0 → out.new ≡ out.old }
     ensures same { back.new.value ≡ Some renderer.value }
 {
     prefix(renderer, DecoratorPrefix::Item, out, length, back)
@@ -146,6 +172,9 @@ pub extern "C" fn tbr1_ordered_item_prefix(
     length: &mut usize,
     back: &mut Returned,
 ) -> u32
+    ensures text { result ≢ 1 →
+        Copies (prefix_of (prefixes.ordered_item number) renderer.value) out.old out.new length.new result }
+    ensures unwritten { result ≢ 0 → out.new ≡ out.old }
     ensures same { back.new.value ≡ Some renderer.value }
 {
     prefix(
@@ -165,6 +194,9 @@ pub extern "C" fn tbr1_header_prefix(
     length: &mut usize,
     back: &mut Returned,
 ) -> u32
+    ensures text { result ≢ 1 →
+        Copies (prefix_of (prefixes.header level) renderer.value) out.old out.new length.new result }
+    ensures unwritten { result ≢ 0 → out.new ≡ out.old }
     ensures same { back.new.value ≡ Some renderer.value }
 {
     prefix(renderer, DecoratorPrefix::Header(level), out, length, back)

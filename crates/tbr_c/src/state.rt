@@ -3,6 +3,7 @@ ghost use Rattle.std.specs.Prelude.{◌≡◌, ◌≢◌, ◌<◌, ◌⊎◌, []
 ghost use Rattle.tbr_tagged.specs.declared.Error.TheVariants as Refusal;
 ghost use Rattle.tbr_tagged.specs.UnicodeColumns.{unicode_columns};
 ghost use Rattle.tbr_decor.specs.Decoration.{decoration_of};
+ghost use Rattle.tbr_decor.specs.Prefix.{asked_prefix};
 ghost use Rattle.tbr_script.specs.declared.error.RunError.{RunError as Unrun};
 ghost use Rattle.tbr_script.specs.declared.error.RunError.TheVariants as script;
 ghost use Rattle.tbr_commands.specs.Command.{command_of, IsSized};
@@ -11,6 +12,7 @@ ghost use Rattle.tbr_program.specs.Commands.{after_command, ended, started as be
 ghost use Rattle.tbr_c_lines.specs.Status.{fault_of_command};
 ghost use Rattle.tbr_c_lines.specs.Lines.{line_text};
 ghost use Rattle.tbr_c.specs.State.{CanGoOn, Begins, MayFinish, IsKept, Keeps, HasEnded, Does, Refuses, refused_as, EndsAs, EndsIn, RefusesEnd, HasNoLines, TakesLine, HasNoNext, CopiesRest};
+ghost use Rattle.tbr_c.specs.Questions.{on_top, facts_in, facts_of, width_left, prefix_of};
 ghost use Rattle.tbr_c.specs.declared.state.State.TheVariants as S;
 ghost use Rattle.tbr_c_lines.specs.declared.fault.Fault.TheVariants as F;
 
@@ -47,6 +49,8 @@ pub struct Facts {
     pub width: usize,
     /// Whether the level has neither a line nor text on an open one.
     pub is_empty: bool,
+    /// Whether cells overhang in the level from the rows before.
+    pub has_overhang: bool,
     /// How many levels are open.
     pub open_levels: usize,
     /// How many links are open in the level.
@@ -110,6 +114,7 @@ impl State {
     /// What it answers while it is filled.
     pub fn facts(&self) -> Result<Facts, Fault>
         requires { CanGoOn self.now }
+        ensures facts { result ≡ facts_of self.now }
         ensures ended { HasEnded self.now result }
         ensures closed { IfOk result (λ facts. facts.open_levels ≡ 0 → facts.waiting_cells ≡ 0 → MayFinish self.now) }
         ensures open { IfOk result (λ facts. (0 < facts.open_levels) ⊎ (0 < facts.waiting_cells) →
@@ -126,24 +131,10 @@ impl State {
         }
     }
 
-    /// Whether cells overhang from the rows before in the innermost level. It takes no memory.
-    pub fn has_overhang(&self) -> Result<bool, Fault>
-        requires { CanGoOn self.now }
-        ensures ended { HasEnded self.now result }
-    {
-        Ok(match self {
-            State::Plain(program) => program.top().has_overhang(),
-            State::Trivial(program) => program.top().has_overhang(),
-            State::Rich(program) => program.top().has_overhang(),
-            State::Finished(_) => return Err(Fault::Finished),
-            State::Refused(e) => return Err(Fault::from(*e)),
-        })
-    }
-
     /// The columns of the innermost level that are left after a prefix of `prefix` columns, but at least `least`.
     pub fn width_minus(&self, prefix: usize, least: usize) -> Result<usize, Fault>
         requires { CanGoOn self.now }
-        ensures ended { HasEnded self.now result }
+        ensures { result ≡ width_left prefix least self.now }
     {
         Ok(match self {
             State::Plain(program) => program.top().width_minus(prefix, least)?,
@@ -157,16 +148,17 @@ impl State {
     /// The text of a prefix of the decorator. It refuses where memory is refused too.
     pub fn prefix(&mut self, prefix: DecoratorPrefix) -> Result<String, Fault>
         requires { CanGoOn self.old }
+        ensures text { IfOk result (λ text. prefix_of (asked_prefix prefix) self.old ≡ Ok (string_bytes text)) }
+        ensures refused { IfErr result (λ f. f ≢ F.OutOfMemory → prefix_of (asked_prefix prefix) self.old ≡ Err f) }
         ensures left { self.new ≡ self.old }
-        ensures ended { HasEnded self.old result }
     {
-        Ok(match self {
-            State::Plain(program) => program.prefix(prefix)?,
-            State::Trivial(program) => program.prefix(prefix)?,
-            State::Rich(program) => program.prefix(prefix)?,
-            State::Finished(_) => return Err(Fault::Finished),
-            State::Refused(e) => return Err(Fault::from(*e)),
-        })
+        match self {
+            State::Plain(program) => prefix_in(program, prefix),
+            State::Trivial(program) => prefix_in(program, prefix),
+            State::Rich(program) => prefix_in(program, prefix),
+            State::Finished(_) => Err(Fault::Finished),
+            State::Refused(e) => Err(Fault::from(*e)),
+        }
     }
 
     /// Its lines, with the footnotes of its links after them, where no level is open and no cell waits.
@@ -313,6 +305,20 @@ fn run_on<D: TextDecorator>(
     }
 }
 
+/// The text of a prefix of a program's decorator. It refuses only where memory is refused, and changes nothing.
+fn prefix_in<D: TextDecorator>(
+    program: &mut Program<D, UnicodeColumns>,
+    prefix: DecoratorPrefix,
+) -> Result<String, Fault>
+    requires { GoesOn program.old }
+    ensures text { IfOk result (λ text. string_bytes text ≡ encode_utf8_all
+        (on_top [] (λ r. D.prefix_text r.decorator (asked_prefix prefix)) program.old.stack)) }
+    ensures memory { IfErr result (λ fault. fault ≡ F.OutOfMemory) }
+    ensures left { program.new ≡ program.old }
+{
+    Ok(program.prefix(prefix)?)
+}
+
 /// The text of a program. It refuses with `NotACommand` only where a level is open or cells wait.
 fn text_of<D: TextDecorator>(program: Program<D, UnicodeColumns>) -> Result<String, Error>
     requires { GoesOn program }
@@ -346,6 +352,7 @@ fn lines_of<D: TextDecorator>(
 /// What a program answers of its innermost level.
 fn facts_of<D: TextDecorator>(program: &Program<D, UnicodeColumns>) -> Facts
     requires { GoesOn program.now }
+    ensures facts { result ≡ facts_in D.meaning program.now }
     ensures closed { result.open_levels ≡ 0 → program.now.opened ≡ [] }
     ensures cells { result.waiting_cells ≡ 0 → program.now.pending.cells ≡ [] }
     ensures open { (0 < result.open_levels) ⊎ (0 < result.waiting_cells) → ended unicode_columns
@@ -355,6 +362,7 @@ fn facts_of<D: TextDecorator>(program: &Program<D, UnicodeColumns>) -> Facts
     Facts {
         width: top.width(),
         is_empty: top.empty(),
+        has_overhang: top.has_overhang(),
         open_levels: program.open_levels(),
         open_links: program.open_links(),
         waiting_cells: program.waiting_cells(),

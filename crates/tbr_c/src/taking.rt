@@ -1,17 +1,13 @@
 //! Lines of a renderer that is finished.
-ghost use Rattle.std.specs.Prelude.{◌≡◌, ◌≢◌, ℕ, List, None, Some, Ok, IfSome, slice_get};
-ghost use Rattle.tbr_c_lines.specs.Copied.{IsCopied};
-ghost use Rattle.tbr_c_lines.specs.Line.{Line as Shown, placed, marked};
-ghost use Rattle.tbr_c_lines.specs.Status.{status_of};
-ghost use Rattle.tbr_c_lines.specs.declared.line.PiecePlace.{PiecePlace as Place};
-ghost use Rattle.tbr_c.specs.State.{current_of};
-ghost use Rattle.tbr_c.specs.Answers.{IsRestCopied, GivesNext, HasNone};
+ghost use Rattle.std.specs.Prelude.{◌≡◌, ◌≢◌, Some, Ok, Err, MatchResult};
+ghost use Rattle.tbr_c.specs.Answers.{GivesRest, GivesNext};
+ghost use Rattle.tbr_c.specs.Questions.{Puts, Copies, text_taken, piece_taken, name_taken, annotation_taken, kind_taken, target_taken};
 
+use crate::answers::{copy, put};
 use crate::handle::{Handle, Returned, hand_back};
 use crate::held::Held;
-use tbr_c_lines::{
-    AnnotationKind, Fault, LineSize, PiecePlace, answer, copy_out, kind, status, target,
-};
+use tbr_c_lines::{AnnotationKind, Fault, LineSize, PiecePlace, kind, status, target};
+use tbr_decor::RichAnnotation;
 
 #[unsafe(no_mangle)]
 pub extern "C" fn tbr1_text(
@@ -20,7 +16,7 @@ pub extern "C" fn tbr1_text(
     needed: &mut usize,
     back: &mut Returned,
 ) -> u32
-    ensures text { IsRestCopied renderer.value out.old out.new needed.new result }
+    ensures text { GivesRest renderer.value back.new.value out.old out.new needed.new result }
     ensures unwritten { result ≢ 0 → out.new ≡ out.old }
 {
     let mut held = renderer.open();
@@ -31,14 +27,12 @@ pub extern "C" fn tbr1_text(
 
 #[unsafe(no_mangle)]
 pub extern "C" fn tbr1_next_line(renderer: Handle, line: &mut LineSize, back: &mut Returned) -> u32
-    ensures taken { result ≡ 0 → GivesNext renderer.value back.new.value line.new }
-    ensures none { result ≡ 12 → HasNone renderer.value }
-    ensures left { result ≢ 0 → line.new ≡ line.old }
+    ensures { GivesNext renderer.value back.new.value line.old line.new result }
 {
     let mut held = renderer.open();
     let size = held.next_line();
     hand_back(held, back);
-    status(answer(size, line))
+    put(size, line)
 }
 
 #[unsafe(no_mangle)]
@@ -48,22 +42,20 @@ pub extern "C" fn tbr1_line_text(
     needed: &mut usize,
     back: &mut Returned,
 ) -> u32
-    ensures text { IfSome (current_of renderer.value) (λ line. IsCopied line.text out.old out.new needed.new result) }
-    ensures none { current_of renderer.value ≡ None → (result ≢ 0) × (out.new ≡ out.old) }
+    ensures text { Copies (text_taken renderer.value) out.old out.new needed.new result }
     ensures same { back.new.value ≡ Some renderer.value }
 {
     let held = renderer.open();
-    let done = line_text(&held, out, needed);
+    let done = copy(line_text(&held), out, needed);
     hand_back(held, back);
-    status(done)
+    done
 }
 
-fn line_text(held: &Held, out: &mut [u8], needed: &mut usize) -> Result<(), Fault>
-    ensures text { IfSome (current_of held.now) (λ line.
-        IsCopied line.text out.old out.new needed.new (status_of result)) }
-    ensures none { current_of held.now ≡ None → (result ≢ Ok tt) × (out.new ≡ out.old) }
+/// The text of the line that was taken last.
+fn line_text(held: &Held) -> Result<&str, Fault>
+    ensures { MatchResult result (λ text. text_taken held.now ≡ Ok text.now) (λ f. text_taken held.now ≡ Err f) }
 {
-    copy_out(held.line()?.text().as_bytes(), out, needed)
+    Ok(held.line()?.text())
 }
 
 #[unsafe(no_mangle)]
@@ -73,23 +65,20 @@ pub extern "C" fn tbr1_get_piece(
     piece: &mut PiecePlace,
     back: &mut Returned,
 ) -> u32
-    ensures piece { (line : Shown) (p : Place) → current_of renderer.value ≡ Some line →
-        placed (slice_get line.pieces place) ≡ Ok p → (result ≡ 0) × (piece.new ≡ p) }
+    ensures piece { Puts (piece_taken place renderer.value) piece.old piece.new result }
     ensures same { back.new.value ≡ Some renderer.value }
 {
     let held = renderer.open();
-    let done = get_piece(&held, place, piece);
+    let found = piece_at(&held, place);
     hand_back(held, back);
-    status(done)
+    put(found, piece)
 }
 
-fn get_piece(held: &Held, place: usize, piece: &mut PiecePlace) -> Result<(), Fault>
-    ensures piece { (line : Shown) (p : Place) → current_of held.now ≡ Some line →
-        placed (slice_get line.pieces place) ≡ Ok p → (result ≡ Ok tt) × (piece.new ≡ p) }
-    ensures left { result ≢ Ok tt → piece.new ≡ piece.old }
+/// The piece at a place.
+fn piece_at(held: &Held, place: usize) -> Result<PiecePlace, Fault>
+    ensures { result ≡ piece_taken place held.now }
 {
-    *piece = held.line()?.piece(place)?;
-    Ok(())
+    held.line()?.piece(place)
 }
 
 #[unsafe(no_mangle)]
@@ -100,22 +89,21 @@ pub extern "C" fn tbr1_marker_name(
     needed: &mut usize,
     back: &mut Returned,
 ) -> u32
-    ensures name { (line : Shown) (name : List ℕ) → current_of renderer.value ≡ Some line →
-        marked (slice_get line.pieces place) ≡ Some name → IsCopied name out.old out.new needed.new result }
+    ensures name { Copies (name_taken place renderer.value) out.old out.new needed.new result }
     ensures same { back.new.value ≡ Some renderer.value }
 {
     let held = renderer.open();
-    let done = marker_name(&held, place, out, needed);
+    let done = copy(marker_name(&held, place), out, needed);
     hand_back(held, back);
-    status(done)
+    done
 }
 
-fn marker_name(held: &Held, place: usize, out: &mut [u8], needed: &mut usize) -> Result<(), Fault>
-    ensures { (line : Shown) (name : List ℕ) → current_of held.now ≡ Some line →
-        marked (slice_get line.pieces place) ≡ Some name →
-        IsCopied name out.old out.new needed.new (status_of result) }
+/// The name of the marker at a place.
+fn marker_name(held: &Held, place: usize) -> Result<&str, Fault>
+    ensures { MatchResult result (λ name. name_taken place held.now ≡ Ok name.now)
+        (λ f. name_taken place held.now ≡ Err f) }
 {
-    copy_out(held.line()?.marker_name(place)?.as_bytes(), out, needed)
+    held.line()?.marker_name(place)
 }
 
 #[unsafe(no_mangle)]
@@ -126,22 +114,28 @@ pub extern "C" fn tbr1_get_annotation(
     annotation: &mut AnnotationKind,
     back: &mut Returned,
 ) -> u32
+    ensures kind { Puts (kind_taken piece place renderer.value) annotation.old annotation.new result }
     ensures same { back.new.value ≡ Some renderer.value }
 {
     let held = renderer.open();
-    let done = get_annotation(&held, piece, place, annotation);
+    let found = annotation_kind(&held, piece, place);
     hand_back(held, back);
-    status(done)
+    put(found, annotation)
 }
 
-fn get_annotation(
-    held: &Held,
-    piece: usize,
-    place: usize,
-    annotation: &mut AnnotationKind,
-) -> Result<(), Fault> {
-    *annotation = kind(held.line()?.annotation(piece, place)?);
-    Ok(())
+/// The annotation at a place of a piece, by numbers.
+fn annotation_kind(held: &Held, piece: usize, place: usize) -> Result<AnnotationKind, Fault>
+    ensures { result ≡ kind_taken piece place held.now }
+{
+    Ok(kind(annotation_at(held, piece, place)?))
+}
+
+/// The annotation at a place of a piece.
+fn annotation_at(held: &Held, piece: usize, place: usize) -> Result<&RichAnnotation, Fault>
+    ensures { MatchResult result (λ found. annotation_taken piece place held.now ≡ Ok found.now)
+        (λ f. annotation_taken piece place held.now ≡ Err f) }
+{
+    held.line()?.annotation(piece, place)
 }
 
 #[unsafe(no_mangle)]
@@ -153,21 +147,19 @@ pub extern "C" fn tbr1_annotation_target(
     needed: &mut usize,
     back: &mut Returned,
 ) -> u32
+    ensures target { Copies (target_taken piece place renderer.value) out.old out.new needed.new result }
     ensures same { back.new.value ≡ Some renderer.value }
 {
     let held = renderer.open();
-    let done = annotation_target(&held, piece, place, out, needed);
+    let done = copy(annotation_target(&held, piece, place), out, needed);
     hand_back(held, back);
-    status(done)
+    done
 }
 
-fn annotation_target(
-    held: &Held,
-    piece: usize,
-    place: usize,
-    out: &mut [u8],
-    needed: &mut usize,
-) -> Result<(), Fault> {
-    let annotation = held.line()?.annotation(piece, place)?;
-    copy_out(target(annotation)?.as_bytes(), out, needed)
+/// The target of the annotation at a place of a piece.
+fn annotation_target(held: &Held, piece: usize, place: usize) -> Result<&str, Fault>
+    ensures { MatchResult result (λ found. target_taken piece place held.now ≡ Ok found.now)
+        (λ f. target_taken piece place held.now ≡ Err f) }
+{
+    target(annotation_at(held, piece, place)?)
 }

@@ -1,0 +1,131 @@
+-- What questions to a renderer are answered with.
+use Rattle.std.specs.Prelude.{◌≡◌, ℕ, ◌-◌, ◌==◌, max, nat_lt, true, false, not, ◌&&◌, if◌then◌else◌, Option, unwrap_or, Result, Ok, Err, MatchResult, List, [], length, slice_get, encode_utf8_all}
+use Rattle.std.specs.Option.{option_map, ok_or}
+use Rattle.tbr_tagged.specs.UnicodeColumns.{unicode_columns}
+use Rattle.tbr_decor.specs.Prefix.{Prefix}
+use Rattle.tbr_decor.specs.Style.{style_of}
+use Rattle.tbr_decor.specs.declared.annotation.RichAnnotation.{RichAnnotation}
+use Rattle.text_block_renderer.specs.Renderer.{Renderer}
+use Rattle.text_block_renderer.specs.Steps.{is_empty}
+use Rattle.text_block_renderer.specs.Meant.{meant}
+use Rattle.tbr_stack.specs.Stack.{Stack, top_of}
+use Rattle.tbr_stack.specs.Links.{open_links}
+use Rattle.tbr_program.specs.Progress.{Progress}
+use Rattle.tbr_program.specs.Decorations.{plain_decoration, trivial_decoration, rich_decoration}
+use Rattle.tbr_c_lines.specs.Copied.{IsCopied}
+use Rattle.tbr_c_lines.specs.Status.{code_of, fault_of}
+use Rattle.tbr_c_lines.specs.Line.{Line, placed, marked, annotated, target_of, kind_of}
+use Rattle.tbr_c_lines.specs.declared.fault.Fault.{Fault}
+use Rattle.tbr_c_lines.specs.declared.fault.Fault.TheVariants as fault
+use Rattle.tbr_c_lines.specs.declared.line.PiecePlace.{PiecePlace}
+use Rattle.tbr_c_lines.specs.declared.line.AnnotationKind.{AnnotationKind}
+use Rattle.tbr_c.specs.declared.state.Facts.{Facts}
+use Rattle.tbr_c.specs.declared.state.State.{State}
+use Rattle.tbr_c.specs.declared.state.State.TheVariants.{Plain, Trivial, Rich, Finished, Refused}
+use Rattle.tbr_c.specs.Arguments.{and_then}
+
+-- ---- how C is answered
+
+-- A value is put where C wants it, or the status of why there is none is answered, and nothing changes there.
+abbrev pub Puts : {X : Type 0} → Result X Fault → X → X → ℕ → Type 0
+Puts answer before after status =
+    MatchResult answer (λ x. (after ≡ x) × (status ≡ 0)) (λ f. (after ≡ before) × (status ≡ code_of f))
+
+-- A text is copied, or the status of why there is none is answered, and nothing changes in the buffer.
+abbrev pub Copies : Result (List ℕ) Fault → List ℕ → List ℕ → ℕ → ℕ → Type 0
+Copies answer before after needed status =
+    MatchResult answer (λ text. IsCopied text before after needed status)
+    (λ f. (after ≡ before) × (status ≡ code_of f))
+
+-- ---- while calls go in
+
+-- what is asked of the renderer on top of a stack, which always has one
+abbrev pub on_top : {R X : Type 0} → X → (R → X) → Stack R → X
+on_top none ask s = unwrap_or (option_map ask (top_of s)) none
+
+-- the facts of a program
+abbrev pub facts_in : {D A M : Type 0} → (A → M) → Progress D A (List A) → Facts
+facts_in meaning p = record {
+  width = on_top 0 (λ r. r.width) p.stack;
+  is_empty = on_top true (λ r. is_empty unicode_columns (meant meaning r)) p.stack;
+  has_overhang = on_top false (λ r. not (length r.hanging == 0)) p.stack;
+  open_levels = length p.opened;
+  open_links = length (open_links p.stack);
+  waiting_cells = length p.pending.cells;
+}
+
+-- What a renderer answers. What is finished, or keeps a refusal, answers that.
+abbrev pub facts_of : State → Result Facts Fault
+facts_of (Plain p) = Ok (facts_in (λ a. a) p)
+facts_of (Trivial p) = Ok (facts_in (λ a. a) p)
+facts_of (Rich p) = Ok (facts_in style_of p)
+facts_of (Finished lines) = Err fault.Finished
+facts_of (Refused e) = Err (fault_of e)
+
+-- one of these facts
+abbrev pub fact_of : {X : Type 0} → (Facts → X) → State → Result X Fault
+fact_of fact state = and_then (facts_of state) (λ facts. Ok (fact facts))
+
+-- The columns that are left after a prefix, but at least so many. It is too narrow where fewer are left, and no line may
+-- be wider.
+abbrev pub columns_left : {D A T : Type 0} → ℕ → ℕ → Renderer D A T → Result ℕ Fault
+columns_left prefix least r =
+    if nat_lt (r.width - prefix) least && not r.options.allow_width_overflow then Err fault.TooNarrow
+    else Ok (max least (r.width - prefix))
+
+abbrev pub width_left : ℕ → ℕ → State → Result ℕ Fault
+width_left prefix least (Plain p) = on_top (Err fault.TooNarrow) (columns_left prefix least) p.stack
+width_left prefix least (Trivial p) = on_top (Err fault.TooNarrow) (columns_left prefix least) p.stack
+width_left prefix least (Rich p) = on_top (Err fault.TooNarrow) (columns_left prefix least) p.stack
+width_left prefix least (Finished lines) = Err fault.Finished
+width_left prefix least (Refused e) = Err (fault_of e)
+
+-- the bytes of a prefix of the decorator
+abbrev pub prefix_of : Prefix → State → Result (List ℕ) Fault
+prefix_of asked (Plain p) =
+    Ok (encode_utf8_all (on_top [] (λ r. plain_decoration.prefix_text r.decorator asked) p.stack))
+prefix_of asked (Trivial p) =
+    Ok (encode_utf8_all (on_top [] (λ r. trivial_decoration.prefix_text r.decorator asked) p.stack))
+prefix_of asked (Rich p) =
+    Ok (encode_utf8_all (on_top [] (λ r. rich_decoration.prefix_text r.decorator asked) p.stack))
+prefix_of asked (Finished lines) = Err fault.Finished
+prefix_of asked (Refused e) = Err (fault_of e)
+
+-- with what a kept refusal is told
+abbrev pub refusal_of : State → Result (Unit {0}) Fault
+refusal_of (Refused e) = Err (fault_of e)
+refusal_of other = Ok tt
+
+-- ---- of the line that was taken last
+
+abbrev pub line_taken : State → Result Line Fault
+line_taken (Finished lines) = ok_or lines.current fault.NoLine
+line_taken (Refused e) = Err (fault_of e)
+line_taken (Plain program) = Err fault.NotFinished
+line_taken (Trivial program) = Err fault.NotFinished
+line_taken (Rich program) = Err fault.NotFinished
+
+-- its text
+abbrev pub text_taken : State → Result (List ℕ) Fault
+text_taken state = and_then (line_taken state) (λ line. Ok line.text)
+
+-- its piece at a place, and the name of the marker at one
+abbrev pub piece_taken : ℕ → State → Result PiecePlace Fault
+piece_taken place state = and_then (line_taken state) (λ line. placed (slice_get line.pieces place))
+
+abbrev pub name_taken : ℕ → State → Result (List ℕ) Fault
+name_taken place state =
+    and_then (line_taken state) (λ line. ok_or (marked (slice_get line.pieces place)) fault.NoPiece)
+
+-- the annotation at a place of its piece at a place, by numbers and by its target
+abbrev pub annotation_taken : ℕ → ℕ → State → Result RichAnnotation Fault
+annotation_taken piece place state =
+    and_then (line_taken state)
+    (λ line. ok_or (slice_get (annotated (slice_get line.pieces piece)) place) fault.NoPiece)
+
+abbrev pub kind_taken : ℕ → ℕ → State → Result AnnotationKind Fault
+kind_taken piece place state = and_then (annotation_taken piece place state) (λ annotation. Ok (kind_of annotation))
+
+abbrev pub target_taken : ℕ → ℕ → State → Result (List ℕ) Fault
+target_taken piece place state =
+    and_then (annotation_taken piece place state) (λ annotation. ok_or (target_of annotation) fault.NoPiece)
