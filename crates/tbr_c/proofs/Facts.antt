@@ -1,5 +1,5 @@
 -- What is asked of the renderer on top of a program.
-use Rattle.std.proofs.Common.{◌≡◌, Option, Some, unwrap_or, ap}
+use Rattle.std.proofs.Common.{◌≡◌, Some, unwrap_or, ap}
 use Rattle.std.specs.Option.{option_map}
 use Rattle.tbr_stack.specs.Stack.{Stack, top_of}
 use Rattle.tbr_c.specs.Questions.{on_top}

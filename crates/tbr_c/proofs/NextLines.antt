@@ -1,16 +1,11 @@
 -- The next line, as the state of a renderer has it, and as C is answered.
-use Rattle.std.proofs.Common.{◌≡◌, ◌≢◌, ℕ, Option, None, Some, Result, Ok, Err, IfOk, IfSome, MatchResult, refl, sym, ap, subst, ◌∙◌, arith}
+use Rattle.std.proofs.Common.{◌≡◌, ◌≢◌, Option, None, Some, Result, Ok, Err, IfOk, IfSome, refl, ap}
 use Rattle.tbr_c_lines.specs.Line.{Line, size_of}
 use Rattle.tbr_c_lines.specs.Lines.{Lines, TakesFirst}
-use Rattle.tbr_c_lines.specs.Status.{code_of, status_of}
 use Rattle.tbr_c_lines.specs.declared.line.LineSize.{LineSize}
 use Rattle.tbr_c_lines.specs.declared.fault.Fault.{Fault}
-use Rattle.tbr_c_lines.specs.declared.fault.Fault.TheVariants.{OutOfMemory, TooNarrow, NotACommand, NothingToEnd, RowDoesNotFit, NotUtf8, BadWidth, BadArgument, StillOpen, NoLine, NoPiece, BufferTooSmall, NotFinished}
-use Rattle.tbr_c_lines.specs.declared.fault.Fault.TheVariants as fault
-use Rattle.tbr_c.specs.declared.state.State.{State}
 use Rattle.tbr_c.specs.declared.state.State.TheVariants.{Finished}
 use Rattle.tbr_c.specs.State.{TakesLine}
-use Rattle.tbr_c.specs.Answers.{GivesNext}
 
 -- the line that is taken last now, if it is the first of those before
 pub taken_line : (old next : Lines) (result : Result LineSize Fault) →

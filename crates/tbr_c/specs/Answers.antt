@@ -7,7 +7,6 @@ use Rattle.tbr_c_lines.specs.declared.fault.Fault.{Fault}
 use Rattle.tbr_c_lines.specs.declared.fault.Fault.TheVariants as fault
 use Rattle.tbr_c_lines.specs.declared.line.LineSize.{LineSize}
 use Rattle.tbr_c.specs.declared.state.State.{State}
-use Rattle.tbr_c.specs.declared.state.State.TheVariants.{Finished}
 use Rattle.tbr_c.specs.State.{Begins, HasEnded, IsKept, Keeps, Does, Refuses, refused_as, EndsAs, EndsIn, RefusesEnd, HasText, TakesLine, HasNoNext, CopiesRest}
 use Rattle.tbr_c.specs.Questions.{Puts}
 

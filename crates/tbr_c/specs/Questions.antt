@@ -1,5 +1,5 @@
 -- What questions to a renderer are answered with.
-use Rattle.std.specs.Prelude.{◌≡◌, ℕ, ◌-◌, ◌==◌, max, nat_lt, true, false, not, ◌&&◌, if◌then◌else◌, Option, unwrap_or, Result, Ok, Err, MatchResult, List, [], length, slice_get, encode_utf8_all}
+use Rattle.std.specs.Prelude.{◌≡◌, ℕ, ◌-◌, ◌==◌, max, nat_lt, true, false, not, ◌&&◌, if◌then◌else◌, unwrap_or, Result, Ok, Err, MatchResult, List, [], length, slice_get, encode_utf8_all}
 use Rattle.std.specs.Option.{option_map, ok_or}
 use Rattle.tbr_tagged.specs.UnicodeColumns.{unicode_columns}
 use Rattle.tbr_decor.specs.Prefix.{Prefix}
