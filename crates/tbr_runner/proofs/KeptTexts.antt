@@ -1,6 +1,5 @@
 -- What came to a renderer of a script is in the lines of its text.
 use Rattle.std.proofs.Common.{true, ◌≡◌, ◌<◌, ◌+◌, inl, ℕ, Option, Some, Ok, List, [], ◌∷◌, ◌++◌, length, append-nil, ◌≢◌, refl, ap, sym, subst, arith}
-use Rattle.std.specs.List.{AllByRecursion as Each}
 use Rattle.tbr_model.specs.Run.{Entry}
 use Rattle.tbr_decor.specs.Decoration.{Decoration}
 use Rattle.text_block_renderer.specs.Renderer.{Renderer}
@@ -8,7 +7,7 @@ use Rattle.text_block_renderer.specs.Acts.{acts_come}
 use Rattle.text_block_renderer.specs.Taken.{IsWrittenSoFar, NothingOverhangs}
 use Rattle.text_block_renderer.proofs.TakenLines.{brought_within}
 use Rattle.tbr_stack.specs.Stack.{top_of}
-use Rattle.tbr_commands.specs.Command.{Command, sub, cell}
+use Rattle.tbr_commands.specs.Command.{Command}
 use Rattle.tbr_program.specs.Progress.{Progress}
 use Rattle.tbr_program.specs.Commands.{after_line}
 use Rattle.tbr_program.proofs.CommandParts.{one_ok}

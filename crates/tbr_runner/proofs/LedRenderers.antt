@@ -1,29 +1,20 @@
 -- Each renderer of a script is led to by calls and rows.
-use Rattle.std.proofs.Common.{◌≡◌, ◌≢◌, ◌<◌, ◌+◌, inl, inr, Result, Ok, ℕ, Bool, true, false, if◌then◌else◌, Option, Some, None, List, [], ◌∷◌, ◌++◌, drop, flat_map, fold, chars, length, refl, ap, sym, ◌∙◌, subst, arith}
+use Rattle.std.proofs.Common.{◌≡◌, ◌≢◌, ◌<◌, ◌+◌, inl, inr, Ok, ℕ, Bool, true, false, if◌then◌else◌, Option, Some, None, List, [], ◌∷◌, ◌++◌, flat_map, fold, refl, ap, sym, ◌∙◌, subst, arith}
 use Rattle.std.specs.List.{AllByRecursion as Each}
 use Rattle.std.specs.Cmp.Lexicographic.{pointwise}
 use Rattle.tbr_model.specs.Run.{Item}
-use Rattle.tbr_model.proofs.lists.Each.{each_append}
-use Rattle.tbr_tagged.specs.Outcome.{Outcome, done, refused}
+use Rattle.tbr_tagged.specs.Outcome.{done, refused}
 use Rattle.tbr_decor.specs.Decoration.{Decoration}
-use Rattle.tbr_decor.specs.Start as start
-use Rattle.tbr_decor.specs.End as end
-use Rattle.tbr_renderer.specs.Outcomes.{changed, taking, gathered}
-use Rattle.tbr_renderer.proofs.OutcomeParts.{one_done, done_first, done_before, taken}
+use Rattle.tbr_renderer.specs.Outcomes.{changed}
+use Rattle.tbr_renderer.proofs.OutcomeParts.{one_done, done_before}
 use Rattle.tbr_commands.specs.declared.opening.Opening.{Opening}
 use Rattle.tbr_commands.specs.Opening.{IsOpening}
 use Rattle.tbr_commands.specs.Read.{opening_read}
 use Rattle.tbr_commands.proofs.Reading.{read_opening}
-use Rattle.tbr_commands.specs.Request.{call_of}
-use Rattle.tbr_commands.specs.Command.{Command, ask, link, end_link, sub, append, cell, end_cell, row, vertical_row}
+use Rattle.tbr_commands.specs.Command.{Command, sub, cell}
 use Rattle.tbr_commands.specs.Syntax.{IsCommand}
-use Rattle.tbr_stack.specs.Stack.{Level, Stack, first_renderer, top_of, below, in_first, with_top}
-use Rattle.tbr_stack.specs.Top.{in_top_of, in_top}
-use Rattle.tbr_stack.specs.Links.{closed, link_number, shown_number, open_links, with_link, after_end_with}
-use Rattle.tbr_program.specs.declared.opened.Opener.{Opener}
-use Rattle.tbr_program.specs.declared.opened.Opener.TheVariants.{Sub, Cell}
-use Rattle.tbr_program.specs.Progress.{Pending, Opened, Progress, renderers_of, without_cells}
-use Rattle.tbr_program.specs.Prefixes.{prefixes}
+use Rattle.tbr_stack.specs.Stack.{Level, first_renderer, top_of}
+use Rattle.tbr_program.specs.Progress.{Progress}
 use Rattle.tbr_program.specs.Closing.{with_notes, footnotes_of, closed as lines_closed, closed_text}
 use Rattle.tbr_program.specs.Decorations.{plain_decoration, trivial_decoration, rich_decoration}
 use Rattle.tbr_commands.specs.declared.opening.Decorator.{Decorator}
@@ -49,16 +40,12 @@ use Rattle.text_block_renderer.specs.Text.{lines_text}
 use Rattle.text_block_renderer.proofs.Settings.{call_beside}
 use Rattle.text_block_renderer.proofs.RowsOfCells.{row_laid, failure_stays}
 use Rattle.tbr_runner.specs.Scripts.{rendered_on, rendered_under, rendered_by, rendered_from, rendered}
-use Rattle.tbr_rows.specs.Cells.{row_fits}
-use Rattle.text_block_renderer.specs.Rows.{spots_of, GivenCell}
 use Rattle.text_block_renderer.specs.Appended.{handed_out}
-use Rattle.tbr_script.specs.declared.error.RunError.{RunError}
-use Rattle.tbr_script.specs.declared.error.RunError.TheVariants.{NotACommand, NothingToEnd, RowDoesNotFit}
-use Rattle.tbr_commands.specs.Begun.{ends_nothing, counted}
-use Rattle.tbr_program.specs.Commands.{with_stack, level_opened, block_made, block_joined, request_made, cells_waiting, row_made, vertical_made, after_command, after_line, ended, started}
-use Rattle.tbr_program.proofs.CommandParts.{one_ok, unless, if_so, none_are, some_are, of_top, answer_done, stack_done, opens, Ends, block_ends, cell_ends}
+use Rattle.tbr_script.specs.declared.error.RunError.TheVariants.{NotACommand}
+use Rattle.tbr_program.specs.Commands.{after_line, ended, started}
+use Rattle.tbr_program.proofs.CommandParts.{none_are, of_top, answer_done}
 use Rattle.text_block_renderer.specs.Renderer.{Open, Renderer, IsSound, new_renderer, with_line, has_content}
-use Rattle.text_block_renderer.specs.Calls.{Call, new_line, start_block, begin, finish, add_inline_text, append_subrender, append_vert_row, after}
+use Rattle.text_block_renderer.specs.Calls.{new_line, start_block, after}
 use Rattle.text_block_renderer.specs.Decorated.{sub_renderer}
 use Rattle.text_block_renderer.specs.Acts.{Act, call, row as row_of_cells, fmt_links, finalise, after_act}
 use Rattle.text_block_renderer.proofs.ActSteps.{acts_then}
@@ -68,7 +55,7 @@ use Rattle.text_block_renderer.proofs.LinkNumbers.{targets_come}
 use Rattle.tbr_runner.specs.StackCalls.{stack_calls, link_targets, AskFor, AskAfterFirst, LinesDo}
 use Rattle.tbr_runner.proofs.ScriptLevels.{first_led, Asks, line_keeps}
 use Rattle.tbr_runner.proofs.StackCalls.{lines_step, lines_end}
-use Rattle.tbr_runner.specs.Led.{IsFresh, IsLed, CellsAre, AllAre, AreLed, IsTextOfLed, IsTextOfScript}
+use Rattle.tbr_runner.specs.Led.{IsFresh, IsLed, AreLed, IsTextOfLed, IsTextOfScript}
 
 module _ {D M : Type 0} (columns : ℕ → Option ℕ) (decoration : Decoration D M) where
   abbrev pub Top : Type 0

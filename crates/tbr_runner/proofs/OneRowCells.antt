@@ -22,7 +22,7 @@ use Rattle.text_block_renderer.specs.LastBorder.{last_border}
 use Rattle.text_block_renderer.specs.Line.{Line}
 use Rattle.text_block_renderer.specs.Renderer.{Renderer}
 use Rattle.text_block_renderer.specs.Appended.{handed_out}
-use Rattle.text_block_renderer.specs.Calls.{Call, after, entries_brought}
+use Rattle.text_block_renderer.specs.Calls.{Call, after}
 use Rattle.text_block_renderer.specs.Taken.{NothingOverhangs}
 use Rattle.text_block_renderer.specs.Rows.{GivenCell, next_align, cell_given, cells_given, ComesAs}
 use Rattle.text_block_renderer.specs.Acts.{row as row_of_cells, after_act}
