@@ -51,7 +51,7 @@ module _ {T : Type 0} (columns : ℕ → Option ℕ) where
 
 module _ {D A : Type 0} (columns : ℕ → Option ℕ) where
   -- where lines aren't padded
-  unpadded_line : (r : Renderer D A (List A)) (is : List (Item (List A))) → r.options.pad_block_width ≡ false → padded_line columns r is ≡ text is
+  pub unpadded_line : (r : Renderer D A (List A)) (is : List (Item (List A))) → r.options.pad_block_width ≡ false → padded_line columns r is ≡ text is
   unpadded_line r is e = let whole : is ++ [] ≡ is = append-nil is in rw e (ap text whole)
 
   unpadded_lines : (r : Renderer D A (List A)) (ts : List (List (Item (List A)))) → r.options.pad_block_width ≡ false → map (padded_line columns r) ts ≡ map text ts

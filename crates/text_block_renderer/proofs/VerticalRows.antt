@@ -1,9 +1,8 @@
 -- Rows of cells, as lines.
-use Rattle.std.proofs.Common.{◌≡◌, ℕ, Bool, true, false, if◌then◌else◌, Option, List, [], ◌∷◌, ◌++◌, map, flat_map, fold, replicate, refl, ap, sym, ◌∙◌, subst, append_assoc, append-nil}
+use Rattle.std.proofs.Common.{◌≡◌, ℕ, Bool, true, false, if◌then◌else◌, Option, List, [], ◌∷◌, ◌++◌, map, flat_map, fold, refl, ap, sym, ◌∙◌, append_assoc, append-nil}
 use Rattle.std.specs.List.{join_by}
 use Rattle.std.proofs.lemmas.Grind.{fold-append}
 use Rattle.tbr_model.specs.Run.{Item}
-use Rattle.tbr_border.specs.Border.{without_holes}
 use Rattle.tbr_border.specs.Cell.{Cell, horizontal, slash}
 use Rattle.tbr_decor.specs.Decoration.{Decoration}
 use Rattle.tbr_kept_lines.specs.Line.{Line, text, border}
@@ -19,76 +18,56 @@ use Rattle.text_block_renderer.specs.Stretches.{lines_laid}
 use Rattle.text_block_renderer.specs.VerticalRows.{cell_lines, row_lines}
 use Rattle.tbr_renderer.proofs.SettingsStay.{Steady, lines_added, flushed_alike}
 use Rattle.text_block_renderer.proofs.DrawnBorders.{border_stays}
-use Rattle.text_block_renderer.proofs.WaitingMarkers.{none_wait}
 use Rattle.text_block_renderer.proofs.AddedLines.{laid_lines}
-use Rattle.text_block_renderer.proofs.LaidTexts.{plain_lines}
+use Rattle.text_block_renderer.proofs.LaidTexts.{unpadded_line}
 
 module _ {D A : Type 0} (columns : ℕ → Option ℕ) where
-  divider_drawn : (cell : Cell) (q : Renderer D A (List A)) → q.options.draw_borders ≡ true → with_divider columns cell q ≡ with_border columns q (border_of_cells cell q.width q)
-  divider_drawn cell q e = ap (λ (d : Bool). if d then with_border columns q (border_of_cells cell q.width q) else q) e
-
   divider_undrawn : (cell : Cell) (q : Renderer D A (List A)) → q.options.draw_borders ≡ false → with_divider columns cell q ≡ q
   divider_undrawn cell q e = ap (λ (d : Bool). if d then with_border columns q (border_of_cells cell q.width q) else q) e
 
   settings_laid : (ts : List (List (Item (List A)))) (r : Renderer D A (List A)) → settings_of (fold (with_line columns) r ts) ≡ settings_of r
   settings_laid ts r = ap (λ (x : Steady D A). x.settings) (lines_added columns ts r)
 
-  module _ (r : Renderer D A (List A)) where
-    -- the lines so far, of a renderer that is as `r` but for them
-    record SoFar (q : Renderer D A (List A)) (ls : List (Line (List A))) : Type 0 where
-      settings : settings_of q ≡ settings_of r
-      waiting : q.waiting ≡ []
-      lines : q.lines ≡ ls
+  -- ---- with borders, where lines aren't padded
 
-    texts_of_cell : (tag : List A) (lines : List (Line (List A))) → tag ≡ r.annotations → map text (map (as_text tag) lines) ≡ cell_lines r lines
-    texts_of_cell tag [] e = refl
-    texts_of_cell tag (l ∷ ls) e = ap (λ t. text (as_text t l) ∷ map text (map (as_text tag) ls)) e ∙ ap (λ ms. text (as_text r.annotations l) ∷ ms) (texts_of_cell tag ls e)
+  module _ (m : Renderer D A (List A)) (unpadded : m.options.pad_block_width ≡ false) (drawn : m.options.draw_borders ≡ true) where
+    -- the renderer with these lines, where no marker waits
+    abbrev on : List (Line (List A)) → Renderer D A (List A)
+    on ls = record m { lines = ls; waiting = [] }
 
-    module _ (unpadded : r.options.pad_block_width ≡ false) (drawn : r.options.draw_borders ≡ true) where
-      cell_so_far : (lines : List (Line (List A))) (q : Renderer D A (List A)) (ls : List (Line (List A))) → SoFar q ls → SoFar (with_cell columns q lines) (ls ++ cell_lines r lines)
-      cell_so_far lines q ls h =
-          let texts = map (as_text q.annotations) lines in record {
-            settings = settings_laid texts q ∙ h.settings;
-            waiting = none_wait columns q texts h.waiting;
-            lines = plain_lines columns texts q (ap (λ (x : Settings D A). x.kept.options.pad_block_width) h.settings ∙ unpadded) h.waiting ∙ ap (λ ms. ms ++ map text texts) h.lines
-                ∙ ap (λ ms. ls ++ ms) (texts_of_cell q.annotations lines (ap (λ (x : Settings D A). x.annotations) h.settings));
-          }
+    cell_put : (lines ls : List (Line (List A))) → with_cell columns (on ls) lines ≡ on (ls ++ cell_lines m lines)
+    cell_put [] ls = ap on (sym (append-nil ls))
+    cell_put (l ∷ lines) ls =
+        let t = as_text m.annotations l in
+        ap (λ k. with_cell columns (on (ls ++ k ∷ [])) lines) (unpadded_line columns m t unpadded) ∙ cell_put lines (ls ++ text t ∷ []) ∙ ap on (append_assoc ls (text t ∷ []) (cell_lines m lines))
 
-      divider_so_far : (cell : Cell) (q : Renderer D A (List A)) (ls : List (Line (List A))) → SoFar q ls → SoFar (with_divider columns cell q) (ls ++ border (border_of_cells cell r.width r) ∷ [])
-      divider_so_far cell q ls h =
-          let pads : q.options.pad_block_width ≡ false = ap (λ (x : Settings D A). x.kept.options.pad_block_width) h.settings ∙ unpadded in
-          let draws : q.options.draw_borders ≡ true = ap (λ (x : Settings D A). x.kept.options.draw_borders) h.settings ∙ drawn in
-          let b = border_of_cells cell q.width q in
-          let same : b ≡ border_of_cells cell r.width r = ap (λ (x : Settings D A). without_holes (replicate x.kept.width cell) x.annotations) h.settings in
-          subst (λ (p : Renderer D A (List A)). SoFar p (ls ++ border (border_of_cells cell r.width r) ∷ [])) (sym (divider_drawn cell q draws)) (record {
-            settings = h.settings;
-            waiting = h.waiting;
-            lines = ap (λ l. q.lines ++ l ∷ []) (border_stays columns q b pads ∙ ap border same) ∙ ap (λ ms. ms ++ border (border_of_cells cell r.width r) ∷ []) h.lines;
-          })
+    divider_put : (cell : Cell) (ls : List (Line (List A))) → with_divider columns cell (on ls) ≡ on (ls ++ border (border_of_cells cell m.width m) ∷ [])
+    divider_put cell ls =
+        let b = border_of_cells cell m.width m in
+        ap (λ (d : Bool). if d then with_border columns (on ls) b else on ls) drawn ∙ ap (λ l. on (ls ++ l ∷ [])) (border_stays columns m b unpadded)
 
-      abbrev slashed : List (Line (List A))
-      slashed = border (border_of_cells slash r.width r) ∷ []
+    abbrev slashed : List (Line (List A))
+    slashed = border (border_of_cells slash m.width m) ∷ []
 
-      below_so_far : (cells : List (List (Line (List A)))) (q : Renderer D A (List A)) (ls : List (Line (List A))) → SoFar q ls → SoFar (fold (with_cell_below columns) q cells) (ls ++ flat_map (λ lines. slashed ++ cell_lines r lines) cells)
-      below_so_far [] q ls h = record { settings = h.settings; waiting = h.waiting; lines = h.lines ∙ sym (append-nil ls) }
-      below_so_far (lines ∷ cells) q ls h =
-          let rest = flat_map (λ ms. slashed ++ cell_lines r ms) cells in
-          let one = cell_so_far lines (with_divider columns slash q) (ls ++ slashed) (divider_so_far slash q ls h) in
-          let whole : ((ls ++ slashed) ++ cell_lines r lines) ++ rest ≡ ls ++ ((slashed ++ cell_lines r lines) ++ rest) = ap (λ ms. ms ++ rest) (append_assoc ls slashed (cell_lines r lines)) ∙ append_assoc ls (slashed ++ cell_lines r lines) rest in
-          subst (SoFar (fold (with_cell_below columns) (with_cell_below columns q lines) cells)) whole
-          (below_so_far cells (with_cell_below columns q lines) ((ls ++ slashed) ++ cell_lines r lines) one)
+    abbrev below : List (List (Line (List A))) → List (Line (List A))
+    below cells = flat_map (λ lines. slashed ++ cell_lines m lines) cells
 
-      cells_so_far : (cells : List (List (Line (List A)))) (q : Renderer D A (List A)) (ls : List (Line (List A))) → SoFar q ls → SoFar (with_cells columns q cells) (ls ++ join_by (cell_lines r) slashed cells)
-      cells_so_far [] q ls h = record { settings = h.settings; waiting = h.waiting; lines = h.lines ∙ sym (append-nil ls) }
-      cells_so_far (lines ∷ cells) q ls h =
-          let rest = flat_map (λ ms. slashed ++ cell_lines r ms) cells in
-          subst (SoFar (fold (with_cell_below columns) (with_cell columns q lines) cells)) (append_assoc ls (cell_lines r lines) rest)
-          (below_so_far cells (with_cell columns q lines) (ls ++ cell_lines r lines) (cell_so_far lines q ls h))
+    below_put : (cells : List (List (Line (List A)))) (ls : List (Line (List A))) → fold (with_cell_below columns) (on ls) cells ≡ on (ls ++ below cells)
+    below_put [] ls = ap on (sym (append-nil ls))
+    below_put (lines ∷ cells) ls =
+        ap (λ q. fold (with_cell_below columns) (with_cell columns q lines) cells) (divider_put slash ls) ∙ ap (λ q. fold (with_cell_below columns) q cells) (cell_put lines (ls ++ slashed))
+        ∙ below_put cells ((ls ++ slashed) ++ cell_lines m lines)
+        ∙ ap on (ap (λ ms. ms ++ below cells) (append_assoc ls slashed (cell_lines m lines)) ∙ append_assoc ls (slashed ++ cell_lines m lines) (below cells))
 
-      row_so_far : (cells : List (List (Line (List A)))) (q : Renderer D A (List A)) → settings_of q ≡ settings_of r → q.waiting ≡ [] → (with_divider columns horizontal (with_cells columns q cells)).lines ≡ q.lines ++ row_lines r cells
-      row_so_far cells q settings none =
-          let row = divider_so_far horizontal (with_cells columns q cells) (q.lines ++ join_by (cell_lines r) slashed cells) (cells_so_far cells q q.lines (record { settings = settings; waiting = none; lines = refl })) in
-          row.lines ∙ append_assoc q.lines (join_by (cell_lines r) slashed cells) (border (border_of_cells horizontal r.width r) ∷ [])
+    cells_put : (cells : List (List (Line (List A)))) (ls : List (Line (List A))) → with_cells columns (on ls) cells ≡ on (ls ++ join_by (cell_lines m) slashed cells)
+    cells_put [] ls = ap on (sym (append-nil ls))
+    cells_put (lines ∷ cells) ls =
+        ap (λ q. fold (with_cell_below columns) q cells) (cell_put lines ls) ∙ below_put cells (ls ++ cell_lines m lines) ∙ ap on (append_assoc ls (cell_lines m lines) (below cells))
+
+    row_put : (cells : List (List (Line (List A)))) (ls : List (Line (List A))) → with_divider columns horizontal (with_cells columns (on ls) cells) ≡ on (ls ++ row_lines m cells)
+    row_put cells ls =
+        let inside = join_by (cell_lines m) slashed cells in
+        ap (with_divider columns horizontal) (cells_put cells ls) ∙ divider_put horizontal (ls ++ inside) ∙ ap on (append_assoc ls inside (border (border_of_cells horizontal m.width m) ∷ []))
 
   -- the cells come after a flush
   pub cells_after : (decoration : Decoration D A) (cells : List (List (Line (List A)))) (r s : Renderer D A (List A)) → Does columns decoration (append_vert_row cells) r s →
@@ -102,7 +81,11 @@ module _ {D A : Type 0} (columns : ℕ → Option ℕ) where
   row_drawn decoration cells r s h drawn unpadded =
       let (m, flushed, is) = cells_after decoration cells r s h in
       let settings = ap (λ (x : Steady D A). x.settings) (flushed_alike columns r m flushed) in
-      (m, flushed, (λ none. ap (λ (q : Renderer D A (List A)). q.lines) is ∙ row_so_far r unpadded drawn cells m settings none))
+      let pads = ap (λ (x : Settings D A). x.kept.options.pad_block_width) settings ∙ unpadded in
+      let draws = ap (λ (x : Settings D A). x.kept.options.draw_borders) settings ∙ drawn in
+      let unmarked = λ (none : m.waiting ≡ []). ap (λ (names : List (List ℕ)). with_divider columns horizontal (with_cells columns (record m { waiting = names }) cells)) none in
+      let same = ap (λ (x : Settings D A). m.lines ++ row_lines (record r { width = x.kept.width; annotations = x.annotations }) cells) settings in
+      (m, flushed, (λ none. ap (λ (q : Renderer D A (List A)). q.lines) (is ∙ unmarked none ∙ row_put m pads draws cells m.lines) ∙ same))
 
   -- ---- without borders
 
