@@ -28,6 +28,5 @@ pub mod OverhangingCells
 pub mod ActParts
 pub mod Headline
 pub mod EndedEntries
-pub mod WaitingUnderRows
 pub mod SoundRenderers
 pub mod ActSteps

@@ -1,13 +1,15 @@
--- Markers that wait, where a run ends and until a line of text comes.
-use Rattle.std.proofs.Common.{◌≡◌, ℕ, ◌&&◌, ◌||◌, nat_lt, Bool, true, false, Option, Some, None, List, [], ◌∷◌, ◌++◌, map, fold, refl, ap, sym, ◌∙◌, subst, arith, append_assoc, append-nil}
-use Rattle.std.proofs.Math.Bool.{and-false}
+-- Markers that wait, where a run ends and until a line of text comes, by a call or under a row.
+use Rattle.std.proofs.Common.{◌≡◌, ℕ, true, false, Option, Some, None, List, [], ◌∷◌, ◌++◌, map, flat_map, fold, refl, ap, sym, ◌∙◌, subst, arith, append_assoc, append-nil}
+use Rattle.std.specs.List.{AllZip, AllByRecursion as Each}
+use Rattle.std.proofs.lemmas.Bool.{or_parts}
 use Rattle.tbr_model.specs.Rule.{run_of}
-use Rattle.tbr_model.specs.Run.{Entry, Item, is_kept, items_of, kept_items, first_of, blank_of, has_character, is_break_entry, Reading, start, works, read, trailing}
-use Rattle.tbr_model.specs.Layout.{slots_of, line_text, joined, HasNoEmptyLine}
-use Rattle.tbr_model.specs.Markers.{names_in_items, names_in_run, marker_items, marker_run, marked_after, names_after}
-use Rattle.tbr_model.specs.Hard.{is_visible}
+use Rattle.tbr_model.specs.Run.{Entry, Item, Word, kept_items, has_character, words_of, trailing}
+use Rattle.tbr_model.specs.Layout.{word_slots, slots_of, line_text, joined, HasNoEmptyLine}
+use Rattle.tbr_model.specs.Markers.{names_in_items, names_in_run, marker_items, marker_run}
 use Rattle.tbr_model.specs.Shown.{without_spaces}
-use Rattle.tbr_model.proofs.words.Items.{no_character_no_width, has_character-append}
+use Rattle.tbr_model.proofs.words.Items.{has_character-append}
+use Rattle.tbr_model.proofs.words.KeptItems.{words_hold}
+use Rattle.tbr_model.proofs.words.LinesHaveCharacters.{words_have}
 use Rattle.tbr_border.specs.Border.{Border, without_holes}
 use Rattle.tbr_wrap.specs.Runs.{IsNormal}
 use Rattle.tbr_wrap.specs.Wrapped.{HasBestLines}
@@ -15,39 +17,33 @@ use Rattle.tbr_decor.specs.Decoration.{Decoration}
 use Rattle.tbr_kept_lines.specs.Line.{Line, text, border}
 use Rattle.tbr_renderer.specs.Renderer.{Open, Renderer, with_line, block_width, may_overflow, open_run, line_padding, IsSound}
 use Rattle.tbr_tagged.specs.Outcome.{done}
+use Rattle.tbr_renderer.specs.Outcomes.{run}
 use Rattle.tbr_renderer.specs.Flush.{block_lines, flushed, lines_at_end, names_at_end, after_flush}
-use Rattle.tbr_renderer.proofs.FlushedBlocks.{flushes, FlushesBlock, EndsBlock}
+use Rattle.tbr_renderer.proofs.FlushedBlocks.{flushes, FlushesBlock}
 use Rattle.tbr_renderer.specs.Appended.{with_border}
 use Rattle.tbr_renderer.specs.Calls.{Call, Steps, text_of_lines}
+use Rattle.text_block_renderer.specs.Acts.{Act, after_act, StaysLine}
 use Rattle.text_block_renderer.specs.Drawn.{CameWithoutDrawnBorders, borders_drawn, DrawNone}
-use Rattle.text_block_renderer.specs.MarkersStand.{items_so_far, FlushStands, first_text, WaitForText}
+use Rattle.text_block_renderer.specs.MarkersStand.{items_so_far, FlushStands, first_text, BeginsWith, WaitForText, WaitForTextUnderRows}
 use Rattle.text_block_renderer.proofs.Moves.{Move, flush, line, rule, join, turn, Makes, undrawn}
 use Rattle.text_block_renderer.proofs.DrawnBorders.{end_alike, steps_on, steps_on_all, border_stays}
 use Rattle.text_block_renderer.proofs.LineContents.{marker_items-append, seen_flushed}
+use Rattle.text_block_renderer.proofs.LastingLines.{all_stay, stay_on}
+use Rattle.text_block_renderer.proofs.EndedEntries.{GoesOn, acts_on}
 use Rattle.text_block_renderer.proofs.BroughtEntries.{end_stands, StandFor, at_unspaced, markers_stand, run_stands, waits_after, waits_after_kept}
 
 -- ---- a run without a kept character
 
-no_width_works : {T : Type 0} (columns : ℕ → Option ℕ) (r : Reading T) (e : Entry T) → has_character r.items ≡ false → works columns r e ≡ false
-no_width_works columns r e none = ap (λ n. is_break_entry e && nat_lt 0 n) (no_character_no_width columns r.items none) ∙ and-false (is_break_entry e)
-
-no_word_read : {T : Type 0} (columns : ℕ → Option ℕ) (es : List (Entry T)) (r : Reading T) → r.words ≡ [] → has_character r.items ≡ false → has_character (kept_items columns es) ≡ false →
-    ((fold (read columns) r es).words ≡ []) × (has_character (fold (read columns) r es).items ≡ false)
-no_word_read columns [] r words none kept = (words, none)
-no_word_read {T} columns (e ∷ es) r words none kept =
-    let (first, rest) = neither (has_character (items_of columns e)) (has_character (kept_items columns es)) (sym (has_character-append (items_of columns e) (kept_items columns es)) ∙ kept) in
-    let goes_on : read columns r e ≡ record { words = r.words; gap = first_of r.gap (blank_of e); items = r.items ++ items_of columns e } = rw (no_width_works columns r e none) refl in
-    no_word_read columns es (read columns r e)
-    (ap (λ (q : Reading T). q.words) goes_on ∙ words)
-    (ap (λ (q : Reading T). has_character q.items) goes_on ∙ has_character-append r.items (items_of columns e) ∙ ap (λ b. b || has_character (items_of columns e)) none ∙ first)
-    rest
-  where
-    neither : (a b : Bool) → a || b ≡ false → (a ≡ false) × (b ≡ false)
-    neither true b h = cc
-    neither false b h = (refl, h)
+-- each word has one
+no_word : {T : Type 0} (words : List (Word T)) (left : List (Item T)) → Each (λ w. has_character w.items ≡ true) words → has_character (flat_map (λ w. w.items) words ++ left) ≡ false → words ≡ []
+no_word [] left have none = refl
+no_word (w ∷ words) left have none =
+    let others = flat_map (λ v. v.items) words in
+    let here : has_character w.items ≡ false = (or_parts _ _ (sym (has_character-append w.items (others ++ left)) ∙ ap has_character (sym (append_assoc w.items others left)) ∙ none)).0 in cc
 
 no_slots : {T : Type 0} (columns : ℕ → Option ℕ) (width : ℕ) (run : List (Entry T)) → has_character (kept_items columns run) ≡ false → slots_of columns width run ≡ []
-no_slots columns width run none = let (words, items) = no_word_read columns run start refl refl none in rw (items, words) refl
+no_slots columns width run none =
+    ap (flat_map (word_slots columns width)) (no_word (words_of columns run) (trailing columns run) (words_have columns run) (ap has_character (words_hold columns run) ∙ none))
 
 no_lines_laid : {X : Type 0} (ls : List (List X)) → joined ls ≡ [] → HasNoEmptyLine ls → ls ≡ []
 no_lines_laid [] e full = refl
@@ -59,181 +55,198 @@ no_lines columns width run texts h none = h.shown ∙ ap (map line_text) (no_lin
 
 -- ---- a flush
 
-no_character : {T : Type 0} (names : List (List ℕ)) (is : List (Item T)) → is ≡ marker_items names → has_character is ≡ false
-no_character [] is e = ap has_character e
-no_character (name ∷ names) is e = ap has_character e ∙ no_character names (marker_items names) refl
+no_character : (T : Type 0) (names : List (List ℕ)) → has_character {A = T} (marker_items names) ≡ false
+no_character T [] = refl
+no_character T (name ∷ names) = no_character T names
 
 normal_after : {T : Type 0} (names : List (List ℕ)) (run : List (Entry T)) → IsNormal run → IsNormal (marker_run names ++ run)
 normal_after [] run h = h
 normal_after (name ∷ names) run h = (tt, normal_after names run h)
 
-names_of_marker_run : {T : Type 0} (test : ℕ → Bool) (run : List (Entry T)) (old names : List (List ℕ)) → run ≡ marker_run names → fold (marked_after test) old run ≡ old ++ names
-names_of_marker_run test run old [] e = ap (fold (marked_after test) old) e ∙ sym (append-nil old)
-names_of_marker_run test run old (name ∷ names) e = ap (fold (marked_after test) old) e ∙ names_of_marker_run test (marker_run names) (old ++ name ∷ []) names refl ∙ append_assoc old (name ∷ []) names
-
 module _ {D A : Type 0} (columns : ℕ → Option ℕ) where
-  pub none_wait : (q : Renderer D A (List A)) (ts : List (List (Item (List A)))) → q.waiting ≡ [] → (fold (with_line columns) q ts).waiting ≡ []
+  none_wait : (q : Renderer D A (List A)) (ts : List (List (Item (List A)))) → q.waiting ≡ [] → (fold (with_line columns) q ts).waiting ≡ []
   none_wait q [] e = e
   none_wait q (t ∷ ts) e = none_wait (with_line columns q t) ts refl
 
-  -- a block without lines: its markers wait after the others
-  bare_flush : (r s : Renderer D A (List A)) (b : Open (List A)) → (h : EndsBlock columns r b s) → (lines_at_end columns r b) ≡ [] → s ≡ record r { block = None; waiting = r.waiting ++ (names_at_end columns r b) }
-  bare_flush r s b h none = h.is ∙ ap (λ (ts : List (List (Item (List A)))). flushed columns r (block_lines columns r b ts) (names_at_end columns r b)) none
-
-  -- and with lines its markers alone wait
-  full_flush : (r s : Renderer D A (List A)) (b : Open (List A)) (t : List (Item (List A))) (ts : List (List (Item (List A)))) → (h : EndsBlock columns r b s) → (lines_at_end columns r b) ≡ t ∷ ts → s.waiting ≡ (names_at_end columns r b)
-  full_flush r s b t ts h some =
-      ap (λ (q : Renderer D A (List A)). q.waiting) h.is ∙ ap (λ (ls : List (List (Item (List A)))). (flushed columns r (block_lines columns r b ls) (names_at_end columns r b)).waiting) some
-      ∙ ap (λ ns. ns ++ (names_at_end columns r b)) (none_wait (with_line columns (record r { block = None }) _) (block_lines columns r b ts) refl)
-
   -- what waited counts as the first of the run
-  stand_flushed : (r s : Renderer D A (List A)) (b : Open (List A)) → EndsBlock columns r b s → IsSound columns r → (is : List (Item (List A))) × StandFor columns (is ++ marker_items s.waiting) (marker_run r.waiting ++ (run_of b.events))
-  stand_flushed r s b h sound =
+  stand_flushed : (r s : Renderer D A (List A)) (o : Option (Open (List A))) → FlushesBlock columns r o s → IsSound columns r →
+      (is : List (Item (List A))) × StandFor columns (is ++ marker_items s.waiting) (marker_run r.waiting ++ open_run o)
+  stand_flushed r s None h sound =
+      let alone = subst (StandFor {T = List A} columns (marker_items r.waiting)) (sym (append-nil (marker_run r.waiting))) (markers_stand columns r.waiting) in
+      ([], subst (λ (q : Renderer D A (List A)). StandFor {T = List A} columns (marker_items q.waiting) (marker_run r.waiting ++ [])) (sym h) alone)
+  stand_flushed r s (Some b) h sound =
       let (more, lines, ends) = end_alike columns r s [] b h in
       (text_of_lines more, end_stands columns (record r { lines = [] }) (record s { lines = more }) b (marker_run r.waiting) ends (record { space = sound.space; wide = sound.wide }) (markers_stand columns r.waiting))
 
-  trails : (r s : Renderer D A (List A)) (b : Open (List A)) → EndsBlock columns r b s → IsSound columns r → may_overflow r ≡ false → IsNormal (run_of b.events) → has_character (kept_items columns (run_of b.events)) ≡ true → marker_items s.waiting ≡ trailing columns (run_of b.events)
-  trails r s b h sound narrow normal some = go (lines_at_end columns r b) refl
+  kept : (r s : Renderer D A (List A)) (o : Option (Open (List A))) → FlushesBlock columns r o s → IsSound columns r → IsNormal (open_run o) →
+      without_spaces (items_so_far s) ≡ without_spaces (items_so_far r) ++ kept_items columns (open_run o)
+  kept r s None h sound normal = ap (λ (q : Renderer D A (List A)). without_spaces (items_so_far q)) h ∙ sym (append-nil (without_spaces (items_so_far r)))
+  kept r s (Some b) h sound normal =
+      ap (λ (q : Renderer D A (List A)). without_spaces (items_so_far q)) h.is ∙ seen_flushed without_spaces at_unspaced columns r b (lines_at_end columns r b) (names_at_end columns r b)
+      ∙ ap (λ js. without_spaces (items_so_far r) ++ js) ((run_stands columns (block_width r) (may_overflow r) (run_of b.events) (lines_at_end columns r b) (names_at_end columns r b) (h.ends sound)).kept normal)
+
+  trails : (r s : Renderer D A (List A)) (o : Option (Open (List A))) → FlushesBlock columns r o s → IsSound columns r → may_overflow r ≡ false → IsNormal (open_run o) →
+      has_character (kept_items columns (open_run o)) ≡ true → marker_items s.waiting ≡ trailing columns (open_run o)
+  trails r s None h sound narrow normal some = cc
+  trails r s (Some b) h sound narrow normal some = go (lines_at_end columns r b) refl
     where
-      go : (ts : List (List (Item (List A)))) → (lines_at_end columns r b) ≡ ts → marker_items s.waiting ≡ trailing columns (run_of b.events)
-      go (t ∷ ts) e = ap marker_items (full_flush r s b t ts h e) ∙ (h.ends sound).waits narrow normal
+      names : List (List ℕ)
+      names = names_at_end columns r b
+
+      go : (ts : List (List (Item (List A)))) → lines_at_end columns r b ≡ ts → marker_items s.waiting ≡ trailing columns (run_of b.events)
       go [] e =
-          let kept : marker_items (names_at_end columns r b) ≡ kept_items columns (run_of b.events) = ap (λ (ls : List (List (Item (List A)))). without_spaces (joined ls) ++ marker_items (names_at_end columns r b)) (sym e) ∙ (h.ends sound).kept normal in
-          let none : has_character (kept_items columns (run_of b.events)) ≡ false = no_character (names_at_end columns r b) (kept_items columns (run_of b.events)) (sym kept) in
-          absurd (let no : true ≡ false = sym some ∙ none in cc)
+          let all : marker_items names ≡ kept_items columns (run_of b.events) = ap (λ (ls : List (List (Item (List A)))). without_spaces (joined ls) ++ marker_items names) (sym e) ∙ (h.ends sound).kept normal in
+          absurd (let no : true ≡ false = sym some ∙ ap has_character (sym all) ∙ no_character (List A) names in cc)
+      go (t ∷ ts) e =
+          ap (λ (q : Renderer D A (List A)). marker_items q.waiting) h.is ∙ ap (λ (ls : List (List (Item (List A)))). marker_items (flushed columns r (block_lines columns r b ls) names).waiting) e
+          ∙ ap (λ ns. marker_items (ns ++ names)) (none_wait (with_line columns (record r { block = None }) _) (block_lines columns r b ts) refl) ∙ (h.ends sound).waits narrow normal
 
-  bare : (r s : Renderer D A (List A)) (b : Open (List A)) → EndsBlock columns r b s → IsSound columns r → may_overflow r ≡ false → IsNormal (run_of b.events) → has_character (kept_items columns (run_of b.events)) ≡ false → (s.lines ≡ r.lines) × (s.waiting ≡ r.waiting ++ names_in_run (run_of b.events))
-  bare r s b h sound narrow normal none =
-      let texts : (lines_at_end columns r b) ≡ [] = no_lines columns (block_width r) (run_of b.events) (lines_at_end columns r b) ((h.ends sound).shown.best narrow normal) none in
-      let is = bare_flush r s b h texts in
-      let names : (names_at_end columns r b) ≡ names_in_run (run_of b.events) = ap (λ (ls : List (List (Item (List A)))). names_in_items (joined ls) ++ (names_at_end columns r b)) (sym texts) ∙ (h.ends sound).markers in
-      (ap (λ (q : Renderer D A (List A)). q.lines) is, ap (λ (q : Renderer D A (List A)). q.waiting) is ∙ ap (λ ns. r.waiting ++ ns) names)
-
-  flush_stands : (r s : Renderer D A (List A)) (o : Option (Open (List A))) → FlushesBlock columns r o s → IsSound columns r → FlushStands columns (open_run o) r s
-  flush_stands r s None h sound = record {
-    waits = ([], same (is_visible columns));
-    waits_kept = λ normal. ([], same (is_kept columns));
-    kept = λ normal. ap (λ (q : Renderer D A (List A)). without_spaces (items_so_far q)) h ∙ sym (append-nil (without_spaces (items_so_far r)));
-    trails = λ narrow normal some. cc;
-    bare = λ narrow normal none. (ap (λ (q : Renderer D A (List A)). q.lines) h, ap (λ (q : Renderer D A (List A)). q.waiting) h ∙ sym (append-nil r.waiting));
-  }
-    where
-      first : List (Entry (List A))
-      first = marker_run r.waiting
-
-      same : (test : ℕ → Bool) → s.waiting ≡ names_after {A = List A} test (first ++ [])
-      same test = ap (λ (q : Renderer D A (List A)). q.waiting) h ∙ sym (names_of_marker_run test first [] r.waiting refl) ∙ ap (names_after test) (sym (append-nil first))
-  flush_stands r s (Some b) h sound =
-      let (is, all) = stand_flushed r s b h sound in record {
-        waits = waits_after columns is s.waiting (marker_run r.waiting ++ (run_of b.events)) all;
-        waits_kept = λ normal. waits_after_kept columns is s.waiting (marker_run r.waiting ++ (run_of b.events)) all (normal_after r.waiting (run_of b.events) normal);
-        kept = λ normal.
-            ap (λ (q : Renderer D A (List A)). without_spaces (items_so_far q)) h.is ∙ seen_flushed without_spaces at_unspaced columns r b (lines_at_end columns r b) (names_at_end columns r b)
-            ∙ ap (λ js. without_spaces (items_so_far r) ++ js) ((run_stands columns (block_width r) (may_overflow r) (run_of b.events) (lines_at_end columns r b) (names_at_end columns r b) (h.ends sound)).kept normal);
-        trails = trails r s b h sound;
-        bare = bare r s b h sound;
-      }
+  -- a block without lines: its markers wait after the others
+  bare : (r s : Renderer D A (List A)) (o : Option (Open (List A))) → FlushesBlock columns r o s → IsSound columns r → may_overflow r ≡ false → IsNormal (open_run o) →
+      has_character (kept_items columns (open_run o)) ≡ false → (s.lines ≡ r.lines) × (s.waiting ≡ r.waiting ++ names_in_run (open_run o))
+  bare r s None h sound narrow normal none = (ap (λ (q : Renderer D A (List A)). q.lines) h, ap (λ (q : Renderer D A (List A)). q.waiting) h ∙ sym (append-nil r.waiting))
+  bare r s (Some b) h sound narrow normal none =
+      let names = names_at_end columns r b in
+      let texts : lines_at_end columns r b ≡ [] = no_lines columns (block_width r) (run_of b.events) (lines_at_end columns r b) ((h.ends sound).shown.best narrow normal) none in
+      let is = h.is ∙ ap (λ (ts : List (List (Item (List A)))). flushed columns r (block_lines columns r b ts) names) texts in
+      let all : names ≡ names_in_run (run_of b.events) = ap (λ (ls : List (List (Item (List A)))). names_in_items (joined ls) ++ names) (sym texts) ∙ (h.ends sound).markers in
+      (ap (λ (q : Renderer D A (List A)). q.lines) is, ap (λ (q : Renderer D A (List A)). q.waiting) is ∙ ap (λ ns. r.waiting ++ ns) all)
 
   pub flushes_stand : (r s : Renderer D A (List A)) → IsSound columns r → after_flush columns r ≡ done s → FlushStands columns (open_run r.block) r s
-  flushes_stand r s sound h = flush_stands r s r.block (flushes columns r s h) sound
+  flushes_stand r s sound h =
+      let flushed = flushes columns r s h in
+      let came = marker_run r.waiting ++ open_run r.block in
+      let (is, all) = stand_flushed r s r.block flushed sound in
+      record {
+        waits = waits_after columns is s.waiting came all;
+        waits_kept = λ normal. waits_after_kept columns is s.waiting came all (normal_after r.waiting (open_run r.block) normal);
+        kept = kept r s r.block flushed sound;
+        trails = trails r s r.block flushed sound;
+        bare = bare r s r.block flushed sound;
+      }
 
 -- ---- until a line of text comes
 
-first_text-append : {T : Type 0} (ls ms : List (Line T)) → first_text ls ≡ None → first_text (ls ++ ms) ≡ first_text ms
-first_text-append [] ms e = refl
-first_text-append (text is ∷ ls) ms e = cc
-first_text-append (border b ∷ ls) ms e = first_text-append ls ms e
+-- A text, if one comes, begins with the markers that waited. If none does, the first that wait are these.
+abbrev Waiting : {T : Type 0} → Option (List (Item T)) → List (List ℕ) → List (List ℕ) → Type 0
+Waiting (Some is) old new = BeginsWith (marker_items old) is
+Waiting None old new = BeginsWith old new
 
-first_text_stays : {T : Type 0} (ls ms : List (Line T)) (is : List (Item T)) → first_text ls ≡ Some is → first_text (ls ++ ms) ≡ Some is
-first_text_stays [] ms is e = cc
-first_text_stays (text js ∷ ls) ms is e = e
-first_text_stays (border b ∷ ls) ms is e = first_text_stays ls ms is e
+module _ {T : Type 0} where
+  wait_longer : (ls ms : List (Line T)) (old between new : List (List ℕ)) → Waiting (first_text ls) old between → Waiting (first_text ms) between new → Waiting (first_text (ls ++ ms)) old new
+  wait_longer [] ms old between new (rest, here) h =
+      (elim (first_text ms) as (λ o. Waiting o between new → Waiting o old new) [
+        | None ↦ λ k. (rest ++ k.0, k.1 ∙ ap (λ ns. ns ++ k.0) here ∙ append_assoc old rest k.0)
+        | Some is ↦ λ k.
+            (marker_items rest ++ k.0, k.1 ∙ ap (λ ns. marker_items ns ++ k.0) here ∙ ap (λ js. js ++ k.0) (marker_items-append old rest) ∙ append_assoc (marker_items old) (marker_items rest) k.0)
+      ]) h
+  wait_longer (text is ∷ ls) ms old between new g h = g
+  wait_longer (border b ∷ ls) ms old between new g h = wait_longer ls ms old between new g h
 
-module _ {D A : Type 0} where
-  pub wait_on : (r q s : Renderer D A (List A)) → WaitForText r q → WaitForText q s → WaitForText r s
-  wait_on r q s g h = go (first_text g.more) refl
-    where
-      lines : s.lines ≡ r.lines ++ (g.more ++ h.more)
-      lines = h.lines ∙ ap (λ ls. ls ++ h.more) g.lines ∙ append_assoc r.lines g.more h.more
+  -- the first text of lines that stay, and their parts
+  same_first : (ls ms : List (Line T)) → AllZip StaysLine ls ms → first_text ls ≡ first_text ms
+  same_first [] [] h = refl
+  same_first (text is ∷ ls) (text js ∷ ms) h = ap Some (sym h.0)
+  same_first (border b ∷ ls) (border c ∷ ms) h = same_first ls ms h.1
+  same_first (l ∷ ls) (m ∷ ms) h = absurd h.0
+  same_first ls ms h = absurd h
 
-      go : (o : Option (List (Item (List A)))) → first_text g.more ≡ o → WaitForText r s
-      go (Some js) e = record {
-        more = g.more ++ h.more;
-        lines = lines;
-        stand = λ is first. g.stand is (let same : Some js ≡ Some is = sym (first_text_stays g.more h.more js e) ∙ first in e ∙ same);
-        wait = λ none. let no : Some js ≡ None = sym (first_text_stays g.more h.more js e) ∙ none in cc;
-      }
-      go None e =
-          let (rest, here) = g.wait e in
-          let same : first_text (g.more ++ h.more) ≡ first_text h.more = first_text-append g.more h.more e in record {
-            more = g.more ++ h.more;
-            lines = lines;
-            stand = λ is first.
-                let (later, there) = h.stand is (sym same ∙ first) in
-                (marker_items rest ++ later, there ∙ ap (λ ns. marker_items ns ++ later) here ∙ ap (λ js. js ++ later) (marker_items-append r.waiting rest) ∙ append_assoc (marker_items r.waiting) (marker_items rest) later);
-            wait = λ none.
-                let (later, there) = h.wait (sym same ∙ none) in
-                (rest ++ later, there ∙ ap (λ ns. ns ++ later) here ∙ append_assoc r.waiting rest later);
-          }
-
-  -- no line came, and more markers may wait
-  no_line_came : (r s : Renderer D A (List A)) (names : List (List ℕ)) → s.lines ≡ r.lines → s.waiting ≡ r.waiting ++ names → WaitForText r s
-  no_line_came r s names lines waiting = record {
-    more = [];
-    lines = lines ∙ sym (append-nil r.lines);
-    stand = λ is first. cc;
-    wait = λ none. (names, waiting);
-  }
-
-  pub same_wait : (r s : Renderer D A (List A)) → s.lines ≡ r.lines → s.waiting ≡ r.waiting → WaitForText r s
-  same_wait r s lines waiting = no_line_came r s [] lines (waiting ∙ sym (append-nil r.waiting))
+  parted : (ls ms ns : List (Line T)) → AllZip StaysLine (ls ++ ms) ns → (front back : List (Line T)) × (ns ≡ front ++ back) × AllZip StaysLine ls front × AllZip StaysLine ms back
+  parted [] ms ns h = ([], ns, refl, tt, h)
+  parted (l ∷ ls) ms [] h = absurd h
+  parted (l ∷ ls) ms (n ∷ ns) h = let (front, back, both, first, others) = parted ls ms ns h.1 in (n ∷ front, back, ap (λ os. n ∷ os) both, (h.0, first), others)
 
 module _ {D A : Type 0} (columns : ℕ → Option ℕ) where
-  line_came : (r : Renderer D A (List A)) (t : List (Item (List A))) → WaitForText r (with_line columns r t)
-  line_came r t =
-      let marked : List (Item (List A)) = marker_items r.waiting ++ t in
-      let full : List (Item (List A)) = marked ++ line_padding columns r marked in record {
-        more = text full ∷ [];
-        lines = refl;
-        stand = λ is first. (t ++ line_padding columns r marked, let same : is ≡ full = cc in same ∙ append_assoc (marker_items r.waiting) t (line_padding columns r marked));
-        wait = λ none. cc;
-      }
+  abbrev Waits : Renderer D A (List A) → Renderer D A (List A) → Type 0
+  Waits r s = (more : List (Line (List A))) × (s.lines ≡ r.lines ++ more) × Waiting (first_text more) r.waiting s.waiting
 
-  pub lines_came : (ts : List (List (Item (List A)))) (r : Renderer D A (List A)) → WaitForText r (fold (with_line columns) r ts)
-  lines_came [] r = same_wait r r refl refl
-  lines_came (t ∷ ts) r = wait_on r (with_line columns r t) (fold (with_line columns) (with_line columns r t) ts) (line_came r t) (lines_came ts (with_line columns r t))
+  wait_on : (r q s : Renderer D A (List A)) → Waits r q → Waits q s → Waits r s
+  wait_on r q s g h = (g.0 ++ h.0, h.1 ∙ ap (λ ls. ls ++ h.0) g.1 ∙ append_assoc r.lines g.0 h.0, wait_longer g.0 h.0 r.waiting q.waiting s.waiting g.2 h.2)
 
-  flush_waits : (r s : Renderer D A (List A)) (o : Option (Open (List A))) → FlushesBlock columns r o s → WaitForText r s
-  flush_waits r s None h = same_wait r s (ap (λ (q : Renderer D A (List A)). q.lines) h) (ap (λ (q : Renderer D A (List A)). q.waiting) h)
-  flush_waits r s (Some b) h =
-      let closed : Renderer D A (List A) = record r { block = None } in
-      let after : Renderer D A (List A) = fold (with_line columns) closed (block_lines columns r b (lines_at_end columns r b)) in
-      subst (λ (q : Renderer D A (List A)). WaitForText r q) (sym h.is)
-      (wait_on r after (record after { waiting = after.waiting ++ (names_at_end columns r b) })
-      (wait_on r closed after (same_wait r closed refl refl) (lines_came (block_lines columns r b (lines_at_end columns r b)) closed))
-      (no_line_came after (record after { waiting = after.waiting ++ (names_at_end columns r b) }) (names_at_end columns r b) refl refl))
-
-  -- a border that stays one is no text
-  pub rule_waits : (r s : Renderer D A (List A)) (b : Border (List A)) → r.options.pad_block_width ≡ false → s ≡ with_border columns r b → WaitForText r s
-  rule_waits r s b unpadded h = record {
-    more = border b ∷ [];
-    lines = ap (λ (q : Renderer D A (List A)). q.lines) h ∙ ap (λ l. r.lines ++ l ∷ []) (border_stays columns r b unpadded);
-    stand = λ is first. cc;
-    wait = λ none. ([], ap (λ (q : Renderer D A (List A)). q.waiting) h ∙ sym (append-nil r.waiting));
+  wait_for_text : (r s : Renderer D A (List A)) → Waits r s → WaitForText r s
+  wait_for_text r s (more, lines, k) = record {
+    more = more;
+    lines = lines;
+    stand = λ is first. subst (λ o. Waiting o r.waiting s.waiting) first k;
+    wait = λ none. subst (λ o. Waiting o r.waiting s.waiting) none k;
   }
 
-  move_waits : (m : Move D A) (r s : Renderer D A (List A)) → Makes columns undrawn m r s → WaitForText r s
+  -- no line came, and more markers may wait
+  no_line_came : (r s : Renderer D A (List A)) (names : List (List ℕ)) → s.lines ≡ r.lines → s.waiting ≡ r.waiting ++ names → Waits r s
+  no_line_came r s names lines waiting = ([], lines ∙ sym (append-nil r.lines), (names, waiting))
+
+  same_wait : (r s : Renderer D A (List A)) → s.lines ≡ r.lines → s.waiting ≡ r.waiting → Waits r s
+  same_wait r s lines waiting = no_line_came r s [] lines (waiting ∙ sym (append-nil r.waiting))
+
+  on_one : (r s : Renderer D A (List A)) → s ≡ r → Waits r s
+  on_one r s e = same_wait r s (ap (λ (q : Renderer D A (List A)). q.lines) e) (ap (λ (q : Renderer D A (List A)). q.waiting) e)
+
+  line_came : (r : Renderer D A (List A)) (t : List (Item (List A))) → Waits r (with_line columns r t)
+  line_came r t = (_, refl, (_, append_assoc (marker_items r.waiting) t (line_padding columns r (marker_items r.waiting ++ t))))
+
+  lines_came : (ts : List (List (Item (List A)))) (r : Renderer D A (List A)) → Waits r (fold (with_line columns) r ts)
+  lines_came [] r = on_one r r refl
+  lines_came (t ∷ ts) r = wait_on r (with_line columns r t) (fold (with_line columns) (with_line columns r t) ts) (line_came r t) (lines_came ts (with_line columns r t))
+
+  flush_waits : (r s : Renderer D A (List A)) (o : Option (Open (List A))) → FlushesBlock columns r o s → Waits r s
+  flush_waits r s None h = on_one r s h
+  flush_waits r s (Some b) h =
+      let ts = block_lines columns r b (lines_at_end columns r b) in
+      let laid = fold (with_line columns) (record r { block = None }) ts in
+      let last : Renderer D A (List A) = record laid { waiting = laid.waiting ++ names_at_end columns r b } in
+      subst (λ (q : Renderer D A (List A)). Waits r q) (sym h.is) (wait_on r laid last (lines_came ts (record r { block = None })) (no_line_came laid last (names_at_end columns r b) refl refl))
+
+  -- a border that stays one is no text
+  rule_waits : (r : Renderer D A (List A)) (b : Border (List A)) → r.options.pad_block_width ≡ false → Waits r (with_border columns r b)
+  rule_waits r b unpadded = (border b ∷ [], ap (λ l. r.lines ++ l ∷ []) (border_stays columns r b unpadded), ([], sym (append-nil r.waiting)))
+
+  move_waits : (m : Move D A) (r s : Renderer D A (List A)) → Makes columns undrawn m r s → Waits r s
   move_waits (flush q) r s h = flush_waits r s r.block h.1
-  move_waits (line is) r s h = subst (λ (q : Renderer D A (List A)). WaitForText r q) (sym h.2) (line_came r is)
-  move_waits (rule cells) r s h = rule_waits r s (without_holes cells r.annotations) h.0 h.2
+  move_waits (line is) r s h = subst (λ (q : Renderer D A (List A)). Waits r q) (sym h.2) (line_came r is)
+  move_waits (rule cells) r s h = subst (λ (q : Renderer D A (List A)). Waits r q) (sym h.2) (rule_waits r (without_holes cells r.annotations) h.0)
   move_waits (join es) r s h = same_wait r s (ap (λ (q : Renderer D A (List A)). q.lines) h) (ap (λ (q : Renderer D A (List A)). q.waiting) h)
   move_waits turn r s h = same_wait r s h.lines h.waiting
 
-  on_one : (r s : Renderer D A (List A)) → s ≡ r → WaitForText r s
-  on_one r s e = same_wait r s (ap (λ (q : Renderer D A (List A)). q.lines) e) (ap (λ (q : Renderer D A (List A)). q.waiting) e)
-
   pub steps_wait : (decoration : Decoration D A) (calls : List (Call (List A))) (r s : Renderer D A (List A)) → Steps columns decoration calls r s → CameWithoutDrawnBorders (borders_drawn r calls) WaitForText r s
-  steps_wait = steps_on columns WaitForText on_one wait_on move_waits
+  steps_wait decoration calls r s h =
+      let (more, rest, came, among, waits) = steps_on columns Waits on_one wait_on move_waits decoration calls r s h in
+      (more, rest, came, among, wait_for_text r (record s { lines = r.lines ++ rest }) waits)
 
   pub steps_wait_all : (decoration : Decoration D A) (calls : List (Call (List A))) (r s : Renderer D A (List A)) → DrawNone r calls → Steps columns decoration calls r s → WaitForText r s
-  steps_wait_all = steps_on_all columns WaitForText on_one wait_on move_waits
+  steps_wait_all decoration calls r s none h = wait_for_text r s (steps_on_all columns Waits on_one wait_on move_waits decoration calls r s none h)
+
+  -- ---- with rows too
+
+  -- The lines stay, and these came after them.
+  abbrev WaitsOn : Renderer D A (List A) → Renderer D A (List A) → Type 0
+  WaitsOn r s = (kept more : List (Line (List A))) × (s.lines ≡ kept ++ more) × AllZip StaysLine r.lines kept × Waiting (first_text more) r.waiting s.waiting
+
+  waits_on : (r q s : Renderer D A (List A)) → WaitsOn r q → Waits q s → WaitsOn r s
+  waits_on r q s (kept, more, lines, stay, g) h = (kept, more ++ h.0, h.1 ∙ ap (λ ls. ls ++ h.0) lines ∙ append_assoc kept more h.0, stay, wait_longer more h.0 r.waiting q.waiting s.waiting g h.2)
+
+  lines_stay : (r q s : Renderer D A (List A)) → AllZip StaysLine q.lines s.lines → s.waiting ≡ q.waiting → WaitsOn r q → WaitsOn r s
+  lines_stay r q s stay waiting (kept, more, lines, before, g) =
+      let (front, back, both, first, others) = parted kept more s.lines (subst (λ ls. AllZip StaysLine ls s.lines) lines stay) in
+      (front, back, both, stay_on r.lines kept front before first, subst (Waiting (first_text back) r.waiting) (sym waiting) (subst (λ o. Waiting o r.waiting q.waiting) (same_first more back others) g))
+
+  waiting_goes_on : (r : Renderer D A (List A)) → GoesOn columns undrawn (λ s es. WaitsOn r s)
+  waiting_goes_on r = record {
+    flushed = λ q s b es h sound k. waits_on r q s k (flush_waits q s (Some b) h);
+    laid = λ q t es k. waits_on r q (with_line columns q t) k (line_came q t);
+    ruled = λ q b es unpadded k. waits_on r q (with_border columns q b) k (rule_waits q b unpadded);
+    stays = λ q s es stay waiting k. lines_stay r q s stay waiting k;
+  }
+
+  pub acts_wait : (decoration : Decoration D A) (acts : List (Act A)) (r s : Renderer D A (List A)) → IsSound columns r → r.options.pad_block_width ≡ false → run (after_act columns decoration) acts r ≡ done s →
+      WaitForTextUnderRows r s
+  acts_wait decoration acts r s sound unpadded h =
+      let nothing : WaitsOn r r = (r.lines, [], sym (append-nil r.lines), all_stay r.lines, ([], sym (append-nil r.waiting))) in
+      let (kept, more, lines, stay, k) = (acts_on columns undrawn (λ t es. WaitsOn r t) (waiting_goes_on r) decoration acts r s (open_run r.block) sound unpadded h ([], refl, nothing)).2 in
+      record {
+        kept = kept;
+        more = more;
+        lines = lines;
+        stay = stay;
+        stand = λ is first. subst (λ o. Waiting o r.waiting s.waiting) first k;
+        wait = λ none. subst (λ o. Waiting o r.waiting s.waiting) none k;
+      }

@@ -1,4 +1,4 @@
-use Rattle.text_block_renderer.proofs.WaitingUnderRows.{acts_wait}
+use Rattle.text_block_renderer.proofs.WaitingMarkers.{acts_wait}
 use Rattle.text_block_renderer.proofs.laws.rows.waiting_markers_begin_the_next_text_with_rows_too.Goals as goal
 
 pub returns : goal.returns
