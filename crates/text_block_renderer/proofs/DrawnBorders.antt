@@ -2,7 +2,6 @@
 use Rattle.std.proofs.Common.{◌≡◌, ℕ, ◌-◌, if◌then◌else◌, Bool, true, false, Option, Some, None, List, [], ◌∷◌, ◌++◌, map, flat_map, fold, refl, ap, sym, ◌∙◌, subst, append_assoc, append-nil}
 use Rattle.std.proofs.lemmas.List.{map-append}
 use Rattle.std.proofs.lemmas.List.Concat.{flat_map-append}
-use Rattle.tbr_model.specs.Rule.{run_of}
 use Rattle.tbr_model.specs.Run.{Entry, Item, items_width}
 use Rattle.tbr_border.specs.Border.{Border, shown, without_holes}
 use Rattle.tbr_border.specs.Cell.{Cell}
@@ -14,28 +13,13 @@ use Rattle.tbr_model.specs.Markers.{marker_items}
 use Rattle.tbr_renderer.specs.Flush.{block_lines, flushed, lines_at_end, names_at_end}
 use Rattle.tbr_renderer.proofs.FlushedBlocks.{EndsBlock, FlushesBlock}
 use Rattle.tbr_renderer.specs.Appended.{border_line, with_border}
-use Rattle.tbr_renderer.specs.Calls.{laid_entries, Call, Steps, Brings, brought as all_brought, text_of_lines}
+use Rattle.tbr_renderer.specs.Calls.{Call, Steps, Brings, brought as all_brought, text_of_lines}
 use Rattle.text_block_renderer.specs.Drawn.{as_it_is, drawn, line_put, not_drawn, cells_drawn, AreDrawnAmong, WithoutDrawnBorders, CameWithoutDrawnBorders, borders_drawn, DrawNone}
 use Rattle.text_block_renderer.proofs.Moves.{Kind, Fits, Move, flush, line, rule, join, turn, brought_by, brought, brought-append, ruled_by, ruled, Makes, MakesAll, makes-append, move_options, sound_moved, along, through, any, undrawn}
 use Rattle.text_block_renderer.proofs.CallMoves.{calls_move}
 use Rattle.text_block_renderer.proofs.LineContents.{no_text_after}
 
 module _ {T : Type 0} where
-  put_as_they_are : (ls : List (Line T)) → ls ≡ map line_put (map as_it_is ls)
-  put_as_they_are [] = refl
-  put_as_they_are (l ∷ ls) = ap (λ ms. l ∷ ms) (put_as_they_are ls)
-
-  none_drawn : (ls : List (Line T)) → [] ≡ flat_map cells_drawn (map as_it_is ls)
-  none_drawn [] = refl
-  none_drawn (l ∷ ls) = none_drawn ls
-
-  all_others : (ls : List (Line T)) → ls ≡ flat_map not_drawn (map as_it_is ls)
-  all_others [] = refl
-  all_others (l ∷ ls) = ap (λ ms. l ∷ ms) (all_others ls)
-
-  pub none_among : (ls : List (Line T)) → AreDrawnAmong [] ls ls
-  none_among ls = (map as_it_is ls, put_as_they_are ls, none_drawn ls, all_others ls)
-
   -- more lines after lines
   among_both : (bs cs : List (List Cell)) (ls ms ks ns : List (Line T)) → AreDrawnAmong bs ls ks → AreDrawnAmong cs ms ns → AreDrawnAmong (bs ++ cs) (ls ++ ms) (ks ++ ns)
   among_both bs cs ls ms ks ns g h = (
@@ -45,17 +29,19 @@ module _ {T : Type 0} where
     ap (λ us. us ++ ns) g.3 ∙ ap (λ us. flat_map not_drawn g.0 ++ us) h.3 ∙ sym (flat_map-append not_drawn g.0 h.0),
   )
 
--- borders, where they are drawn
+  none_among : (ls : List (Line T)) → AreDrawnAmong [] ls ls
+  none_among [] = ([], refl, refl, refl)
+  none_among (l ∷ ls) = among_both [] [] (l ∷ []) ls (l ∷ []) ls (as_it_is l ∷ [], refl, refl, refl) (none_among ls)
+
+-- borders, each where it is drawn
 abbrev pub if_drawn : Bool → List (List Cell) → List (List Cell)
-if_drawn pads bs = if pads then bs else []
+if_drawn pads bs = flat_map (λ b. if pads then b ∷ [] else []) bs
 
-if_drawn-append : (pads : Bool) (bs cs : List (List Cell)) → if_drawn pads bs ++ if_drawn pads cs ≡ if_drawn pads (bs ++ cs)
-if_drawn-append true bs cs = refl
-if_drawn-append false bs cs = refl
-
-pub if_none_drawn : (pads : Bool) → if_drawn pads [] ≡ []
-if_none_drawn true = refl
-if_none_drawn false = refl
+all_or_none : (pads : Bool) (bs : List (List Cell)) → if_drawn pads bs ≡ (if pads then bs else [])
+all_or_none true [] = refl
+all_or_none true (b ∷ bs) = ap (λ cs. b ∷ cs) (all_or_none true bs)
+all_or_none false [] = refl
+all_or_none false (b ∷ bs) = all_or_none false bs
 
 module _ {D A : Type 0} (columns : ℕ → Option ℕ) where
   pub border_stays : (r : Renderer D A (List A)) (b : Border (List A)) → r.options.pad_block_width ≡ false → border_line columns r b ≡ border b
@@ -125,28 +111,21 @@ module _ {D A : Type 0} (columns : ℕ → Option ℕ) where
   -- ---- each move
 
   -- lines come alike, whatever lines there are
-  record ComesAlike (r s : Renderer D A (List A)) (ts : List (List (Item (List A)))) (ls : List (Line (List A))) : Type 0 where
-    more : List (Line (List A))
-    lines : s.lines ≡ r.lines ++ more
-    others : fold (with_line columns) (on r ls) ts ≡ on s (ls ++ more)
-
-  come_alike : (ts : List (List (Item (List A)))) (r : Renderer D A (List A)) (ls : List (Line (List A))) → ComesAlike r (fold (with_line columns) r ts) ts ls
-  come_alike [] r ls = record { more = []; lines = sym (append-nil r.lines); others = ap (on r) (sym (append-nil ls)) }
+  come_alike : (ts : List (List (Item (List A)))) (r : Renderer D A (List A)) (ls : List (Line (List A))) →
+      (more : List (Line (List A))) × ((fold (with_line columns) r ts).lines ≡ r.lines ++ more) × (fold (with_line columns) (on r ls) ts ≡ on (fold (with_line columns) r ts) (ls ++ more))
+  come_alike [] r ls = ([], sym (append-nil r.lines), ap (on r) (sym (append-nil ls)))
   come_alike (t ∷ ts) r ls =
       let marked = line_laid r t in
-      let rest = come_alike ts (with_line columns r t) (ls ++ marked ∷ []) in record {
-        more = marked ∷ rest.more;
-        lines = rest.lines ∙ append_assoc r.lines (marked ∷ []) rest.more;
-        others = rest.others ∙ ap (on (fold (with_line columns) (with_line columns r t) ts)) (append_assoc ls (marked ∷ []) rest.more);
-      }
+      let (more, lines, others) = come_alike ts (with_line columns r t) (ls ++ marked ∷ []) in
+      (marked ∷ more, lines ∙ append_assoc r.lines (marked ∷ []) more, others ∙ ap (on (fold (with_line columns) (with_line columns r t) ts)) (append_assoc ls (marked ∷ []) more))
 
   -- a run ends alike too
   pub end_alike : (r s : Renderer D A (List A)) (ls : List (Line (List A))) (b : Open (List A)) → EndsBlock columns r b s → (more : List (Line (List A))) × (s.lines ≡ r.lines ++ more) × EndsBlock columns (on r ls) b (on s (ls ++ more))
   end_alike r s ls b h =
-      let alike = come_alike (block_lines columns r b (lines_at_end columns r b)) (record r { block = None }) ls in
-      let same : on s (ls ++ alike.more) ≡ flushed columns (on r ls) (block_lines columns r b (lines_at_end columns r b)) (names_at_end columns r b) =
-      ap (λ (q : Renderer D A (List A)). on q (ls ++ alike.more)) h.is ∙ sym (ap (λ (q : Renderer D A (List A)). record q { waiting = q.waiting ++ (names_at_end columns r b) }) alike.others) in
-      (alike.more, ap (λ (q : Renderer D A (List A)). q.lines) h.is ∙ alike.lines, record { fits = h.fits; ends = λ sound. h.ends (record { space = sound.space; wide = sound.wide }); is = same })
+      let (more, lines, others) = come_alike (block_lines columns r b (lines_at_end columns r b)) (record r { block = None }) ls in
+      let same : on s (ls ++ more) ≡ flushed columns (on r ls) (block_lines columns r b (lines_at_end columns r b)) (names_at_end columns r b) =
+      ap (λ (q : Renderer D A (List A)). on q (ls ++ more)) h.is ∙ sym (ap (λ (q : Renderer D A (List A)). record q { waiting = q.waiting ++ (names_at_end columns r b) }) others) in
+      (more, ap (λ (q : Renderer D A (List A)). q.lines) h.is ∙ lines, record { fits = h.fits; ends = λ sound. h.ends (record { space = sound.space; wide = sound.wide }); is = same })
 
   flush_less : (r s : Renderer D A (List A)) (ls : List (Line (List A))) (o : Option (Open (List A))) → o ≡ r.block → FlushesBlock columns r o s → Less r s ls [] []
   flush_less r s ls None e h =
@@ -168,30 +147,23 @@ module _ {D A : Type 0} (columns : ℕ → Option ℕ) where
       as_they_are (rule cells) r s ls (border b ∷ []) (ap (λ (q : Renderer D A (List A)). q.lines) h ∙ ap (λ l. r.lines ++ l ∷ []) line_is)
       (e, none, ap (λ (q : Renderer D A (List A)). on q (ls ++ border b ∷ [])) h ∙ ap (λ l. on r (ls ++ l ∷ [])) (sym line_is))
 
-  -- where lines are padded or not
-  with_none : (r s : Renderer D A (List A)) (ls : List (Line (List A))) (es : List (Entry (List A))) (pads : Bool) → Less r s ls es [] → Less r s ls es (if_drawn pads [])
-  with_none r s ls es pads h = subst (Less r s ls es) (sym (if_none_drawn pads)) h
-
   move_less : (m : Move D A) (r s : Renderer D A (List A)) (ls : List (Line (List A))) (pads : Bool) → r.options.pad_block_width ≡ pads → Makes columns any m r s → Less r s ls (brought_by m) (if_drawn pads (ruled_by m))
-  move_less (flush q) r s ls pads e h = with_none r s ls [] pads (flush_less r s ls r.block refl h.1)
+  move_less (flush q) r s ls pads e h = flush_less r s ls r.block refl h.1
   move_less (line is) r s ls pads e h =
       let marked = line_laid r is in
-      with_none r s ls (laid_entries is) pads
-      (as_they_are (line is) r s ls (marked ∷ []) (ap (λ (q : Renderer D A (List A)). q.lines) h.2) (tt, h.1, ap (λ (q : Renderer D A (List A)). on q (ls ++ marked ∷ [])) h.2))
+      as_they_are (line is) r s ls (marked ∷ []) (ap (λ (q : Renderer D A (List A)). q.lines) h.2) (tt, h.1, ap (λ (q : Renderer D A (List A)). on q (ls ++ marked ∷ [])) h.2)
   move_less (rule cells) r s ls pads e h = rule_less r s ls cells pads e h.1 h.2
-  move_less (join es) r s ls pads e h =
-      with_none r s ls (run_of es) pads (no_line (join es) r s ls (ap (λ (q : Renderer D A (List A)). q.lines) h) (ap (λ (q : Renderer D A (List A)). on q ls) h))
-  move_less turn r s ls pads e h =
-      with_none r s ls [] pads (no_line turn r s ls h.lines (record { lines = refl; block = h.block; waiting = h.waiting; width = h.width; options = h.options; hanging = h.hanging }))
+  move_less (join es) r s ls pads e h = no_line (join es) r s ls (ap (λ (q : Renderer D A (List A)). q.lines) h) (ap (λ (q : Renderer D A (List A)). on q ls) h)
+  move_less turn r s ls pads e h = no_line turn r s ls h.lines (record { lines = refl; block = h.block; waiting = h.waiting; width = h.width; options = h.options; hanging = h.hanging })
 
   moves_less : (ms : List (Move D A)) (r s : Renderer D A (List A)) (ls : List (Line (List A))) (pads : Bool) → r.options.pad_block_width ≡ pads → MakesAll columns any ms r s → Less r s ls (brought ms) (if_drawn pads (ruled ms))
-  moves_less [] r s ls pads e h =
-      with_none r s ls [] pads (nothing r s ls [] [] (ap (λ (q : Renderer D A (List A)). q.lines) h ∙ sym (append-nil r.lines)) (none_among []) (ap (λ (q : Renderer D A (List A)). on q ls) h))
+  moves_less [] r s ls pads e h = nothing r s ls [] [] (ap (λ (q : Renderer D A (List A)). q.lines) h ∙ sym (append-nil r.lines)) (none_among []) (ap (λ (q : Renderer D A (List A)). on q ls) h)
   moves_less (m ∷ ms) r s ls pads e h =
       let first = move_less m r h.0 ls pads e h.1 in
       let still = ap (λ (o : RenderOptions). o.pad_block_width) (move_options columns any m r h.0 h.1) ∙ e in
       let others = moves_less ms h.0 s (ls ++ first.rest) pads still h.2 in
-      subst (Less r s ls (brought_by m ++ brought ms)) (if_drawn-append pads (ruled_by m) (ruled ms)) (less_on r h.0 s ls (brought_by m) (brought ms) (if_drawn pads (ruled_by m)) (if_drawn pads (ruled ms)) first others)
+      subst (Less r s ls (brought_by m ++ brought ms)) (sym (flat_map-append (λ b. if pads then b ∷ [] else []) (ruled_by m) (ruled ms)))
+      (less_on r h.0 s ls (brought_by m) (brought ms) (if_drawn pads (ruled_by m)) (if_drawn pads (ruled ms)) first others)
 
   -- ---- calls
 
@@ -199,11 +171,9 @@ module _ {D A : Type 0} (columns : ℕ → Option ℕ) where
   module _ (kind : Kind) (P : Renderer D A (List A) → List (Entry (List A)) → Type 0)
       (each : (m : Move D A) (r s : Renderer D A (List A)) (es : List (Entry (List A))) → Makes columns kind m r s → IsSound columns r → P r es → P s (es ++ brought_by m)) where
     -- it holds where the renderer is sound, and so it goes on
-    each_sound : (m : Move D A) (r s : Renderer D A (List A)) (es : List (Entry (List A))) → Makes columns kind m r s → IsSound columns r × P r es → IsSound columns s × P s (es ++ brought_by m)
-    each_sound m r s es h k = (sound_moved columns kind m r s h k.0, each m r s es h k.0 k.1)
-
     along_sound : (ms : List (Move D A)) (r s : Renderer D A (List A)) (es : List (Entry (List A))) → IsSound columns r → MakesAll columns kind ms r s → P r es → P s (es ++ brought ms)
-    along_sound ms r s es sound makes k = (along columns kind (λ t fs. IsSound columns t × P t fs) each_sound ms r s es makes (sound, k)).1
+    along_sound ms r s es sound makes k =
+        (along columns kind (λ t fs. IsSound columns t × P t fs) (λ m q t fs h j. (sound_moved columns kind m q t h j.0, each m q t fs h j.0 j.1)) ms r s es makes (sound, k)).1
 
     pub calls_bring_on : (decoration : Decoration D A) (calls : List (Call (List A))) (r s : Renderer D A (List A)) (before es : List (Entry (List A))) →
         IsSound columns r → Fits kind r calls → Brings columns decoration calls r es s → P r before → P s (before ++ es)
@@ -228,7 +198,7 @@ module _ {D A : Type 0} (columns : ℕ → Option ℕ) where
         IsSound columns r → Brings columns decoration calls r es s → WithoutDrawnBorders borders (λ q. P q before) r → WithoutDrawnBorders (borders ++ borders_drawn r calls) (λ q. P q (before ++ es)) s
     brings_on decoration calls r s borders before es sound h k =
         let path = calls_move columns any decoration calls r s es tt h in
-        subst (λ bs. WithoutDrawnBorders (borders ++ if_drawn r.options.pad_block_width bs) (λ q. P q (before ++ es)) s) path.rules
+        subst (λ bs. WithoutDrawnBorders (borders ++ bs) (λ q. P q (before ++ es)) s) (ap (if_drawn r.options.pad_block_width) path.rules ∙ all_or_none r.options.pad_block_width _)
         (subst (λ fs. WithoutDrawnBorders (borders ++ if_drawn r.options.pad_block_width (ruled path.moves)) (λ q. P q (before ++ fs)) s) path.brings (moves_on path.moves r s borders before sound path.makes k))
 
     -- of new ones, of which it holds
@@ -243,7 +213,7 @@ module _ {D A : Type 0} (columns : ℕ → Option ℕ) where
     steps_on decoration calls r s h =
         let path = calls_move columns any decoration calls r s (all_brought columns decoration calls r) tt (h, refl) in
         let less = moves_less path.moves r s r.lines r.options.pad_block_width refl path.makes in
-        let among = subst (λ bs. AreDrawnAmong (if_drawn r.options.pad_block_width bs) less.more less.rest) path.rules less.among in
+        let among = subst (λ bs. AreDrawnAmong bs less.more less.rest) (ap (if_drawn r.options.pad_block_width) path.rules ∙ all_or_none r.options.pad_block_width _) less.among in
         (less.more, less.rest, less.came, among, through columns undrawn R same on_from each less.moves r (on s (r.lines ++ less.rest)) less.makes)
 
     pub steps_on_all : (decoration : Decoration D A) (calls : List (Call (List A))) (r s : Renderer D A (List A)) → DrawNone r calls → Steps columns decoration calls r s → R r s

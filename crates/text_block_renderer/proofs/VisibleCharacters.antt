@@ -1,5 +1,5 @@
 -- Visible characters are there once.
-use Rattle.std.proofs.Common.{◌≡◌, ℕ, inl, zero, suc, Bool, true, false, if◌then◌else◌, Option, None, List, [], ◌∷◌, ◌++◌, filter, fold, refl, ap, sym, ◌∙◌, subst, append-nil}
+use Rattle.std.proofs.Common.{◌≡◌, ℕ, inl, zero, suc, true, false, if◌then◌else◌, Option, None, List, [], ◌∷◌, ◌++◌, filter, fold, refl, ap, sym, ◌∙◌, subst, append-nil}
 use Rattle.std.proofs.Math.Bool.{and-false}
 use Rattle.std.specs.List.{AllZip}
 use Rattle.tbr_model.specs.Rule.{run_of}
@@ -29,7 +29,7 @@ use Rattle.tbr_renderer.specs.Calls.{laid_entries, text_of_lines, Shows}
 use Rattle.text_block_renderer.specs.Drawn.{AreDrawnAmong, WithoutDrawnBorders}
 use Rattle.text_block_renderer.specs.Acts.{Act, after_act, acts_come}
 use Rattle.text_block_renderer.proofs.Moves.{Move, flush, brought_by, Makes, flushed_none, undrawn}
-use Rattle.text_block_renderer.proofs.DrawnBorders.{if_drawn, if_none_drawn, moves_on, border_unseen}
+use Rattle.text_block_renderer.proofs.DrawnBorders.{moves_on, border_unseen}
 use Rattle.text_block_renderer.proofs.LineContents.{Looks, unpadded, seen_line, seen_texts}
 use Rattle.text_block_renderer.proofs.LastingLines.{stay_texts}
 use Rattle.text_block_renderer.proofs.EndedEntries.{Ended, GoesOn, move_on, acts_on}
@@ -62,12 +62,11 @@ module _ {T : Type 0} (columns : ℕ → Option ℕ) where
   laid_shown : (is : List (Item T)) → AllZip (IsShown (λ a b. a ≡ b)) (visible_glyphs columns is) (visible_entries columns (laid_entries is))
   laid_shown [] = tt
   laid_shown (marker name ∷ is) = laid_shown is
-  laid_shown (glyph c a ∷ is) = go (is_visible columns c) (laid_shown is)
-    where
-      go : (v : Bool) → AllZip (IsShown (λ a b. a ≡ b)) (visible_glyphs columns is) (visible_entries columns (laid_entries is)) →
-          AllZip (IsShown (λ a b. a ≡ b)) (if v then (c, a) ∷ visible_glyphs columns is else visible_glyphs columns is) (if v then character c a a Pre ∷ visible_entries columns (laid_entries is) else visible_entries columns (laid_entries is))
-      go true rest = ((refl, inl refl), rest)
-      go false rest = rest
+  laid_shown (glyph c a ∷ is) =
+      let gs = visible_glyphs columns is in
+      let es = visible_entries columns (laid_entries is) in
+      elim (is_visible columns c) as (λ v. AllZip (IsShown (λ a b. a ≡ b)) (if v then (c, a) ∷ gs else gs) (if v then character c a a Pre ∷ es else es))
+      [ true ↦ ((refl, inl refl), laid_shown is) | false ↦ laid_shown is ]
 
 -- ---- lines
 
@@ -153,8 +152,7 @@ module _ {D A : Type 0} (columns : ℕ → Option ℕ) where
       (rest : List (Line (List A))) × AreDrawnAmong borders lines rest × AllZip (IsShown (λ a b. a ≡ b)) (visible_glyphs columns (text_of_lines rest)) (visible_entries columns es)
   handed_out_less r borders es lines sound k h =
       let (s, flushes, is) = handed_then columns r lines h in
-      let none : borders ++ if_drawn r.options.pad_block_width [] ≡ borders = ap (λ bs. borders ++ bs) (if_none_drawn r.options.pad_block_width) ∙ append-nil borders in
       let (rest, among, shows) = moves_on columns (Shows columns) shows_move (flush r ∷ []) r s borders es sound (s, (refl, flushes), refl) k in
       let q : Renderer D A (List A) = record s { lines = rest } in
-      let here : AreDrawnAmong borders lines rest = subst (λ ls. AreDrawnAmong borders ls rest) (sym is) (subst (λ bs. AreDrawnAmong bs s.lines rest) none among) in
+      let here : AreDrawnAmong borders lines rest = subst (λ ls. AreDrawnAmong borders ls rest) (sym is) (subst (λ bs. AreDrawnAmong bs s.lines rest) (append-nil borders) among) in
       (rest, here, all_shown q es (flushed_none columns r s flushes) (subst (λ (fs : List (Entry (List A))). Shows columns q fs) (append-nil es) shows))
