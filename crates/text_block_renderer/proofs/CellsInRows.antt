@@ -1,9 +1,9 @@
 -- The visible characters and the markers of a cell are in the lines of the rows that it spans, and in the borders between them, whatever its width.
-use Rattle.std.proofs.Common.{◌≡◌, ℕ, zero, suc, ◌+◌, ◌-◌, ◌<◌, ◌≤◌, ◌/◌, ◌⊎◌, inl, inr, is_none, Bool, true, false, if◌then◌else◌, Option, Some, None, List, [], ◌∷◌, ◌++◌, map, flat_map, drop, length, refl, ap, sym, ◌∙◌, subst, arith, append_assoc, append-nil}
+use Rattle.std.proofs.Common.{◌≡◌, ℕ, zero, suc, ◌+◌, ◌-◌, ◌<◌, ◌≤◌, ◌⊎◌, inl, inr, is_none, Bool, true, false, if◌then◌else◌, Option, Some, None, List, [], ◌∷◌, ◌++◌, map, flat_map, take, drop, length, refl, ap, sym, ◌∙◌, subst, arith, append_assoc, append-nil}
 use Rattle.std.specs.Prelude.{nat_lt}
 use Rattle.std.specs.List.{AllZip}
-use Rattle.std.proofs.lemmas.Bool.{cond_both, ltb-true, ltb-false, le-leb}
-use Rattle.std.proofs.lemmas.List.{map-append, drop-drop, length-drop}
+use Rattle.std.proofs.lemmas.Bool.{cond_both, ltb-true}
+use Rattle.std.proofs.lemmas.List.{map-append}
 use Rattle.std.proofs.lemmas.List.Concat.{flat_map-append}
 use Rattle.tbr_model.specs.Run.{Item, items_width, glyph}
 use Rattle.tbr_model.specs.Layout.{joined}
@@ -20,12 +20,13 @@ use Rattle.tbr_rows.specs.Cells.{cell_height, first_line}
 use Rattle.tbr_rows.specs.CellsShown.{StandsAmong}
 use Rattle.tbr_rows.specs.Gaps.{cell_in, has_gap, with_element, with_elements, overhang_of, overhang}
 use Rattle.tbr_rows.specs.Meant.{IsGapOf, HasGapIf, HasGaps, SeenRow, MeansRow}
-use Rattle.tbr_rows.specs.Shown.{Meeting, met, meeting, as_lines, merged_first, merged_last}
-use Rattle.tbr_rows.specs.Borders.{first_mergeable, last_mergeable, without_first_border, with_last_border_apart}
+use Rattle.tbr_rows.specs.Shown.{part_of, later_of, Meeting, met, meeting, as_lines, merged_first, merged_last}
+use Rattle.tbr_rows.specs.Borders.{first_mergeable, without_first_border}
 use Rattle.tbr_rows.specs.Rows.{separator_in, cells_left}
-use Rattle.tbr_rows.specs.Texts.{row_height, row_text, cell_text, dropped, text_in_row, text_of_lines as cell_shows, line_text, line_texts, numbers_below}
+use Rattle.tbr_rows.specs.Texts.{row_height, row_text, cell_text, dropped, text_in_row, text_of_lines as cell_shows, line_text, numbers_below}
 use Rattle.tbr_rows.proofs.Among.{among_cons, among_front, none_among, among_map, each_among}
-use Rattle.tbr_rows.proofs.AllLines.{merged_and_left, cells_meet, row_is_high_enough}
+use Rattle.tbr_rows.proofs.AllLines.{part_and_later, merged_and_left, row_is_high_enough}
+use Rattle.tbr_rows.proofs.ColumnsOfRows.{column_of, columns_are, cell_is, span_stays}
 use Rattle.tbr_rows.proofs.CellsSeated.{among_own}
 use Rattle.tbr_kept_lines.specs.LastBorder.{before_border}
 use Rattle.tbr_kept_lines.specs.Line.{Line, text, border}
@@ -39,54 +40,20 @@ use Rattle.text_block_renderer.proofs.Written.{written-append, stays_written, bo
 use Rattle.text_block_renderer.proofs.RowsOfCells.{row_beside}
 use Rattle.text_block_renderer.proofs.ActParts.{row_lines, top_stays}
 
--- ---- among the items of lists
+-- what is among the items of a list has something among those of the other
+among_zip : {X Y : Type 0} (R : X → Y → Type 0) (x : X) (xs : List X) (ys : List Y) → AllZip R xs ys → StandsAmong x xs → (y : Y) × StandsAmong y ys × R x y
+among_zip R x [] ys all h = absurd (none_among x h)
+among_zip R x (z ∷ xs) [] all h = absurd all
+among_zip R x (z ∷ xs) (y ∷ ys) all h = elim (among_cons x z xs h) [
+  | inl same ↦ (y, ([], ys, refl), subst (λ v. R v y) (sym same) all.0)
+  | inr there ↦ let (w, among, is) = among_zip R x xs ys all.1 there in (w, among_front w y ys among, is)
+]
 
-module _ {X Y : Type 0} where
-  among_unmap : (f : X → Y) (y : Y) (xs : List X) → StandsAmong y (map f xs) → (x : X) × StandsAmong x xs × (f x ≡ y)
-  among_unmap f y [] h = absurd (none_among y h)
-  among_unmap f y (x ∷ xs) h = go (among_cons y (f x) (map f xs) h) (among_unmap f y xs)
-    where
-      go : (y ≡ f x) ⊎ StandsAmong y (map f xs) → (StandsAmong y (map f xs) → (z : X) × StandsAmong z xs × (f z ≡ y)) → (z : X) × StandsAmong z (x ∷ xs) × (f z ≡ y)
-      go (inl same) others = (x, ([], xs, refl), sym same)
-      go (inr there) others = let (z, among, is) = others there in (z, among_front z x xs among, is)
-
-  among_zip : (R : X → Y → Type 0) (x : X) (xs : List X) (ys : List Y) → AllZip R xs ys → StandsAmong x xs → (y : Y) × StandsAmong y ys × R x y
-  among_zip R x [] ys all h = absurd (none_among x h)
-  among_zip R x (z ∷ xs) [] all h = elim all [ ]
-  among_zip R x (z ∷ xs) (y ∷ ys) all h = go (among_cons x z xs h) (among_zip R x xs ys all.1)
-    where
-      go : (x ≡ z) ⊎ StandsAmong x xs → (StandsAmong x xs → (w : Y) × StandsAmong w ys × R x w) → (w : Y) × StandsAmong w (y ∷ ys) × R x w
-      go (inl same) others = (y, ([], ys, refl), subst (λ v. R v y) (sym same) all.0)
-      go (inr there) others = let (w, among, is) = others there in (w, among_front w y ys among, is)
-
--- ---- the first lines of a cell
-
--- the first of these, if there is one
-abbrev one_of : {X : Type 0} → List X → List X
-one_of [] = []
-one_of (x ∷ xs) = x ∷ []
-
-abbrev firsts : {X : Type 0} → ℕ → List X → List X
-firsts zero xs = []
-firsts (suc n) xs = firsts n xs ++ one_of (drop n xs)
-
-one_and_others : {X : Type 0} (xs : List X) → one_of xs ++ drop 1 xs ≡ xs
-one_and_others [] = refl
-one_and_others (x ∷ xs) = refl
-
-firsts_and_others : {X : Type 0} (n : ℕ) (xs : List X) → firsts n xs ++ drop n xs ≡ xs
-firsts_and_others zero xs = refl
-firsts_and_others (suc n) xs =
-    let next : n + 1 ≡ suc n = omega arith in
-    ap (λ k. (firsts n xs ++ one_of (drop n xs)) ++ drop k xs) (sym next) ∙ append_assoc (firsts n xs) (one_of (drop n xs)) (drop (n + 1) xs)
-    ∙ ap (λ ys. firsts n xs ++ (one_of (drop n xs) ++ ys)) (sym (drop-drop 1 n xs)) ∙ ap (λ ys. firsts n xs ++ ys) (one_and_others (drop n xs)) ∙ firsts_and_others n xs
-
-none_left : {X : Type 0} (n : ℕ) (xs : List X) → length xs ≤ n → drop n xs ≡ []
-none_left {X} n xs short = go (drop n xs) (omega (arith, length-drop n xs, short))
-  where
-    go : (ys : List X) → length ys ≡ 0 → ys ≡ []
-    go [] e = refl
-    go (y ∷ ys) e = absurd (omega (arith, e))
+-- one more of the first items
+one_more : {X : Type 0} (n : ℕ) (xs : List X) → take (suc n) xs ≡ take n xs ++ take 1 (drop n xs)
+one_more zero xs = refl
+one_more (suc n) [] = refl
+one_more (suc n) (x ∷ xs) = ap (λ ys. x ∷ ys) (one_more n xs)
 
 -- ---- the texts of a cell's lines
 
@@ -106,35 +73,21 @@ module _ {T : Type 0} where
   no_holes [] e = refl
   no_holes (h ∷ hs) e = cc
 
-  unwritten : (ls : List (RenderLine T)) → items_in (as_lines (first_mergeable ls)) ≡ []
-  unwritten [] = refl
-  unwritten (Text es ∷ ls) = refl
-  unwritten (Rule b ∷ ls) = cond_both (has_holes b.holes) None (Some b) (λ o. items_in (as_lines o) ≡ []) (λ e. refl) (λ e. append-nil (text_before b) ∙ no_holes b.holes e)
-
-  nothing_if : (merges : Bool) (ls : List (RenderLine T)) → items_in (if merges then as_lines (first_mergeable ls) else []) ≡ []
-  nothing_if merges ls = cond_both merges (as_lines (first_mergeable ls)) [] (λ ms. items_in ms ≡ []) (λ e. unwritten ls) (λ e. refl)
-
-  last_if : (merges : Bool) (ls : List (RenderLine T)) → items_in (if merges then as_lines (last_mergeable ls) else []) ≡ []
-  last_if merges ls = cond_both merges (as_lines (last_mergeable ls)) [] (λ ms. items_in ms ≡ []) (λ e. unwritten (drop (length ls - 1) ls)) (λ e. refl)
+  unwritten : (merges : Bool) (ls : List (RenderLine T)) → items_in (if merges then as_lines (first_mergeable ls) else []) ≡ []
+  unwritten false ls = refl
+  unwritten true [] = refl
+  unwritten true (Text es ∷ ls) = refl
+  unwritten true (Rule b ∷ ls) = cond_both (has_holes b.holes) None (Some b) (λ o. items_in (as_lines o) ≡ []) (λ e. refl) (λ e. append-nil (text_before b) ∙ no_holes b.holes e)
 
   -- so a cell and what meets the row say the same
   met_written : (m : Meeting) (c : Cell T) → items_in (met m c).lines ≡ items_in c.lines
   met_written m c =
-      let under : Cell T = if m.first then without_first_border c else c in
+      let under : List (RenderLine T) = (if m.first then without_first_border c else c).lines in
       let first = merged_first m c in
       let last = merged_last m c in
-      sym (ap items_in (sym (merged_and_left m c)) ∙ items_in-append (first ++ (met m c).lines) last ∙ ap (λ is. items_in (first ++ (met m c).lines) ++ is) (last_if m.last under.lines) ∙ append-nil (items_in (first ++ (met m c).lines))
-      ∙ items_in-append first (met m c).lines ∙ ap (λ is. is ++ items_in (met m c).lines) (nothing_if m.first c.lines))
-
-  -- a cell that meets a row spans as many
-  span_met : (m : Meeting) (c : Cell T) → (met m c).span ≡ c.span
-  span_met m c = go m.first m.last
-    where
-      go : (f l : Bool) → (let under : Cell T = if f then without_first_border c else c in (let d : Cell T = if l then (with_last_border_apart under).cell else under in d.span)) ≡ c.span
-      go true true = refl
-      go true false = refl
-      go false true = refl
-      go false false = refl
+      let left = (met m c).lines in
+      sym (ap items_in (sym (merged_and_left m c)) ∙ items_in-append (first ++ left) last ∙ ap (λ is. items_in (first ++ left) ++ is) (unwritten m.last (drop (length under - 1) under))
+      ∙ append-nil (items_in (first ++ left)) ∙ items_in-append first left ∙ ap (λ is. is ++ items_in left) (unwritten m.first c.lines))
 
 module _ {T : Type 0} (columns : ℕ → Option ℕ) (a : T) where
   abbrev seen : List (Item T) → List (Item T)
@@ -144,23 +97,16 @@ module _ {T : Type 0} (columns : ℕ → Option ℕ) (a : T) where
 
   text_among : (separator : Item T) (t : List (Item T)) (ts : List (List (Item T))) → StandsAmong t ts → StandWithin (seen t) (seen (row_text separator ts))
   text_among separator t [] h = absurd (none_among t h)
-  text_among separator t (u ∷ []) h = go (among_cons t u [] h)
-    where
-      go : (t ≡ u) ⊎ StandsAmong t [] → StandWithin (seen t) (seen u)
-      go (inl same) = subst (λ v. StandWithin (seen t) (seen v)) same (itself_within columns t)
-      go (inr there) = absurd (none_among t there)
-  text_among separator t (u ∷ v ∷ ts) h = go (among_cons t u (v ∷ ts) h) (text_among separator t (v ∷ ts))
-    where
-      rest : List (Item T)
-      rest = row_text separator (v ∷ ts)
-
-      go : (t ≡ u) ⊎ StandsAmong t (v ∷ ts) → (StandsAmong t (v ∷ ts) → StandWithin (seen t) (seen rest)) → StandWithin (seen t) (seen (u ++ separator ∷ rest))
-      go (inl same) later = subst (λ w. StandWithin (seen t) (seen (w ++ separator ∷ rest))) same (middle_within columns [] t (separator ∷ rest))
-      go (inr there) later = two_within columns [] t u (separator ∷ rest) tt (two_within columns [] t (separator ∷ []) rest tt (later there))
-
-  each_within : (f g : ℕ → List (Item T)) → ((n : ℕ) → StandWithin (seen (f n)) (seen (g n))) → (ns : List ℕ) → StandWithin (seen (joined (map f ns))) (seen (joined (map g ns)))
-  each_within f g h [] = tt
-  each_within f g h (n ∷ ns) = two_within columns (f n) (joined (map f ns)) (g n) (joined (map g ns)) (h n) (each_within f g h ns)
+  text_among separator t (u ∷ []) h = elim (among_cons t u [] h) [
+    | inl same ↦ subst (λ v. StandWithin (seen t) (seen v)) same (itself_within columns t)
+    | inr there ↦ absurd (none_among t there)
+  ]
+  text_among separator t (u ∷ v ∷ ts) h =
+      let rest = row_text separator (v ∷ ts) in
+      elim (among_cons t u (v ∷ ts) h) [
+        | inl same ↦ subst (λ w. StandWithin (seen t) (seen (w ++ separator ∷ rest))) same (middle_within columns [] t (separator ∷ rest))
+        | inr there ↦ after_within columns u t (separator ∷ rest) (after_within columns (separator ∷ []) t rest (text_among separator t (v ∷ ts) there))
+      ]
 
   -- ---- the lines of a cell
 
@@ -168,18 +114,19 @@ module _ {T : Type 0} (columns : ℕ → Option ℕ) (a : T) where
   line_within (Text es) = subst (λ is. StandWithin (seen is) (seen (items_of es))) (sym (append-nil (items_of es))) (itself_within columns (items_of es))
   line_within (Rule b) = subst (λ is. StandWithin (seen is) (seen (shown a b))) (sym (append-nil (text_before b))) (border_shown columns a b)
 
-  one_within : (shows : List (RenderLine T) → List (Item T)) → ((l : RenderLine T) (ls : List (RenderLine T)) → shows (l ∷ ls) ≡ text_in_row a l) → (ls : List (RenderLine T)) → StandWithin (seen (items_in (one_of ls))) (seen (shows ls))
+  one_within : (shows : List (RenderLine T) → List (Item T)) → ((l : RenderLine T) (ls : List (RenderLine T)) → shows (l ∷ ls) ≡ text_in_row a l) → (ls : List (RenderLine T)) → StandWithin (seen (items_in (take 1 ls))) (seen (shows ls))
   one_within shows each [] = tt
   one_within shows each (l ∷ ls) = subst (λ is. StandWithin (seen (items_in (l ∷ []))) (seen is)) (sym (each l ls)) (line_within l)
 
-  lines_within : (ls : List (RenderLine T)) (shown : ℕ → List (Item T)) → ((i : ℕ) → StandWithin (seen (items_in (one_of (drop i ls)))) (seen (shown i))) → (n : ℕ) → StandWithin (seen (items_in (firsts n ls))) (seen (joined (map shown (numbers_below n))))
+  lines_within : (ls : List (RenderLine T)) (shown : ℕ → List (Item T)) → ((i : ℕ) → StandWithin (seen (items_in (take 1 (drop i ls)))) (seen (shown i))) → (n : ℕ) →
+      StandWithin (seen (items_in (take n ls))) (seen (joined (map shown (numbers_below n))))
   lines_within ls shown each zero = tt
   lines_within ls shown each (suc n) =
-      let before = firsts n ls in
-      let next = one_of (drop n ls) in
+      let before = take n ls in
+      let next = take 1 (drop n ls) in
       let texts = map shown (numbers_below n) in
       let whole : joined (map shown (numbers_below n ++ n ∷ [])) ≡ joined texts ++ shown n = ap joined (map-append shown (numbers_below n) (n ∷ [])) ∙ joined-append texts (shown n ∷ []) ∙ ap (λ is. joined texts ++ is) (append-nil (shown n)) in
-      subst (λ is. StandWithin (seen is) (seen (joined (map shown (numbers_below n ++ n ∷ []))))) (sym (items_in-append before next))
+      subst (λ is. StandWithin (seen is) (seen (joined (map shown (numbers_below n ++ n ∷ []))))) (sym (ap items_in (one_more n ls) ∙ items_in-append before next))
       (subst (λ is. StandWithin (seen (items_in before ++ items_in next)) (seen is)) (sym whole)
       (two_within columns (items_in before) (items_in next) (joined texts) (shown n) (lines_within ls shown each n) (each n)))
 
@@ -198,33 +145,42 @@ module _ {T : Type 0} (columns : ℕ → Option ℕ) (a : T) where
       ∙ append_assoc (text_before b) (element_items e) (items_of es)
 
   -- a cell's line in it says what the line says
-  gap_within : (width : ℕ) (ls : List (RenderLine T)) (es : List (Element T)) → IsGapOf a width (first_line ls) es → StandWithin (seen (items_in (one_of ls))) (seen (items_of es))
+  gap_within : (width : ℕ) (ls : List (RenderLine T)) (es : List (Element T)) → IsGapOf a width (first_line ls) es → StandWithin (seen (items_in (take 1 ls))) (seen (items_of es))
   gap_within width [] es h = tt
   gap_within width (Text line ∷ ls) es h = subst (λ xs. StandWithin (seen (items_in (Text line ∷ []))) (seen (items_of xs))) (sym h) (line_within (Text line))
   gap_within width (Rule b ∷ ls) es h =
       subst (λ is. StandWithin (seen (items_in (Rule b ∷ []))) (seen is)) (sym h.0)
       (subst (λ is. StandWithin (seen is) (seen (shown b.tag b))) (sym (append-nil (text_before b))) (border_shown columns b.tag b))
 
-  one_gap : (gap : Bool) (d : Cell T) (b m : Border T) → HasGapIf gap columns a d b m → (more : List (Item T)) × (text_before m ≡ text_before b ++ more) × (gap ≡ true → StandWithin (seen (items_in (one_of d.lines))) (seen more))
-  one_gap false d b m h = ([], ap (λ (x : Border T). text_before x) h ∙ sym (append-nil (text_before b)), λ no. absurd (let none : ⊥ = cc in none))
-  one_gap true d b m (es, is, put) = (items_of es, ap (λ (x : Border T). text_before x) put ∙ put_written d.place b es, λ yes. gap_within d.width d.lines es is)
+  one_gap : (gap : Bool) (d : Cell T) (b m : Border T) → HasGapIf gap columns a d b m →
+      (more : List (Item T)) × (text_before m ≡ text_before b ++ more) × StandWithin (seen (items_in (if gap then take 1 d.lines else []))) (seen more)
+  one_gap false d b m h = ([], ap (λ (x : Border T). text_before x) h ∙ sym (append-nil (text_before b)), tt)
+  one_gap true d b m (es, is, put) = (items_of es, ap (λ (x : Border T). text_before x) put ∙ put_written d.place b es, gap_within d.width d.lines es is)
 
-  module _ (draws : Bool) where
-    gaps_add : (ds : List (Cell T)) (b full : Border T) → HasGaps draws columns a ds b full → (more : List (Item T)) × (text_before full ≡ text_before b ++ more)
-    gaps_add [] b full h = ([], ap (λ (x : Border T). text_before x) h ∙ sym (append-nil (text_before b)))
-    gaps_add (d ∷ ds) b full (m, here, others) =
-        let (one, is, within) = one_gap (has_gap draws d) d b m here in
-        let (more, are) = gaps_add ds m full others in
-        (one ++ more, are ∙ ap (λ js. js ++ more) is ∙ append_assoc (text_before b) one more)
+  -- what is in the border below of a cell that spans rows
+  abbrev in_gap : Bool → Cell T → List (Item T)
+  in_gap draws d = items_in (if has_gap draws d then take 1 d.lines else [])
 
-    gaps_within : (front : List (Cell T)) (d : Cell T) (back : List (Cell T)) (b full : Border T) → HasGaps draws columns a (front ++ d ∷ back) b full → has_gap draws d ≡ true → StandWithin (seen (items_in (one_of d.lines))) (seen (text_before full))
-    gaps_within [] d back b full (m, here, others) gap =
-        let (one, is, within) = one_gap (has_gap draws d) d b m here in
-        let (more, are) = gaps_add back m full others in
-        let first = items_in (one_of d.lines) in
-        subst (λ js. StandWithin (seen first) (seen js)) (sym (are ∙ ap (λ js. js ++ more) is ∙ append_assoc (text_before b) one more))
-        (after_within columns (text_before b) first (one ++ more) (before_within columns first one more (within gap)))
-    gaps_within (e ∷ front) d back b full (m, here, others) gap = gaps_within front d back m full others gap
+  gaps_within : (draws : Bool) (ds : List (Cell T)) (b full : Border T) → HasGaps draws columns a ds b full →
+      (more : List (Item T)) × (text_before full ≡ text_before b ++ more) × ((d : Cell T) → StandsAmong d ds → StandWithin (seen (in_gap draws d)) (seen more))
+  gaps_within draws [] b full h = ([], ap (λ (x : Border T). text_before x) h ∙ sym (append-nil (text_before b)), λ d among. absurd (none_among d among))
+  gaps_within draws (e ∷ ds) b full (m, here, others) =
+      let (one, is, within) = one_gap (has_gap draws e) e b m here in
+      let (more, are, each) = gaps_within draws ds m full others in (
+        one ++ more,
+        are ∙ ap (λ js. js ++ more) is ∙ append_assoc (text_before b) one more,
+        λ d among. elim (among_cons d e ds among) [
+          | inl same ↦ subst (λ c. StandWithin (seen (in_gap draws c)) (seen (one ++ more))) (sym same) (before_within columns (in_gap draws e) one more within)
+          | inr there ↦ after_within columns one (in_gap draws d) more (each d there)
+        ],
+      )
+
+  below_within : (draws : Bool) (d : Cell T) (cs : List (Cell T)) (b full : Border T) → StandsAmong d cs → HasGaps draws columns a cs b full →
+      StandWithin (seen (in_gap draws d)) (seen (below (if draws then Some full else None)))
+  below_within false d cs b full among gaps = tt
+  below_within true d cs b full among gaps =
+      let (more, is, each) = gaps_within true cs b full gaps in
+      subst (λ js. StandWithin (seen (in_gap true d)) (seen js)) (sym is) (after_within columns (text_before b) (in_gap true d) more (each d among))
 
   -- ---- a cell in a row
 
@@ -232,74 +188,56 @@ module _ {T : Type 0} (columns : ℕ → Option ℕ) (a : T) where
   abbrev IsLeft : ℕ → List (RenderLine T) → List (Cell T) → Type 0
   IsLeft span rest hanging = (rest ≡ []) ⊎ ((d : Cell T) × StandsAmong d hanging × (d.lines ≡ rest) × (1 ≤ d.span) × (d.span + 1 ≡ span))
 
-  -- what overhangs of a cell, without the line in the border below
-  left_within : (draws : Bool) (d : Cell T) (cs : List (Cell T)) (b full : Border T) → StandsAmong d cs → HasGaps draws columns a cs b full → (d.span ≤ 1 → d.lines ≡ []) →
-      (rest : List (RenderLine T)) × IsLeft d.span rest (overhang draws cs) × StandWithin (seen (items_in d.lines)) (seen (below (if draws then Some full else None) ++ items_in rest))
-  left_within draws d cs b full (front, back, is) gaps short = go draws (nat_lt 1 d.span) refl gaps
+  later_left : (draws : Bool) (d : Cell T) (cs : List (Cell T)) → StandsAmong d cs → IsLeft d.span (flat_map (λ k. k.lines) (overhang_of draws d)) (overhang draws cs)
+  later_left draws d cs (front, back, is) = go (nat_lt 1 d.span) refl
     where
-      next : Bool → Cell T
-      next draws = record d { span = d.span - 1; lines = drop (if draws then 1 else 0) d.lines }
+      next : Cell T
+      next = record d { span = d.span - 1; lines = drop (if draws then 1 else 0) d.lines }
 
-      hangs : (draws : Bool) → nat_lt 1 d.span ≡ true → StandsAmong (next draws) (overhang draws cs)
-      hangs draws e = (
-        flat_map (overhang_of draws) front,
-        flat_map (overhang_of draws) back,
-        ap (flat_map (overhang_of draws)) is ∙ flat_map-append (overhang_of draws) front (d ∷ back) ∙ ap (λ s. flat_map (overhang_of draws) front ++ ((if s then next draws ∷ [] else []) ++ flat_map (overhang_of draws) back)) e,
-      )
-
-      long : nat_lt 1 d.span ≡ true → (1 ≤ d.span - 1) × (d.span - 1 + 1 ≡ d.span)
-      long e = let more : 1 < d.span = ltb-true 1 d.span e in (omega (arith, more), omega (arith, more))
-
-      go : (draws s : Bool) → nat_lt 1 d.span ≡ s → HasGaps draws columns a cs b full →
-          (rest : List (RenderLine T)) × IsLeft d.span rest (overhang draws cs) × StandWithin (seen (items_in d.lines)) (seen (below (if draws then Some full else None) ++ items_in rest))
-      go draws false e h =
-          let none = short (ltb-false 1 d.span e) in
-          ([], inl refl, subst (λ ls. StandWithin (seen (items_in ls)) (seen (below (if draws then Some full else None) ++ []))) (sym none) tt)
-      go false true e h = (d.lines, inr (next false, hangs false e, refl, (long e).0, (long e).1), itself_within columns (items_in d.lines))
-      go true true e h =
-          let first = items_in (one_of d.lines) in
-          let rest = items_in (drop 1 d.lines) in
-          let both : first ++ rest ≡ items_in d.lines = sym (items_in-append (one_of d.lines) (drop 1 d.lines)) ∙ ap items_in (one_and_others d.lines) in
-          let here = gaps_within true front d back b full (subst (λ ds. HasGaps true columns a ds b full) is h) e in
-          (drop 1 d.lines, inr (next true, hangs true e, refl, (long e).0, (long e).1), subst (λ js. StandWithin (seen js) (seen (text_before full ++ rest))) both (two_within columns first rest (text_before full) rest here (itself_within columns rest)))
+      go : (s : Bool) → nat_lt 1 d.span ≡ s → IsLeft d.span (flat_map (λ (k : Cell T). k.lines) (if s then next ∷ [] else [])) (overhang draws cs)
+      go false e = inl refl
+      go true e =
+          let more : 1 < d.span = ltb-true 1 d.span e in
+          let before = overhang draws front in
+          let after = overhang draws back in
+          let hangs = ap (overhang draws) is ∙ flat_map-append (overhang_of draws) front (d ∷ back) ∙ ap (λ s. before ++ ((if s then next ∷ [] else []) ++ after)) e in
+          inr (next, (before, after, hangs), sym (append-nil next.lines), omega (arith, more), omega (arith, more))
 
   -- a row's lines and the text in front of the border below it have what a cell shows, but for what is left
   cell_shown : (style : RowStyle) (hanging own : List (Cell T)) (top : Option (Border T)) (row : SeenRow T) (means : MeansRow columns style a hanging own top row) (c : Cell T) → StandsAmong c means.cells →
-      (rest : List (RenderLine T)) × IsLeft c.span rest row.overhang × StandWithin (seen (items_in c.lines)) (seen (joined row.lines ++ (below row.next ++ items_in rest)))
+      (rest : List (RenderLine T)) × IsLeft c.span rest row.overhang × StandWithin (seen (items_in c.lines)) (seen ((joined row.lines ++ below row.next) ++ items_in rest))
   cell_shown style hanging own top row means c among =
       let height = row_height means.shown in
-      let m : Meeting = meeting style.collapses top height in
-      let met_cells : map cell_in means.shown ≡ map (met m) means.cells = ap (map cell_in) means.shown_is ∙ cells_meet style.collapses top height means.cells in
-      let (k, shown, is) = among_unmap cell_in (met m c) means.shown (subst (StandsAmong (met m c)) (sym met_cells) (among_map (met m) c means.cells among)) in
-      let ls : List (RenderLine T) = k.cell.lines in
-      let d : Cell T = cell_in (dropped height k) in
+      let draws = style.draws_borders in
+      let k = column_of style.collapses top c in
+      let shown : StandsAmong k means.shown = subst (StandsAmong k) (sym (means.shown_is ∙ columns_are style.collapses top means.cells)) (among_map (column_of style.collapses top) c means.cells among) in
       let high : cell_height k.cell ≤ height = each_among _ k means.shown shown (row_is_high_enough means.shown) in
-      let short : k.cell.span ≤ 1 → drop height ls ≡ [] = λ one. none_left height ls (subst (λ b. (if b then length ls else length ls / k.cell.span) ≤ height) (le-leb k.cell.span 1 one) high) in
-      let left = left_within style.draws_borders d (cells_left height means.shown) _ means.full (among_map cell_in (dropped height k) (map (dropped height) means.shown) (among_map (dropped height) k means.shown shown)) means.gaps short in
-      let (rest, goes_on, after) = left in
+      let d : Cell T = cell_in (dropped height k) in
+      let stands = among_map cell_in (dropped height k) (map (dropped height) means.shown) (among_map (dropped height) k means.shown shown) in
+      let first = items_in (take height k.cell.lines) in
+      let gap = in_gap draws d in
+      let rest = later_of draws height k.cell in
+      let here = joined row.lines ++ below row.next in
       let separator : Item T = glyph (separator_in style) a in
-      let texts = joined (map (λ i. cell_text a i k) (numbers_below height)) in
-      let firsts_are = items_in (firsts height ls) in
-      let here : StandWithin (seen firsts_are) (seen texts) = lines_within ls (λ i. cell_text a i k) (λ i. one_within (cell_shows a k) (λ l more. refl) (drop i ls)) height in
-      let there = each_within (λ i. cell_text a i k) (line_text separator a means.shown) (λ i. text_among separator (cell_text a i k) (map (cell_text a i) means.shown) (among_map (cell_text a i) k means.shown shown)) (numbers_below height) in
-      let in_lines : StandWithin (seen firsts_are) (seen (joined row.lines)) =
-      subst (λ ts. StandWithin (seen firsts_are) (seen (joined ts))) (sym means.texts)
-      (within_on (seen firsts_are) (seen texts) (seen (joined (line_texts separator a means.shown height))) here there) in
-      let in_border : StandWithin (seen (items_in d.lines)) (seen (below row.next ++ items_in rest)) = subst (λ o. StandWithin (seen (items_in d.lines)) (seen (below o ++ items_in rest))) (sym means.lower) after in
-      let all : firsts_are ++ items_in d.lines ≡ items_in c.lines = sym (items_in-append (firsts height ls) d.lines) ∙ ap items_in (firsts_and_others height ls) ∙ ap (λ (x : Cell T). items_in x.lines) is ∙ met_written m c in
-      let spans : d.span ≡ c.span = ap (λ (x : Cell T). x.span) is ∙ span_met m c in (
+      let line_has = λ (i : ℕ). within_on (seen (items_in (take 1 (drop i k.cell.lines)))) (seen (cell_text a i k)) (seen (line_text separator a means.shown i))
+      (one_within (cell_shows a k) (λ l more. refl) (drop i k.cell.lines)) (text_among separator (cell_text a i k) (map (cell_text a i) means.shown) (among_map (cell_text a i) k means.shown shown)) in
+      let in_lines : StandWithin (seen first) (seen (joined row.lines)) =
+      subst (λ ts. StandWithin (seen first) (seen (joined ts))) (sym means.texts) (lines_within k.cell.lines (line_text separator a means.shown) line_has height) in
+      let in_border : StandWithin (seen gap) (seen (below row.next)) =
+      subst (λ o. StandWithin (seen gap) (seen (below o))) (sym means.lower) (below_within draws d (cells_left height means.shown) _ means.full stands means.gaps) in
+      let all : (first ++ gap) ++ items_in rest ≡ items_in c.lines =
+      ap (λ is. is ++ items_in rest) (sym (items_in-append (take height k.cell.lines) (if has_gap draws d then take 1 d.lines else []))) ∙ sym (items_in-append (part_of draws height k.cell) rest)
+      ∙ ap items_in (part_and_later draws height k.cell high) ∙ ap (λ (x : Cell T). items_in x.lines) (cell_is style.collapses top height c) ∙ met_written (meeting style.collapses top height) c in (
         rest,
-        subst (λ n. IsLeft n rest row.overhang) spans (subst (IsLeft d.span rest) (sym means.rest) goes_on),
-        subst (λ js. StandWithin (seen js) (seen (joined row.lines ++ (below row.next ++ items_in rest)))) all
-            (two_within columns firsts_are (items_in d.lines) (joined row.lines) (below row.next ++ items_in rest) in_lines in_border),
+        subst (λ n. IsLeft n rest row.overhang) (span_stays style.collapses top height c) (subst (IsLeft d.span rest) (sym means.rest) (later_left draws d (cells_left height means.shown) stands)),
+        subst (λ js. StandWithin (seen js) (seen (here ++ items_in rest))) all
+            (two_within columns (first ++ gap) (items_in rest) here (items_in rest) (two_within columns first gap (joined row.lines) (below row.next) in_lines in_border) (itself_within columns (items_in rest))),
       )
 
   -- ---- what comes into the cell
 
   filled_within : (align : CellAlign) (width : ℕ) (lines : List (Line T)) (filled : List (RenderLine T)) → AllZip (FillsCell columns align width a) lines filled → StandWithin (seen (written lines)) (seen (items_in filled))
   filled_within align width [] [] h = tt
-  filled_within align width [] (f ∷ fs) h = elim h [ ]
-  filled_within align width (l ∷ ls) [] h = elim h [ ]
   filled_within align width (text is ∷ ls) (Text es ∷ fs) h =
       let missing = width - items_width columns is in
       let front : List (Item T) = text_items (spaces (columns_in_front align missing)) a in
@@ -311,14 +249,14 @@ module _ {T : Type 0} (columns : ℕ → Option ℕ) (a : T) where
   filled_within align width (border b ∷ ls) (Rule c ∷ fs) h =
       let same : text_before c ≡ text_before b = ap (λ (d : Border T). text_before d) h.0 in
       two_within columns (text_before b) (written ls) (text_before c) (items_in fs) (subst (λ is. StandWithin (seen (text_before b)) (seen is)) (sym same) (itself_within columns (text_before b))) (filled_within align width ls fs h.1)
-  filled_within align width (text is ∷ ls) (Rule c ∷ fs) h = absurd h.0
-  filled_within align width (border b ∷ ls) (Text es ∷ fs) h = absurd h.0
+  filled_within align width (l ∷ ls) (f ∷ fs) h = absurd h.0
+  filled_within align width ls fs h = absurd h
 
 module _ {D A : Type 0} (columns : ℕ → Option ℕ) where
   -- the border below a row says what is in front of it
-  below_within : (r : Renderer D A (List A)) (o : Option (Border (List A))) → StandWithin (to_show columns (below columns r.annotations o)) (to_show columns (written (border_lines_of columns r o)))
-  below_within r None = tt
-  below_within r (Some b) =
+  border_within : (r : Renderer D A (List A)) (o : Option (Border (List A))) → StandWithin (to_show columns (below columns r.annotations o)) (to_show columns (written (border_lines_of columns r o)))
+  border_within r None = tt
+  border_within r (Some b) =
       let is = shown b.tag b in
       cond_both r.options.pad_block_width (text (is ++ line_padding columns r is)) (border b) (λ l. StandWithin (to_show columns (text_before b)) (to_show columns (written (l ∷ []))))
       (λ e. before_within columns (text_before b) (is ++ line_padding columns r is) [] (before_within columns (text_before b) is (line_padding columns r is) (border_shown columns b.tag b)))
@@ -336,7 +274,7 @@ module _ {D A : Type 0} (columns : ℕ → Option ℕ) where
           written laid ++ written last,
           ap (λ (q : Renderer D A (List A)). written q.lines) puts.is ∙ ap written (row_lines columns m row) ∙ written-append top (laid ++ last) ∙ ap (λ is. is ++ written (laid ++ last)) (stays_written m.lines top (top_stays columns collapses cells m s puts))
               ∙ ap (λ is. written m.lines ++ is) (written-append laid last),
-          two_within columns (joined row.lines) (below columns m.annotations row.next) (written laid) (written last) texts (below_within m row.next),
+          two_within columns (joined row.lines) (below columns m.annotations row.next) (written laid) (written last) texts (border_within m row.next),
         )
 
   -- Items stand in what is written, or what is left of them is in a cell that overhangs for some rows yet.
@@ -354,7 +292,7 @@ module _ {D A : Type 0} (columns : ℕ → Option ℕ) where
         let there = below columns m.annotations row.next in
         let is_rest = items_in rest in
         let own : StandWithin (to_show columns (items_in c.lines)) (to_show columns (more ++ is_rest)) =
-        within_on (to_show columns (items_in c.lines)) (to_show columns ((joined row.lines ++ there) ++ is_rest)) (to_show columns (more ++ is_rest)) (subst (λ js. StandWithin (to_show columns (items_in c.lines)) (to_show columns js)) (sym (append_assoc (joined row.lines) there is_rest)) inside)
+        within_on (to_show columns (items_in c.lines)) (to_show columns ((joined row.lines ++ there) ++ is_rest)) (to_show columns (more ++ is_rest)) inside
         (two_within columns (joined row.lines ++ there) is_rest more is_rest shows (itself_within columns is_rest)) in
         let both = two_within columns (written m.lines) (items_in c.lines) (written m.lines) (more ++ is_rest) (itself_within columns (written m.lines)) own in
         let all : StandWithin us (to_show columns (written s.lines ++ is_rest)) =

@@ -47,25 +47,19 @@ abbrev seen : {T : Type 0} → (ℕ → Option ℕ) → List (Line T) → List (
 seen columns lines = to_show columns (written lines)
 
 module _ {T : Type 0} (columns : ℕ → Option ℕ) where
-  -- a line as text says what is written there
-  line_within : (tag : T) (line : Line T) → StandWithin (seen columns (line ∷ [])) (to_show columns (as_text tag line))
-  line_within tag (text is) = subst (λ js. StandWithin (to_show columns js) (to_show columns is)) (sym (append-nil is)) (itself_within columns is)
-  line_within tag (border b) = subst (λ js. StandWithin (to_show columns js) (to_show columns (shown tag b))) (sym (append-nil (text_before b))) (border_shown columns tag b)
-
-  -- and so it does after others, before other lines
+  -- A line as text says what is written there, after other items and before other lines.
   first_within : (tag : T) (line : Line T) (lines : List (Line T)) (front rest : List (Item T)) → StandWithin (seen columns lines) (to_show columns rest) → StandWithin (seen columns (line ∷ lines)) (to_show columns ((front ++ as_text tag line) ++ rest))
-  first_within tag line lines front rest h =
-      subst (λ is. StandWithin (to_show columns is) (to_show columns ((front ++ as_text tag line) ++ rest))) (sym (written-append (line ∷ []) lines))
-      (two_within columns (written (line ∷ [])) (written lines) (front ++ as_text tag line) rest (after_within columns front (written (line ∷ [])) (as_text tag line) (line_within tag line)) h)
+  first_within tag (text is) lines front rest h = two_within columns is (written lines) (front ++ is) rest (after_within columns front is is (itself_within columns is)) h
+  first_within tag (border b) lines front rest h =
+      two_within columns (text_before b) (written lines) (front ++ shown tag b) rest (after_within columns front (text_before b) (shown tag b) (border_shown columns tag b)) h
 
   texts_within : (tag : T) (lines : List (Line T)) → StandWithin (seen columns lines) (to_show columns (joined (map (as_text tag) lines)))
   texts_within tag [] = tt
   texts_within tag (line ∷ lines) = first_within tag line lines [] (joined (map (as_text tag) lines)) (texts_within tag lines)
 
   prefixed_within : (tag : T) (prefixes : List (List ℕ)) (lines : List (Line T)) → length lines ≤ length prefixes → StandWithin (seen columns lines) (to_show columns (joined (prefixed tag prefixes lines)))
-  prefixed_within tag [] [] h = tt
+  prefixed_within tag prefixes [] h = tt
   prefixed_within tag [] (line ∷ lines) h = absurd (omega (arith, h))
-  prefixed_within tag (p ∷ ps) [] h = tt
   prefixed_within tag (p ∷ ps) (line ∷ lines) h =
       let fewer : length lines ≤ length ps = omega (arith, h) in
       first_within tag line lines (text_items p tag) (joined (prefixed tag ps lines)) (prefixed_within tag ps lines fewer)
