@@ -1,16 +1,13 @@
 -- A call changes no settings but its own.
-use Rattle.std.proofs.Common.{◌≡◌, ℕ, suc, ◌-◌, if◌then◌else◌, Bool, true, false, Option, Some, None, List, [], ◌∷◌, map, fold, refl, ap, sym, ◌∙◌}
+use Rattle.std.proofs.Common.{◌≡◌, ℕ, suc, ◌-◌, if◌then◌else◌, Option, Some, None, List, [], ◌∷◌, map, fold, refl, ap, sym, ◌∙◌}
 use Rattle.std.proofs.lemmas.Bool.{cond_both}
-use Rattle.tbr_model.specs.Run.{Item}
 use Rattle.tbr_decor.specs.Start as start
 use Rattle.tbr_decor.specs.End as end
-use Rattle.tbr_decor.specs.Ground.{Ground}
 use Rattle.tbr_decor.specs.Decoration.{Decoration}
 use Rattle.tbr_renderer.specs.Image.{shown_title}
-use Rattle.tbr_renderer.specs.Decorated.{struck_from, struck_until, annotated, asked_for_colour, asked_to_end, coloured_by, uncoloured, after_start, after_titled}
+use Rattle.tbr_renderer.specs.Decorated.{struck_from, struck_until, annotated, asked_for_colour, coloured_by, after_start, after_titled}
 use Rattle.tbr_kept_lines.specs.Line.{Line}
 use Rattle.tbr_renderer.specs.Renderer.{Renderer, settings_of, with_line, without_annotation}
-use Rattle.tbr_decor.specs.Start.{Start}
 use Rattle.tbr_tagged.specs.Outcome.{done}
 use Rattle.tbr_tagged.proofs.Outcomes.{live_done}
 use Rattle.tbr_renderer.specs.Outcomes.{changed}
@@ -24,9 +21,6 @@ use Rattle.text_block_renderer.specs.Settings.{settled, settled_by_image}
 use Rattle.tbr_renderer.proofs.SettingsStay.{Steady, steady, lines_added, flushed_alike, empty_added, started_alike, text_added, taken, closed_alike}
 
 module _ {D A : Type 0} (columns : ℕ → Option ℕ) where
-  lines_appended : (m : Renderer D A (List A)) (texts : List (List (Item (List A)))) → steady (fold (with_line columns) m texts) ≡ steady m
-  lines_appended m texts = lines_added columns texts m
-
   -- a flush, and then what changes neither the settings nor the refusal
   flushed_then_alike : (change : Renderer D A (List A) → Renderer D A (List A)) → ((m : Renderer D A (List A)) → steady (change m) ≡ steady m) → (r s : Renderer D A (List A)) → changed change (after_flush columns r) ≡ done s → steady s ≡ steady r
   flushed_then_alike change same r s h =
@@ -36,25 +30,18 @@ module _ {D A : Type 0} (columns : ℕ → Option ℕ) where
   divided : (cell : Cell) (r : Renderer D A (List A)) → steady (with_divider columns cell r) ≡ steady r
   divided cell r = cond_both r.options.draw_borders (with_border columns r (border_of_cells cell r.width r)) r (λ (q : Renderer D A (List A)). steady q ≡ steady r) (λ e. refl) (λ e. refl)
 
-  cell_added : (r : Renderer D A (List A)) (lines : List (Line (List A))) → steady (with_cell columns r lines) ≡ steady r
-  cell_added r lines = lines_added columns (map (as_text r.annotations) lines) r
-
   cells_below : (cells : List (List (Line (List A)))) (r : Renderer D A (List A)) → steady (fold (with_cell_below columns) r cells) ≡ steady r
   cells_below [] r = refl
   cells_below (lines ∷ cells) r =
-      cells_below cells (with_cell_below columns r lines) ∙ cell_added (with_divider columns slash r) lines ∙ divided slash r
+      let q = with_divider columns slash r in cells_below cells (with_cell columns q lines) ∙ lines_added columns (map (as_text q.annotations) lines) q ∙ divided slash r
 
   cells_added : (cells : List (List (Line (List A)))) (r : Renderer D A (List A)) → steady (with_cells columns r cells) ≡ steady r
   cells_added [] r = refl
-  cells_added (lines ∷ cells) r = cells_below cells (with_cell columns r lines) ∙ cell_added r lines
-
-  broken : (at : Bool) (r s : Renderer D A (List A)) → (if at then after_empty_line columns r else after_flush columns r) ≡ done s → steady s ≡ steady r
-  broken true r s h = empty_added columns r s h
-  broken false r s h = flushed_alike columns r s h
+  cells_added (lines ∷ cells) r = cells_below cells (with_cell columns r lines) ∙ lines_added columns (map (as_text r.annotations) lines) r
 
   module _ (decoration : Decoration D A) where
     -- what is opened, and then what is made of the settings that it leaves
-    opened_alike : (opened : Start) (change : Renderer D A (List A) → Renderer D A (List A)) → ((m r : Renderer D A (List A)) → steady m ≡ steady r → steady (change m) ≡ steady (change r)) →
+    opened_alike : (opened : start.Start) (change : Renderer D A (List A) → Renderer D A (List A)) → ((m r : Renderer D A (List A)) → steady m ≡ steady r → steady (change m) ≡ steady (change r)) →
         (r s : Renderer D A (List A)) → changed change (after_start columns decoration opened r) ≡ done s → steady s ≡ steady (change (annotated decoration opened r))
     opened_alike opened change same r s h =
         let q = annotated decoration opened r in
@@ -74,16 +61,13 @@ module _ {D A : Type 0} (columns : ℕ → Option ℕ) where
         more x = if x.settings.kept.options.use_unicode_strikeout then record x { settings = record x.settings { kept = record x.settings.kept { strikeouts = suc x.settings.kept.strikeouts } } } else x
 
         is : (q : Renderer D A (List A)) → steady (struck_from q) ≡ more (steady q)
-        is q = go q.options.use_unicode_strikeout refl
-          where
-            go : (b : Bool) → q.options.use_unicode_strikeout ≡ b → steady (struck_from q) ≡ more (steady q)
-            go true e = rw e refl
-            go false e = rw e refl
+        is q = cond_both q.options.use_unicode_strikeout (record q { strikeouts = suc q.strikeouts }) q (λ (p : Renderer D A (List A)). steady p ≡ more (steady q)) (λ e. rw e refl) (λ e. rw e refl)
 
     made_settings : (call : Call (List A)) (r s : Renderer D A (List A)) → made columns decoration call r ≡ done s → steady s ≡ steady (settled decoration call r)
     made_settings add_empty_line r s h = empty_added columns r s h
     made_settings new_line r s h = flushed_alike columns r s h
-    made_settings new_line_hard r s h = broken (at_line_start columns r r.block) r s h
+    made_settings new_line_hard r s h =
+        cond_both (at_line_start columns r r.block) (after_empty_line columns r) (after_flush columns r) (λ o. o ≡ done s → steady s ≡ steady r) (λ e. empty_added columns r s) (λ e. flushed_alike columns r s) h
     made_settings start_block r s h = started_alike columns r s h
     made_settings start_table r s h = started_alike columns r s h
     made_settings (add_inline_text cs) r s h = text_added columns decoration.preformatted cs r s h
@@ -93,7 +77,7 @@ module _ {D A : Type 0} (columns : ℕ → Option ℕ) where
     made_settings end_strikeout r s h = closed_alike columns decoration end.strikeout (struck_until r) s h
     made_settings (add_image source title) r s h = image_alike source (shown_title r.options.img_mode source title) r s h
     made_settings (add_border width) r s h = flushed_then_alike (λ m. with_border columns m (border_of_cells horizontal width r)) (λ m. refl) r s h
-    made_settings (append_subrender prefixes lines) r s h = flushed_then_alike (λ m. fold (with_line columns) m (prefixed r.annotations prefixes lines)) (λ m. lines_appended m (prefixed r.annotations prefixes lines)) r s h
+    made_settings (append_subrender prefixes lines) r s h = flushed_then_alike (λ m. fold (with_line columns) m (prefixed r.annotations prefixes lines)) (λ m. lines_added columns (prefixed r.annotations prefixes lines) m) r s h
     made_settings (append_vert_row cells) r s h = flushed_then_alike (λ m. with_divider columns horizontal (with_cells columns m cells)) (λ m. divided horizontal (with_cells columns m cells) ∙ cells_added cells m) r s h
     made_settings call r s h = ap (λ (q : Renderer D A (List A)). steady q) (one_done _ s h)
 
@@ -114,29 +98,14 @@ module _ {D A : Type 0} (columns : ℕ → Option ℕ) where
     abbrev Beside : Renderer D A (List A) → Renderer D A (List A) → Type 0
     Beside r s = (s.failure ≡ r.failure) × (s.preformatted ≡ r.preformatted)
 
-    struck_from_beside : (r : Renderer D A (List A)) → Beside r (struck_from r)
-    struck_from_beside r = cond_both r.options.use_unicode_strikeout (record r { strikeouts = suc r.strikeouts }) r (Beside r) (λ e. (refl, refl)) (λ e. (refl, refl))
-
-    struck_until_beside : (r : Renderer D A (List A)) → Beside r (struck_until r)
-    struck_until_beside r = cond_both r.options.use_unicode_strikeout (record r { strikeouts = r.strikeouts - 1 }) r (Beside r) (λ e. (refl, refl)) (λ e. (refl, refl))
-
-    coloured_beside : (o : Option A) (r : Renderer D A (List A)) → Beside r (coloured_by decoration o r)
-    coloured_beside None r = (refl, refl)
-    coloured_beside (Some a) r = (refl, refl)
-
-    uncoloured_beside : (g : Ground) (r : Renderer D A (List A)) → Beside r (uncoloured decoration g r)
-    uncoloured_beside g r = cond_both (decoration.ends_colour r.decorator g) (without_annotation (asked_to_end decoration g r)) (asked_to_end decoration g r) (Beside r) (λ e. (refl, refl)) (λ e. (refl, refl))
-
-    image_beside : (source : List ℕ) (title : Option (List ℕ)) (r : Renderer D A (List A)) → Beside r (settled_by_image decoration source title r)
-    image_beside source None r = (refl, refl)
-    image_beside source (Some title) r = (refl, refl)
-
     settled_beside : (call : Call (List A)) (r : Renderer D A (List A)) → (let s = settled decoration call r in (s.failure ≡ r.failure) × (s.preformatted ≡ preformats_after call r.preformatted))
-    settled_beside start_strikeout r = struck_from_beside (annotated decoration start.strikeout r)
-    settled_beside end_strikeout r = struck_until_beside r
-    settled_beside (add_image source title) r = image_beside source (shown_title r.options.img_mode source title) r
-    settled_beside (push_colour g colour) r = coloured_beside (decoration.colour_annotation r.decorator g colour) (asked_for_colour decoration g colour r)
-    settled_beside (pop_colour g) r = uncoloured_beside g r
+    settled_beside start_strikeout r = cond_both r.options.use_unicode_strikeout _ _ (Beside r) (λ e. (refl, refl)) (λ e. (refl, refl))
+    settled_beside end_strikeout r = cond_both r.options.use_unicode_strikeout _ _ (λ (s : Renderer D A (List A)). Beside r s) (λ e. (refl, refl)) (λ e. (refl, refl))
+    settled_beside (add_image source title) r =
+        elim (shown_title r.options.img_mode source title) as (λ o. Beside r (settled_by_image decoration source o r)) [ None ↦ (refl, refl) | Some shown ↦ (refl, refl) ]
+    settled_beside (push_colour g colour) r =
+        elim (decoration.colour_annotation r.decorator g colour) as (λ o. Beside r (coloured_by decoration o (asked_for_colour decoration g colour r))) [ None ↦ (refl, refl) | Some a ↦ (refl, refl) ]
+    settled_beside (pop_colour g) r = cond_both (decoration.ends_colour r.decorator g) _ _ (Beside r) (λ e. (refl, refl)) (λ e. (refl, refl))
     settled_beside call r = (refl, refl)
 
     pub call_beside : (call : Call (List A)) (r s : Renderer D A (List A)) → Does columns decoration call r s → (s.failure ≡ r.failure) × (s.preformatted ≡ preformats_after call r.preformatted)

@@ -1,5 +1,5 @@
 -- Two columns are enough for characters that take two at most.
-use Rattle.std.proofs.Common.{◌-◌, unwrap_or, IfSome, ◌≡◌, ℕ, ◌≤◌, inl, inr, Bool, true, false, if◌then◌else◌, Option, Some, None, List, [], ◌∷◌, fold, refl, ap, sym, subst, arith}
+use Rattle.std.proofs.Common.{◌-◌, unwrap_or, IfSome, ◌≡◌, ℕ, ◌≤◌, inl, inr, Bool, true, false, Option, Some, None, List, [], ◌∷◌, fold, ap, sym, subst, arith}
 use Rattle.std.proofs.lemmas.Bool.{cond_both}
 use Rattle.tbr_model.specs.Rule.{run_of}
 use Rattle.tbr_model.specs.Run.{Entry, character, marker_entry}
@@ -46,10 +46,6 @@ module _ {D A : Type 0} (columns : ℕ → Option ℕ) (one : columns 32 ≡ Som
   flushed_fits : {X : Type 0} (change : Renderer D A (List A) → X) (r : Renderer D A (List A)) → 2 ≤ block_width r → changed change (after_flush columns r) ≡ refused TooNarrow → ⊥
   flushed_fits change r wide h = flush_fits r wide (refused_before change (after_flush columns r) TooNarrow h)
 
-  break_fits : (at : Bool) (r : Renderer D A (List A)) → 2 ≤ block_width r → (if at then after_empty_line columns r else after_flush columns r) ≡ refused TooNarrow → ⊥
-  break_fits true r wide h = flushed_fits (with_empty_line columns) r wide h
-  break_fits false r wide h = flush_fits r wide h
-
   module _ (preformatted : D → Bool → A) where
     join_fits : (cs : List ℕ) (r : Renderer D A (List A)) → 2 ≤ block_width r → after_joining columns preformatted cs r ≡ refused TooNarrow → ⊥
     join_fits cs r wide h =
@@ -57,22 +53,16 @@ module _ {D A : Type 0} (columns : ℕ → Option ℕ) (one : columns 32 ≡ Som
         join_wide columns one r (open_block r) (omega (arith, wide)) (struck columns r.strikeouts cs) (text_annotations preformatted false r) (text_annotations preformatted true r) (last_mode r.modes)
         (refused_if_not (fits_grown columns r (open_block r) more) (with_events r more) h) (characters_fit columns two (block_width r) _ wide)
 
+    first_fits : (cs : List ℕ) (r : Renderer D A (List A)) → 2 ≤ block_width r → after_first_text columns preformatted cs r ≡ refused TooNarrow → ⊥
+    first_fits cs r wide h = elim (refused_first (after_block_start columns r) (after_joining columns preformatted cs) TooNarrow h) [
+      | inl starts ↦ flushed_fits (block_started columns) r wide starts
+      | inr joins ↦ (let same = ap (λ (x : Steady D A). least x.settings.kept.width x.settings.kept.options.wrap_width) (started_alike columns r joins.0 joins.1) in join_fits cs joins.0 (subst (λ n. 2 ≤ n) (sym same) wide) joins.2)
+    ]
+
     text_fits : (cs : List ℕ) (r : Renderer D A (List A)) → 2 ≤ block_width r → after_text columns preformatted cs r ≡ refused TooNarrow → ⊥
-    text_fits cs r wide h = go (ignores r cs) r.block_ended h
-      where
-        first : after_first_text columns preformatted cs r ≡ refused TooNarrow → ⊥
-        first e = elim (refused_first (after_block_start columns r) (after_joining columns preformatted cs) TooNarrow e) [
-          | inl starts ↦ flushed_fits (block_started columns) r wide starts
-          | inr joins ↦ (let same = ap (λ (x : Steady D A). least x.settings.kept.width x.settings.kept.options.wrap_width) (started_alike columns r joins.0 joins.1) in join_fits cs joins.0 (subst (λ n. 2 ≤ n) (sym same) wide) joins.2)
-        ]
-
-        go : (ignored ended : Bool) → (if ignored then done r else if ended then after_first_text columns preformatted cs r else after_joining columns preformatted cs r) ≡ refused TooNarrow → ⊥
-        go true ended e = cc
-        go false true e = first e
-        go false false e = join_fits cs r wide e
-
-  struck_width : (r : Renderer D A (List A)) → block_width (struck_until r) ≡ block_width r
-  struck_width r = cond_both r.options.use_unicode_strikeout (record r { strikeouts = r.strikeouts - 1 }) r (λ (q : Renderer D A (List A)). block_width q ≡ block_width r) (λ e. refl) (λ e. refl)
+    text_fits cs r wide h =
+        cond_both (ignores r cs) (done r) _ (λ o. o ≡ refused TooNarrow → ⊥) (λ e no. cc)
+        (λ e. cond_both r.block_ended (after_first_text columns preformatted cs r) (after_joining columns preformatted cs r) (λ o. o ≡ refused TooNarrow → ⊥) (λ f. first_fits cs r wide) (λ f. join_fits cs r wide)) h
 
   module _ (decoration : Decoration D A) where
     start_fits : (s : start.Start) (r : Renderer D A (List A)) → 2 ≤ block_width r → after_start columns decoration s r ≡ refused TooNarrow → ⊥
@@ -91,14 +81,16 @@ module _ {D A : Type 0} (columns : ℕ → Option ℕ) (one : columns 32 ≡ Som
     call_fits : (c : Call (List A)) (r : Renderer D A (List A)) → 2 ≤ block_width r → made columns decoration c r ≡ refused TooNarrow → ⊥
     call_fits add_empty_line r wide h = flushed_fits (with_empty_line columns) r wide h
     call_fits new_line r wide h = flush_fits r wide h
-    call_fits new_line_hard r wide h = break_fits (at_line_start columns r r.block) r wide h
+    call_fits new_line_hard r wide h =
+        cond_both (at_line_start columns r r.block) (after_empty_line columns r) (after_flush columns r) (λ o. o ≡ refused TooNarrow → ⊥) (λ e. flushed_fits (with_empty_line columns) r wide) (λ e. flush_fits r wide) h
     call_fits start_block r wide h = flushed_fits (block_started columns) r wide h
     call_fits start_table r wide h = flushed_fits (block_started columns) r wide h
     call_fits (add_inline_text cs) r wide h = text_fits decoration.preformatted cs r wide h
     call_fits (begin opened) r wide h = start_fits opened r wide h
     call_fits (finish closed) r wide h = end_fits closed r wide h
     call_fits start_strikeout r wide h = start_fits start.strikeout r wide (refused_before (λ (s : Renderer D A (List A)). struck_from s) (after_start columns decoration start.strikeout r) TooNarrow h)
-    call_fits end_strikeout r wide h = end_fits end.strikeout (struck_until r) (subst (λ n. 2 ≤ n) (sym (struck_width r)) wide) h
+    call_fits end_strikeout r wide h =
+        end_fits end.strikeout (struck_until r) (cond_both r.options.use_unicode_strikeout _ r (λ (q : Renderer D A (List A)). 2 ≤ block_width q) (λ e. wide) (λ e. wide)) h
     call_fits (add_image source title) r wide h = image_fits source (shown_title r.options.img_mode source title) r wide h
     call_fits (add_border width) r wide h = flushed_fits (λ m. with_border columns m (border_of_cells horizontal width r)) r wide h
     call_fits (append_subrender prefixes lines) r wide h = flushed_fits (λ m. fold (with_line columns) m (prefixed r.annotations prefixes lines)) r wide h
