@@ -1,5 +1,5 @@
 -- Lines after the prefixes of blocks inside blocks.
-use Rattle.std.proofs.Common.{◌≡◌, ℕ, zero, suc, min, Option, Some, None, List, [], ◌∷◌, ◌++◌, map, fold, length, refl, ap, sym, ◌∙◌, append_assoc, append-nil}
+use Rattle.std.proofs.Common.{◌≡◌, ℕ, zero, suc, min, Option, Some, None, List, [], ◌∷◌, ◌++◌, map, fold, length, refl, ap, sym, ◌∙◌, subst, append_assoc, append-nil}
 use Rattle.std.specs.List.{slice_get, zip}
 use Rattle.std.specs.Option.{option_map}
 use Rattle.std.proofs.lemmas.List.{length-map}
@@ -21,12 +21,11 @@ use Rattle.text_block_renderer.proofs.LaidTexts.{plain_lines}
 module _ {T : Type 0} where
   prefixed_get : (tag : T) (prefixes : List (List ℕ)) (lines : List (Line T)) (i : ℕ) (prefix : List ℕ) (line : Line T) → slice_get prefixes i ≡ Some prefix → slice_get lines i ≡ Some line →
       slice_get (prefixed tag prefixes lines) i ≡ Some (text_items prefix tag ++ as_text tag line)
-  prefixed_get tag [] lines i prefix line h k = cc
-  prefixed_get tag (p ∷ ps) [] i prefix line h k = cc
   prefixed_get tag (p ∷ ps) (l ∷ ls) zero prefix line h k =
       let first : p ≡ prefix = cc in
       let second : l ≡ line = cc in ap (λ q. Some (text_items q tag ++ as_text tag l)) first ∙ ap (λ m. Some (text_items prefix tag ++ as_text tag m)) second
   prefixed_get tag (p ∷ ps) (l ∷ ls) (suc i) prefix line h k = prefixed_get tag ps ls i prefix line h k
+  prefixed_get tag prefixes lines i prefix line h k = cc
 
   level_get : (level : Level T) (lines : List (Line T)) (i : ℕ) (prefix : List ℕ) (line : Line T) → slice_get level.prefixes i ≡ Some prefix → slice_get lines i ≡ Some line →
       slice_get (map text (prefixed level.tag level.prefixes lines)) i ≡ Some (text (text_items prefix level.tag ++ as_text level.tag line))
@@ -59,20 +58,15 @@ module _ {T : Type 0} where
       ∙ length-zip level.prefixes inside ∙ ap (min (length level.prefixes)) (nested_count levels lines)
 
 module _ {D A : Type 0} (columns : ℕ → Option ℕ) (decoration : Decoration D A) where
-  -- where no block is open, a flush changes nothing
-  nothing_flushed : (r s : Renderer D A (List A)) (o : Option (Open (List A))) → o ≡ None → FlushesBlock columns r o s → s ≡ r
-  nothing_flushed r s None e h = h
-  nothing_flushed r s (Some b) e h = cc
-
   handed_on : (level : Level (List A)) (inside lines : List (Line (List A))) → HandsOn columns decoration level inside lines → lines ≡ map text (prefixed level.tag level.prefixes inside)
   handed_on level inside lines h =
       let texts = prefixed h.first.annotations level.prefixes inside in
       let (m, flushed, is) = flushed_then columns (λ q. fold (with_line columns) q texts) h.first h.last (live_done h.first.failure _ h.last h.takes).1 in
       let (t, last_flushed, gives) = handed_then columns h.last lines h.gives in
-      let same : m ≡ h.first = nothing_flushed h.first m h.first.block h.no_block flushed in
+      let same : m ≡ h.first = subst (λ (o : Option (Open (List A))). FlushesBlock columns h.first o m) h.no_block flushed in
       let last : h.last ≡ fold (with_line columns) h.first texts = is ∙ ap (λ (q : Renderer D A (List A)). fold (with_line columns) q texts) same in
       let closed : h.last.block ≡ None = ap (λ (q : Renderer D A (List A)). q.block) last ∙ ap (λ (q : Renderer D A (List A)). q.block) (lines_beside columns texts h.first) ∙ h.no_block in
-      let out : t ≡ h.last = nothing_flushed h.last t h.last.block closed last_flushed in
+      let out : t ≡ h.last = subst (λ (o : Option (Open (List A))). FlushesBlock columns h.last o t) closed last_flushed in
       gives ∙ ap (λ (q : Renderer D A (List A)). q.lines) (out ∙ last) ∙ plain_lines columns texts h.first h.unpadded h.no_marker ∙ ap (λ ls. ls ++ map text texts) h.no_line
       ∙ ap (λ tag. map text (prefixed tag level.prefixes inside)) h.annotations
 

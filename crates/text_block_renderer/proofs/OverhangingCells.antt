@@ -4,7 +4,7 @@ use Rattle.std.specs.List.{AllZip, AllByRecursion as Each}
 use Rattle.std.specs.Prelude.{replicate}
 use Rattle.std.proofs.lemmas.List.{length-append, length-map, length-replicate}
 use Rattle.tbr_model.specs.Run.{items_width}
-use Rattle.tbr_model.proofs.lists.Each.{each_front}
+use Rattle.tbr_model.proofs.lists.Each.{each_front, each_map}
 use Rattle.tbr_border.specs.Border.{Border}
 use Rattle.tbr_border.specs.Cell.{horizontal}
 use Rattle.tbr_tagged.specs.declared.CellAlign.{CellAlign}
@@ -31,24 +31,21 @@ module _ {A : Type 0} (columns : ℕ → Option ℕ) (one : DrawsInOne columns) 
       let full : length done.cells ≡ width = ap (λ (c : Border A). length c.cells) h ∙ length-append b.cells (replicate (width - length b.cells) horizontal) ∙ omega (arith, length-replicate (width - length b.cells) horizontal, fits.0) in
       let inside = fill_later columns 0 b.holes (length b.cells) (length done.cells) fits.1 (omega (arith, full, fits.0)) in
       (full, subst (λ (c : Border A). HolesFill columns 0 c.holes (length done.cells)) (sym h) inside)
-  line_filled align width a (text is) (Rule done) fits h = absurd h
-  line_filled align width a (border b) (Text es) fits h = absurd h
+  line_filled align width a l done fits h = absurd h
 
   lines_filled : (align : CellAlign) (width : ℕ) (a : A) (ls : List (Line A)) (done : List (RenderLine A)) → Each (FitsCell columns width) ls → AllZip (FillsCell columns align width a) ls done →
       Each (Fills columns width) done
   lines_filled align width a [] [] fits h = tt
-  lines_filled align width a [] (d ∷ done) fits h = absurd h
-  lines_filled align width a (l ∷ ls) [] fits h = absurd h
   lines_filled align width a (l ∷ ls) (d ∷ done) fits h = (line_filled align width a l d fits.0 h.0, lines_filled align width a ls done fits.1 h.1)
+  lines_filled align width a ls done fits h = absurd h
 
   pub own_filled : (a : A) (given : List (GivenCell A)) (own : List (Cell A)) → Each (LinesFit columns) given → AllZip (ComesAs columns a) given own → Each (IsFilled columns) own
   own_filled a [] [] fit h = tt
-  own_filled a [] (c ∷ own) fit h = absurd h
-  own_filled a (g ∷ given) [] fit h = absurd h
   own_filled a (g ∷ given) (c ∷ own) fit h = (
     subst (λ (w : ℕ). Each (Fills columns w) c.lines) (sym h.0.0) (lines_filled g.align g.width a g.lines c.lines fit.0 h.0.2),
     own_filled a given own fit.1 h.1,
   )
+  own_filled a given own fit h = absurd h
 
 -- ---- the cells that overhang
 
@@ -78,10 +75,6 @@ module _ {D A : Type 0} (columns : ℕ → Option ℕ) where
     pub cells_filled : (p : PutRow D A columns) → CellsFit columns p.cells → HasFilledCells columns (made p)
     cells_filled p fit = own_filled columns one p.before.annotations p.cells p.puts.own fit p.puts.come
 
-    all_cells_filled : (rows : List (PutRow D A columns)) → Each (λ p. HasFilledCells columns (made p)) rows → Each (HasFilledCells columns) (map made rows)
-    all_cells_filled [] h = tt
-    all_cells_filled (p ∷ rows) h = (h.0, all_cells_filled rows h.1)
-
     -- of a stretch of the rows
     pub cells_shown : (draws : Bool) (before rows after : List (PutRow D A columns)) (cell : Cell (List A)) (hanging left : List (Cell (List A))) → length rows ≡ cell.span → IsCellOf cell rows →
         Each (λ p. HasFilledCells columns (made p)) (before ++ rows ++ after) → AreApart 0 hanging × Each (IsFilled columns) hanging → Chain draws hanging (before ++ rows ++ after) left →
@@ -89,9 +82,10 @@ module _ {D A : Type 0} (columns : ℕ → Option ℕ) where
     cells_shown draws [] [] after cell hanging left span is fill hang chain = elim is [ ]
     cells_shown draws [] (p ∷ rows) after cell hanging left span is fill hang chain =
         let own = each_front (λ q. HasFilledCells columns (made q)) (p ∷ rows) after fill in
+        let filled = each_map made (λ q. HasFilledCells columns (made q)) (HasFilledCells columns) (λ q k. k) (p ∷ rows) own in
         let stretch = chain_front draws hanging (p ∷ rows) after left chain in
         let first : AreApart 0 p.before.hanging × Each (IsFilled columns) p.before.hanging = subst (λ cells. AreApart 0 cells × Each (IsFilled columns) cells) (sym chain.0) hang in
-        shown_over columns one draws (map made (p ∷ rows)) cell (follow draws hanging (p ∷ rows) stretch.0 stretch.1) (all_cells_filled (p ∷ rows) own) (is, first.0, first.1)
+        shown_over columns one draws (map made (p ∷ rows)) cell (follow draws hanging (p ∷ rows) stretch.0 stretch.1) filled (is, first.0, first.1)
         (let fewer : length (map made (p ∷ rows)) ≡ cell.span = length-map (p ∷ rows) made ∙ span in fewer)
     cells_shown draws (q ∷ before) rows after cell hanging left span is fill hang chain =
         let first : AreApart 0 q.before.hanging × Each (IsFilled columns) q.before.hanging = subst (λ cells. AreApart 0 cells × Each (IsFilled columns) cells) (sym chain.0) hang in
