@@ -67,7 +67,7 @@ module _ {D A : Type 0} (columns : ℕ → Option ℕ) where
     made_settings add_empty_line r s h = empty_added columns r s h
     made_settings new_line r s h = flushed_alike columns r s h
     made_settings new_line_hard r s h =
-        cond_both (at_line_start columns r r.block) (after_empty_line columns r) (after_flush columns r) (λ o. o ≡ done s → steady s ≡ steady r) (λ e. empty_added columns r s) (λ e. flushed_alike columns r s) h
+        cond_both (at_line_start columns r r.block) _ _ (λ o. o ≡ done s → steady s ≡ steady r) (λ e. empty_added columns r s) (λ e. flushed_alike columns r s) h
     made_settings start_block r s h = started_alike columns r s h
     made_settings start_table r s h = started_alike columns r s h
     made_settings (add_inline_text cs) r s h = text_added columns decoration.preformatted cs r s h

@@ -99,12 +99,11 @@ module _ {D A : Type 0} (columns : ℕ → Option ℕ) where
       subst (λ js. StandWithin us (to_show columns js)) (sym (ap written is ∙ written-append r.lines laid))
       (within_on us (seen columns laid) (to_show columns (written r.lines ++ written laid)) (within_on us (to_show columns (joined ts)) (seen columns laid) h (laid_within columns r ts)) (after_within columns (written r.lines) (written laid) (written laid) (itself_within columns (written laid))))
 
-  cell_keeps : (us : List (Item (List A))) (lines : List (Line (List A))) (r : Renderer D A (List A)) → StandWithin us (seen columns r.lines) → StandWithin us (seen columns (with_cell columns r lines).lines)
-  cell_keeps us lines r h = still_within us r (with_cell columns r lines) (lines_grow columns (map (as_text r.annotations) lines) r) h
-
   cells_keep : (us : List (Item (List A))) (cells : List (List (Line (List A)))) (r : Renderer D A (List A)) → StandWithin us (seen columns r.lines) → StandWithin us (seen columns (fold (with_cell_below columns) r cells).lines)
   cells_keep us [] r h = h
-  cells_keep us (lines ∷ cells) r h = cells_keep us cells (with_cell_below columns r lines) (cell_keeps us lines (with_divider columns slash r) (divider_keeps us slash r h))
+  cells_keep us (lines ∷ cells) r h =
+      let q = with_divider columns slash r in
+      cells_keep us cells (with_cell columns q lines) (still_within us q (with_cell columns q lines) (lines_grow columns (map (as_text q.annotations) lines) q) (divider_keeps us slash r h))
 
   cell_within : (lines : List (Line (List A))) (r : Renderer D A (List A)) → StandWithin (seen columns lines) (seen columns (with_cell columns r lines).lines)
   cell_within lines r =

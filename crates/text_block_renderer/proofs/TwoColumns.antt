@@ -62,7 +62,7 @@ module _ {D A : Type 0} (columns : ℕ → Option ℕ) (one : columns 32 ≡ Som
     text_fits : (cs : List ℕ) (r : Renderer D A (List A)) → 2 ≤ block_width r → after_text columns preformatted cs r ≡ refused TooNarrow → ⊥
     text_fits cs r wide h =
         cond_both (ignores r cs) (done r) _ (λ o. o ≡ refused TooNarrow → ⊥) (λ e no. cc)
-        (λ e. cond_both r.block_ended (after_first_text columns preformatted cs r) (after_joining columns preformatted cs r) (λ o. o ≡ refused TooNarrow → ⊥) (λ f. first_fits cs r wide) (λ f. join_fits cs r wide)) h
+        (λ e. cond_both r.block_ended _ _ (λ o. o ≡ refused TooNarrow → ⊥) (λ f. first_fits cs r wide) (λ f. join_fits cs r wide)) h
 
   module _ (decoration : Decoration D A) where
     start_fits : (s : start.Start) (r : Renderer D A (List A)) → 2 ≤ block_width r → after_start columns decoration s r ≡ refused TooNarrow → ⊥
@@ -82,7 +82,7 @@ module _ {D A : Type 0} (columns : ℕ → Option ℕ) (one : columns 32 ≡ Som
     call_fits add_empty_line r wide h = flushed_fits (with_empty_line columns) r wide h
     call_fits new_line r wide h = flush_fits r wide h
     call_fits new_line_hard r wide h =
-        cond_both (at_line_start columns r r.block) (after_empty_line columns r) (after_flush columns r) (λ o. o ≡ refused TooNarrow → ⊥) (λ e. flushed_fits (with_empty_line columns) r wide) (λ e. flush_fits r wide) h
+        cond_both (at_line_start columns r r.block) _ _ (λ o. o ≡ refused TooNarrow → ⊥) (λ e. flushed_fits (with_empty_line columns) r wide) (λ e. flush_fits r wide) h
     call_fits start_block r wide h = flushed_fits (block_started columns) r wide h
     call_fits start_table r wide h = flushed_fits (block_started columns) r wide h
     call_fits (add_inline_text cs) r wide h = text_fits decoration.preformatted cs r wide h
