@@ -297,13 +297,12 @@ module _ {D A : Type 0} (columns : ℕ → Option ℕ) where
         let both = two_within columns (written m.lines) (items_in c.lines) (written m.lines) (more ++ is_rest) (itself_within columns (written m.lines)) own in
         let all : StandWithin us (to_show columns (written s.lines ++ is_rest)) =
         subst (λ js. StandWithin us (to_show columns js)) (sym (append_assoc (written m.lines) more is_rest) ∙ ap (λ js. js ++ is_rest) (sym is)) (within_on us (to_show columns (written m.lines ++ items_in c.lines)) (to_show columns (written m.lines ++ (more ++ is_rest))) within both) in
-        go rest left all
-      where
-        go : (rest : List (RenderLine (List A))) → IsLeft columns m.annotations c.span rest puts.row.overhang → StandWithin us (to_show columns (written s.lines ++ items_in rest)) → Follows us rows s
-        go rest (inl none) all = inl (subst (λ js. StandWithin us (to_show columns js)) (ap (λ ls. written s.lines ++ items_in ls) none ∙ append-nil (written s.lines)) all)
-        go rest (inr (d, hangs, are, some, spans)) all =
-            let hanging : s.hanging ≡ puts.row.overhang = ap (λ (q : Renderer D A (List A)). q.hanging) puts.is ∙ ap (λ (q : Renderer D A (List A)). q.hanging) (row_beside columns m puts.row) in
-            inr (d, subst (StandsAmong d) (sym hanging) hangs, some, omega (arith, spans, few), subst (λ ls. StandWithin us (to_show columns (written s.lines ++ items_in ls))) (sym are) all)
+        elim left [
+          | inl none ↦ inl (subst (λ js. StandWithin us (to_show columns js)) (ap (λ ls. written s.lines ++ items_in ls) none ∙ append-nil (written s.lines)) all)
+          | inr (d, hangs, are, some, spans) ↦
+              let hanging : s.hanging ≡ row.overhang = ap (λ (q : Renderer D A (List A)). q.hanging) puts.is ∙ ap (λ (q : Renderer D A (List A)). q.hanging) (row_beside columns m row) in
+              inr (d, subst (StandsAmong d) (sym hanging) hangs, some, omega (arith, spans, few), subst (λ ls. StandWithin us (to_show columns (written s.lines ++ items_in ls))) (sym are) all)
+        ]
 
   -- and from where a row takes a cell
   pub cell_follows : (collapses : Bool) (cells : List (GivenCell (List A))) (m s : Renderer D A (List A)) → PutsRow columns collapses cells m s → (rows : ℕ) (cell : GivenCell (List A)) → StandsAmong cell cells → cell.span ≤ suc rows → Follows (to_show columns (written cell.lines)) rows s

@@ -1,5 +1,5 @@
 -- Two columns are enough for characters that take two at most.
-use Rattle.std.proofs.Common.{◌-◌, unwrap_or, IfSome, ◌≡◌, ℕ, ◌≤◌, inl, inr, Bool, true, false, Option, Some, None, List, [], ◌∷◌, fold, ap, sym, subst, arith}
+use Rattle.std.proofs.Common.{unwrap_or, IfSome, ◌≡◌, ℕ, ◌≤◌, inl, inr, Bool, true, false, Option, Some, None, List, [], ◌∷◌, fold, ap, sym, subst, arith}
 use Rattle.std.proofs.lemmas.Bool.{cond_both}
 use Rattle.tbr_model.specs.Rule.{run_of}
 use Rattle.tbr_model.specs.Run.{Entry, character, marker_entry}
@@ -15,7 +15,7 @@ use Rattle.tbr_tagged.specs.declared.Error.TheVariants.{TooNarrow}
 use Rattle.tbr_border.specs.Cell.{horizontal}
 use Rattle.tbr_renderer.specs.Outcomes.{changed}
 use Rattle.tbr_renderer.specs.Flush.{block_lines, lines_at_end, names_at_end, fits_at_end, fits_grown, flushed, after_block, after_flush}
-use Rattle.tbr_renderer.specs.Steps.{with_empty_line, after_empty_line, block_started, after_block_start, at_line_start, text_brings, after_joining, after_first_text, after_text}
+use Rattle.tbr_renderer.specs.Steps.{with_empty_line, block_started, after_block_start, at_line_start, text_brings, after_joining, after_first_text, after_text}
 use Rattle.tbr_renderer.specs.Appended.{with_border, border_of_cells, prefixed, with_divider, with_cells}
 use Rattle.tbr_renderer.proofs.OutcomeParts.{refused_before, refused_first, refused_if_not}
 use Rattle.tbr_renderer.proofs.MappedBlocks.{end_wide, join_wide}
