@@ -310,11 +310,10 @@ module _ {D A : Type 0} (columns : ℕ → Option ℕ) where
       let (c, own, comes) = among_zip (ComesAs columns m.annotations) cell cells puts.own puts.come among in
       let inside = to_show columns (written cell.lines) in
       let filled : StandWithin inside (to_show columns (items_in c.lines)) = filled_within columns m.annotations cell.align cell.width cell.lines c.lines comes.2 in
-      go c own (omega (arith, comes.1, few)) filled c.lines refl
-    where
-      go : (c : Cell (List A)) → StandsAmong c puts.own → c.span ≤ suc rows → StandWithin (to_show columns (written cell.lines)) (to_show columns (items_in c.lines)) → (ls : List (RenderLine (List A))) → c.lines ≡ ls → Follows (to_show columns (written cell.lines)) rows s
-      go c own fewer filled [] e = inl (within_on (to_show columns (written cell.lines)) [] (to_show columns (written s.lines)) (subst (λ ls. StandWithin (to_show columns (written cell.lines)) (to_show columns (items_in ls))) e filled) tt)
-      go c own fewer filled (l ∷ ls) e =
-          let seated = among_own 0 c m.hanging puts.own puts.means.cells (ap (λ ks. is_none (first_line ks)) e) own puts.means.seated in
-          row_follows collapses cells m s puts (to_show columns (written cell.lines)) rows c seated fewer
-          (within_on (to_show columns (written cell.lines)) (to_show columns (items_in c.lines)) (to_show columns (written m.lines ++ items_in c.lines)) filled (after_within columns (written m.lines) (items_in c.lines) (items_in c.lines) (itself_within columns (items_in c.lines))))
+      (elim c.lines as (λ ls. c.lines ≡ ls → Follows inside rows s) [
+        | [] ↦ λ e. inl (within_on inside [] (to_show columns (written s.lines)) (subst (λ ls. StandWithin inside (to_show columns (items_in ls))) e filled) tt)
+        | l ∷ ls ↦ λ e.
+            let seated = among_own 0 c m.hanging puts.own puts.means.cells (ap (λ ks. is_none (first_line ks)) e) own puts.means.seated in
+            row_follows collapses cells m s puts inside rows c seated (omega (arith, comes.1, few))
+            (within_on inside (to_show columns (items_in c.lines)) (to_show columns (written m.lines ++ items_in c.lines)) filled (after_within columns (written m.lines) (items_in c.lines) (items_in c.lines) (itself_within columns (items_in c.lines))))
+      ]) refl

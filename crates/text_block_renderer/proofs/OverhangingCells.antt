@@ -21,6 +21,12 @@ use Rattle.tbr_renderer.specs.Rows.{GivenCell, FillsCell, ComesAs}
 use Rattle.text_block_renderer.specs.Acts.{PutRow}
 use Rattle.text_block_renderer.specs.Headline.{FitsCell, LinesFit, CellsFit, made, IsCellOf}
 
+-- what holds of each item of a list, and so of what has come of it
+each_zip : {X Y : Type 0} (P : X → Type 0) (R : X → Y → Type 0) (Q : Y → Type 0) → ((x : X) (y : Y) → P x → R x y → Q y) → (xs : List X) (ys : List Y) → Each P xs → AllZip R xs ys → Each Q ys
+each_zip P R Q each [] [] k h = tt
+each_zip P R Q each (x ∷ xs) (y ∷ ys) k h = (each x y k.0 h.0, each_zip P R Q each xs ys k.1 h.1)
+each_zip P R Q each xs ys k h = absurd h
+
 -- ---- cells whose lines fit
 
 module _ {A : Type 0} (columns : ℕ → Option ℕ) (one : DrawsInOne columns) where
@@ -33,19 +39,9 @@ module _ {A : Type 0} (columns : ℕ → Option ℕ) (one : DrawsInOne columns) 
       (full, subst (λ (c : Border A). HolesFill columns 0 c.holes (length done.cells)) (sym h) inside)
   line_filled align width a l done fits h = absurd h
 
-  lines_filled : (align : CellAlign) (width : ℕ) (a : A) (ls : List (Line A)) (done : List (RenderLine A)) → Each (FitsCell columns width) ls → AllZip (FillsCell columns align width a) ls done →
-      Each (Fills columns width) done
-  lines_filled align width a [] [] fits h = tt
-  lines_filled align width a (l ∷ ls) (d ∷ done) fits h = (line_filled align width a l d fits.0 h.0, lines_filled align width a ls done fits.1 h.1)
-  lines_filled align width a ls done fits h = absurd h
-
   pub own_filled : (a : A) (given : List (GivenCell A)) (own : List (Cell A)) → Each (LinesFit columns) given → AllZip (ComesAs columns a) given own → Each (IsFilled columns) own
-  own_filled a [] [] fit h = tt
-  own_filled a (g ∷ given) (c ∷ own) fit h = (
-    subst (λ (w : ℕ). Each (Fills columns w) c.lines) (sym h.0.0) (lines_filled g.align g.width a g.lines c.lines fit.0 h.0.2),
-    own_filled a given own fit.1 h.1,
-  )
-  own_filled a given own fit h = absurd h
+  own_filled a = each_zip (LinesFit columns) (ComesAs columns a) (IsFilled columns) (λ g c fit h. subst (λ (w : ℕ). Each (Fills columns w) c.lines) (sym h.0)
+      (each_zip (FitsCell columns g.width) (FillsCell columns g.align g.width a) (Fills columns g.width) (line_filled g.align g.width a) g.lines c.lines fit h.2))
 
 -- ---- the cells that overhang
 

@@ -89,21 +89,18 @@ module _ {D A : Type 0} (columns : ℕ → Option ℕ) where
 
   -- ---- without borders
 
-  below_alone : (tag : List A) (cells : List (List (Line (List A)))) (q : Renderer D A (List A)) → q.options.draw_borders ≡ false → q.annotations ≡ tag → fold (with_cell_below columns) q cells ≡ fold (with_line columns) q (flat_map (map (as_text tag)) cells)
-  below_alone tag [] q undrawn e = refl
-  below_alone tag (lines ∷ cells) q undrawn e =
-      let texts = map (as_text tag) lines in
-      let one : with_cell_below columns q lines ≡ fold (with_line columns) q texts =
-      ap (λ p. with_cell columns p lines) (divider_undrawn slash q undrawn) ∙ ap (λ t. fold (with_line columns) q (map (as_text t) lines)) e in
+  below_alone : (cells : List (List (Line (List A)))) (q : Renderer D A (List A)) → q.options.draw_borders ≡ false → fold (with_cell_below columns) q cells ≡ fold (with_line columns) q (flat_map (map (as_text q.annotations)) cells)
+  below_alone [] q undrawn = refl
+  below_alone (lines ∷ cells) q undrawn =
+      let texts = map (as_text q.annotations) lines in
       let after : Renderer D A (List A) = fold (with_line columns) q texts in
-      ap (λ p. fold (with_cell_below columns) p cells) one
-      ∙ below_alone tag cells after (ap (λ (x : Settings D A). x.kept.options.draw_borders) (settings_laid texts q) ∙ undrawn) (ap (λ (x : Settings D A). x.annotations) (settings_laid texts q) ∙ e)
-      ∙ sym (fold-append (with_line columns) q texts (flat_map (map (as_text tag)) cells))
+      let settings = settings_laid texts q in
+      ap (λ p. fold (with_cell_below columns) (with_cell columns p lines) cells) (divider_undrawn slash q undrawn) ∙ below_alone cells after (ap (λ (x : Settings D A). x.kept.options.draw_borders) settings ∙ undrawn)
+      ∙ ap (λ (x : Settings D A). fold (with_line columns) after (flat_map (map (as_text x.annotations)) cells)) settings ∙ sym (fold-append (with_line columns) q texts (flat_map (map (as_text q.annotations)) cells))
 
-  cells_alone : (tag : List A) (cells : List (List (Line (List A)))) (q : Renderer D A (List A)) → q.options.draw_borders ≡ false → q.annotations ≡ tag → with_cells columns q cells ≡ fold (with_line columns) q (flat_map (map (as_text tag)) cells)
-  cells_alone tag [] q undrawn e = refl
-  cells_alone tag (lines ∷ cells) q undrawn e =
-      ap (λ p. fold (with_cell_below columns) (with_cell columns p lines) cells) (sym (divider_undrawn slash q undrawn)) ∙ below_alone tag (lines ∷ cells) q undrawn e
+  cells_alone : (cells : List (List (Line (List A)))) (q : Renderer D A (List A)) → q.options.draw_borders ≡ false → with_cells columns q cells ≡ fold (with_line columns) q (flat_map (map (as_text q.annotations)) cells)
+  cells_alone [] q undrawn = refl
+  cells_alone (lines ∷ cells) q undrawn = ap (λ p. fold (with_cell_below columns) (with_cell columns p lines) cells) (sym (divider_undrawn slash q undrawn)) ∙ below_alone (lines ∷ cells) q undrawn
 
   pub row_undrawn : (decoration : Decoration D A) (cells : List (List (Line (List A)))) (r s : Renderer D A (List A)) → Does columns decoration (append_vert_row cells) r s → r.options.draw_borders ≡ false →
       (m : Renderer D A (List A)) × (after_flush columns r ≡ done m) × (s.lines ≡ m.lines ++ lines_laid columns m (flat_map (map (as_text r.annotations)) cells))
@@ -112,7 +109,7 @@ module _ {D A : Type 0} (columns : ℕ → Option ℕ) where
       let settings = ap (λ (x : Steady D A). x.settings) (flushed_alike columns r m flushed) in
       let texts = flat_map (map (as_text r.annotations)) cells in
       let here : m.options.draw_borders ≡ false = ap (λ (x : Settings D A). x.kept.options.draw_borders) settings ∙ undrawn in
-      let put = cells_alone r.annotations cells m here (ap (λ (x : Settings D A). x.annotations) settings) in
+      let put = cells_alone cells m here ∙ ap (λ (x : Settings D A). fold (with_line columns) m (flat_map (map (as_text x.annotations)) cells)) settings in
       let after : Renderer D A (List A) = fold (with_line columns) m texts in
       let last = divider_undrawn horizontal after (ap (λ (x : Settings D A). x.kept.options.draw_borders) (settings_laid texts m) ∙ here) in
       (m, flushed, ap (λ (q : Renderer D A (List A)). q.lines) (is ∙ ap (with_divider columns horizontal) put ∙ last) ∙ laid_lines columns texts m)
