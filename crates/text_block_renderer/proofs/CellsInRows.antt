@@ -58,15 +58,12 @@ one_more (suc n) (x ∷ xs) = ap (λ ys. x ∷ ys) (one_more n xs)
 -- ---- the texts of a cell's lines
 
 module _ {T : Type 0} where
-  abbrev pub items_in : List (RenderLine T) → List (Item T)
-  items_in [] = []
-  items_in (Text es ∷ ls) = items_of es ++ items_in ls
-  items_in (Rule b ∷ ls) = text_before b ++ items_in ls
+  abbrev said : RenderLine T → List (Item T)
+  said (Text es) = items_of es
+  said (Rule b) = text_before b
 
-  items_in-append : (ls ms : List (RenderLine T)) → items_in (ls ++ ms) ≡ items_in ls ++ items_in ms
-  items_in-append [] ms = refl
-  items_in-append (Text es ∷ ls) ms = ap (λ is. items_of es ++ is) (items_in-append ls ms) ∙ sym (append_assoc (items_of es) (items_in ls) (items_in ms))
-  items_in-append (Rule b ∷ ls) ms = ap (λ is. text_before b ++ is) (items_in-append ls ms) ∙ sym (append_assoc (text_before b) (items_in ls) (items_in ms))
+  abbrev pub items_in : List (RenderLine T) → List (Item T)
+  items_in ls = flat_map said ls
 
   -- a border that is merged has no text in front of it
   no_holes : (hs : List (Hole T)) → has_holes hs ≡ false → flat_map (λ (h : Hole T). element_items h.element) hs ≡ []
@@ -86,8 +83,8 @@ module _ {T : Type 0} where
       let first = merged_first m c in
       let last = merged_last m c in
       let left = (met m c).lines in
-      sym (ap items_in (sym (merged_and_left m c)) ∙ items_in-append (first ++ left) last ∙ ap (λ is. items_in (first ++ left) ++ is) (unwritten m.last (drop (length under - 1) under))
-      ∙ append-nil (items_in (first ++ left)) ∙ items_in-append first left ∙ ap (λ is. is ++ items_in left) (unwritten m.first c.lines))
+      sym (ap items_in (sym (merged_and_left m c)) ∙ flat_map-append said (first ++ left) last ∙ ap (λ is. items_in (first ++ left) ++ is) (unwritten m.last (drop (length under - 1) under))
+      ∙ append-nil (items_in (first ++ left)) ∙ flat_map-append said first left ∙ ap (λ is. is ++ items_in left) (unwritten m.first c.lines))
 
 module _ {T : Type 0} (columns : ℕ → Option ℕ) (a : T) where
   abbrev seen : List (Item T) → List (Item T)
@@ -126,7 +123,7 @@ module _ {T : Type 0} (columns : ℕ → Option ℕ) (a : T) where
       let next = take 1 (drop n ls) in
       let texts = map shown (numbers_below n) in
       let whole : joined (map shown (numbers_below n ++ n ∷ [])) ≡ joined texts ++ shown n = ap joined (map-append shown (numbers_below n) (n ∷ [])) ∙ joined-append texts (shown n ∷ []) ∙ ap (λ is. joined texts ++ is) (append-nil (shown n)) in
-      subst (λ is. StandWithin (seen is) (seen (joined (map shown (numbers_below n ++ n ∷ []))))) (sym (ap items_in (one_more n ls) ∙ items_in-append before next))
+      subst (λ is. StandWithin (seen is) (seen (joined (map shown (numbers_below n ++ n ∷ []))))) (sym (ap items_in (one_more n ls) ∙ flat_map-append said before next))
       (subst (λ is. StandWithin (seen (items_in before ++ items_in next)) (seen is)) (sym whole)
       (two_within columns (items_in before) (items_in next) (joined texts) (shown n) (lines_within ls shown each n) (each n)))
 
@@ -226,7 +223,7 @@ module _ {T : Type 0} (columns : ℕ → Option ℕ) (a : T) where
       let in_border : StandWithin (seen gap) (seen (below row.next)) =
       subst (λ o. StandWithin (seen gap) (seen (below o))) (sym means.lower) (below_within draws d (cells_left height means.shown) _ means.full stands means.gaps) in
       let all : (first ++ gap) ++ items_in rest ≡ items_in c.lines =
-      ap (λ is. is ++ items_in rest) (sym (items_in-append (take height k.cell.lines) (if has_gap draws d then take 1 d.lines else []))) ∙ sym (items_in-append (part_of draws height k.cell) rest)
+      ap (λ is. is ++ items_in rest) (sym (flat_map-append said (take height k.cell.lines) (if has_gap draws d then take 1 d.lines else []))) ∙ sym (flat_map-append said (part_of draws height k.cell) rest)
       ∙ ap items_in (part_and_later draws height k.cell high) ∙ ap (λ (x : Cell T). items_in x.lines) (cell_is style.collapses top height c) ∙ met_written (meeting style.collapses top height) c in (
         rest,
         subst (λ n. IsLeft n rest row.overhang) (span_stays style.collapses top height c) (subst (IsLeft d.span rest) (sym means.rest) (later_left draws d (cells_left height means.shown) stands)),

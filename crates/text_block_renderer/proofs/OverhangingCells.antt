@@ -1,5 +1,5 @@
 -- Rows that follow one another among calls, and what they show of their cells.
-use Rattle.std.proofs.Common.{◌≡◌, ℕ, ◌-◌, Bool, Option, List, [], ◌∷◌, ◌++◌, map, length, refl, ap, sym, ◌∙◌, subst, arith}
+use Rattle.std.proofs.Common.{◌≡◌, ℕ, ◌-◌, Bool, Option, List, [], ◌∷◌, ◌++◌, map, length, ap, sym, ◌∙◌, subst, arith}
 use Rattle.std.specs.List.{AllZip, AllByRecursion as Each}
 use Rattle.std.specs.Prelude.{replicate}
 use Rattle.std.proofs.lemmas.List.{length-append, length-map, length-replicate}
@@ -56,16 +56,10 @@ module _ {D A : Type 0} (columns : ℕ → Option ℕ) where
   chain_append draws hanging [] between others left h k = subst (λ cells. Chain draws cells others left) h k
   chain_append draws hanging (p ∷ rows) between others left h k = (h.0, h.1, chain_append draws p.puts.row.overhang rows between others left h.2 k)
 
-  chain_front : (draws : Bool) (hanging : List (Cell (List A))) (rows after : List (PutRow D A columns)) (left : List (Cell (List A))) → Chain draws hanging (rows ++ after) left →
-      (between : List (Cell (List A))) × Chain draws hanging rows between
-  chain_front draws hanging [] after left h = (hanging, refl)
-  chain_front draws hanging (p ∷ rows) after left h =
-      let rest = chain_front draws p.puts.row.overhang rows after left h.2 in (rest.0, (h.0, h.1, rest.1))
-
-  follow : (draws : Bool) (hanging : List (Cell (List A))) (rows : List (PutRow D A columns)) (left : List (Cell (List A))) → Chain draws hanging rows left → FollowOneAnother columns draws (map made rows)
-  follow draws hanging [] left h = tt
-  follow draws hanging (p ∷ []) left h = h.1
-  follow draws hanging (p ∷ q ∷ rows) left h = (h.1, h.2.0, follow draws p.puts.row.overhang (q ∷ rows) left h.2)
+  follow : (draws : Bool) (hanging : List (Cell (List A))) (rows after : List (PutRow D A columns)) (left : List (Cell (List A))) → Chain draws hanging (rows ++ after) left → FollowOneAnother columns draws (map made rows)
+  follow draws hanging [] after left h = tt
+  follow draws hanging (p ∷ []) after left h = h.1
+  follow draws hanging (p ∷ q ∷ rows) after left h = (h.1, h.2.0, follow draws p.puts.row.overhang (q ∷ rows) after left h.2)
 
   module _ (one : DrawsInOne columns) where
     pub cells_filled : (p : PutRow D A columns) → CellsFit columns p.cells → HasFilledCells columns (made p)
@@ -79,9 +73,8 @@ module _ {D A : Type 0} (columns : ℕ → Option ℕ) where
     cells_shown draws [] (p ∷ rows) after cell hanging left span is fill hang chain =
         let own = each_front (λ q. HasFilledCells columns (made q)) (p ∷ rows) after fill in
         let filled = each_map made (λ q. HasFilledCells columns (made q)) (HasFilledCells columns) (λ q k. k) (p ∷ rows) own in
-        let stretch = chain_front draws hanging (p ∷ rows) after left chain in
         let first : AreApart 0 p.before.hanging × Each (IsFilled columns) p.before.hanging = subst (λ cells. AreApart 0 cells × Each (IsFilled columns) cells) (sym chain.0) hang in
-        shown_over columns one draws (map made (p ∷ rows)) cell (follow draws hanging (p ∷ rows) stretch.0 stretch.1) filled (is, first.0, first.1)
+        shown_over columns one draws (map made (p ∷ rows)) cell (follow draws hanging (p ∷ rows) after left chain) filled (is, first.0, first.1)
         (let fewer : length (map made (p ∷ rows)) ≡ cell.span = length-map (p ∷ rows) made ∙ span in fewer)
     cells_shown draws (q ∷ before) rows after cell hanging left span is fill hang chain =
         let first : AreApart 0 q.before.hanging × Each (IsFilled columns) q.before.hanging = subst (λ cells. AreApart 0 cells × Each (IsFilled columns) cells) (sym chain.0) hang in
