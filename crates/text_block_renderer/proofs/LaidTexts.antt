@@ -36,14 +36,14 @@ module _ {T : Type 0} (columns : ℕ → Option ℕ) where
   unseen_spaces tag (c ∷ cs) h =
       let unseen : is_visible columns c ≡ false = ap (is_visible columns) h.0 ∙ space_unseen columns in rw unseen (unseen_spaces tag cs h.1)
 
+  -- spaces in front are not seen
   shown_indented : (tag : T) (prefixes : List (List ℕ)) (lines : List (Line T)) → length lines ≤ length prefixes → Each IsSpaces prefixes →
-      visible_glyphs columns (joined (prefixed tag prefixes lines)) ≡ visible_glyphs columns (joined (map (as_text tag) lines))
+      flat_map (visible_after columns tag) (zip prefixes lines) ≡ visible_glyphs columns (joined (map (as_text tag) lines))
   shown_indented tag [] [] fewer h = refl
   shown_indented tag [] (l ∷ ls) fewer h = absurd (omega (arith, fewer))
   shown_indented tag (p ∷ ps) [] fewer h = refl
   shown_indented tag (p ∷ ps) (l ∷ ls) fewer h =
-      glyphs-append columns (text_items p tag ++ as_text tag l) (joined (prefixed tag ps ls))
-      ∙ ap (λ gs. gs ++ visible_glyphs columns (joined (prefixed tag ps ls))) (glyphs-append columns (text_items p tag) (as_text tag l) ∙ ap (λ gs. gs ++ visible_glyphs columns (as_text tag l)) (unseen_spaces tag p h.0))
+      ap (λ gs. (gs ++ visible_glyphs columns (as_text tag l)) ++ flat_map (visible_after columns tag) (zip ps ls)) (unseen_spaces tag p h.0)
       ∙ ap (λ gs. visible_glyphs columns (as_text tag l) ++ gs) (shown_indented tag ps ls (let e : length ls ≤ length ps = omega (arith, fewer) in e) h.1)
       ∙ sym (glyphs-append columns (as_text tag l) (joined (map (as_text tag) ls)))
 
@@ -76,21 +76,16 @@ module _ {D A : Type 0} (columns : ℕ → Option ℕ) where
 
   -- ---- visible characters
 
-  pub characters_appended : (decoration : Decoration D A) (prefixes : List (List ℕ)) (lines : List (Line (List A))) (r s : Renderer D A (List A)) → Does columns decoration (append_subrender prefixes lines) r s →
-      (m : Renderer D A (List A)) × (after_flush columns r ≡ done m) × (visible_glyphs columns (text_of_lines s.lines) ≡ visible_glyphs columns (text_of_lines m.lines) ++ visible_glyphs columns (joined (prefixed r.annotations prefixes lines)))
-  characters_appended decoration prefixes lines r s h =
-      let (m, flushed, is) = lines_after decoration prefixes lines r s h in
-      (m, flushed, ap (λ (q : Renderer D A (List A)). visible_glyphs columns (text_of_lines q.lines)) is ∙ shown_texts columns (prefixed r.annotations prefixes lines) m)
-
   pub characters_after : (decoration : Decoration D A) (prefixes : List (List ℕ)) (lines : List (Line (List A))) (r s : Renderer D A (List A)) → Does columns decoration (append_subrender prefixes lines) r s →
       (m : Renderer D A (List A)) × (after_flush columns r ≡ done m) × (visible_glyphs columns (text_of_lines s.lines) ≡ visible_glyphs columns (text_of_lines m.lines) ++ flat_map (visible_after columns r.annotations) (zip prefixes lines))
   characters_after decoration prefixes lines r s h =
-      let (m, flushed, shown) = characters_appended decoration prefixes lines r s h in
+      let (m, flushed, is) = lines_after decoration prefixes lines r s h in
+      let shown = ap (λ (q : Renderer D A (List A)). visible_glyphs columns (text_of_lines q.lines)) is ∙ shown_texts columns (prefixed r.annotations prefixes lines) m in
       (m, flushed, shown ∙ ap (λ gs. visible_glyphs columns (text_of_lines m.lines) ++ gs) (shown_after columns r.annotations prefixes lines))
 
   pub characters_indented : (decoration : Decoration D A) (prefixes : List (List ℕ)) (lines : List (Line (List A))) (r s : Renderer D A (List A)) → Does columns decoration (append_subrender prefixes lines) r s →
       length lines ≤ length prefixes → Each IsSpaces prefixes → (m : Renderer D A (List A)) × (after_flush columns r ≡ done m)
       × (visible_glyphs columns (text_of_lines s.lines) ≡ visible_glyphs columns (text_of_lines m.lines) ++ visible_glyphs columns (joined (map (as_text r.annotations) lines)))
   characters_indented decoration prefixes lines r s h fewer spaces =
-      let (m, flushed, shown) = characters_appended decoration prefixes lines r s h in
+      let (m, flushed, shown) = characters_after decoration prefixes lines r s h in
       (m, flushed, shown ∙ ap (λ gs. visible_glyphs columns (text_of_lines m.lines) ++ gs) (shown_indented columns r.annotations prefixes lines fewer spaces))
