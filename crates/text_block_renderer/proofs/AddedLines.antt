@@ -37,18 +37,12 @@ module _ {D A : Type 0} (columns : ℕ → Option ℕ) where
       unmarked_lines ts (with_line columns r t) refl
       ∙ append_assoc r.lines (padded_line columns r (marker_items r.waiting ++ t) ∷ []) (map (padded_line columns r) ts)
 
-  one_line_grows : (r : Renderer D A (List A)) (is : List (Item (List A))) → Grows r (with_line columns r is)
-  one_line_grows r is = (_, refl)
-
   pub lines_grow : (texts : List (List (Item (List A)))) (r : Renderer D A (List A)) → Grows r (fold (with_line columns) r texts)
-  lines_grow [] r = stays r r refl
-  lines_grow (t ∷ ts) r = grows_on r (with_line columns r t) (fold (with_line columns) (with_line columns r t) ts) (one_line_grows r t) (lines_grow ts (with_line columns r t))
+  lines_grow texts r = (lines_laid columns r texts, laid_lines texts r)
 
   flush_grows : (r s : Renderer D A (List A)) (o : Option (Open (List A))) → FlushesBlock columns r o s → Grows r s
   flush_grows r s None h = stays r s (ap (λ (q : Renderer D A (List A)). q.lines) h)
-  flush_grows r s (Some b) h =
-      let g = lines_grow (block_lines columns r b (lines_at_end columns r b)) (record r { block = None }) in
-      (g.0, ap (λ (q : Renderer D A (List A)). q.lines) h.is ∙ g.1)
+  flush_grows r s (Some b) h = (_, ap (λ (q : Renderer D A (List A)). q.lines) h.is ∙ laid_lines (block_lines columns r b (lines_at_end columns r b)) (record r { block = None }))
 
   move_grows : (m : Move D A) (r s : Renderer D A (List A)) → Makes columns any m r s → Grows r s
   move_grows (flush q) r s h = flush_grows r s r.block h.1
