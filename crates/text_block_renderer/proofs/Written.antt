@@ -13,6 +13,7 @@ use Rattle.tbr_renderer.specs.Renderer.{Renderer, line_padding}
 use Rattle.text_block_renderer.specs.Acts.{StaysLine}
 use Rattle.text_block_renderer.specs.Stretches.{padded_line, lines_laid}
 use Rattle.text_block_renderer.specs.Taken.{StandWithin, text_before, written, to_show}
+use Rattle.text_block_renderer.proofs.LastingLines.{stay_alike}
 use Rattle.text_block_renderer.proofs.Within.{two_within, itself_within, after_within, before_within}
 
 module _ {T : Type 0} where
@@ -23,13 +24,7 @@ module _ {T : Type 0} where
 
   -- lines that stay say the same
   pub stays_written : (ls ms : List (Line T)) → AllZip StaysLine ls ms → written ms ≡ written ls
-  stays_written [] [] h = refl
-  stays_written [] (m ∷ ms) h = elim h [ ]
-  stays_written (l ∷ ls) [] h = elim h [ ]
-  stays_written (text is ∷ ls) (text js ∷ ms) h = ap (λ ks. ks ++ written ms) h.0 ∙ ap (λ ks. is ++ ks) (stays_written ls ms h.1)
-  stays_written (text is ∷ ls) (border c ∷ ms) h = absurd h.0
-  stays_written (border b ∷ ls) (text js ∷ ms) h = absurd h.0
-  stays_written (border b ∷ ls) (border c ∷ ms) h = ap (λ (hs : List (Hole T)). flat_map (λ (h : Hole T). element_items h.element) hs ++ written ms) h.0.1 ∙ ap (λ ks. text_before b ++ ks) (stays_written ls ms h.1)
+  stays_written = stay_alike written written-append (λ b c h. ap (λ (hs : List (Hole T)). flat_map (λ (h : Hole T). element_items h.element) hs ++ []) h.1)
 
   module _ (columns : ℕ → Option ℕ) where
     -- a border shows the text in front of it
