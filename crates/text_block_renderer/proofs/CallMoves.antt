@@ -26,7 +26,7 @@ use Rattle.tbr_renderer.specs.Image.{shown_title}
 use Rattle.tbr_renderer.specs.Decorated.{struck_from, struck_until, asked_to_close, asked_to_end, annotated, coloured_by, coloured, uncoloured}
 use Rattle.tbr_renderer.specs.Calls.{Call, add_empty_line, new_line, new_line_hard, start_block, start_table, add_inline_text, record_frag_start, begin, finish, start_strikeout, end_strikeout, add_image, push_colour, pop_colour, add_border, append_subrender, append_vert_row, made, after, Does, Steps, text_brought, image_brought, entries_brought, brought, Brings}
 use Rattle.text_block_renderer.specs.Drawn.{borders_added, AddsNoBorder}
-use Rattle.text_block_renderer.specs.Added.{Added, text_laid, flush_ends, empty_adds, start_lays, start_adds, text_adds, image_adds, call_adds, calls_add}
+use Rattle.text_block_renderer.specs.Added.{text_laid, flush_ends, empty_adds, start_lays, start_adds, text_adds, image_adds, call_adds, calls_add}
 use Rattle.text_block_renderer.specs.Stretches.{AppendsNothing}
 use Rattle.text_block_renderer.proofs.Moves.{flush_beside, flush, line, join, SameText, alike, Kind, any, undrawn, own, Fits, MayLay, MayRule, Frame, Course, onward, one, same_course, flushed_then, stays, turned, path_frame, flushed_none}
 use Rattle.text_block_renderer.proofs.AppendedMoves.{lines_appended, border_added, cells_appended}

@@ -1,5 +1,5 @@
 -- What whoever looks at items, but not at spaces, sees of lines of text and of the markers that wait.
-use Rattle.std.proofs.Common.{◌≡◌, ℕ, ◌-◌, if◌then◌else◌, Option, Some, None, List, [], ◌∷◌, ◌++◌, map, fold, refl, ap, sym, ◌∙◌, append_assoc, append-nil}
+use Rattle.std.proofs.Common.{◌≡◌, ℕ, ◌-◌, Option, Some, None, List, [], ◌∷◌, ◌++◌, map, fold, refl, ap, sym, ◌∙◌, append_assoc, append-nil}
 use Rattle.std.proofs.lemmas.List.{map-append}
 use Rattle.tbr_model.specs.Run.{Item, marker, items_width}
 use Rattle.tbr_model.specs.Layout.{joined}
@@ -9,7 +9,7 @@ use Rattle.tbr_tagged.specs.Elements.{text_items}
 use Rattle.tbr_tagged.specs.Padding.{spaces}
 use Rattle.tbr_wrap.specs.Wrapped.{padding_of}
 use Rattle.tbr_kept_lines.specs.Line.{Line, text, border}
-use Rattle.tbr_renderer.specs.Renderer.{Open, Renderer, line_padding, with_line, block_width}
+use Rattle.tbr_renderer.specs.Renderer.{Open, Renderer, with_line, block_width}
 use Rattle.tbr_renderer.specs.Flush.{block_lines, flushed}
 use Rattle.tbr_renderer.specs.Calls.{text_of_lines}
 use Rattle.text_block_renderer.specs.MarkersStand.{items_so_far}

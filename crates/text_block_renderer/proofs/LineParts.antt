@@ -2,12 +2,12 @@
 use Rattle.std.proofs.Common.{◌≡◌, ℕ, Option, Some, None, List, [], ◌∷◌, ◌++◌, flat_map, refl, ap, sym, ◌∙◌, subst, append_assoc, append-nil}
 use Rattle.std.proofs.lemmas.List.Concat.{flat_map-append}
 use Rattle.tbr_model.specs.Rule.{run_of}
-use Rattle.tbr_model.specs.Run.{Entry, Item}
+use Rattle.tbr_model.specs.Run.{Entry}
 use Rattle.tbr_model.proofs.lists.Each.{each_append}
 use Rattle.tbr_border.specs.Border.{without_holes}
 use Rattle.tbr_border.specs.Cell.{Cell}
 use Rattle.tbr_decor.specs.Decoration.{Decoration}
-use Rattle.tbr_renderer.specs.Renderer.{Open, Renderer, with_line, with_events, open_run, IsSound}
+use Rattle.tbr_renderer.specs.Renderer.{Open, Renderer, with_line, open_run, IsSound}
 use Rattle.tbr_renderer.specs.Flush.{lines_at_end, names_at_end}
 use Rattle.tbr_renderer.proofs.FlushedBlocks.{FlushesBlock}
 use Rattle.tbr_renderer.specs.Appended.{with_border}
