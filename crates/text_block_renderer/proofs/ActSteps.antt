@@ -34,9 +34,9 @@ module _ {D A : Type 0} (columns : ℕ → Option ℕ) (decoration : Decoration 
   abbrev pub after_acts : List (Act A) → Renderer D A (List A) → Outcome (Renderer D A (List A))
   after_acts = run (after_act columns decoration)
 
-  -- a row is put
-  row_step : (collapses : Bool) (cells : List (GivenCell (List A))) (r s : Renderer D A (List A)) → after_act columns decoration (row collapses cells) r ≡ done s → ActStep (row collapses cells) r s
-  row_step collapses cells r s h =
+  pub act_step : (act : Act A) (r s : Renderer D A (List A)) → after_act columns decoration act r ≡ done s → ActStep act r s
+  act_step (call c) r s h = h
+  act_step (row collapses cells) r s h =
       let same = pointwise decoration.same in
       let tells : TellsApart same = lists_apart decoration.same decoration.tells in
       let (m, flushed, puts) = (row_computed same tells columns collapses cells r s).1 h in
@@ -46,10 +46,6 @@ module _ {D A : Type 0} (columns : ℕ → Option ℕ) (decoration : Decoration 
       let means = subst (λ cs. MeansRow columns (style_in m collapses) m.annotations m.hanging cs (last_border m.lines) puts.row) there puts.means in
       let seen = (computed same tells columns (style_in m collapses) m.annotations m.hanging own (last_border m.lines) puts.row).0 means in
       (m, flushed, puts, ap (told_by (λ q. texts_of_row columns decoration (row_seen columns decoration collapses cells q))) (live_done r.failure (after_flush columns r) m flushed).1 ∙ ap (texts_of_row columns decoration) seen)
-
-  pub act_step : (act : Act A) (r s : Renderer D A (List A)) → after_act columns decoration act r ≡ done s → ActStep act r s
-  act_step (call c) r s h = h
-  act_step (row collapses cells) r s h = row_step collapses cells r s h
   act_step (fmt_links links) r s h = one_done (with_footnotes columns r links) s (live_done r.failure (done (with_footnotes columns r links)) s h).1
   act_step (finalise targets) r s h =
       let q : Renderer D A (List A) = record r { decorator = decoration.after r.decorator (change.finalise (listed r.options targets)) } in

@@ -37,15 +37,10 @@ module _ {A Y : Type 0} (look : List (Item (List A)) → List Y) (looks : Looks 
   padding_unseen None width is = looks.nothing
   padding_unseen (Some a) width is = looks.spaces_unseen (width - items_width columns is) a
 
-  pub before_padding : (o : Option (List A)) (width : ℕ) (is js : List (Item (List A))) → look (is ++ padding_of columns o width js) ≡ look is
-  before_padding o width is js = looks.append is (padding_of columns o width js) ∙ ap (λ ys. look is ++ ys) (padding_unseen o width js) ∙ append-nil (look is)
-
   -- so it is not seen in texts
   pub unpadded : (o : Option (List A)) (width : ℕ) (ts : List (List (Item (List A)))) → look (joined (map (λ is. is ++ padding_of columns o width is) ts)) ≡ look (joined ts)
   unpadded o width [] = refl
-  unpadded o width (t ∷ ts) =
-      let others = joined (map (λ is. is ++ padding_of columns o width is) ts) in
-      looks.append (t ++ padding_of columns o width t) others ∙ ap (λ ys. ys ++ look others) (before_padding o width t t) ∙ ap (λ ys. look t ++ ys) (unpadded o width ts) ∙ sym (looks.append t (joined ts))
+  unpadded o width (t ∷ ts) = simp (looks.append, append-nil, padding_unseen o width, unpadded o width ts)
 
 module _ {D A Y : Type 0} (look : List (Item (List A)) → List Y) (looks : Looks look) (columns : ℕ → Option ℕ) where
   -- one line more

@@ -208,10 +208,9 @@ module _ {D A : Type 0} (columns : ℕ → Option ℕ) (kind : Kind) where
 
   pub move_frame : (m : Move D A) (r s : Renderer D A (List A)) → Makes m r s → frame s ≡ frame r
   move_frame (flush q) r s h = ap (λ (p : Renderer D A (List A)). frame p) (flush_beside columns r s r.block refl h.1)
-  move_frame (line is) r s h = ap (λ (q : Renderer D A (List A)). frame q) h.2
-  move_frame (rule cells) r s h = ap (λ (q : Renderer D A (List A)). frame q) h.2
   move_frame (join es) r s h = ap (λ (q : Renderer D A (List A)). frame q) h
   move_frame turn r s h = cc
+  move_frame other r s h = ap (λ (q : Renderer D A (List A)). frame q) h.2
 
   pub move_options : (m : Move D A) (r s : Renderer D A (List A)) → Makes m r s → s.options ≡ r.options
   move_options m r s h = ap (λ (f : Frame A). f.options) (move_frame m r s h)

@@ -35,9 +35,6 @@ abbrev IsNoSpace : {T : Type 0} → Item T → Type 0
 IsNoSpace i = is_space_item i ≡ false
 
 module _ {T : Type 0} where
-  unspaced-append : (is js : List (Item T)) → without_spaces (is ++ js) ≡ without_spaces is ++ without_spaces js
-  unspaced-append is js = filter-append (λ i. not (is_space_item i)) is js
-
   unspaced_rest : (ss : List (Slot T)) → Each (λ s. IsNoSpace s.item) ss → without_spaces (rest_text ss) ≡ map (λ s. s.item) ss
   unspaced_rest [] h = refl
   unspaced_rest (s ∷ ss) h =
@@ -51,7 +48,7 @@ module _ {T : Type 0} where
   unspaced_lines : (ls : List (List (Slot T))) → Each (λ s. IsNoSpace s.item) (joined ls) → without_spaces (joined (map line_text ls)) ≡ map (λ s. s.item) (joined ls)
   unspaced_lines [] h = refl
   unspaced_lines (l ∷ ls) h =
-      rw (unspaced-append (line_text l) (joined (map line_text ls)), unspaced_line l (each_front (λ s. IsNoSpace s.item) l (joined ls) h), unspaced_lines ls (each_back (λ s. IsNoSpace s.item) l (joined ls) h))
+      rw (filter-append (λ (i : Item T). not (is_space_item i)) (line_text l) (joined (map line_text ls)), unspaced_line l (each_front (λ s. IsNoSpace s.item) l (joined ls) h), unspaced_lines ls (each_back (λ s. IsNoSpace s.item) l (joined ls) h))
       (sym (map-append (λ s. s.item) l (joined ls)))
 
   -- as many items are on the first lines as the layout has placed there
@@ -64,13 +61,12 @@ module _ {T : Type 0} where
 -- ---- the slots of a run are no spaces
 
 module _ {T : Type 0} (columns : ℕ → Option ℕ) where
-  kept_no_space : (c : ℕ) (a : T) → is_kept columns c ≡ true → IsNoSpace (glyph c a)
-  kept_no_space c a h = false_from_ne_true (c == 32) (λ e. both_ways (is_kept columns c) (ap (is_kept columns) (eqb-true c 32 e) ∙ break_lost columns 32 refl) h)
-
   kept_no_spaces : (run : List (Entry T)) → Each IsNoSpace (kept_items columns run)
   kept_no_spaces [] = tt
   kept_no_spaces (marker_entry name ∷ es) = (refl, kept_no_spaces es)
-  kept_no_spaces (character c a b m ∷ es) = cond_both (is_kept columns c) (glyph c a ∷ []) [] (λ is. Each IsNoSpace (is ++ kept_items columns es)) (λ e. (kept_no_space c a e, kept_no_spaces es)) (λ e. kept_no_spaces es)
+  kept_no_spaces (character c a b m ∷ es) =
+      let plain = λ (e : is_kept columns c ≡ true). false_from_ne_true (c == 32) (λ is. both_ways (is_kept columns c) (ap (is_kept columns) (eqb-true c 32 is) ∙ break_lost columns 32 refl) e) in
+      cond_both (is_kept columns c) (glyph c a ∷ []) [] (λ is. Each IsNoSpace (is ++ kept_items columns es)) (λ e. (plain e, kept_no_spaces es)) (λ e. kept_no_spaces es)
 
   within_slots : (wider : Bool) (gap : Option T) (is : List (Item T)) → Each IsNoSpace is → Each (λ s. IsNoSpace s.item) (slots_within columns wider gap is)
   within_slots wider gap [] h = tt
@@ -172,12 +168,11 @@ module _ {D A : Type 0} (columns : ℕ → Option ℕ) where
         (flush_stands q h.0 s (with_more b es) (ap (λ (p : Renderer D A (List A)). p.block) since) h.1.1
         (record { space = sound.space; wide = subst (λ (p : Renderer D A (List A)). 0 < block_width p) (sym since) sound.wide }) (moves_grow columns ms h.0 s h.2));
   })
-  run_ends (line is ∷ ms) r q s b es since sound h = absurd (let no : Some (with_more b es) ≡ None = sym (ap (λ (p : Renderer D A (List A)). p.block) since) ∙ h.1.1 in cc)
-  run_ends (rule cells ∷ ms) r q s b es since sound h = absurd (let no : Some (with_more b es) ≡ None = sym (ap (λ (p : Renderer D A (List A)). p.block) since) ∙ h.1.1 in cc)
   run_ends (join more ∷ ms) r q s b es since sound h =
       let came : run_of (es ++ more) ++ brought ms ≡ run_of es ++ (run_of more ++ brought ms) = ap (λ (run : List (Entry (List A))). run ++ brought ms) (run_of-append es more) ∙ append_assoc (run_of es) (run_of more) (brought ms) in
       subst (λ (fs : List (Entry (List A))). StaysOpen r b fs s ⊎ EndsAsStretch columns r b fs s) came (run_ends ms r h.0 s b (es ++ more) (joined_more r q h.0 b es more since h.1) sound h.2)
   run_ends (turn ∷ ms) r q s b es since sound h = run_ends ms r h.0 s b es (cc) sound h.2
+  run_ends (other ∷ ms) r q s b es since sound h = absurd (let no : Some (with_more b es) ≡ None = sym (ap (λ (p : Renderer D A (List A)). p.block) since) ∙ h.1.1 in cc)
 
   pub brings_end : (decoration : Decoration D A) (calls : List (Call (List A))) (r s : Renderer D A (List A)) (b : Open (List A)) (es : List (Entry (List A))) → IsSound columns r → r.block ≡ Some b → Brings columns decoration calls r es s → StaysOpen r b es s ⊎ EndsAsStretch columns r b es s
   brings_end decoration calls r s b es sound open_block_is h =
