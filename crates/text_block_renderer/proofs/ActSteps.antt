@@ -1,5 +1,5 @@
 -- Calls and rows one by one: each is a call, or a row that is put after a flush.
-use Rattle.std.proofs.Common.{◌≡◌, ℕ, Bool, Option, List, [], ◌∷◌, ◌++◌, subst, ap, sym, ◌∙◌}
+use Rattle.std.proofs.Common.{◌≡◌, ℕ, Option, List, [], ◌∷◌, ◌++◌, subst, ap, sym, ◌∙◌}
 use Rattle.std.specs.Cmp.Lexicographic.{pointwise}
 use Rattle.tbr_model.specs.Run.{Entry}
 use Rattle.tbr_model.specs.Layout.{joined}
@@ -15,7 +15,7 @@ use Rattle.tbr_renderer.specs.Renderer.{Renderer}
 use Rattle.tbr_renderer.specs.Flush.{after_flush}
 use Rattle.tbr_renderer.specs.Footnotes.{listed, with_footnotes}
 use Rattle.tbr_renderer.specs.Outcomes.{and_then, run, told_by}
-use Rattle.tbr_renderer.specs.Rows.{GivenCell, style_in, PutsRow, cells_from}
+use Rattle.tbr_renderer.specs.Rows.{style_in, PutsRow, cells_from}
 use Rattle.tbr_renderer.specs.Calls.{Does, laid_entries}
 use Rattle.tbr_renderer.proofs.OutcomeParts.{one_done, done_first, run_last}
 use Rattle.tbr_renderer.proofs.ComputedRows.{lists_apart, cells_come, cells_side_by_side, one_own, row_computed}

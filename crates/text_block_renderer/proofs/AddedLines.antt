@@ -9,7 +9,7 @@ use Rattle.tbr_decor.specs.Decoration.{Decoration}
 use Rattle.tbr_model.specs.Markers.{marker_items}
 use Rattle.text_block_renderer.specs.Stretches.{padded_line, lines_laid}
 use Rattle.tbr_renderer.specs.Calls.{Call, Steps, brought}
-use Rattle.text_block_renderer.proofs.Moves.{Move, flush, line, rule, join, turn, Makes, MakesAll, through, any}
+use Rattle.text_block_renderer.proofs.Moves.{Move, flush, join, turn, Makes, MakesAll, through, any}
 use Rattle.text_block_renderer.proofs.CallMoves.{calls_move}
 
 abbrev pub Grows : {D A : Type 0} → Renderer D A (List A) → Renderer D A (List A) → Type 0

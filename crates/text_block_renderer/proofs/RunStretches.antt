@@ -24,7 +24,7 @@ use Rattle.tbr_renderer.specs.Flush.{block_lines, lines_at_end, names_at_end, af
 use Rattle.tbr_renderer.proofs.FlushedBlocks.{flushes, EndsBlock, FlushesBlock, Flushes}
 use Rattle.tbr_renderer.specs.Calls.{Call, Steps, Brings}
 use Rattle.text_block_renderer.specs.Stretches.{line_of_text, stretch, items_on, NoneIsAhead, StandsAsStretch, StaysOpen, EndsAsStretch, padded_line, lines_laid}
-use Rattle.text_block_renderer.proofs.Moves.{Move, flush, line, rule, join, turn, brought, MakesAll, any}
+use Rattle.text_block_renderer.proofs.Moves.{Move, flush, join, turn, brought, MakesAll, any}
 use Rattle.text_block_renderer.proofs.CallMoves.{calls_move}
 use Rattle.text_block_renderer.proofs.Lists.{each_map}
 use Rattle.text_block_renderer.proofs.AddedLines.{moves_grow, steps_grow, laid_lines}
