@@ -111,13 +111,14 @@ module _ {D A : Type 0} (columns : ℕ → Option ℕ) where
         };
         added = flat_map-append (added_of_piece columns) front back ∙ ap (λ ts. ts ++ flat_map (added_of_piece columns) back) h.added ∙ ap (λ ts. rs ++ ts) k.added;
         chain = subst (λ rows. Chain columns r.options.draw_borders r.hanging rows s.hanging) (sym (rows_append front back))
-            (chain_append columns r.options.draw_borders r.hanging (rows_in front) q.hanging (rows_in back) s.hanging h.chain (subst (λ (o : RenderOptions). Chain columns o.draw_borders q.hanging (rows_in back) s.hanging) h.options k.chain));
+            (chain_append columns r.options.draw_borders r.hanging (rows_in front) q.hanging (rows_in back) s.hanging h.chain
+            (subst (λ (o : RenderOptions). Chain columns o.draw_borders q.hanging (rows_in back) s.hanging) h.options k.chain));
       }
 
   -- these pieces came
   these : (r s : Renderer D A (List A)) (es : List (Entry (List A))) (ps : List (Piece D A columns)) → s.width ≡ r.width → s.options ≡ r.options → Each (IsPiece columns r) ps →
-      AllZip StaysLine (r.lines ++ flat_map (lines_of_piece columns) ps) s.lines → open_run r.block ++ es ≡ flat_map (entries_of_piece columns) ps ++ open_run s.block → Chain columns r.options.draw_borders r.hanging (rows_in ps) s.hanging →
-      Along (map cells_in (rows_in ps)) (flat_map (added_of_piece columns) ps) r es s
+      AllZip StaysLine (r.lines ++ flat_map (lines_of_piece columns) ps) s.lines → open_run r.block ++ es ≡ flat_map (entries_of_piece columns) ps ++ open_run s.block →
+      Chain columns r.options.draw_borders r.hanging (rows_in ps) s.hanging → Along (map cells_in (rows_in ps)) (flat_map (added_of_piece columns) ps) r es s
   these r s es ps width options are lines entries chain =
       record { width = width; options = options; came = record { pieces = ps; are = are; lines = lines; entries = entries; put_rows = refl }; added = refl; chain = chain }
 

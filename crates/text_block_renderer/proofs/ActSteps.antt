@@ -62,5 +62,6 @@ module _ {D A : Type 0} (columns : ℕ → Option ℕ) (decoration : Decoration 
       let (n, first, others) = done_first (after_act columns decoration a r) (after_acts acts) m h in
       let came = act_comes columns decoration a r es in
       subst
-      (λ o. (and_then o (after_acts (acts ++ act ∷ [])) ≡ done s) × (told_by (λ q. acts_come columns decoration (acts ++ act ∷ []) q came) o ≡ act_comes columns decoration act m (told_by (λ q. acts_come columns decoration acts q came) o)))
+      (λ o. (and_then o (after_acts (acts ++ act ∷ [])) ≡ done s) × (told_by (λ q. acts_come columns decoration (acts ++ act ∷ []) q came) o
+      ≡ act_comes columns decoration act m (told_by (λ q. acts_come columns decoration acts q came) o)))
       (sym first) (acts_then acts act n m s came others does)

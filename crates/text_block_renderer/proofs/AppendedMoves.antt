@@ -101,7 +101,8 @@ module _ {D A : Type 0} (columns : ℕ → Option ℕ) (kind : Kind) where
       ]
 
   module _ (may : (is : List (Item (List A))) → MayLay kind is) where
-    below_put : (lines : List (Line (List A))) (q : Renderer D A (List A)) → Ready q → Course columns kind q (with_cell_below columns q lines) (laid_entries (joined (map (as_text q.annotations) lines))) (one_border q.options.draw_borders q.width slash) (below_adds q lines)
+    below_put : (lines : List (Line (List A))) (q : Renderer D A (List A)) → Ready q →
+        Course columns kind q (with_cell_below columns q lines) (laid_entries (joined (map (as_text q.annotations) lines))) (one_border q.options.draw_borders q.width slash) (below_adds q lines)
     below_put lines q ready =
         let p : Renderer D A (List A) = with_divider columns slash q in
         let same = divider_beside slash q in
@@ -115,7 +116,8 @@ module _ {D A : Type 0} (columns : ℕ → Option ℕ) (kind : Kind) where
     Below t cells q = Course columns kind q (fold (with_cell_below columns) q cells) (cells_bring t.annotations cells) (slashes t.options.draw_borders t.width cells) (flat_map (below_adds t) cells)
 
     -- a cell, and then those below it
-    then_below : (lines : List (Line (List A))) (cells : List (List (Line (List A)))) (q n : Renderer D A (List A)) {bs : List (List Cell)} {xs : List (Added D A)} → beside n ≡ beside q → Course columns kind q n (laid_entries (joined (map (as_text q.annotations) lines))) bs xs → Below n cells n →
+    then_below : (lines : List (Line (List A))) (cells : List (List (Line (List A)))) (q n : Renderer D A (List A)) {bs : List (List Cell)} {xs : List (Added D A)} → beside n ≡ beside q →
+        Course columns kind q n (laid_entries (joined (map (as_text q.annotations) lines))) bs xs → Below n cells n →
         Course columns kind q (fold (with_cell_below columns) n cells) (cells_bring q.annotations (lines ∷ cells)) (bs ++ slashes q.options.draw_borders q.width cells) (xs ++ flat_map (below_adds q) cells)
     then_below lines cells q n {bs} {xs} same first others =
         let s : Renderer D A (List A) = fold (with_cell_below columns) n cells in
@@ -149,7 +151,8 @@ module _ {D A : Type 0} (columns : ℕ → Option ℕ) (kind : Kind) where
       let p : Renderer D A (List A) = with_cells columns h.0 cells in
       let joins = flush_beside columns r h.0 r.block refl h.1 in
       let same = cells_beside cells h.0 ∙ joins in
-      let last = subst (λ (t : Renderer D A (List A)). Course columns kind p (with_divider columns horizontal p) [] (one_border t.options.draw_borders t.width horizontal) (divider_adds horizontal t)) same (divided horizontal p (subst Ready (sym same) (may_rule, refl))) in
+      let last = subst (λ (t : Renderer D A (List A)). Course columns kind p (with_divider columns horizontal p) [] (one_border t.options.draw_borders t.width horizontal) (divider_adds horizontal t)) same
+      (divided horizontal p (subst Ready (sym same) (may_rule, refl))) in
       let put = onward columns kind h.0 p (with_divider columns horizontal p) es [] (cells_put may cells r h.0 joins (subst Ready (sym joins) (may_rule, refl))) last in
       flushed_then columns kind (λ m. with_divider columns horizontal (with_cells columns m cells)) r s es h
       (same_course columns kind h.0 (with_divider columns horizontal p) (append-nil es) (row_is r.options.draw_borders r.width cells) refl put)

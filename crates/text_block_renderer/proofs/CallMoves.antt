@@ -177,7 +177,8 @@ module _ {D A : Type 0} (columns : ℕ → Option ℕ) (kind : Kind) where
         let path = call_moves c r m suit.0 does in
         let same = path_frame columns kind r m first _ path in
         let others = steps_move cs m s (subst (λ (o : RenderOptions). Each (Suits kind o) cs) (sym (ap (λ (f : Frame A). f.options) same)) suit.1) steps in
-        same_course columns kind r s (ap (λ o. first ++ told_by (brought columns decoration cs) o) (sym does)) (ap (λ (f : Frame A). borders_added r.width r.options c ++ flat_map (borders_added f.width f.options) cs) same)
+        same_course columns kind r s (ap (λ o. first ++ told_by (brought columns decoration cs) o) (sym does))
+        (ap (λ (f : Frame A). borders_added r.width r.options c ++ flat_map (borders_added f.width f.options) cs) same)
         (ap (λ o. adds ++ told_by (calls_add columns decoration cs) o) (sym does)) (onward columns kind r m s first (brought columns decoration cs m) path others)
 
     pub calls_move : (calls : List (Call (List A))) (r s : Renderer D A (List A)) (es : List (Entry (List A))) → Fits kind r calls → Brings columns decoration calls r es s →

@@ -48,7 +48,11 @@ module _ {T : Type 0} where
   unspaced_lines : (ls : List (List (Slot T))) → Each (λ s. IsNoSpace s.item) (joined ls) → without_spaces (joined (map line_text ls)) ≡ map (λ s. s.item) (joined ls)
   unspaced_lines [] h = refl
   unspaced_lines (l ∷ ls) h =
-      rw (filter-append (λ (i : Item T). not (is_space_item i)) (line_text l) (joined (map line_text ls)), unspaced_line l (each_front (λ s. IsNoSpace s.item) l (joined ls) h), unspaced_lines ls (each_back (λ s. IsNoSpace s.item) l (joined ls) h))
+      rw (
+        filter-append (λ (i : Item T). not (is_space_item i)) (line_text l) (joined (map line_text ls)),
+        unspaced_line l (each_front (λ s. IsNoSpace s.item) l (joined ls) h),
+        unspaced_lines ls (each_back (λ s. IsNoSpace s.item) l (joined ls) h),
+      )
       (sym (map-append (λ s. s.item) l (joined ls)))
 
   -- as many items are on the first lines as the layout has placed there

@@ -46,9 +46,7 @@ module _ {D A : Type 0} (columns : ℕ → Option ℕ) where
       let marked = marker_items r.waiting ++ t in
       let more = (marked ++ line_padding columns r marked) ++ [] in
       let q = with_line columns r t in
-      let same : h.shown ++ seen columns marked ≡ all ++ seen columns t =
-      ap (λ is. h.shown ++ is) (two_seen columns (marker_items r.waiting) t ∙ ap (λ is. is ++ seen columns t) (shown_markers columns r.waiting))
-      ∙ sym (append_assoc h.shown (marker_items r.waiting) (seen columns t)) ∙ ap (λ is. is ++ seen columns t) h.whole in
+      let same : h.shown ++ seen columns marked ≡ all ++ seen columns t = simp (two_seen {A = A} columns, shown_markers {T = List A} columns, append_assoc, sym h.whole) in
       let within = before_within columns marked (marked ++ line_padding columns r marked) [] (before_within columns marked marked (line_padding columns r marked) (itself_within columns marked)) in
       let lines = ap (seen columns) (written-append r.lines (text (marked ++ line_padding columns r marked) ∷ [])) ∙ two_seen columns (written r.lines) more in
       let both = subst (StandWithin (h.shown ++ seen columns marked)) (sym lines) (within_both h.shown (seen columns marked) (seen columns (written r.lines)) (seen columns more) h.stand within) in
