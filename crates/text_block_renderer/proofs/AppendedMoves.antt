@@ -14,7 +14,7 @@ use Rattle.tbr_renderer.proofs.CallParts.{FlushesThen}
 use Rattle.tbr_renderer.specs.Appended.{with_border, border_of_cells, as_text, prefixed, with_divider, with_cell, with_cell_below, with_cells}
 use Rattle.tbr_renderer.specs.Calls.{laid_entry, laid_entries}
 use Rattle.text_block_renderer.specs.Added.{Added, text_laid, border_put, flush_ends, divider_adds, cell_lays, below_adds, cells_add}
-use Rattle.text_block_renderer.proofs.Moves.{line, rule, Kind, MayLay, MayRule, Course, onward, one, same_course, flushed_then, stays, beside, lines_beside, flush_beside, flushed_none}
+use Rattle.text_block_renderer.proofs.Moves.{line, rule, Kind, MayLay, MayRule, Course, onward, one, same_course, flushed_first, stays, beside, lines_beside, flush_beside, flushed_none}
 
 -- ---- borders of rows
 
@@ -57,19 +57,16 @@ module _ {D A : Type 0} (columns : ℕ → Option ℕ) (kind : Kind) where
   pub lines_appended : (prefixes : List (List ℕ)) (lines : List (Line (List A))) (r s : Renderer D A (List A)) → ((is : List (Item (List A))) → MayLay kind is) → FlushesThen columns (λ m. fold (with_line columns) m (prefixed r.annotations prefixes lines)) r s →
       Course columns kind r s (laid_entries (joined (prefixed r.annotations prefixes lines))) [] (flush_ends r ++ map text_laid (prefixed r.annotations prefixes lines))
   lines_appended prefixes lines r s may h =
-      flushed_then columns kind (λ m. fold (with_line columns) m (prefixed r.annotations prefixes lines)) r s _ h (lines_put (prefixed r.annotations prefixes lines) h.0 may (flushed_none columns r h.0 h.1))
+      flushed_first columns kind (λ m. fold (with_line columns) m (prefixed r.annotations prefixes lines)) r s _ h (lines_put (prefixed r.annotations prefixes lines) h.0 may (flushed_none columns r h.0 h.1))
 
   pub border_added : (width : ℕ) (r s : Renderer D A (List A)) → MayRule kind r.options → FlushesThen columns (λ m. with_border columns m (border_of_cells horizontal width r)) r s →
       Course columns kind r s [] (replicate width horizontal ∷ []) (flush_ends r ++ border_put (replicate width horizontal) ∷ [])
   border_added width r s may h =
       let cells = replicate width horizontal in
       let joins = sym (flush_beside columns r h.0 r.block refl h.1) in
-      flushed_then columns kind (λ m. with_border columns m (border_of_cells horizontal width r)) r s [] h
-      (one columns kind (rule cells) h.0 _ (
-        subst (λ (p : Renderer D A (List A)). MayRule kind p.options) joins may,
-        flushed_none columns r h.0 h.1,
-        ap (λ (p : Renderer D A (List A)). with_border columns h.0 (without_holes cells p.annotations)) joins,
-      ))
+      let may_put = subst (λ (p : Renderer D A (List A)). MayRule kind p.options) joins may in
+      let put = ap (λ (p : Renderer D A (List A)). with_border columns h.0 (without_holes cells p.annotations)) joins in
+      flushed_first columns kind (λ m. with_border columns m (border_of_cells horizontal width r)) r s [] h (one columns kind (rule cells) h.0 _ (may_put, flushed_none columns r h.0 h.1, put))
 
   -- ---- cells below one another
 
@@ -154,5 +151,5 @@ module _ {D A : Type 0} (columns : ℕ → Option ℕ) (kind : Kind) where
       let last = subst (λ (t : Renderer D A (List A)). Course columns kind p (with_divider columns horizontal p) [] (one_border t.options.draw_borders t.width horizontal) (divider_adds horizontal t)) same
       (divided horizontal p (subst Ready (sym same) (may_rule, refl))) in
       let put = onward columns kind h.0 p (with_divider columns horizontal p) es [] (cells_put may cells r h.0 joins (subst Ready (sym joins) (may_rule, refl))) last in
-      flushed_then columns kind (λ m. with_divider columns horizontal (with_cells columns m cells)) r s es h
+      flushed_first columns kind (λ m. with_divider columns horizontal (with_cells columns m cells)) r s es h
       (same_course columns kind h.0 (with_divider columns horizontal p) (append-nil es) (row_is r.options.draw_borders r.width cells) refl put)

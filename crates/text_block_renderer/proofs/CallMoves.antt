@@ -20,15 +20,14 @@ use Rattle.tbr_renderer.specs.Appended.{with_border, border_of_cells, prefixed, 
 use Rattle.tbr_border.specs.Cell.{horizontal}
 use Rattle.tbr_renderer.proofs.OutcomeParts.{one_done, done_first}
 use Rattle.tbr_renderer.proofs.FlushedBlocks.{FlushesBlock, flushes}
-use Rattle.tbr_renderer.proofs.CallParts as parts
-use Rattle.tbr_renderer.proofs.CallParts.{FlushesThen, BreaksLine, break_parts, AddsTextBy, AddsText, text_parts, close_parts, open_parts, AddsImage, image_parts}
+use Rattle.tbr_renderer.proofs.CallParts.{FlushesThen, flushed_then, BreaksLine, break_parts, AddsTextBy, AddsText, text_parts, close_parts, open_parts, AddsImage, image_parts}
 use Rattle.tbr_renderer.specs.Image.{shown_title}
 use Rattle.tbr_renderer.specs.Decorated.{struck_from, struck_until, asked_to_close, asked_to_end, annotated, coloured_by, coloured, uncoloured}
 use Rattle.tbr_renderer.specs.Calls.{Call, add_empty_line, new_line, new_line_hard, start_block, start_table, add_inline_text, record_frag_start, begin, finish, start_strikeout, end_strikeout, add_image, push_colour, pop_colour, add_border, append_subrender, append_vert_row, made, after, Does, Steps, text_brought, image_brought, entries_brought, brought, Brings}
 use Rattle.text_block_renderer.specs.Drawn.{borders_added, AddsNoBorder}
 use Rattle.text_block_renderer.specs.Added.{text_laid, flush_ends, empty_adds, start_lays, start_adds, text_adds, image_adds, call_adds, calls_add}
 use Rattle.text_block_renderer.specs.Stretches.{AppendsNothing}
-use Rattle.text_block_renderer.proofs.Moves.{flush_beside, flush, line, join, SameText, alike, Kind, any, undrawn, own, Fits, MayLay, MayRule, Frame, Course, onward, one, same_course, flushed_then, stays, turned, path_frame, flushed_none}
+use Rattle.text_block_renderer.proofs.Moves.{flush_beside, flush, line, join, SameText, alike, Kind, any, undrawn, own, Fits, MayLay, MayRule, Frame, Course, onward, one, same_course, flushed_first, stays, turned, path_frame, flushed_none}
 use Rattle.text_block_renderer.proofs.AppendedMoves.{lines_appended, border_added, cells_appended}
 
 -- ---- kinds
@@ -59,7 +58,7 @@ module _ {D A : Type 0} (columns : ℕ → Option ℕ) (kind : Kind) where
       (turned columns kind q (with_empty_line columns r) (with_empty_line columns r) (alike q) refl)
 
   empty_added : (r s : Renderer D A (List A)) → FlushesThen columns (with_empty_line columns) r s → Course columns kind r s [] [] (empty_adds r)
-  empty_added r s h = flushed_then columns kind (with_empty_line columns) r s [] h (empty_put h.0 (flushed_none columns r h.0 h.1))
+  empty_added r s h = flushed_first columns kind (with_empty_line columns) r s [] h (empty_put h.0 (flushed_none columns r h.0 h.1))
 
   begun : (r : Renderer D A (List A)) → r.block ≡ None → Course columns kind r (block_started columns r) [] [] (start_lays r)
   begun r none =
@@ -75,7 +74,7 @@ module _ {D A : Type 0} (columns : ℕ → Option ℕ) (kind : Kind) where
   started : (r s : Renderer D A (List A)) → FlushesThen columns (block_started columns) r s → Course columns kind r s [] [] (start_adds columns r)
   started r s h =
       same_course columns kind r s refl refl (ap (λ o. flush_ends r ++ told_by start_lays o) (sym (flush_done r h.0 r.block h.1)))
-      (flushed_then columns kind (block_started columns) r s [] h (begun h.0 (flushed_none columns r h.0 h.1)))
+      (flushed_first columns kind (block_started columns) r s [] h (begun h.0 (flushed_none columns r h.0 h.1)))
 
   broken : (r s : Renderer D A (List A)) (at : Bool) → BreaksLine columns at r s → Course columns kind r s [] [] (if at then empty_adds r else flush_ends r)
   broken r s true h = empty_added r s h
@@ -135,11 +134,11 @@ module _ {D A : Type 0} (columns : ℕ → Option ℕ) (kind : Kind) where
         text_between (decoration.start_text r.decorator image) (λ m. without_annotation m) r (annotated decoration image r) s (alike r) (λ m. alike m) h
 
     made_moves : (c : Call (List A)) (r s : Renderer D A (List A)) → Suits kind r.options c → made columns decoration c r ≡ done s → Course columns kind r s (entries_brought columns decoration c r) (borders_added r.width r.options c) (call_adds columns decoration c r)
-    made_moves add_empty_line r s suits h = empty_added r s (parts.flushed_then columns (with_empty_line columns) r s h)
+    made_moves add_empty_line r s suits h = empty_added r s (flushed_then columns (with_empty_line columns) r s h)
     made_moves new_line r s suits h = one columns kind (flush r) r s (refl, flushes columns r s h)
     made_moves new_line_hard r s suits h = broken r s (at_line_start columns r r.block) (break_parts columns (at_line_start columns r r.block) r s h)
-    made_moves start_block r s suits h = started r s (parts.flushed_then columns (block_started columns) r s h)
-    made_moves start_table r s suits h = started r s (parts.flushed_then columns (block_started columns) r s h)
+    made_moves start_block r s suits h = started r s (flushed_then columns (block_started columns) r s h)
+    made_moves start_table r s suits h = started r s (flushed_then columns (block_started columns) r s h)
     made_moves (add_inline_text cs) r s suits h = added cs r s (text_parts columns decoration.preformatted cs r s h)
     made_moves (record_frag_start name) r s suits h = one columns kind (join (entry (marker_entry name) ∷ [])) r s (one_done _ s h)
     made_moves (begin opened) r s suits h =
@@ -159,9 +158,9 @@ module _ {D A : Type 0} (columns : ℕ → Option ℕ) (kind : Kind) where
     made_moves (add_image source title) r s suits h = image_added source (shown_title r.options.img_mode source title) r s (image_parts columns decoration source (shown_title r.options.img_mode source title) r s h)
     made_moves (push_colour g colour) r s suits h = turned columns kind r (coloured decoration g colour r) s (coloured_same (decoration.colour_annotation r.decorator g colour) _ r) (one_done _ s h)
     made_moves (pop_colour g) r s suits h = turned columns kind r (uncoloured decoration g r) s (uncoloured_same g r) (one_done _ s h)
-    made_moves (add_border width) r s suits h = border_added columns kind width r s (suits.1 (λ no. no) (λ no. no)) (parts.flushed_then columns (λ m. with_border columns m (border_of_cells horizontal width r)) r s h)
-    made_moves (append_subrender prefixes lines) r s suits h = lines_appended columns kind prefixes lines r s (suits.0 (λ no. no)) (parts.flushed_then columns (λ m. fold (with_line columns) m (prefixed r.annotations prefixes lines)) r s h)
-    made_moves (append_vert_row cells) r s suits h = cells_appended columns kind (suits.0 (λ no. no)) cells r s (suits.1 (λ no. no) (λ no. no)) (parts.flushed_then columns (λ m. with_divider columns horizontal (with_cells columns m cells)) r s h)
+    made_moves (add_border width) r s suits h = border_added columns kind width r s (suits.1 (λ no. no) (λ no. no)) (flushed_then columns (λ m. with_border columns m (border_of_cells horizontal width r)) r s h)
+    made_moves (append_subrender prefixes lines) r s suits h = lines_appended columns kind prefixes lines r s (suits.0 (λ no. no)) (flushed_then columns (λ m. fold (with_line columns) m (prefixed r.annotations prefixes lines)) r s h)
+    made_moves (append_vert_row cells) r s suits h = cells_appended columns kind (suits.0 (λ no. no)) cells r s (suits.1 (λ no. no) (λ no. no)) (flushed_then columns (λ m. with_divider columns horizontal (with_cells columns m cells)) r s h)
     made_moves call r s suits h = turned columns kind r _ s (alike r) (one_done _ s h)
 
     pub call_moves : (c : Call (List A)) (r s : Renderer D A (List A)) → Suits kind r.options c → Does columns decoration c r s → Course columns kind r s (entries_brought columns decoration c r) (borders_added r.width r.options c) (call_adds columns decoration c r)

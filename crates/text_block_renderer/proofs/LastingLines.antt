@@ -73,8 +73,6 @@ module _ {T : Type 0} where
 
   -- it is put back with other cells
   put_back : (ls : List (Line T)) (b c : Border T) → KeepsText b c → last_border ls ≡ Some b → AllZip StaysLine ls (without_last ls ++ border c ∷ [])
-  put_back [] b c keeps e = cc
-  put_back (text is ∷ []) b c keeps e = cc
   put_back (border d ∷ []) b c keeps e =
       let none : length (border d ∷ []) - 1 ≡ 0 = omega arith in
       let same : d ≡ b = cc in
@@ -82,6 +80,7 @@ module _ {T : Type 0} where
   put_back (l ∷ m ∷ ls) b c keeps e =
       let next : length (l ∷ m ∷ ls) - 1 ≡ suc (length (m ∷ ls) - 1) = omega arith in
       subst (λ (n : ℕ). AllZip StaysLine (l ∷ m ∷ ls) (take n (l ∷ m ∷ ls) ++ border c ∷ [])) (sym next) (stays_itself l, put_back (m ∷ ls) b c keeps e)
+  put_back ls b c keeps e = cc
 
   pub top_put_back : (collapses : Bool) (cells : List (Cell T)) (ls : List (Line T)) → AllZip StaysLine ls (before_border ls ++ border_lines (border_above collapses cells (last_border ls)))
   top_put_back collapses cells ls = go (last_border ls) refl

@@ -58,8 +58,7 @@ module _ {D A : Type 0} (columns : ℕ → Option ℕ) (kind : Kind) where
         parts = record {
           parts = front ++ back;
           are = each_append (IsPart columns r) front back h.parts.are others;
-          lines = k.parts.lines ∙ ap (λ ls. ls ++ flat_map (lines_of_part columns) back) h.parts.lines ∙ append_assoc r.lines (flat_map (lines_of_part columns) front) (flat_map (lines_of_part columns) back)
-              ∙ ap (λ ls. r.lines ++ ls) (sym (flat_map-append (lines_of_part columns) front back));
+          lines = simp (k.parts.lines, h.parts.lines, flat_map-append (lines_of_part {D = D} {A = A} columns), append_assoc);
           entries = sym (append_assoc (open_run r.block) es fs) ∙ ap (λ gs. gs ++ fs) h.parts.entries ∙ append_assoc first (open_run q.block) fs ∙ ap (λ gs. first ++ gs) k.parts.entries
               ∙ sym (append_assoc first (flat_map entries_of_part back) (open_run s.block)) ∙ ap (λ gs. gs ++ open_run s.block) (sym (flat_map-append entries_of_part front back));
         };

@@ -175,9 +175,9 @@ module _ {D A : Type 0} (columns : ℕ → Option ℕ) (kind : Kind) where
   same_course r s brings rules adds p = record { moves = p.moves; makes = p.makes; brings = p.brings ∙ brings; rules = p.rules ∙ rules; adds = p.adds ∙ adds }
 
   -- the end of the open run, and then a change
-  pub flushed_then : (change : Renderer D A (List A) → Renderer D A (List A)) (r s : Renderer D A (List A)) (es : List (Entry (List A))) {bs : List (List Cell)} {xs : List (Added D A)}
+  pub flushed_first : (change : Renderer D A (List A) → Renderer D A (List A)) (r s : Renderer D A (List A)) (es : List (Entry (List A))) {bs : List (List Cell)} {xs : List (Added D A)}
       (h : FlushesThen columns change r s) → Course h.0 (change h.0) es bs xs → Course r s es bs (flush_ends r ++ xs)
-  flushed_then change r s es {bs} {xs} h course = onward r h.0 s [] es (one (flush r) r h.0 (refl, h.1)) (subst (λ (q : Renderer D A (List A)). Course h.0 q es bs xs) (sym h.2) course)
+  flushed_first change r s es {bs} {xs} h course = onward r h.0 s [] es (one (flush r) r h.0 (refl, h.1)) (subst (λ (q : Renderer D A (List A)). Course h.0 q es bs xs) (sym h.2) course)
 
   -- `q` is `r` but for what isn't text
   pub turned : (r q s : Renderer D A (List A)) → SameText r q → s ≡ q → Course r s [] [] []

@@ -85,15 +85,10 @@ module _ {D A : Type 0} (columns : ℕ → Option ℕ) where
       (all, order, record { shown = k.shown; whole = k.whole; stand = subst (StandWithin k.shown) (sym lines) (within_more k.shown (seen columns (written r.lines)) (seen columns (written put)) k.stand) })
 
   stay_written : (r s : Renderer D A (List A)) (es : List (Entry (List A))) → AllZip StaysLine r.lines s.lines → s.waiting ≡ r.waiting → AreWritten r es → AreWritten s es
-  stay_written r s es stay waiting (all, order, k) = (
-    all,
-    order,
-    record {
-      shown = k.shown;
-      whole = ap (λ names. k.shown ++ marker_items names) waiting ∙ k.whole;
-      stand = subst (λ is. StandWithin k.shown (seen columns is)) (sym (stays_written r.lines s.lines stay)) k.stand;
-    },
-  )
+  stay_written r s es stay waiting (all, order, k) =
+      let whole = ap (λ names. k.shown ++ marker_items names) waiting ∙ k.whole in
+      let stand = subst (λ is. StandWithin k.shown (seen columns is)) (sym (stays_written r.lines s.lines stay)) k.stand in
+      (all, order, record { shown = k.shown; whole = whole; stand = stand })
 
   written_on : GoesOn columns any AreWritten
   written_on = record {
