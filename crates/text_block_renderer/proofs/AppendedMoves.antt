@@ -38,7 +38,8 @@ row_is : {X : Type 0} (draws : Bool) (width : ℕ) (cells : List X) → slashes_
 row_is draws width [] = refl
 row_is draws width (c ∷ cells) =
     let count : length cells ≡ suc (length cells) - 1 = omega arith in
-    if_both draws (replicate (length cells) (replicate width slash)) (replicate width horizontal ∷ []) ∙ ap (λ n. if draws then replicate n (replicate width slash) ++ replicate width horizontal ∷ [] else []) count
+    if_both draws (replicate (length cells) (replicate width slash)) (replicate width horizontal ∷ [])
+    ∙ ap (λ n. if draws then replicate n (replicate width slash) ++ replicate width horizontal ∷ [] else []) count
 
 -- what cells bring under these annotations
 abbrev cells_bring : {T : Type 0} → T → List (List (Line T)) → List (Entry T)
@@ -124,7 +125,8 @@ module _ {D A : Type 0} (columns : ℕ → Option ℕ) (kind : Kind) where
         (onward columns kind q n s (laid_entries (joined texts)) (laid_entries (joined rest)) first (subst (λ (t : Renderer D A (List A)). Below t cells n) same others))
 
     cells_below : (cells : List (List (Line (List A)))) (q : Renderer D A (List A)) → Ready q → Below q cells q
-    cells_below [] q ready = elim q.options.draw_borders as (λ (draws : Bool). Course columns kind q q [] (if draws then [] else []) []) [ true ↦ stays columns kind q q refl | false ↦ stays columns kind q q refl ]
+    cells_below [] q ready =
+        elim q.options.draw_borders as (λ (draws : Bool). Course columns kind q q [] (if draws then [] else []) []) [ true ↦ stays columns kind q q refl | false ↦ stays columns kind q q refl ]
     cells_below (lines ∷ cells) q ready =
         let n : Renderer D A (List A) = with_cell_below columns q lines in
         let same = below_beside lines q in

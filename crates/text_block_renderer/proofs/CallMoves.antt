@@ -106,7 +106,8 @@ module _ {D A : Type 0} (columns : ℕ → Option ℕ) (kind : Kind) where
 
     struck_until_same : (r : Renderer D A (List A)) → SameText r (asked_to_close decoration end.strikeout (struck_until r))
     struck_until_same r =
-        cond_both r.options.use_unicode_strikeout (record r { strikeouts = r.strikeouts - 1 }) r (λ (q : Renderer D A (List A)). SameText r (asked_to_close decoration end.strikeout q)) (λ e. alike r) (λ e. alike r)
+        cond_both r.options.use_unicode_strikeout (record r { strikeouts = r.strikeouts - 1 }) r (λ (q : Renderer D A (List A)). SameText r (asked_to_close decoration end.strikeout q))
+        (λ e. alike r) (λ e. alike r)
 
     coloured_same : (o : Option A) (d : D) (r : Renderer D A (List A)) → SameText r (coloured_by decoration o (record r { decorator = d }))
     coloured_same None d r = alike r

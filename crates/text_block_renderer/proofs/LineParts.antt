@@ -104,7 +104,8 @@ module _ {D A : Type 0} (columns : ℕ → Option ℕ) (kind : Kind) where
   moves_parts : (ms : List (Move D A)) (r s : Renderer D A (List A)) → MakesAll columns kind ms r s → IsSound columns r → CameInParts r s (brought ms) (moves.ruled ms) (moves.added ms)
   moves_parts [] r s h sound = same_parts r s h
   moves_parts (m ∷ ms) r s h sound =
-      parts_on r h.0 s (brought_by m) (brought ms) (ruled_by m) (moves.ruled ms) (added_by m) (moves.added ms) (move_frame columns kind m r h.0 h.1) (move_parts m r h.0 h.1 sound) (moves_parts ms h.0 s h.2 (sound_moved columns kind m r h.0 h.1 sound))
+      parts_on r h.0 s (brought_by m) (brought ms) (ruled_by m) (moves.ruled ms) (added_by m) (moves.added ms) (move_frame columns kind m r h.0 h.1)
+      (move_parts m r h.0 h.1 sound) (moves_parts ms h.0 s h.2 (sound_moved columns kind m r h.0 h.1 sound))
 
   pub course_parts : (r s : Renderer D A (List A)) (es : List (Entry (List A))) (bs : List (List Cell)) {xs : List (Added D A)} → Course columns kind r s es bs xs → IsSound columns r → CameInParts r s es bs xs
   course_parts r s es bs {xs} path sound =
