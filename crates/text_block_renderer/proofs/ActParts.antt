@@ -1,88 +1,59 @@
 -- What calls, rows and footnotes add to the lines, piece by piece.
 use Rattle.std.proofs.Common.{◌≡◌, ℕ, Bool, Option, Some, None, List, [], ◌∷◌, ◌++◌, map, flat_map, fold, refl, ap, sym, ◌∙◌, subst, append_assoc, append-nil}
-use Rattle.std.specs.List.{AllZip}
+use Rattle.std.specs.List.{AllZip, AllByRecursion as Each}
 use Rattle.std.proofs.lemmas.List.{map-append}
 use Rattle.std.proofs.lemmas.List.Concat.{flat_map-append}
+use Rattle.std.proofs.lemmas.List.Folds.{flat_map-map}
 use Rattle.tbr_model.specs.Run.{Entry, Item}
 use Rattle.tbr_model.specs.Layout.{joined}
 use Rattle.tbr_model.proofs.lists.Each.{each_append}
 use Rattle.tbr_border.specs.Border.{Border}
+use Rattle.tbr_border.specs.Cell.{Cell as BorderCell}
 use Rattle.tbr_rows.specs.Meant.{SeenRow}
 use Rattle.tbr_rows.specs.declared.LineSet.{LineSet as Cell}
 use Rattle.tbr_decor.specs.Change as change
 use Rattle.tbr_decor.specs.Decoration.{Decoration}
 use Rattle.tbr_renderer.specs.declared.options.RenderOptions.{RenderOptions}
 use Rattle.tbr_kept_lines.specs.Line.{Line}
-use Rattle.tbr_renderer.specs.Renderer.{Open, Renderer, Settings, settings_of, with_line, open_run, IsSound}
+use Rattle.tbr_renderer.specs.Renderer.{Open, Renderer, with_line, open_run, IsSound}
 use Rattle.tbr_renderer.specs.Footnotes.{listed, footnote_lines}
 use Rattle.tbr_renderer.specs.Rows.{GivenCell, border_lines, with_next, with_row, PutsRow}
 use Rattle.tbr_kept_lines.specs.LastBorder.{before_border}
 use Rattle.tbr_renderer.specs.Appended.{border_line}
-use Rattle.tbr_renderer.specs.Calls.{Call, new_line, after, Does, entries_brought, Brings, laid_entries, text_of_lines}
-use Rattle.tbr_tagged.specs.Outcome.{Outcome, done, refused}
+use Rattle.tbr_renderer.specs.Calls.{Call, Does, entries_brought, Brings, laid_entries, text_of_lines}
+use Rattle.tbr_tagged.specs.Outcome.{done}
 use Rattle.tbr_renderer.specs.Outcomes.{and_then, told_by}
 use Rattle.tbr_renderer.proofs.OutcomeParts.{one_done, done_first}
-use Rattle.tbr_renderer.proofs.SettingsStay.{Steady, lines_added}
-use Rattle.text_block_renderer.specs.Added.{Added, text_laid, row_put, flush_ends, call_adds, calls_add}
-use Rattle.text_block_renderer.specs.Stretches.{Part, lines_laid, IsPart, ComesInParts}
+use Rattle.text_block_renderer.specs.Added.{Added, text_laid, row_put, flush_ends}
+use Rattle.text_block_renderer.specs.Stretches.{Part, lines_laid, IsPart}
 use Rattle.text_block_renderer.specs.Acts.{Act, call, row, fmt_links, finalise, rows_of, after_act, act_enters, acts_enter, Piece, part, put, noted, cells_in, rows_in, border_lines_of, lines_of_piece, entries_of_piece, added_of_piece, act_adds, acts_add, IsPiece, StaysLine, ComesInPieces}
-use Rattle.text_block_renderer.proofs.Moves.{any, flush, beside, sound_alike, flushed_none, path_width, path_options, path_hanging}
-use Rattle.text_block_renderer.proofs.CallMoves.{calls_move}
-use Rattle.text_block_renderer.proofs.LineParts.{part_of_other, brings_parts}
+use Rattle.text_block_renderer.proofs.Moves.{any, flush, beside, lines_beside, sound_alike, flushed_none, Frame, Course, one, path_frame}
+use Rattle.text_block_renderer.proofs.CallMoves.{call_moves}
+use Rattle.text_block_renderer.proofs.LineParts.{part_of_other, course_parts}
 use Rattle.text_block_renderer.proofs.AddedLines.{moves_grow, laid_lines}
 use Rattle.text_block_renderer.proofs.LineContents.{text_of_lines-append}
-use Rattle.text_block_renderer.proofs.ActSteps.{told_then, ActStep, after_acts, act_step}
+use Rattle.text_block_renderer.proofs.ActSteps.{ActStep, after_acts, act_step}
 use Rattle.text_block_renderer.proofs.RowsOfCells.{row_flushes, under_row, row_beside, row_closed}
 use Rattle.text_block_renderer.proofs.LastingLines.{all_stay, stay_on, stay_texts, top_put_back}
 use Rattle.tbr_rows.proofs.Among.{each_gives}
 use Rattle.tbr_tagged.proofs.SameItems.{all_zip_append}
-use Rattle.text_block_renderer.proofs.Lists.{flat_map_map, each_map}
+use Rattle.text_block_renderer.proofs.Lists.{each_map}
 use Rattle.text_block_renderer.proofs.OverhangingCells.{Chain, chain_append}
 
 module _ {D A : Type 0} (columns : ℕ → Option ℕ) where
   rows_append : (ps qs : List (Piece D A columns)) → rows_in (ps ++ qs) ≡ rows_in ps ++ rows_in qs
   rows_append [] qs = refl
-  rows_append (part p ∷ ps) qs = rows_append ps qs
   rows_append (put p ∷ ps) qs = ap (λ rows. p ∷ rows) (rows_append ps qs)
-  rows_append (noted r is ∷ ps) qs = rows_append ps qs
+  rows_append (other ∷ ps) qs = rows_append ps qs
 
   no_rows : (ps : List (Part D A)) → rows_in {columns = columns} (map (λ p. part p) ps) ≡ []
   no_rows [] = refl
   no_rows (p ∷ ps) = no_rows ps
 
-  -- parts of calls
-  as_pieces : (r s : Renderer D A (List A)) (es : List (Entry (List A))) → ComesInParts columns r es s → ComesInPieces columns [] r es s
-  as_pieces r s es h = record {
-    pieces = map part h.parts;
-    are = each_map (IsPart columns r) (IsPiece columns r) part (λ p k. k) h.parts h.are;
-    lines = subst (λ ls. AllZip StaysLine ls s.lines) (h.lines ∙ ap (λ ls. r.lines ++ ls) (sym (flat_map_map (lines_of_piece columns) part h.parts))) (all_stay s.lines);
-    entries = h.entries ∙ ap (λ fs. fs ++ open_run s.block) (sym (flat_map_map (entries_of_piece columns) part h.parts));
-    put_rows = ap (map cells_in) (no_rows h.parts);
-  }
-
   piece_of_other : (r q : Renderer D A (List A)) → q.width ≡ r.width → q.options ≡ r.options → (p : Piece D A columns) → IsPiece columns q p → IsPiece columns r p
   piece_of_other r q width options (part p) h = part_of_other columns r q width options p h
   piece_of_other r q width options (put p) h = record { width = h.width ∙ width; options = h.options ∙ options; block = h.block }
   piece_of_other r q width options (noted t is) h = (h.0 ∙ width, h.1 ∙ options)
-
-  -- and then others
-  come_on : (xs ys : List (List (GivenCell (List A)))) (r q s : Renderer D A (List A)) (es fs : List (Entry (List A))) → q.width ≡ r.width → q.options ≡ r.options → ComesInPieces columns xs r es q → ComesInPieces columns ys q fs s →
-      ComesInPieces columns (xs ++ ys) r (es ++ fs) s
-  come_on xs ys r q s es fs width options h k =
-      let first = flat_map (lines_of_piece columns) h.pieces in
-      let after_them = flat_map (lines_of_piece columns) k.pieces in
-      let both : flat_map (lines_of_piece columns) (h.pieces ++ k.pieces) ≡ first ++ after_them = flat_map-append (lines_of_piece columns) h.pieces k.pieces in
-      let before = flat_map (entries_of_piece columns) h.pieces in
-      let after = flat_map (entries_of_piece columns) k.pieces in
-      record {
-        pieces = h.pieces ++ k.pieces;
-        are = each_append (IsPiece columns r) h.pieces k.pieces h.are (each_gives (IsPiece columns q) (IsPiece columns r) (piece_of_other r q width options) k.pieces k.are);
-        lines = subst (λ ls. AllZip StaysLine ls s.lines) (append_assoc r.lines first after_them ∙ ap (λ ls. r.lines ++ ls) (sym both))
-            (stay_on ((r.lines ++ first) ++ after_them) (q.lines ++ after_them) s.lines (all_zip_append StaysLine (r.lines ++ first) after_them q.lines after_them h.lines (all_stay after_them)) k.lines);
-        entries = sym (append_assoc (open_run r.block) es fs) ∙ ap (λ gs. gs ++ fs) h.entries ∙ append_assoc before (open_run q.block) fs ∙ ap (λ gs. before ++ gs) k.entries
-            ∙ sym (append_assoc before after (open_run s.block)) ∙ ap (λ gs. gs ++ open_run s.block) (sym (flat_map-append (entries_of_piece columns) h.pieces k.pieces));
-        put_rows = ap (map cells_in) (rows_append h.pieces k.pieces) ∙ map-append cells_in (rows_in h.pieces) (rows_in k.pieces) ∙ ap (λ zs. zs ++ map cells_in (rows_in k.pieces)) h.put_rows ∙ ap (λ zs. xs ++ zs) k.put_rows;
-      }
 
   -- ---- a row
 
@@ -90,16 +61,10 @@ module _ {D A : Type 0} (columns : ℕ → Option ℕ) where
   same_laid r ls cells [] = refl
   same_laid r ls cells (t ∷ ts) = refl
 
-  border_same : (r q : Renderer D A (List A)) (b : Border (List A)) → q.width ≡ r.width → q.options ≡ r.options → q.annotations ≡ r.annotations → border_line columns q b ≡ border_line columns r b
-  border_same r q b width options annotations = ap (λ w. line_of w q.options q.annotations) width ∙ ap (λ o. line_of r.width o q.annotations) options ∙ ap (λ a. line_of r.width r.options a) annotations
-    where
-      line_of : ℕ → RenderOptions → List A → Line (List A)
-      line_of w o a = border_line columns (record r { width = w; options = o; annotations = a }) b
-
-  next_lines : (r q : Renderer D A (List A)) (o : Option (Border (List A))) → settings_of q ≡ settings_of r → (with_next columns q o).lines ≡ q.lines ++ border_lines_of columns r o
-  next_lines r q None e = sym (append-nil q.lines)
-  next_lines r q (Some b) e =
-      ap (λ l. q.lines ++ l ∷ []) (border_same r q b (ap (λ (t : Settings D A). t.kept.width) e) (ap (λ (t : Settings D A). t.kept.options) e) (ap (λ (t : Settings D A). t.annotations) e))
+  next_lines : (r q : Renderer D A (List A)) (cells : List (Cell (List A))) (o : Option (Border (List A))) → beside q ≡ record (beside r) { hanging = cells } →
+      (with_next columns q o).lines ≡ q.lines ++ border_lines_of columns r o
+  next_lines r q cells None e = sym (append-nil q.lines)
+  next_lines r q cells (Some b) e = ap (λ (p : Renderer D A (List A)). q.lines ++ border_line columns p b ∷ []) e
 
   pub row_lines : (m : Renderer D A (List A)) (seen : SeenRow (List A)) →
       (with_row columns m seen).lines ≡ (before_border m.lines ++ border_lines seen.above) ++ (lines_laid columns m seen.lines ++ border_lines_of columns m seen.next)
@@ -107,30 +72,102 @@ module _ {D A : Type 0} (columns : ℕ → Option ℕ) where
       let first = before_border m.lines ++ border_lines seen.above in
       let top : Renderer D A (List A) = record m { lines = first; hanging = seen.overhang } in
       let full = fold (with_line columns) top seen.lines in
-      let settings : settings_of full ≡ settings_of m = ap (λ (x : Steady D A). x.settings) (lines_added columns seen.lines top) in
       let laid = lines_laid columns m seen.lines in
-      next_lines m full seen.next settings ∙ ap (λ ls. ls ++ border_lines_of columns m seen.next) (laid_lines columns seen.lines top ∙ ap (λ ls. first ++ ls) (same_laid m first seen.overhang seen.lines))
+      next_lines m full seen.overhang seen.next (lines_beside columns seen.lines top)
+      ∙ ap (λ ls. ls ++ border_lines_of columns m seen.next) (laid_lines columns seen.lines top ∙ ap (λ ls. first ++ ls) (same_laid m first seen.overhang seen.lines))
       ∙ append_assoc first laid (border_lines_of columns m seen.next)
 
   -- lines stay where the border above a row is put in
   pub top_stays : (collapses : Bool) (cells : List (GivenCell (List A))) (m s : Renderer D A (List A)) (puts : PutsRow columns collapses cells m s) → AllZip StaysLine m.lines (under_row m puts.row).lines
   top_stays collapses cells m s puts = subst (λ (o : Option (Border (List A))). AllZip StaysLine m.lines (before_border m.lines ++ border_lines o)) (sym puts.means.upper) (top_put_back collapses puts.means.cells m.lines)
 
-  put_piece : (collapses : Bool) (cells : List (GivenCell (List A))) (m s : Renderer D A (List A)) → m.block ≡ None → s.block ≡ None → (puts : PutsRow columns collapses cells m s) → ComesInPieces columns (cells ∷ []) m (laid_entries (joined puts.row.lines)) s
-  put_piece collapses cells m s none closed puts =
+  -- What came in pieces, to a renderer that is the same but for what calls and rows may change.
+  pub record Along (xs : List (List (GivenCell (List A)))) (rs : List (Added D A)) (r : Renderer D A (List A)) (es : List (Entry (List A))) (s : Renderer D A (List A)) : Type 0 where
+    pub width : s.width ≡ r.width
+    pub options : s.options ≡ r.options
+    pub came : ComesInPieces columns xs r es s
+    pub added : flat_map (added_of_piece columns) came.pieces ≡ rs
+    pub chain : Chain columns r.options.draw_borders r.hanging (rows_in came.pieces) s.hanging
+
+  along_on : (xs ys : List (List (GivenCell (List A)))) (rs ss : List (Added D A)) (r q s : Renderer D A (List A)) (es fs : List (Entry (List A))) → Along xs rs r es q → Along ys ss q fs s → Along (xs ++ ys) (rs ++ ss) r (es ++ fs) s
+  along_on xs ys rs ss r q s es fs h k =
+      let front = h.came.pieces in
+      let back = k.came.pieces in
+      let first = flat_map (lines_of_piece columns) front in
+      let after_them = flat_map (lines_of_piece columns) back in
+      let before = flat_map (entries_of_piece columns) front in
+      let after = flat_map (entries_of_piece columns) back in
+      record {
+        width = k.width ∙ h.width;
+        options = k.options ∙ h.options;
+        came = record {
+          pieces = front ++ back;
+          are = each_append (IsPiece columns r) front back h.came.are (each_gives (IsPiece columns q) (IsPiece columns r) (piece_of_other r q h.width h.options) back k.came.are);
+          lines = subst (λ ls. AllZip StaysLine ls s.lines) (append_assoc r.lines first after_them ∙ ap (λ ls. r.lines ++ ls) (sym (flat_map-append (lines_of_piece columns) front back)))
+              (stay_on ((r.lines ++ first) ++ after_them) (q.lines ++ after_them) s.lines (all_zip_append StaysLine (r.lines ++ first) after_them q.lines after_them h.came.lines (all_stay after_them)) k.came.lines);
+          entries = sym (append_assoc (open_run r.block) es fs) ∙ ap (λ gs. gs ++ fs) h.came.entries ∙ append_assoc before (open_run q.block) fs ∙ ap (λ gs. before ++ gs) k.came.entries
+              ∙ sym (append_assoc before after (open_run s.block)) ∙ ap (λ gs. gs ++ open_run s.block) (sym (flat_map-append (entries_of_piece columns) front back));
+          put_rows = ap (map cells_in) (rows_append front back) ∙ map-append cells_in (rows_in front) (rows_in back) ∙ ap (λ zs. zs ++ map cells_in (rows_in back)) h.came.put_rows ∙ ap (λ zs. xs ++ zs) k.came.put_rows;
+        };
+        added = flat_map-append (added_of_piece columns) front back ∙ ap (λ ts. ts ++ flat_map (added_of_piece columns) back) h.added ∙ ap (λ ts. rs ++ ts) k.added;
+        chain = subst (λ rows. Chain columns r.options.draw_borders r.hanging rows s.hanging) (sym (rows_append front back))
+            (chain_append columns r.options.draw_borders r.hanging (rows_in front) q.hanging (rows_in back) s.hanging h.chain
+            (subst (λ (o : RenderOptions). Chain columns o.draw_borders q.hanging (rows_in back) s.hanging) h.options k.chain));
+      }
+
+  -- these pieces came
+  these : (r s : Renderer D A (List A)) (es : List (Entry (List A))) (ps : List (Piece D A columns)) → s.width ≡ r.width → s.options ≡ r.options → Each (IsPiece columns r) ps →
+      AllZip StaysLine (r.lines ++ flat_map (lines_of_piece columns) ps) s.lines → open_run r.block ++ es ≡ flat_map (entries_of_piece columns) ps ++ open_run s.block →
+      Chain columns r.options.draw_borders r.hanging (rows_in ps) s.hanging → Along (map cells_in (rows_in ps)) (flat_map (added_of_piece columns) ps) r es s
+  these r s es ps width options are lines entries chain =
+      record { width = width; options = options; came = record { pieces = ps; are = are; lines = lines; entries = entries; put_rows = refl }; added = refl; chain = chain }
+
+  -- parts of calls
+  course_along : (r s : Renderer D A (List A)) (es : List (Entry (List A))) (bs : List (List BorderCell)) (xs : List (Added D A)) → Course columns any r s es bs xs → IsSound columns r → Along [] xs r es s
+  course_along r s es bs xs path sound =
+      let came = course_parts columns any r s es bs path sound in
+      let parts = came.parts.parts in
+      let same = path_frame columns any r s es bs path in
+      record {
+        width = ap (λ (f : Frame A). f.width) same;
+        options = ap (λ (f : Frame A). f.options) same;
+        came = record {
+          pieces = map part parts;
+          are = each_map (IsPart columns r) (IsPiece columns r) part (λ p k. k) parts came.parts.are;
+          lines = subst (λ ls. AllZip StaysLine ls s.lines) (came.parts.lines ∙ ap (λ ls. r.lines ++ ls) (sym (flat_map-map (lines_of_piece columns) part parts))) (all_stay s.lines);
+          entries = came.parts.entries ∙ ap (λ fs. fs ++ open_run s.block) (sym (flat_map-map (entries_of_piece columns) part parts));
+          put_rows = ap (map cells_in) (no_rows parts);
+        };
+        added = flat_map-map (added_of_piece columns) part parts ∙ came.added;
+        chain = subst (λ rows. Chain columns r.options.draw_borders r.hanging rows s.hanging) (sym (no_rows parts)) (ap (λ (f : Frame A). f.hanging) same);
+      }
+
+  row_along : (collapses : Bool) (cells : List (GivenCell (List A))) (m s : Renderer D A (List A)) → m.block ≡ None → s.block ≡ None → (puts : PutsRow columns collapses cells m s) → Along (cells ∷ []) (row_put collapses cells ∷ []) m (laid_entries (joined puts.row.lines)) s
+  row_along collapses cells m s none closed puts =
       let seen = puts.row in
+      let same = ap (λ (q : Renderer D A (List A)). beside q) puts.is ∙ row_beside columns m seen in
       let above = before_border m.lines ++ border_lines seen.above in
       let new = lines_laid columns m seen.lines ++ border_lines_of columns m seen.next in
-      let one : Piece D A columns = put (record { before = m; after = s; collapses = collapses; cells = cells; puts = puts }) in
       let es = laid_entries (joined seen.lines) in
-      record {
-        pieces = one ∷ [];
-        are = (record { width = refl; options = refl; block = none }, tt);
-        lines = subst (λ ls. AllZip StaysLine (m.lines ++ (new ++ [])) ls) (sym (ap (λ (q : Renderer D A (List A)). q.lines) puts.is ∙ row_lines m seen))
-            (subst (λ ls. AllZip StaysLine (m.lines ++ ls) (above ++ new)) (sym (append-nil new)) (all_zip_append StaysLine m.lines new above new (top_stays collapses cells m s puts) (all_stay new)));
-        entries = ap (λ (o : Option (Open (List A))). open_run o ++ es) none ∙ sym (append-nil es) ∙ sym (append-nil (es ++ [])) ∙ ap (λ (o : Option (Open (List A))). (es ++ []) ++ open_run o) (sym closed);
-        put_rows = refl;
-      }
+      let whole : AllZip StaysLine (m.lines ++ (new ++ [])) s.lines =
+      subst (λ ls. AllZip StaysLine (m.lines ++ (new ++ [])) ls) (sym (ap (λ (q : Renderer D A (List A)). q.lines) puts.is ∙ row_lines m seen))
+      (subst (λ ls. AllZip StaysLine (m.lines ++ ls) (above ++ new)) (sym (append-nil new)) (all_zip_append StaysLine m.lines new above new (top_stays collapses cells m s puts) (all_stay new))) in
+      these m s es (put (record { before = m; after = s; collapses = collapses; cells = cells; puts = puts }) ∷ [])
+      (ap (λ (q : Renderer D A (List A)). q.width) same) (ap (λ (q : Renderer D A (List A)). q.options) same) (record { width = refl; options = refl; block = none }, tt) whole
+      (ap (λ (o : Option (Open (List A))). open_run o ++ es) none ∙ sym (append-nil es) ∙ sym (append-nil (es ++ [])) ∙ ap (λ (o : Option (Open (List A))). (es ++ []) ++ open_run o) (sym closed))
+      (refl, refl, ap (λ (q : Renderer D A (List A)). q.hanging) same)
+
+  -- one that adds nothing, whatever it makes of the decorator
+  asked_along : (d : D) (r : Renderer D A (List A)) → Along [] [] r [] (record r { decorator = d })
+  asked_along d r = these r (record r { decorator = d }) [] [] refl refl tt (subst (λ ls. AllZip StaysLine ls r.lines) (sym (append-nil r.lines)) (all_stay r.lines)) (append-nil (open_run r.block)) refl
+
+  -- footnotes' lines
+  noted_along : (ts : List (List (Item (List A)))) (r : Renderer D A (List A)) → Along [] (map text_laid ts) r [] (fold (with_line columns) r ts)
+  noted_along [] r = asked_along r.decorator r
+  noted_along (t ∷ ts) r =
+      let q : Renderer D A (List A) = with_line columns r t in
+      along_on [] [] (text_laid t ∷ []) (map text_laid ts) r q (fold (with_line columns) q ts) [] []
+      (these r q [] (noted r t ∷ []) refl refl ((refl, refl), tt) (all_stay q.lines) (append-nil (open_run r.block)) refl) (noted_along ts q)
 
   module _ (decoration : Decoration D A) where
     -- ---- calls and rows
@@ -153,96 +190,16 @@ module _ {D A : Type 0} (columns : ℕ → Option ℕ) where
         )
 
     pub rows_one : (act : Act A) (acts : List (Act A)) → rows_of (act ∷ acts) ≡ rows_of (act ∷ []) ++ rows_of acts
-    rows_one (call c) acts = refl
     rows_one (row collapses cells) acts = refl
-    rows_one (fmt_links links) acts = refl
-    rows_one (finalise targets) acts = refl
-
-    -- What came in pieces, to a renderer that is the same but for what calls and rows may change.
-    pub record Along (xs : List (List (GivenCell (List A)))) (rs : List (Added D A)) (r : Renderer D A (List A)) (es : List (Entry (List A))) (s : Renderer D A (List A)) : Type 0 where
-      pub width : s.width ≡ r.width
-      pub options : s.options ≡ r.options
-      pub came : ComesInPieces columns xs r es s
-      pub added : flat_map (added_of_piece columns) came.pieces ≡ rs
-      pub chain : Chain columns r.options.draw_borders r.hanging (rows_in came.pieces) s.hanging
-
-    along_on : (xs ys : List (List (GivenCell (List A)))) (rs ss : List (Added D A)) (r q s : Renderer D A (List A)) (es fs : List (Entry (List A))) → Along xs rs r es q → Along ys ss q fs s → Along (xs ++ ys) (rs ++ ss) r (es ++ fs) s
-    unfolding come_on
-    along_on xs ys rs ss r q s es fs h k =
-        let chained : Chain columns r.options.draw_borders q.hanging (rows_in k.came.pieces) s.hanging =
-        subst (λ (o : RenderOptions). Chain columns o.draw_borders q.hanging (rows_in k.came.pieces) s.hanging) h.options k.chain in
-        record {
-          width = k.width ∙ h.width;
-          options = k.options ∙ h.options;
-          came = come_on xs ys r q s es fs h.width h.options h.came k.came;
-          added = flat_map-append (added_of_piece columns) h.came.pieces k.came.pieces ∙ ap (λ ts. ts ++ flat_map (added_of_piece columns) k.came.pieces) h.added ∙ ap (λ ts. rs ++ ts) k.added;
-          chain = subst (λ rows. Chain columns r.options.draw_borders r.hanging rows s.hanging) (sym (rows_append h.came.pieces k.came.pieces))
-              (chain_append columns r.options.draw_borders r.hanging (rows_in h.came.pieces) q.hanging (rows_in k.came.pieces) s.hanging h.chain chained);
-        }
-
-    -- what a call alone adds
-    one_adds : (c : Call (List A)) (o : Outcome (Renderer D A (List A))) (r : Renderer D A (List A)) → call_adds columns decoration c r ++ told_by (λ t. []) o ≡ call_adds columns decoration c r
-    one_adds c (done s) r = append-nil (call_adds columns decoration c r)
-    one_adds c (refused e) r = append-nil (call_adds columns decoration c r)
-
-    call_along : (c : Call (List A)) (r s : Renderer D A (List A)) (es : List (Entry (List A))) → IsSound columns r → Brings columns decoration (c ∷ []) r es s → Along [] (call_adds columns decoration c r) r es s
-    unfolding as_pieces
-    call_along c r s es sound h =
-        let path = calls_move columns any decoration (c ∷ []) r s es tt h in
-        let (parts, borders, added) = brings_parts columns decoration (c ∷ []) r s es sound h in
-        let none : calls_add columns decoration (c ∷ []) r ≡ call_adds columns decoration c r = one_adds c (after columns decoration c r) r in
-        record {
-          width = path_width columns any r s es _ path;
-          options = path_options columns any r s es _ path;
-          came = as_pieces r s es parts;
-          added = flat_map_map (added_of_piece columns) part parts.parts ∙ added ∙ none;
-          chain = subst (λ rows. Chain columns r.options.draw_borders r.hanging rows s.hanging) (sym (no_rows parts.parts)) (path_hanging columns any r s es _ path);
-        }
-
-    row_along : (collapses : Bool) (cells : List (GivenCell (List A))) (m s : Renderer D A (List A)) → m.block ≡ None → s.block ≡ None → (puts : PutsRow columns collapses cells m s) → Along (cells ∷ []) (row_put collapses cells ∷ []) m (laid_entries (joined puts.row.lines)) s
-    unfolding put_piece
-    row_along collapses cells m s none closed puts =
-        let seen = puts.row in
-        let same = ap (λ (q : Renderer D A (List A)). beside q) puts.is ∙ row_beside columns m seen in
-        record {
-          width = ap (λ (q : Renderer D A (List A)). q.width) same;
-          options = ap (λ (q : Renderer D A (List A)). q.options) same;
-          came = put_piece collapses cells m s none closed puts;
-          added = refl;
-          chain = (refl, refl, ap (λ (q : Renderer D A (List A)). q.hanging) same);
-        }
-
-    -- one that adds nothing, whatever it makes of the decorator
-    asked_along : (d : D) (r : Renderer D A (List A)) → Along [] [] r [] (record r { decorator = d })
-    asked_along d r = record {
-      width = refl;
-      options = refl;
-      came = record { pieces = []; are = tt; lines = subst (λ ls. AllZip StaysLine ls r.lines) (sym (append-nil r.lines)) (all_stay r.lines); entries = append-nil (open_run r.block); put_rows = refl };
-      added = refl;
-      chain = refl;
-    }
-
-    -- footnotes' lines
-    noted_along : (ts : List (List (Item (List A)))) (r : Renderer D A (List A)) → Along [] (map text_laid ts) r [] (fold (with_line columns) r ts)
-    noted_along [] r = asked_along r.decorator r
-    noted_along (t ∷ ts) r =
-        let q : Renderer D A (List A) = with_line columns r t in
-        let one : Along [] (text_laid t ∷ []) r [] q = record {
-          width = refl;
-          options = refl;
-          came = record { pieces = noted r t ∷ []; are = ((refl, refl), tt); lines = all_stay q.lines; entries = append-nil (open_run r.block); put_rows = refl };
-          added = refl;
-          chain = refl;
-        } in
-        along_on [] [] (text_laid t ∷ []) (map text_laid ts) r q (fold (with_line columns) q ts) [] [] one (noted_along ts q)
+    rows_one other acts = refl
 
     act_along : (act : Act A) (r s : Renderer D A (List A)) → IsSound columns r → ActStep columns decoration act r s → Along (rows_of (act ∷ [])) (act_adds columns decoration act r) r (act_enters columns decoration act r) s
-    act_along (call c) r s sound h = call_along c r s _ sound (alone c r s h)
+    act_along (call c) r s sound h = course_along r s _ _ _ (call_moves columns any decoration c r s ((λ appends is. tt), λ adds appends. tt) h) sound
     act_along (fmt_links links) r s sound h = subst (λ (q : Renderer D A (List A)). Along [] (act_adds columns decoration (fmt_links links) r) r [] q) (sym h) (noted_along (flat_map (footnote_lines columns r) links) r)
     act_along (finalise targets) r s sound h = subst (λ (q : Renderer D A (List A)). Along [] [] r [] q) (sym h) (asked_along (decoration.after r.decorator (change.finalise (listed r.options targets))) r)
     act_along (row collapses cells) r s sound h =
         let (m, flushed, puts, is) = h in
-        let first = call_along new_line r m [] sound (alone new_line r m flushed) in
+        let first = course_along r m [] [] (flush_ends r) (one columns any (flush r) r m (refl, row_flushes columns r m flushed)) sound in
         let closed = row_closed columns r s (m, flushed, puts.row, puts.is) in
         let second = row_along collapses cells m s (flushed_none columns r m (row_flushes columns r m flushed)) closed puts in
         let puts_it : List (Added D A) = row_put collapses cells ∷ [] in
@@ -252,15 +209,13 @@ module _ {D A : Type 0} (columns : ℕ → Option ℕ) where
     acts_along [] r s sound h = subst (λ (q : Renderer D A (List A)). Along [] [] r [] q) (sym (one_done r s h)) (asked_along r.decorator r)
     acts_along (act ∷ acts) r s sound h =
         let (m, does, others) = done_first (after_act columns decoration act r) (after_acts columns decoration acts) s h in
-        let first = act_enters columns decoration act r in
-        let rest = acts_enter columns decoration acts m in
-        let here = act_along act r m sound (act_step columns decoration act r m does) in
-        let still = sound_alike columns r m here.width here.options sound in
         let adds = act_adds columns decoration act r in
-        let later = acts_add columns decoration acts m in
-        subst (λ xs. Along (rows_of (act ∷ acts)) xs r (acts_enter columns decoration (act ∷ acts) r) s) (sym (told_then (act_adds columns decoration) (after_act columns decoration) act acts r m does))
-        (subst (λ fs. Along (rows_of (act ∷ acts)) (adds ++ later) r fs s) (sym (told_then (act_enters columns decoration) (after_act columns decoration) act acts r m does))
-        (subst (λ xs. Along xs (adds ++ later) r (first ++ rest) s) (sym (rows_one act acts)) (along_on (rows_of (act ∷ [])) (rows_of acts) adds later r m s first rest here (acts_along acts m s still others))))
+        let enters = act_enters columns decoration act r in
+        let here = act_along act r m sound (act_step columns decoration act r m does) in
+        let there = acts_along acts m s (sound_alike columns r m here.width here.options sound) others in
+        subst (λ o. Along (rows_of (act ∷ acts)) (adds ++ told_by (acts_add columns decoration acts) o) r (enters ++ told_by (acts_enter columns decoration acts) o) s) (sym does)
+        (subst (λ xs. Along xs (adds ++ acts_add columns decoration acts m) r (enters ++ acts_enter columns decoration acts m) s) (sym (rows_one act acts))
+        (along_on (rows_of (act ∷ [])) (rows_of acts) adds (acts_add columns decoration acts m) r m s enters (acts_enter columns decoration acts m) here there))
 
     pub act_sound : (act : Act A) (r s : Renderer D A (List A)) → IsSound columns r → ActStep columns decoration act r s → (s.options ≡ r.options) × IsSound columns s
     act_sound act r s sound h = let along = act_along act r s sound h in (along.options, sound_alike columns r s along.width along.options sound)

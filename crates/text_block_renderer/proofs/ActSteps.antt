@@ -1,10 +1,9 @@
 -- Calls and rows one by one: each is a call, or a row that is put after a flush.
-use Rattle.std.proofs.Common.{◌≡◌, ℕ, Bool, Option, None, Some, List, [], ◌∷◌, ◌++◌, refl, ap, sym, ◌∙◌}
-use Rattle.std.specs.Option.{option_map}
+use Rattle.std.proofs.Common.{◌≡◌, ℕ, Option, List, [], ◌∷◌, ◌++◌, subst, ap, sym, ◌∙◌}
 use Rattle.std.specs.Cmp.Lexicographic.{pointwise}
 use Rattle.tbr_model.specs.Run.{Entry}
 use Rattle.tbr_model.specs.Layout.{joined}
-use Rattle.tbr_rows.specs.Meant.{SeenRow}
+use Rattle.tbr_rows.specs.Meant.{MeansRow}
 use Rattle.tbr_rows.specs.Computed.{TellsApart}
 use Rattle.tbr_rows.proofs.ComputedRow.{computed}
 use Rattle.tbr_decor.specs.Change as change
@@ -15,16 +14,12 @@ use Rattle.tbr_kept_lines.specs.LastBorder.{last_border}
 use Rattle.tbr_renderer.specs.Renderer.{Renderer}
 use Rattle.tbr_renderer.specs.Flush.{after_flush}
 use Rattle.tbr_renderer.specs.Footnotes.{listed, with_footnotes}
-use Rattle.tbr_renderer.specs.Outcomes.{and_then, run, told_by, told}
-use Rattle.tbr_renderer.specs.Rows.{GivenCell, style_in, with_row, PutsRow, cells_from, row_put, placed}
+use Rattle.tbr_renderer.specs.Outcomes.{and_then, run, told_by}
+use Rattle.tbr_renderer.specs.Rows.{style_in, PutsRow, cells_from}
 use Rattle.tbr_renderer.specs.Calls.{Does, laid_entries}
 use Rattle.tbr_renderer.proofs.OutcomeParts.{one_done, done_first, run_last}
-use Rattle.tbr_renderer.proofs.ComputedRows.{lists_apart, cells_come, cells_side_by_side}
+use Rattle.tbr_renderer.proofs.ComputedRows.{lists_apart, cells_come, cells_side_by_side, one_own, row_computed}
 use Rattle.text_block_renderer.specs.Acts.{Act, call, row, fmt_links, finalise, after_act, row_seen, texts_of_row, act_brought, act_comes, acts_come}
-
--- what calls tell after the first one
-pub told_then : {C S X : Type 0} (tell : C → S → List X) (does : C → S → Outcome S) (c : C) (calls : List C) (s m : S) → does c s ≡ done m → told tell does (c ∷ calls) s ≡ tell c s ++ told tell does calls m
-told_then tell does c calls s m is = ap (λ o. tell c s ++ told_by (told tell does calls) o) is
 
 module _ {D A : Type 0} (columns : ℕ → Option ℕ) (decoration : Decoration D A) where
   -- one that succeeds; of a row, what it brings
@@ -39,35 +34,18 @@ module _ {D A : Type 0} (columns : ℕ → Option ℕ) (decoration : Decoration 
   abbrev pub after_acts : List (Act A) → Renderer D A (List A) → Outcome (Renderer D A (List A))
   after_acts = run (after_act columns decoration)
 
-  -- a row is put
-  row_step : (collapses : Bool) (cells : List (GivenCell (List A))) (r s : Renderer D A (List A)) → after_act columns decoration (row collapses cells) r ≡ done s → ActStep (row collapses cells) r s
-  row_step collapses cells r s h =
-      let (m, flushed, put) = done_first (if_live r.failure (after_flush columns r)) (λ q. placed (row_put (pointwise decoration.same) columns collapses cells q)) s h in
-      let (puts, seen) = go m (row_seen columns decoration collapses cells m) refl put in
-      (m, flushed, puts, ap (told_by (λ q. texts_of_row columns decoration (row_seen columns decoration collapses cells q))) (live_done r.failure (after_flush columns r) m flushed).1 ∙ ap (texts_of_row columns decoration) seen)
-    where
-      tells : TellsApart (pointwise decoration.same)
-      tells = lists_apart decoration.same decoration.tells
-
-      go : (m : Renderer D A (List A)) (o : Option (SeenRow (List A))) → row_seen columns decoration collapses cells m ≡ o → placed (option_map (with_row columns m) o) ≡ done s →
-          (puts : PutsRow columns collapses cells m s) × (row_seen columns decoration collapses cells m ≡ Some puts.row)
-      go m None is put = absurd (let no : ⊥ = cc in no)
-      go m (Some seen) is put =
-          let own = cells_from (pointwise decoration.same) columns m.annotations 0 cells in (
-            record {
-              own = own;
-              come = cells_come (pointwise decoration.same) tells columns m.annotations 0 cells;
-              side_by_side = cells_side_by_side (pointwise decoration.same) tells columns m.annotations 0 cells;
-              row = seen;
-              means = (computed (pointwise decoration.same) tells columns (style_in m collapses) m.annotations m.hanging own (last_border m.lines) seen).1 is;
-              is = one_done (with_row columns m seen) s put;
-            },
-            is,
-          )
-
   pub act_step : (act : Act A) (r s : Renderer D A (List A)) → after_act columns decoration act r ≡ done s → ActStep act r s
   act_step (call c) r s h = h
-  act_step (row collapses cells) r s h = row_step collapses cells r s h
+  act_step (row collapses cells) r s h =
+      let same = pointwise decoration.same in
+      let tells : TellsApart same = lists_apart decoration.same decoration.tells in
+      let (m, flushed, puts) = (row_computed same tells columns collapses cells r s).1 h in
+      let own = cells_from same columns m.annotations 0 cells in
+      let come = cells_come same tells columns m.annotations 0 cells in
+      let there = one_own columns m.annotations 0 cells puts.own own puts.come come puts.side_by_side (cells_side_by_side same tells columns m.annotations 0 cells) in
+      let means = subst (λ cs. MeansRow columns (style_in m collapses) m.annotations m.hanging cs (last_border m.lines) puts.row) there puts.means in
+      let seen = (computed same tells columns (style_in m collapses) m.annotations m.hanging own (last_border m.lines) puts.row).0 means in
+      (m, flushed, puts, ap (told_by (λ q. texts_of_row columns decoration (row_seen columns decoration collapses cells q))) (live_done r.failure (after_flush columns r) m flushed).1 ∙ ap (texts_of_row columns decoration) seen)
   act_step (fmt_links links) r s h = one_done (with_footnotes columns r links) s (live_done r.failure (done (with_footnotes columns r links)) s h).1
   act_step (finalise targets) r s h =
       let q : Renderer D A (List A) = record r { decorator = decoration.after r.decorator (change.finalise (listed r.options targets)) } in
@@ -83,8 +61,7 @@ module _ {D A : Type 0} (columns : ℕ → Option ℕ) (decoration : Decoration 
   acts_then (a ∷ acts) act r m s es h does =
       let (n, first, others) = done_first (after_act columns decoration a r) (after_acts acts) m h in
       let came = act_comes columns decoration a r es in
-      let (leads, all) = acts_then acts act n m s came others does in (
-        ap (λ o. and_then o (after_acts (acts ++ act ∷ []))) first ∙ leads,
-        ap (told_by (λ q. acts_come columns decoration (acts ++ act ∷ []) q came)) first ∙ all
-            ∙ ap (act_comes columns decoration act m) (sym (ap (told_by (λ q. acts_come columns decoration acts q came)) first)),
-      )
+      subst
+      (λ o. (and_then o (after_acts (acts ++ act ∷ [])) ≡ done s) × (told_by (λ q. acts_come columns decoration (acts ++ act ∷ []) q came) o
+      ≡ act_comes columns decoration act m (told_by (λ q. acts_come columns decoration acts q came) o)))
+      (sym first) (acts_then acts act n m s came others does)

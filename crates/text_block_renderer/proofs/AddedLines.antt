@@ -9,7 +9,7 @@ use Rattle.tbr_decor.specs.Decoration.{Decoration}
 use Rattle.tbr_model.specs.Markers.{marker_items}
 use Rattle.text_block_renderer.specs.Stretches.{padded_line, lines_laid}
 use Rattle.tbr_renderer.specs.Calls.{Call, Steps, brought}
-use Rattle.text_block_renderer.proofs.Moves.{Move, flush, line, rule, join, turn, Makes, MakesAll, through, any}
+use Rattle.text_block_renderer.proofs.Moves.{Move, flush, join, turn, Makes, MakesAll, through, any}
 use Rattle.text_block_renderer.proofs.CallMoves.{calls_move}
 
 abbrev pub Grows : {D A : Type 0} → Renderer D A (List A) → Renderer D A (List A) → Type 0
@@ -24,38 +24,31 @@ module _ {D A : Type 0} where
 
 module _ {D A : Type 0} (columns : ℕ → Option ℕ) where
   -- where no marker waits
-  pub unmarked_lines : (ts : List (List (Item (List A)))) (r : Renderer D A (List A)) → r.waiting ≡ [] → (fold (with_line columns) r ts).lines ≡ r.lines ++ map (padded_line columns r) ts
-  unmarked_lines [] r none = sym (append-nil r.lines)
-  unmarked_lines (t ∷ ts) r none =
-      unmarked_lines ts (with_line columns r t) refl
-      ∙ append_assoc r.lines (padded_line columns r (marker_items r.waiting ++ t) ∷ []) (map (padded_line columns r) ts)
-      ∙ ap (λ ns. r.lines ++ padded_line columns r (marker_items ns ++ t) ∷ map (padded_line columns r) ts) none
+  pub unmarked : (r : Renderer D A (List A)) (ts : List (List (Item (List A)))) → r.waiting ≡ [] → lines_laid columns r ts ≡ map (padded_line columns r) ts
+  unmarked r [] none = refl
+  unmarked r (t ∷ ts) none = ap (λ ns. padded_line columns r (marker_items ns ++ t) ∷ map (padded_line columns r) ts) none
 
   pub laid_lines : (ts : List (List (Item (List A)))) (r : Renderer D A (List A)) → (fold (with_line columns) r ts).lines ≡ r.lines ++ lines_laid columns r ts
   laid_lines [] r = sym (append-nil r.lines)
   laid_lines (t ∷ ts) r =
-      unmarked_lines ts (with_line columns r t) refl
-      ∙ append_assoc r.lines (padded_line columns r (marker_items r.waiting ++ t) ∷ []) (map (padded_line columns r) ts)
+      let q : Renderer D A (List A) = with_line columns r t in
+      laid_lines ts q ∙ ap (λ ls. q.lines ++ ls) (unmarked q ts refl) ∙ append_assoc r.lines (padded_line columns r (marker_items r.waiting ++ t) ∷ []) (map (padded_line columns r) ts)
 
-  one_line_grows : (r : Renderer D A (List A)) (is : List (Item (List A))) → Grows r (with_line columns r is)
-  one_line_grows r is = (_, refl)
+  pub unmarked_lines : (ts : List (List (Item (List A)))) (r : Renderer D A (List A)) → r.waiting ≡ [] → (fold (with_line columns) r ts).lines ≡ r.lines ++ map (padded_line columns r) ts
+  unmarked_lines ts r none = laid_lines ts r ∙ ap (λ ls. r.lines ++ ls) (unmarked r ts none)
 
   pub lines_grow : (texts : List (List (Item (List A)))) (r : Renderer D A (List A)) → Grows r (fold (with_line columns) r texts)
-  lines_grow [] r = stays r r refl
-  lines_grow (t ∷ ts) r = grows_on r (with_line columns r t) (fold (with_line columns) (with_line columns r t) ts) (one_line_grows r t) (lines_grow ts (with_line columns r t))
+  lines_grow texts r = (lines_laid columns r texts, laid_lines texts r)
 
   flush_grows : (r s : Renderer D A (List A)) (o : Option (Open (List A))) → FlushesBlock columns r o s → Grows r s
   flush_grows r s None h = stays r s (ap (λ (q : Renderer D A (List A)). q.lines) h)
-  flush_grows r s (Some b) h =
-      let g = lines_grow (block_lines columns r b (lines_at_end columns r b)) (record r { block = None }) in
-      (g.0, ap (λ (q : Renderer D A (List A)). q.lines) h.is ∙ g.1)
+  flush_grows r s (Some b) h = (_, ap (λ (q : Renderer D A (List A)). q.lines) h.is ∙ laid_lines (block_lines columns r b (lines_at_end columns r b)) (record r { block = None }))
 
   move_grows : (m : Move D A) (r s : Renderer D A (List A)) → Makes columns any m r s → Grows r s
   move_grows (flush q) r s h = flush_grows r s r.block h.1
-  move_grows (line is) r s h = (_, ap (λ (q : Renderer D A (List A)). q.lines) h.2)
-  move_grows (rule cells) r s h = (_, ap (λ (q : Renderer D A (List A)). q.lines) h.2)
   move_grows (join es) r s h = stays r s (ap (λ (q : Renderer D A (List A)). q.lines) h)
   move_grows turn r s h = stays r s h.lines
+  move_grows other r s h = (_, ap (λ (q : Renderer D A (List A)). q.lines) h.2)
 
   pub moves_grow : (ms : List (Move D A)) (r s : Renderer D A (List A)) → MakesAll columns any ms r s → Grows r s
   moves_grow = through columns any Grows (λ r s e. stays r s (ap (λ (q : Renderer D A (List A)). q.lines) e)) grows_on move_grows

@@ -3,6 +3,8 @@ use Rattle.std.proofs.Common.{◌≡◌, ℕ, inl, zero, suc, Bool, true, false,
 use Rattle.std.specs.List.{AllZip}
 use Rattle.std.proofs.lemmas.List.Elements.{filter-append}
 use Rattle.std.proofs.lemmas.List.Concat.{flat_map-append}
+use Rattle.std.proofs.lemmas.Simd.{map-map}
+use Rattle.std.proofs.lemmas.Bool.{cond_both}
 use Rattle.std.proofs.lemmas.Grind.{fold-append}
 use Rattle.tbr_model.specs.Run.{Entry, character, marker_entry, Item, glyph, marker, is_kept, items_of, kept_items}
 use Rattle.tbr_model.specs.Layout.{joined}
@@ -25,7 +27,7 @@ use Rattle.tbr_renderer.proofs.FlushedBlocks.{EndsBlock}
 use Rattle.tbr_renderer.specs.Outcomes.{run}
 use Rattle.tbr_tagged.specs.Outcome.{done}
 use Rattle.tbr_renderer.specs.Appended.{with_border}
-use Rattle.tbr_renderer.specs.Calls.{laid_entries, text_of_lines}
+use Rattle.tbr_renderer.specs.Calls.{laid_entry, laid_entries, text_of_lines}
 use Rattle.text_block_renderer.specs.MarkersStand.{items_so_far, Stands}
 use Rattle.text_block_renderer.specs.Acts.{Act, after_act, acts_come}
 use Rattle.text_block_renderer.proofs.Moves.{Move, brought_by, Makes, undrawn}
@@ -60,9 +62,18 @@ at_unspaced = at_passing (λ i. not (is_space_item i)) (λ a. refl)
 
 -- ---- what stands for entries
 
+-- Items are the visible characters and the markers of entries.
+abbrev pub Show : {T : Type 0} → (ℕ → Option ℕ) → List (Item T) → List (Entry T) → Type 0
+Show columns is es = AllZip (ShowsEntry (λ a b. a ≡ b)) is (filter (is_entry_to_show columns) es)
+
+pub show_both : {T : Type 0} (columns : ℕ → Option ℕ) (is js : List (Item T)) (es fs : List (Entry T)) → Show columns is es → Show columns js fs → Show columns (is ++ js) (es ++ fs)
+show_both columns is js es fs h k =
+    subst (AllZip (ShowsEntry (λ a b. a ≡ b)) (is ++ js)) (sym (filter-append (is_entry_to_show columns) es fs))
+    (all_zip_append (ShowsEntry (λ a b. a ≡ b)) is js (filter (is_entry_to_show columns) es) (filter (is_entry_to_show columns) fs) h k)
+
 -- Items have the visible characters and the markers of entries, and, where these are `Normal`, their kept items.
 pub record StandFor {T : Type 0} (columns : ℕ → Option ℕ) (is : List (Item T)) (es : List (Entry T)) : Type 0 where
-  pub order : AllZip (ShowsEntry (λ a b. a ≡ b)) (filter (is_visible_or_marker columns) is) (filter (is_entry_to_show columns) es)
+  pub order : Show columns (filter (is_visible_or_marker columns) is) es
   pub names : names_in_items is ≡ names_in_run es
   pub kept : IsNormal es → without_spaces is ≡ kept_items columns es
 
@@ -81,10 +92,8 @@ module _ {T : Type 0} (columns : ℕ → Option ℕ) where
   -- one after the other
   pub stand_after : (old more new : List (Item T)) (es fs : List (Entry T)) → SeenAfter old more new → StandFor columns old es → StandFor columns more fs → StandFor columns new (es ++ fs)
   stand_after old more new es fs seen h k = record {
-    order =
-        let both = all_zip_append (ShowsEntry (λ a b. a ≡ b)) (filter (is_visible_or_marker columns) old) (filter (is_visible_or_marker columns) more) (filter (is_entry_to_show columns) es) (filter (is_entry_to_show columns) fs) h.order k.order in
-        subst (λ (gs : List (Entry T)). AllZip (ShowsEntry (λ a b. a ≡ b)) (filter (is_visible_or_marker columns) new) gs) (sym (filter-append (is_entry_to_show columns) es fs))
-        (subst (λ (is : List (Item T)). AllZip (ShowsEntry (λ a b. a ≡ b)) is (filter (is_entry_to_show columns) es ++ filter (is_entry_to_show columns) fs)) (sym (seen (Item T) (filter (is_visible_or_marker columns)) (at_shown columns))) both);
+    order = subst (λ is. Show columns is (es ++ fs)) (sym (seen (Item T) (filter (is_visible_or_marker columns)) (at_shown columns)))
+        (show_both columns (filter (is_visible_or_marker columns) old) (filter (is_visible_or_marker columns) more) es fs h.order k.order);
     names = seen (List ℕ) names_in_items at_names ∙ ap (λ ns. ns ++ names_in_items more) h.names ∙ ap (λ ns. names_in_run es ++ ns) k.names ∙ sym (names_in_run-append es fs);
     kept = λ normal.
         seen (Item T) without_spaces at_unspaced ∙ ap (λ is. is ++ without_spaces more) (h.kept (each_front (HasMode Normal) es fs normal))
@@ -93,32 +102,21 @@ module _ {T : Type 0} (columns : ℕ → Option ℕ) where
 
   -- ---- markers alone
 
-  pub shown_markers : (names : List (List ℕ)) → filter (is_visible_or_marker columns) (let is : List (Item T) = marker_items names in is) ≡ marker_items names
-  shown_markers [] = refl
-  shown_markers (name ∷ names) = ap (λ (is : List (Item T)). marker name ∷ is) (shown_markers names)
+  markers_pass : (test : Item T → Bool) → ((name : List ℕ) → test (marker name) ≡ true) → (names : List (List ℕ)) → filter test (let is : List (Item T) = marker_items names in is) ≡ marker_items names
+  markers_pass test h [] = refl
+  markers_pass test h (name ∷ names) = rw (h name) (ap (λ (is : List (Item T)). marker name ∷ is) (markers_pass test h names))
 
-  unspaced_markers : (names : List (List ℕ)) → without_spaces (let is : List (Item T) = marker_items names in is) ≡ marker_items names
-  unspaced_markers [] = refl
-  unspaced_markers (name ∷ names) = ap (λ (is : List (Item T)). marker name ∷ is) (unspaced_markers names)
+  pub shown_markers : (names : List (List ℕ)) → filter (is_visible_or_marker columns) (let is : List (Item T) = marker_items names in is) ≡ marker_items names
+  shown_markers = markers_pass (is_visible_or_marker columns) (λ name. refl)
 
   pub shown_before : (is : List (Item T)) (names : List (List ℕ)) → filter (is_visible_or_marker columns) (is ++ marker_items names) ≡ filter (is_visible_or_marker columns) is ++ marker_items names
   shown_before is names = filter-append (is_visible_or_marker columns) is (marker_items names) ∙ ap (λ js. filter (is_visible_or_marker columns) is ++ js) (shown_markers names)
 
   pub unspaced_before : (is : List (Item T)) (names : List (List ℕ)) → without_spaces (is ++ marker_items names) ≡ without_spaces is ++ marker_items names
-  unspaced_before is names = filter-append (λ i. not (is_space_item i)) is (marker_items names) ∙ ap (λ js. without_spaces is ++ js) (unspaced_markers names)
+  unspaced_before is names = filter-append (λ i. not (is_space_item i)) is (marker_items names) ∙ ap (λ js. without_spaces is ++ js) (markers_pass (λ i. not (is_space_item i)) (λ name. refl) names)
 
   pub names_before : (is : List (Item T)) (names : List (List ℕ)) → names_in_items (is ++ marker_items names) ≡ names_in_items is ++ names
   names_before is names = names_in_items-append is (marker_items names) ∙ ap (λ ns. names_in_items is ++ ns) (names_of_markers T names)
-
-  -- they stand for a run of these markers alone
-  pub markers_stand : (names : List (List ℕ)) → StandFor columns (marker_items names) (let es : List (Entry T) = marker_run names in es)
-  markers_stand [] = nothing_stands
-  markers_stand (name ∷ names) =
-      let rest = markers_stand names in record {
-        order = (refl, rest.order);
-        names = ap (λ ns. name ∷ ns) rest.names;
-        kept = λ normal. ap (λ (is : List (Item T)). marker name ∷ is) (rest.kept normal.1);
-      }
 
   -- laid items stand for themselves
   pub laid_stand : (is : List (Item T)) → StandFor columns is (laid_entries is)
@@ -130,21 +128,18 @@ module _ {T : Type 0} (columns : ℕ → Option ℕ) where
         kept = λ normal. ap (λ (js : List (Item T)). marker name ∷ js) (rest.kept normal.1);
       }
   laid_stand (glyph c a ∷ is) =
-      let rest = laid_stand is in record {
-        order = go (is_visible columns c) rest.order;
+      let rest = laid_stand is in
+      let seen = filter (is_visible_or_marker columns) is in
+      let came = filter (is_entry_to_show columns) (laid_entries is) in record {
+        order = elim (is_visible columns c) as (λ (v : Bool). AllZip (ShowsEntry (λ a b. a ≡ b)) (if v then glyph c a ∷ seen else seen) (if v then character c a a Pre ∷ came else came))
+            [ true ↦ ((refl, inl refl), rest.order) | false ↦ rest.order ];
         names = rest.names;
         kept = λ normal. absurd (let no : Pre ≡ Normal = normal.0 in cc);
       }
-    where
-      seen : List (Item T)
-      seen = filter (is_visible_or_marker columns) is
 
-      came : List (Entry T)
-      came = filter (is_entry_to_show columns) (laid_entries is)
-
-      go : (v : Bool) → AllZip (ShowsEntry (λ a b. a ≡ b)) seen came → AllZip (ShowsEntry (λ a b. a ≡ b)) (if v then glyph c a ∷ seen else seen) (if v then character c a a Pre ∷ came else came)
-      go true rest = ((refl, inl refl), rest)
-      go false rest = rest
+  -- markers stand for a run of these markers alone
+  pub markers_stand : (names : List (List ℕ)) → StandFor columns (marker_items names) (let es : List (Entry T) = marker_run names in es)
+  markers_stand names = subst (StandFor columns (marker_items names)) (map-map laid_entry marker names) (laid_stand (marker_items names))
 
   -- the lines of a run, and the markers that are on none of them
   pub run_stands : (width : ℕ) (may_overflow : Bool) (run : List (Entry T)) (texts : List (List (Item T))) (names : List (List ℕ)) → EndsRun columns width may_overflow run texts names → StandFor columns (joined texts ++ marker_items names) run
@@ -172,34 +167,29 @@ module _ {T : Type 0} (test : ℕ → Bool) where
 
   after_alike : (names : List (List ℕ)) (is : List (Item T)) (es : List (Entry T)) → AllZip (ShowsEntry (λ a b. a ≡ b)) is es → fold item_after names is ≡ fold (marked_after test) names es
   after_alike names [] [] h = refl
-  after_alike names [] (e ∷ es) h = elim h [ ]
-  after_alike names (i ∷ is) [] h = elim h [ ]
   after_alike names (glyph c x ∷ is) (character d a b m ∷ es) h = rw (h.0.0) (after_alike (if test d then [] else names) is es h.1)
-  after_alike names (glyph c x ∷ is) (marker_entry name ∷ es) h = elim h.0 [ ]
-  after_alike names (marker name ∷ is) (character d a b m ∷ es) h = elim h.0 [ ]
   after_alike names (marker name ∷ is) (marker_entry other ∷ es) h = rw (h.0) (after_alike (names ++ other ∷ []) is es h.1)
+  after_alike names (i ∷ is) (e ∷ es) h = absurd h.0
+  after_alike names is es h = absurd h
 
 module _ {T : Type 0} (columns : ℕ → Option ℕ) where
   -- what isn't shown doesn't count
   after_shown : (names : List (List ℕ)) (es : List (Entry T)) → fold (marked_after (is_visible columns)) names (filter (is_entry_to_show columns) es) ≡ fold (marked_after (is_visible columns)) names es
   after_shown names [] = refl
   after_shown names (marker_entry name ∷ es) = after_shown (names ++ name ∷ []) es
-  after_shown names (character c a b m ∷ es) = go (λ ns. after_shown ns es) (is_visible columns c) refl
-    where
-      go : ((ns : List (List ℕ)) → fold (marked_after (is_visible columns)) ns (filter (is_entry_to_show columns) es) ≡ fold (marked_after (is_visible columns)) ns es) → (v : Bool) → is_visible columns c ≡ v →
-          fold (marked_after (is_visible columns)) names (if v then character c a b m ∷ filter (is_entry_to_show columns) es else filter (is_entry_to_show columns) es) ≡ fold (marked_after (is_visible columns)) (if v then [] else names) es
-      go rest true e = ap (λ (v : Bool). fold (marked_after (is_visible columns)) (if v then [] else names) (filter (is_entry_to_show columns) es)) e ∙ rest []
-      go rest false e = rest names
+  after_shown names (character c a b m ∷ es) =
+      let old = fold (marked_after (is_visible columns)) (if is_visible columns c then [] else names) es in
+      cond_both (is_visible columns c) (character c a b m ∷ filter (is_entry_to_show columns) es) (filter (is_entry_to_show columns) es) (λ gs. fold (marked_after (is_visible columns)) names gs ≡ old)
+      (λ e. after_shown (if is_visible columns c then [] else names) es)
+      (λ e. after_shown names es ∙ ap (λ (v : Bool). fold (marked_after (is_visible columns)) (if v then [] else names) es) (sym e))
 
   after_kept : (names : List (List ℕ)) (es : List (Entry T)) → fold (item_after (is_kept columns)) names (kept_items columns es) ≡ fold (marked_after (is_kept columns)) names es
   after_kept names [] = refl
   after_kept names (marker_entry name ∷ es) = after_kept (names ++ name ∷ []) es
-  after_kept names (character c a b m ∷ es) = go (λ ns. after_kept ns es) (is_kept columns c) refl
-    where
-      go : ((ns : List (List ℕ)) → fold (item_after (is_kept columns)) ns (kept_items columns es) ≡ fold (marked_after (is_kept columns)) ns es) → (v : Bool) → is_kept columns c ≡ v →
-          fold (item_after (is_kept columns)) names ((if v then glyph c a ∷ [] else []) ++ kept_items columns es) ≡ fold (marked_after (is_kept columns)) (if v then [] else names) es
-      go rest true e = ap (λ (v : Bool). fold (item_after (is_kept columns)) (if v then [] else names) (kept_items columns es)) e ∙ rest []
-      go rest false e = rest names
+  after_kept names (character c a b m ∷ es) =
+      let old = fold (marked_after (is_kept columns)) (if is_kept columns c then [] else names) es in
+      cond_both (is_kept columns c) (glyph c a ∷ []) [] (λ is. fold (item_after (is_kept columns)) names (is ++ kept_items columns es) ≡ old) (λ e. after_kept (if is_kept columns c then [] else names) es)
+      (λ e. after_kept names es ∙ ap (λ (v : Bool). fold (marked_after (is_kept columns)) (if v then [] else names) es) (sym e))
 
   -- The markers at the end of items come after the last visible character that these show, and the last kept one.
   pub last_shown : (shown : List (Item T)) (names : List (List ℕ)) (es : List (Entry T)) → AllZip (ShowsEntry (λ a b. a ≡ b)) (shown ++ marker_items names) (filter (is_entry_to_show columns) es) → AreLastOf names (names_after (is_visible columns) es)

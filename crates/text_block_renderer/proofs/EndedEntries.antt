@@ -1,5 +1,5 @@
 -- Entries that came, less those of the open run, and what moves and acts keep of a renderer and these.
-use Rattle.std.proofs.Common.{◌≡◌, ℕ, ◌-◌, Option, Some, None, List, [], ◌∷◌, ◌++◌, length, take, drop, flat_map, fold, refl, ap, sym, ◌∙◌, subst, arith, append_assoc, append-nil}
+use Rattle.std.proofs.Common.{◌≡◌, ℕ, ◌-◌, Option, Some, None, List, [], ◌∷◌, ◌++◌, length, flat_map, fold, refl, ap, sym, ◌∙◌, subst, arith, append_assoc, append-nil}
 use Rattle.std.specs.List.{AllZip}
 use Rattle.std.proofs.lemmas.List.{map-append, length-append}
 use Rattle.std.proofs.Math.Seq.{take-append_seam, drop-append_seam}
@@ -9,22 +9,19 @@ use Rattle.tbr_model.specs.Layout.{joined}
 use Rattle.tbr_border.specs.Border.{Border, without_holes}
 use Rattle.tbr_decor.specs.Decoration.{Decoration}
 use Rattle.tbr_tagged.specs.Outcome.{done}
-use Rattle.tbr_tagged.proofs.Outcomes.{live_done}
 use Rattle.tbr_renderer.specs.Renderer.{Open, Renderer, with_line, open_run, IsSound}
 use Rattle.tbr_renderer.specs.Appended.{with_border}
-use Rattle.tbr_renderer.specs.Flush.{after_flush}
 use Rattle.tbr_renderer.specs.Footnotes.{footnote_lines}
 use Rattle.tbr_renderer.specs.Outcomes.{run, told_by}
 use Rattle.tbr_renderer.specs.Rows.{with_next}
-use Rattle.tbr_renderer.specs.Calls.{new_line, laid_entry, laid_entries}
+use Rattle.tbr_renderer.specs.Calls.{laid_entry, laid_entries}
 use Rattle.tbr_renderer.proofs.FlushedBlocks.{EndsBlock, FlushesBlock}
 use Rattle.tbr_renderer.proofs.JoinedTexts.{run_joined}
 use Rattle.tbr_renderer.proofs.OutcomeParts.{one_done, done_first}
-use Rattle.tbr_renderer.proofs.SettingsStay.{Steady, lines_added, flushed_alike}
 use Rattle.text_block_renderer.specs.Acts.{StaysLine, Act, call, row, fmt_links, finalise, after_act, before_run, act_comes, acts_come}
 use Rattle.text_block_renderer.proofs.ActSteps.{ActStep, act_step}
 use Rattle.text_block_renderer.proofs.ActParts.{alone, act_sound, top_stays}
-use Rattle.text_block_renderer.proofs.Moves.{Kind, MayRule, may_call, may_still, Move, flush, line, rule, join, turn, brought_by, Makes, flushed_none, lines_beside}
+use Rattle.text_block_renderer.proofs.Moves.{Kind, MayRule, may_call, Move, flush, line, rule, join, turn, brought_by, Makes, flushed_none, move_options, lines_beside}
 use Rattle.text_block_renderer.proofs.DrawnBorders.{calls_bring_on}
 use Rattle.text_block_renderer.proofs.RowsOfCells.{row_flushes, row_closed, under_row}
 use Rattle.text_block_renderer.proofs.LastingLines.{all_stay}
@@ -37,7 +34,7 @@ Ended {D} {A} Q r es = (ended : List (Entry (List A))) × (ended ++ open_run r.b
 pub record GoesOn {D A : Type 0} (columns : ℕ → Option ℕ) (kind : Kind) (Q : Renderer D A (List A) → List (Entry (List A)) → Type 0) : Type 0 where
   pub flushed : (r s : Renderer D A (List A)) (b : Open (List A)) (es : List (Entry (List A))) → EndsBlock columns r b s → IsSound columns r → Q r es → Q s (es ++ run_of b.events)
   pub laid : (r : Renderer D A (List A)) (t : List (Item (List A))) (es : List (Entry (List A))) → Q r es → Q (with_line columns r t) (es ++ laid_entries t)
-  pub ruled : (r : Renderer D A (List A)) (b : Border (List A)) (es : List (Entry (List A))) → MayRule kind r → Q r es → Q (with_border columns r b) es
+  pub ruled : (r : Renderer D A (List A)) (b : Border (List A)) (es : List (Entry (List A))) → MayRule kind r.options → Q r es → Q (with_border columns r b) es
   pub stays : (r s : Renderer D A (List A)) (es : List (Entry (List A))) → AllZip StaysLine r.lines s.lines → s.waiting ≡ r.waiting → Q r es → Q s es
 
 module _ {D A : Type 0} (columns : ℕ → Option ℕ) (kind : Kind) (Q : Renderer D A (List A) → List (Entry (List A)) → Type 0) (on : GoesOn columns kind Q) where
@@ -90,7 +87,7 @@ module _ {D A : Type 0} (columns : ℕ → Option ℕ) (kind : Kind) (Q : Render
       subst (Q (fold (with_line columns) (with_line columns r t) ts)) (append_assoc es (laid_entries t) (laid_entries (joined ts)) ∙ ap (λ fs. es ++ fs) (sym (map-append laid_entry t (joined ts))))
       (laid_on ts (with_line columns r t) (es ++ laid_entries t) (on.laid r t es k))
 
-  below_on : (r : Top) (o : Option (Border (List A))) (es : Came) → MayRule kind r → Q r es → Q (with_next columns r o) es
+  below_on : (r : Top) (o : Option (Border (List A))) (es : Came) → MayRule kind r.options → Q r es → Q (with_next columns r o) es
   below_on r None es may k = k
   below_on r (Some b) es may k = on.ruled r b es may k
 
@@ -98,12 +95,11 @@ module _ {D A : Type 0} (columns : ℕ → Option ℕ) (kind : Kind) (Q : Render
   placed : (r : Top) (ended more : Came) → (ended ++ more) ++ open_run r.block ≡ before_run r more (ended ++ open_run r.block)
   placed r ended more =
       let run = open_run r.block in
-      let all = ended ++ run in
-      let n : length all - length run ≡ length ended = omega (arith, length-append ended run) in
-      sym (ap (λ k. take k all ++ more ++ drop k all) n ∙ ap (λ fs. fs ++ more ++ drop (length ended) all) (take-append_seam ended run) ∙ ap (λ fs. ended ++ more ++ fs) (drop-append_seam ended run))
+      let n : length (ended ++ run) - length run ≡ length ended = omega (arith, length-append ended run) in
+      rw (n, take-append_seam ended run, drop-append_seam ended run)
 
   module _ (decoration : Decoration D A) where
-    act_on : (act : Act A) (r s : Top) (es : Came) → IsSound columns r → MayRule kind r → ActStep columns decoration act r s → Ended Q r es → Ended Q s (act_comes columns decoration act r es)
+    act_on : (act : Act A) (r s : Top) (es : Came) → IsSound columns r → MayRule kind r.options → ActStep columns decoration act r s → Ended Q r es → Ended Q s (act_comes columns decoration act r es)
     act_on (call c) r s es sound may h k = calls_bring_on columns kind (Ended Q) move_on decoration (c ∷ []) r s es _ sound (may_call kind r c may) (alone columns decoration c r s h) k
     act_on (finalise targets) r s es sound may h k = joined_on r s [] es (ap (λ (q : Top). q.lines) h) (ap (λ (q : Top). q.waiting) h) (ap (λ (q : Top). open_run q.block) h ∙ sym (append-nil (open_run r.block))) k
     act_on (fmt_links links) r s es sound may h (ended, whole, k) =
@@ -113,20 +109,20 @@ module _ {D A : Type 0} (columns : ℕ → Option ℕ) (kind : Kind) (Q : Render
         (ended ++ more, ap (λ (o : Option (Open (List A))). (ended ++ more) ++ open_run o) (ap (λ (q : Top). q.block) (lines_beside columns ts r)) ∙ placed r ended more ∙ ap (before_run r more) whole, laid_on ts r ended k)
     act_on (row collapses cells) r s es sound may h k =
         let (m, flushed, puts, is) = h in
-        let alike = flushed_alike columns r m (live_done r.failure (after_flush columns r) m flushed).1 in
-        let first : Ended Q m es = subst (Ended Q m) (append-nil es) (calls_bring_on columns kind (Ended Q) move_on decoration (new_line ∷ []) r m es [] sound (may_call kind r new_line may) (alone columns decoration new_line r m flushed) k) in
+        let flushes = row_flushes columns r m flushed in
+        let first : Ended Q m es = subst (Ended Q m) (append-nil es) (move_on (flush r) r m es (refl, flushes) sound k) in
         let top = under_row m puts.row in
         let full = fold (with_line columns) top puts.row.lines in
-        let still = may_still kind r full (ap (λ (x : Steady D A). x.settings.kept.options) (lines_added columns puts.row.lines top) ∙ ap (λ (x : Steady D A). x.settings.kept.options) alike) may in
+        let still = subst (MayRule kind) (sym (ap (λ (q : Top). q.options) (lines_beside columns puts.row.lines top) ∙ move_options columns kind (flush r) r m (refl, flushes))) may in
         subst (λ fs. Ended Q s (es ++ fs)) (sym is)
-        (put_on m s (laid_entries (joined puts.row.lines)) es (flushed_none columns r m (row_flushes columns r m flushed)) (row_closed columns r s (m, flushed, puts.row, puts.is))
+        (put_on m s (laid_entries (joined puts.row.lines)) es (flushed_none columns r m flushes) (row_closed columns r s (m, flushed, puts.row, puts.is))
         (λ ended j. subst (λ (q : Top). Q q (ended ++ laid_entries (joined puts.row.lines))) (sym puts.is) (below_on full puts.row.next _ still (laid_on puts.row.lines top ended (on.stays m top ended (top_stays columns collapses cells m s puts) refl j)))) first)
 
-    pub acts_on : (acts : List (Act A)) (r s : Top) (es : Came) → IsSound columns r → MayRule kind r → run (after_act columns decoration) acts r ≡ done s → Ended Q r es → Ended Q s (acts_come columns decoration acts r es)
+    pub acts_on : (acts : List (Act A)) (r s : Top) (es : Came) → IsSound columns r → MayRule kind r.options → run (after_act columns decoration) acts r ≡ done s → Ended Q r es → Ended Q s (acts_come columns decoration acts r es)
     acts_on [] r s es sound may h k = subst (λ (q : Top). Ended Q q es) (sym (one_done r s h)) k
     acts_on (act ∷ acts) r s es sound may h k =
         let (m, does, others) = done_first (after_act columns decoration act r) (run (after_act columns decoration) acts) s h in
         let step = act_step columns decoration act r m does in
         let (options, sound_there) = act_sound columns decoration act r m sound step in
         let came = act_comes columns decoration act r es in
-        subst (Ended Q s) (sym (ap (told_by (λ q. acts_come columns decoration acts q came)) does)) (acts_on acts m s came sound_there (may_still kind r m options may) others (act_on act r m es sound may step k))
+        subst (Ended Q s) (sym (ap (told_by (λ q. acts_come columns decoration acts q came)) does)) (acts_on acts m s came sound_there (subst (MayRule kind) (sym options) may) others (act_on act r m es sound may step k))

@@ -13,8 +13,8 @@ use Rattle.tbr_decor.specs.Decoration.{Decoration}
 use Rattle.tbr_renderer.specs.Outcomes.{run}
 use Rattle.tbr_renderer.specs.declared.options.RenderOptions.{RenderOptions}
 use Rattle.tbr_renderer.specs.Renderer.{Renderer, least, block_width, IsSound}
-use Rattle.text_block_renderer.specs.Stretches.{ended, laid, ruled}
-use Rattle.text_block_renderer.specs.Acts.{Act, after_act, Piece, part, put, noted, cells_in, rows_in, IsPiece}
+use Rattle.text_block_renderer.specs.Stretches.{ended}
+use Rattle.text_block_renderer.specs.Acts.{Act, after_act, Piece, part, cells_in, rows_in, IsPiece}
 use Rattle.text_block_renderer.specs.Headline.{NoLayoutIsAhead, StandsOnce, CellsFit, made, Headline}
 use Rattle.text_block_renderer.proofs.RunStretches.{none_ahead}
 use Rattle.text_block_renderer.proofs.TwoColumns.{act_fits}
@@ -31,17 +31,11 @@ module _ {D A : Type 0} (columns : ℕ → Option ℕ) where
 
     no_layout : (r : Renderer D A (List A)) (p : Piece D A columns) → IsPiece columns r p → NoLayoutIsAhead columns p
     no_layout r (part (ended q b texts)) h = λ narrow normal. none_ahead columns (block_width q) (run_of b.events) texts (h.ends.shown.best narrow normal)
-    no_layout r (part (laid q is)) h = tt
-    no_layout r (part (ruled q cells)) h = tt
-    no_layout r (put p) h = tt
-    no_layout r (noted q is) h = tt
+    no_layout r other h = tt
 
     once : (r : Renderer D A (List A)) (p : Piece D A columns) → IsPiece columns r p → StandsOnce columns p
     once r (part (ended q b texts)) h = (h.ends.shown.visible, λ normal. h.ends.own (each_gives (HasMode Normal) IsNotPre not_pre (run_of b.events) normal))
-    once r (part (laid q is)) h = tt
-    once r (part (ruled q cells)) h = tt
-    once r (put p) h = tt
-    once r (noted q is) h = tt
+    once r other h = tt
 
     pub headline : (acts : List (Act A)) (r s : Renderer D A (List A)) → IsSound columns r → run (after_act columns decoration) acts r ≡ done s → Headline columns decoration acts r s
     headline acts r s sound h =

@@ -12,6 +12,7 @@ use Rattle.tbr_kept_lines.specs.LastBorder.{without_last, last_border, before_bo
 use Rattle.tbr_renderer.specs.Rows.{border_lines}
 use Rattle.tbr_renderer.specs.Calls.{text_of_lines}
 use Rattle.text_block_renderer.specs.Acts.{KeepsText, StaysLine}
+use Rattle.text_block_renderer.proofs.LineContents.{text_of_lines-append}
 
 module _ {T : Type 0} where
   stays_itself : (l : Line T) → StaysLine l l
@@ -19,34 +20,35 @@ module _ {T : Type 0} where
   stays_itself (border b) = (refl, refl)
 
   stays_on : (l m n : Line T) → StaysLine l m → StaysLine m n → StaysLine l n
-  stays_on (text is) (text js) (text ks) h k = k ∙ h
-  stays_on (text is) (text js) (border c) h k = elim k [ ]
-  stays_on (text is) (border b) n h k = elim h [ ]
-  stays_on (border b) (text js) n h k = elim h [ ]
-  stays_on (border b) (border c) (text ks) h k = elim k [ ]
+  stays_on (text is) (text js) n h k = subst (λ ks. StaysLine (text ks) n) h k
   stays_on (border b) (border c) (border d) h k = (k.0 ∙ h.0, k.1 ∙ h.1)
+  stays_on (border b) (border c) (text ks) h k = k
+  stays_on l m n h k = absurd h
 
   pub all_stay : (ls : List (Line T)) → AllZip StaysLine ls ls
   all_stay [] = tt
   all_stay (l ∷ ls) = (stays_itself l, all_stay ls)
 
   pub stay_on : (ls ms ns : List (Line T)) → AllZip StaysLine ls ms → AllZip StaysLine ms ns → AllZip StaysLine ls ns
-  stay_on [] [] [] h k = tt
-  stay_on [] [] (n ∷ ns) h k = elim k [ ]
-  stay_on [] (m ∷ ms) ns h k = elim h [ ]
-  stay_on (l ∷ ls) [] ns h k = elim h [ ]
-  stay_on (l ∷ ls) (m ∷ ms) [] h k = elim k [ ]
+  stay_on [] [] ns h k = k
+  stay_on (l ∷ ls) (m ∷ ms) [] h k = k
   stay_on (l ∷ ls) (m ∷ ms) (n ∷ ns) h k = (stays_on l m n h.0 k.0, stay_on ls ms ns h.1 k.1)
+  stay_on ls ms ns h k = absurd h
+
+  -- Whoever reads lines one after another, and of borders their tag and the text in front, reads the same.
+  pub stay_alike : {Y : Type 0} (read : List (Line T) → List Y) → ((ls ms : List (Line T)) → read (ls ++ ms) ≡ read ls ++ read ms) →
+      ((b c : Border T) → KeepsText b c → read (border c ∷ []) ≡ read (border b ∷ [])) → (ls ms : List (Line T)) → AllZip StaysLine ls ms → read ms ≡ read ls
+  stay_alike read append keeps [] [] h = refl
+  stay_alike read append keeps (text is ∷ ls) (text js ∷ ms) h =
+      append (text js ∷ []) ms ∙ ap (λ ks. read (text ks ∷ []) ++ read ms) h.0 ∙ ap (λ ys. read (text is ∷ []) ++ ys) (stay_alike read append keeps ls ms h.1) ∙ sym (append (text is ∷ []) ls)
+  stay_alike read append keeps (border b ∷ ls) (border c ∷ ms) h =
+      append (border c ∷ []) ms ∙ ap (λ ys. ys ++ read ms) (keeps b c h.0) ∙ ap (λ ys. read (border b ∷ []) ++ ys) (stay_alike read append keeps ls ms h.1) ∙ sym (append (border b ∷ []) ls)
+  stay_alike read append keeps (l ∷ ls) (m ∷ ms) h = absurd h.0
+  stay_alike read append keeps ls ms h = absurd h
 
   -- the same text
   pub stay_texts : (ls ms : List (Line T)) → AllZip StaysLine ls ms → text_of_lines ms ≡ text_of_lines ls
-  stay_texts [] [] h = refl
-  stay_texts [] (m ∷ ms) h = elim h [ ]
-  stay_texts (l ∷ ls) [] h = elim h [ ]
-  stay_texts (text is ∷ ls) (text js ∷ ms) h = ap (λ ks. ks ++ text_of_lines ms) h.0 ∙ ap (λ ks. is ++ ks) (stay_texts ls ms h.1)
-  stay_texts (text is ∷ ls) (border c ∷ ms) h = absurd h.0
-  stay_texts (border b ∷ ls) (text js ∷ ms) h = absurd h.0
-  stay_texts (border b ∷ ls) (border c ∷ ms) h = stay_texts ls ms h.1
+  stay_texts = stay_alike text_of_lines text_of_lines-append (λ b c h. refl)
 
   -- ---- the border above a row
 
@@ -71,8 +73,6 @@ module _ {T : Type 0} where
 
   -- it is put back with other cells
   put_back : (ls : List (Line T)) (b c : Border T) → KeepsText b c → last_border ls ≡ Some b → AllZip StaysLine ls (without_last ls ++ border c ∷ [])
-  put_back [] b c keeps e = cc
-  put_back (text is ∷ []) b c keeps e = cc
   put_back (border d ∷ []) b c keeps e =
       let none : length (border d ∷ []) - 1 ≡ 0 = omega arith in
       let same : d ≡ b = cc in
@@ -80,6 +80,7 @@ module _ {T : Type 0} where
   put_back (l ∷ m ∷ ls) b c keeps e =
       let next : length (l ∷ m ∷ ls) - 1 ≡ suc (length (m ∷ ls) - 1) = omega arith in
       subst (λ (n : ℕ). AllZip StaysLine (l ∷ m ∷ ls) (take n (l ∷ m ∷ ls) ++ border c ∷ [])) (sym next) (stays_itself l, put_back (m ∷ ls) b c keeps e)
+  put_back ls b c keeps e = cc
 
   pub top_put_back : (collapses : Bool) (cells : List (Cell T)) (ls : List (Line T)) → AllZip StaysLine ls (before_border ls ++ border_lines (border_above collapses cells (last_border ls)))
   top_put_back collapses cells ls = go (last_border ls) refl

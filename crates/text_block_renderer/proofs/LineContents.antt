@@ -1,5 +1,5 @@
 -- What whoever looks at items, but not at spaces, sees of lines of text and of the markers that wait.
-use Rattle.std.proofs.Common.{◌≡◌, ℕ, ◌-◌, if◌then◌else◌, Option, Some, None, List, [], ◌∷◌, ◌++◌, map, fold, refl, ap, sym, ◌∙◌, append_assoc, append-nil}
+use Rattle.std.proofs.Common.{◌≡◌, ℕ, ◌-◌, Option, Some, None, List, [], ◌∷◌, ◌++◌, map, fold, refl, ap, sym, ◌∙◌, append_assoc, append-nil}
 use Rattle.std.proofs.lemmas.List.{map-append}
 use Rattle.tbr_model.specs.Run.{Item, marker, items_width}
 use Rattle.tbr_model.specs.Layout.{joined}
@@ -9,7 +9,7 @@ use Rattle.tbr_tagged.specs.Elements.{text_items}
 use Rattle.tbr_tagged.specs.Padding.{spaces}
 use Rattle.tbr_wrap.specs.Wrapped.{padding_of}
 use Rattle.tbr_kept_lines.specs.Line.{Line, text, border}
-use Rattle.tbr_renderer.specs.Renderer.{Open, Renderer, line_padding, with_line, block_width}
+use Rattle.tbr_renderer.specs.Renderer.{Open, Renderer, with_line, block_width}
 use Rattle.tbr_renderer.specs.Flush.{block_lines, flushed}
 use Rattle.tbr_renderer.specs.Calls.{text_of_lines}
 use Rattle.text_block_renderer.specs.MarkersStand.{items_so_far}
@@ -37,44 +37,27 @@ module _ {A Y : Type 0} (look : List (Item (List A)) → List Y) (looks : Looks 
   padding_unseen None width is = looks.nothing
   padding_unseen (Some a) width is = looks.spaces_unseen (width - items_width columns is) a
 
-  pub before_padding : (o : Option (List A)) (width : ℕ) (is js : List (Item (List A))) → look (is ++ padding_of columns o width js) ≡ look is
-  before_padding o width is js = looks.append is (padding_of columns o width js) ∙ ap (λ ys. look is ++ ys) (padding_unseen o width js) ∙ append-nil (look is)
-
   -- so it is not seen in texts
   pub unpadded : (o : Option (List A)) (width : ℕ) (ts : List (List (Item (List A)))) → look (joined (map (λ is. is ++ padding_of columns o width is) ts)) ≡ look (joined ts)
   unpadded o width [] = refl
-  unpadded o width (t ∷ ts) =
-      let others = joined (map (λ is. is ++ padding_of columns o width is) ts) in
-      looks.append (t ++ padding_of columns o width t) others ∙ ap (λ ys. ys ++ look others) (before_padding o width t t) ∙ ap (λ ys. look t ++ ys) (unpadded o width ts) ∙ sym (looks.append t (joined ts))
+  unpadded o width (t ∷ ts) = simp (looks.append, append-nil, padding_unseen o width, unpadded o width ts)
 
 module _ {D A Y : Type 0} (look : List (Item (List A)) → List Y) (looks : Looks look) (columns : ℕ → Option ℕ) where
   -- one line more
   pub seen_line : (r : Renderer D A (List A)) (t : List (Item (List A))) → look (items_so_far (with_line columns r t)) ≡ look (items_so_far r) ++ look t
-  seen_line r t =
-      let marked : List (Item (List A)) = marker_items r.waiting ++ t in
-      let full : List (Item (List A)) = marked ++ line_padding columns r marked in
-      ap look (append-nil (text_of_lines (r.lines ++ text full ∷ [])) ∙ text_of_lines-append r.lines (text full ∷ []) ∙ ap (λ is. text_of_lines r.lines ++ is) (append-nil full))
-      ∙ looks.append (text_of_lines r.lines) full
-      ∙ ap (λ ys. look (text_of_lines r.lines) ++ ys) (before_padding look looks columns (if r.options.pad_block_width then Some r.annotations else None) r.width marked marked)
-      ∙ sym (looks.append (text_of_lines r.lines) marked)
-      ∙ ap look (sym (append_assoc (text_of_lines r.lines) (marker_items r.waiting) t))
-      ∙ looks.append (items_so_far r) t
+  seen_line r t = simp (append-nil, text_of_lines-append, looks.append, append_assoc, padding_unseen look looks columns)
 
   -- and several
   pub seen_texts : (ts : List (List (Item (List A)))) (r : Renderer D A (List A)) → look (items_so_far (fold (with_line columns) r ts)) ≡ look (items_so_far r) ++ look (joined ts)
   seen_texts [] r = sym (append-nil (look (items_so_far r))) ∙ ap (λ ys. look (items_so_far r) ++ ys) (sym looks.nothing)
-  seen_texts (t ∷ ts) r =
-      seen_texts ts (with_line columns r t) ∙ ap (λ ys. ys ++ look (joined ts)) (seen_line r t) ∙ append_assoc (look (items_so_far r)) (look t) (look (joined ts))
-      ∙ ap (λ ys. look (items_so_far r) ++ ys) (sym (looks.append t (joined ts)))
+  seen_texts (t ∷ ts) r = rw (seen_texts ts (with_line columns r t), seen_line r t, looks.append t (joined ts)) (append_assoc (look (items_so_far r)) (look t) (look (joined ts)))
 
   -- the end of a run
   pub seen_flushed : (r : Renderer D A (List A)) (b : Open (List A)) (texts : List (List (Item (List A)))) (names : List (List ℕ)) →
       look (items_so_far (flushed columns r (block_lines columns r b texts) names)) ≡ look (items_so_far r) ++ look (joined texts ++ marker_items names)
   seen_flushed r b texts names =
       let s : Renderer D A (List A) = fold (with_line columns) (record r { block = None }) (block_lines columns r b texts) in
-      ap (λ is. look (text_of_lines s.lines ++ is)) (marker_items-append s.waiting names)
-      ∙ ap look (sym (append_assoc (text_of_lines s.lines) (marker_items s.waiting) (marker_items names)))
-      ∙ looks.append (items_so_far s) (marker_items names)
-      ∙ ap (λ ys. ys ++ look (marker_items names)) (seen_texts (block_lines columns r b texts) (record r { block = None }) ∙ ap (λ ys. look (items_so_far r) ++ ys) (unpadded look looks columns b.padding (block_width r) texts))
-      ∙ append_assoc (look (items_so_far r)) (look (joined texts)) (look (marker_items names))
-      ∙ ap (λ ys. look (items_so_far r) ++ ys) (sym (looks.append (joined texts) (marker_items names)))
+      let came : look (items_so_far s) ≡ look (items_so_far r) ++ look (joined texts) =
+      seen_texts (block_lines columns r b texts) (record r { block = None }) ∙ ap (λ ys. look (items_so_far r) ++ ys) (unpadded look looks columns b.padding (block_width r) texts) in
+      ap look (ap (λ is. text_of_lines s.lines ++ is) (marker_items-append s.waiting names) ∙ sym (append_assoc (text_of_lines s.lines) (marker_items s.waiting) (marker_items names)))
+      ∙ rw (looks.append (items_so_far s) (marker_items names), came, looks.append (joined texts) (marker_items names)) (append_assoc (look (items_so_far r)) (look (joined texts)) (look (marker_items names)))

@@ -1,6 +1,8 @@
 -- The moves of which calls consist. What holds of lists of calls is shown move by move.
-use Rattle.std.proofs.Common.{◌≡◌, ◌<◌, ℕ, inl, false, Option, Some, None, List, [], ◌∷◌, ◌++◌, fold, refl, ap, sym, ◌∙◌, subst, append_assoc, append-nil}
+use Rattle.std.proofs.Common.{◌≡◌, ◌<◌, ℕ, inl, Bool, false, Option, Some, None, List, [], ◌∷◌, ◌++◌, flat_map, fold, refl, ap, sym, ◌∙◌, subst, append_assoc, append-nil}
 use Rattle.std.specs.Prelude.{⊤}
+use Rattle.std.proofs.lemmas.List.Concat.{flat_map-append}
+use Rattle.tbr_model.specs.declared.white_space.WhiteSpace.{WhiteSpace}
 use Rattle.std.specs.List.{AllByRecursion as Each}
 use Rattle.tbr_model.specs.Rule.{Event, run_of}
 use Rattle.tbr_model.specs.Run.{Entry, Item}
@@ -8,9 +10,10 @@ use Rattle.tbr_border.specs.Border.{without_holes}
 use Rattle.tbr_border.specs.Cell.{Cell}
 use Rattle.tbr_rows.specs.declared.LineSet.{LineSet as Overhanging}
 use Rattle.tbr_renderer.specs.declared.options.RenderOptions.{RenderOptions}
-use Rattle.tbr_renderer.specs.Renderer.{Open, Renderer, with_line, with_events, least, block_width, IsSound}
+use Rattle.tbr_renderer.specs.Renderer.{Open, Renderer, with_line, with_events, block_width, IsSound}
 use Rattle.tbr_renderer.specs.Flush.{block_lines, lines_at_end}
 use Rattle.tbr_renderer.proofs.FlushedBlocks.{FlushesBlock, Flushes}
+use Rattle.tbr_renderer.proofs.CallParts.{FlushesThen}
 use Rattle.tbr_renderer.specs.Appended.{with_border}
 use Rattle.tbr_renderer.specs.Calls.{Call, laid_entries}
 use Rattle.text_block_renderer.specs.Drawn.{DrawNone}
@@ -35,52 +38,39 @@ pub record SameText {D A : Type 0} (r s : Renderer D A (List A)) : Type 0 where
   pub options : s.options ≡ r.options
   pub hanging : s.hanging ≡ r.hanging
 
+-- and so it is where nothing else is changed
+pub alike : {D A : Type 0} (r : Renderer D A (List A)) {ended : Bool} {annotations : List A} {modes : List WhiteSpace} {strikeouts preformatted : ℕ} {d : D} →
+    SameText r (record r { block_ended = ended; annotations = annotations; modes = modes; strikeouts = strikeouts; preformatted = preformatted; decorator = d })
+alike r = record { lines = refl; block = refl; waiting = refl; width = refl; options = refl; hanging = refl }
+
 abbrev pub brought_by : {D A : Type 0} → Move D A → List (Entry (List A))
-brought_by (flush r) = []
 brought_by (line is) = laid_entries is
-brought_by (rule cells) = []
 brought_by (join es) = run_of es
-brought_by turn = []
+brought_by other = []
 
 abbrev pub brought : {D A : Type 0} → List (Move D A) → List (Entry (List A))
-brought [] = []
-brought (m ∷ ms) = brought_by m ++ brought ms
+brought ms = flat_map brought_by ms
 
 -- the borders that moves put
 abbrev pub ruled_by : {D A : Type 0} → Move D A → List (List Cell)
-ruled_by (flush r) = []
-ruled_by (line is) = []
 ruled_by (rule cells) = cells ∷ []
-ruled_by (join es) = []
-ruled_by turn = []
+ruled_by other = []
 
 abbrev pub ruled : {D A : Type 0} → List (Move D A) → List (List Cell)
-ruled [] = []
-ruled (m ∷ ms) = ruled_by m ++ ruled ms
+ruled ms = flat_map ruled_by ms
 
 -- what moves add
 abbrev pub added_by : {D A : Type 0} → Move D A → List (Added D A)
 added_by (flush r) = flush_ends r
 added_by (line is) = text_laid is ∷ []
 added_by (rule cells) = border_put cells ∷ []
-added_by (join es) = []
-added_by turn = []
+added_by other = []
 
 abbrev pub added : {D A : Type 0} → List (Move D A) → List (Added D A)
-added [] = []
-added (m ∷ ms) = added_by m ++ added ms
-
-added-append : {D A : Type 0} (ms ns : List (Move D A)) → added (ms ++ ns) ≡ added ms ++ added ns
-added-append [] ns = refl
-added-append (m ∷ ms) ns = ap (λ xs. added_by m ++ xs) (added-append ms ns) ∙ sym (append_assoc (added_by m) (added ms) (added ns))
-
-ruled-append : {D A : Type 0} (ms ns : List (Move D A)) → ruled (ms ++ ns) ≡ ruled ms ++ ruled ns
-ruled-append [] ns = refl
-ruled-append (m ∷ ms) ns = ap (λ bs. ruled_by m ++ bs) (ruled-append ms ns) ∙ sym (append_assoc (ruled_by m) (ruled ms) (ruled ns))
+added ms = flat_map added_by ms
 
 pub brought-append : {D A : Type 0} (ms ns : List (Move D A)) → brought (ms ++ ns) ≡ brought ms ++ brought ns
-brought-append [] ns = refl
-brought-append (m ∷ ms) ns = ap (λ es. brought_by m ++ es) (brought-append ms ns) ∙ sym (append_assoc (brought_by m) (brought ms) (brought ns))
+brought-append ms ns = flat_map-append brought_by ms ns
 
 -- ---- kinds
 
@@ -102,35 +92,22 @@ MayLay any is = ⊤
 MayLay undrawn is = ⊤
 MayLay own is = is ≡ []
 
-abbrev pub MayRule : {D A : Type 0} → Kind → Renderer D A (List A) → Type 0
-MayRule any r = ⊤
-MayRule undrawn r = r.options.pad_block_width ≡ false
-MayRule own r = ⊥
+abbrev pub MayRule : Kind → RenderOptions → Type 0
+MayRule any options = ⊤
+MayRule undrawn options = options.pad_block_width ≡ false
+MayRule own options = ⊥
 
--- where a kind's moves may put borders
-module _ {D A : Type 0} where
-  pub may_lay : (kind : Kind) (r : Renderer D A (List A)) (is : List (Item (List A))) → MayRule kind r → MayLay kind is
-  may_lay any r is h = tt
-  may_lay undrawn r is h = tt
-  may_lay own r is h = absurd h
-
-  pub may_call : (kind : Kind) (r : Renderer D A (List A)) (c : Call (List A)) → MayRule kind r → Fits kind r (c ∷ [])
-  may_call any r c h = tt
-  may_call undrawn r c h = inl h
-  may_call own r c h = absurd h
-
-  pub may_still : (kind : Kind) (r q : Renderer D A (List A)) → q.options ≡ r.options → MayRule kind r → MayRule kind q
-  may_still any r q same h = tt
-  may_still undrawn r q same h = ap (λ (o : RenderOptions). o.pad_block_width) same ∙ h
-  may_still own r q same h = absurd h
+-- where a kind's moves may put borders, there are calls of the kind
+pub may_call : {D A : Type 0} (kind : Kind) (r : Renderer D A (List A)) (c : Call (List A)) → MayRule kind r.options → Fits kind r (c ∷ [])
+may_call any r c h = tt
+may_call undrawn r c h = inl h
+may_call own r c h = absurd h
 
 -- ---- paths
 
 -- a renderer that wraps alike is sound too
 pub sound_alike : {D A : Type 0} (columns : ℕ → Option ℕ) (r q : Renderer D A (List A)) → q.width ≡ r.width → q.options ≡ r.options → IsSound columns r → IsSound columns q
-sound_alike columns r q width options sound =
-    let same : block_width q ≡ block_width r = ap (λ w. least w q.options.wrap_width) width ∙ ap (λ (o : RenderOptions). least r.width o.wrap_width) options in
-    record { space = sound.space; wide = subst (λ n. 0 < n) (sym same) sound.wide }
+sound_alike columns r q width options sound = record { space = sound.space; wide = subst (λ n. 0 < n) (let same : block_width r ≡ block_width q = cc in same) sound.wide }
 
 -- what no call changes
 pub record Frame (A : Type 0) : Type 0 where
@@ -161,7 +138,7 @@ module _ {D A : Type 0} (columns : ℕ → Option ℕ) (kind : Kind) where
   abbrev pub Makes : Move D A → Renderer D A (List A) → Renderer D A (List A) → Type 0
   Makes (flush q) r s = (q ≡ r) × Flushes columns r s
   Makes (line is) r s = MayLay kind is × (r.block ≡ None) × (s ≡ with_line columns r is)
-  Makes (rule cells) r s = MayRule kind r × (r.block ≡ None) × (s ≡ with_border columns r (without_holes cells r.annotations))
+  Makes (rule cells) r s = MayRule kind r.options × (r.block ≡ None) × (s ≡ with_border columns r (without_holes cells r.annotations))
   Makes (join es) r s = s ≡ with_events r es
   Makes turn r s = SameText r s
 
@@ -177,10 +154,6 @@ module _ {D A : Type 0} (columns : ℕ → Option ℕ) (kind : Kind) where
     pub rules : ruled moves ≡ bs
     pub adds : added moves ≡ xs
 
-  -- nothing is added
-  abbrev pub Path : Renderer D A (List A) → Renderer D A (List A) → List (Entry (List A)) → Type 0
-  Path r s es = Course r s es [] []
-
   pub makes-append : (ms ns : List (Move D A)) (r q s : Renderer D A (List A)) → MakesAll ms r q → MakesAll ns q s → MakesAll (ms ++ ns) r s
   makes-append [] ns r q s h k = subst (λ (p : Renderer D A (List A)). MakesAll ns p s) h k
   makes-append (m ∷ ms) ns r q s h k = (h.0, h.1, makes-append ms ns h.0 q s h.2 k)
@@ -189,26 +162,28 @@ module _ {D A : Type 0} (columns : ℕ → Option ℕ) (kind : Kind) where
   onward r q s es fs {bs} {cs} {xs} {ys} p k = record {
     moves = p.moves ++ k.moves;
     makes = makes-append p.moves k.moves r q s p.makes k.makes;
-    brings = brought-append p.moves k.moves ∙ ap (λ gs. gs ++ brought k.moves) p.brings ∙ ap (λ gs. es ++ gs) k.brings;
-    rules = ruled-append p.moves k.moves ∙ ap (λ ds. ds ++ ruled k.moves) p.rules ∙ ap (λ ds. bs ++ ds) k.rules;
-    adds = added-append p.moves k.moves ∙ ap (λ zs. zs ++ added k.moves) p.adds ∙ ap (λ zs. xs ++ zs) k.adds;
+    brings = flat_map-append brought_by p.moves k.moves ∙ ap (λ gs. gs ++ brought k.moves) p.brings ∙ ap (λ gs. es ++ gs) k.brings;
+    rules = flat_map-append ruled_by p.moves k.moves ∙ ap (λ ds. ds ++ ruled k.moves) p.rules ∙ ap (λ ds. bs ++ ds) k.rules;
+    adds = flat_map-append added_by p.moves k.moves ∙ ap (λ zs. zs ++ added k.moves) p.adds ∙ ap (λ zs. xs ++ zs) k.adds;
   }
 
   pub one : (m : Move D A) (r s : Renderer D A (List A)) → Makes m r s → Course r s (brought_by m) (ruled_by m) (added_by m)
   one m r s h = record { moves = m ∷ []; makes = (s, h, refl); brings = append-nil (brought_by m); rules = append-nil (ruled_by m); adds = append-nil (added_by m) }
 
-  -- the end of the open run, and then others
-  pub flushed_first : (r m s : Renderer D A (List A)) (es : List (Entry (List A))) {bs : List (List Cell)} {xs : List (Added D A)} → Flushes columns r m → Course m s es bs xs → Course r s es bs (flush_ends r ++ xs)
-  flushed_first r m s es h k = onward r m s [] es (one (flush r) r m (refl, h)) k
+  -- the same by other words
+  pub same_course : (r s : Renderer D A (List A)) {es fs : List (Entry (List A))} {bs cs : List (List Cell)} {xs ys : List (Added D A)} → es ≡ fs → bs ≡ cs → xs ≡ ys → Course r s es bs xs → Course r s fs cs ys
+  same_course r s brings rules adds p = record { moves = p.moves; makes = p.makes; brings = p.brings ∙ brings; rules = p.rules ∙ rules; adds = p.adds ∙ adds }
+
+  -- the end of the open run, and then a change
+  pub flushed_first : (change : Renderer D A (List A) → Renderer D A (List A)) (r s : Renderer D A (List A)) (es : List (Entry (List A))) {bs : List (List Cell)} {xs : List (Added D A)}
+      (h : FlushesThen columns change r s) → Course h.0 (change h.0) es bs xs → Course r s es bs (flush_ends r ++ xs)
+  flushed_first change r s es {bs} {xs} h course = onward r h.0 s [] es (one (flush r) r h.0 (refl, h.1)) (subst (λ (q : Renderer D A (List A)). Course h.0 q es bs xs) (sym h.2) course)
 
   -- `q` is `r` but for what isn't text
-  pub turned_by : (r q s : Renderer D A (List A)) → SameText r q → s ≡ q → Path r s []
-  turned_by r q s same is = one turn r s (subst (λ (p : Renderer D A (List A)). SameText r p) (sym is) same)
+  pub turned : (r q s : Renderer D A (List A)) → SameText r q → s ≡ q → Course r s [] [] []
+  turned r q s same is = one turn r s (subst (λ (p : Renderer D A (List A)). SameText r p) (sym is) same)
 
-  pub turned : (r q s : Renderer D A (List A)) → q.lines ≡ r.lines → q.block ≡ r.block → q.waiting ≡ r.waiting → q.width ≡ r.width → q.options ≡ r.options → q.hanging ≡ r.hanging → s ≡ q → Path r s []
-  turned r q s lines block waiting width options hanging is = turned_by r q s (record { lines = lines; block = block; waiting = waiting; width = width; options = options; hanging = hanging }) is
-
-  pub stays : (r s : Renderer D A (List A)) → s ≡ r → Path r s []
+  pub stays : (r s : Renderer D A (List A)) → s ≡ r → Course r s [] [] []
   stays r s h = record { moves = []; makes = h; brings = refl; rules = refl; adds = refl }
 
   -- What each move keeps, moves one after another keep.
@@ -231,16 +206,11 @@ module _ {D A : Type 0} (columns : ℕ → Option ℕ) (kind : Kind) where
 
   -- ---- width, options, and the cells that overhang
 
-  move_frame : (m : Move D A) (r s : Renderer D A (List A)) → Makes m r s → frame s ≡ frame r
+  pub move_frame : (m : Move D A) (r s : Renderer D A (List A)) → Makes m r s → frame s ≡ frame r
   move_frame (flush q) r s h = ap (λ (p : Renderer D A (List A)). frame p) (flush_beside columns r s r.block refl h.1)
-  move_frame (line is) r s h = ap (λ (q : Renderer D A (List A)). frame q) h.2
-  move_frame (rule cells) r s h = ap (λ (q : Renderer D A (List A)). frame q) h.2
   move_frame (join es) r s h = ap (λ (q : Renderer D A (List A)). frame q) h
-  move_frame turn r s h =
-      ap (λ w. frame_of w s.options s.hanging) h.width ∙ ap (λ o. frame_of r.width o s.hanging) h.options ∙ ap (λ cells. frame_of r.width r.options cells) h.hanging
-    where
-      frame_of : ℕ → RenderOptions → List (Overhanging (List A)) → Frame A
-      frame_of w o cells = record { width = w; options = o; hanging = cells }
+  move_frame turn r s h = cc
+  move_frame other r s h = ap (λ (q : Renderer D A (List A)). frame q) h.2
 
   pub move_options : (m : Move D A) (r s : Renderer D A (List A)) → Makes m r s → s.options ≡ r.options
   move_options m r s h = ap (λ (f : Frame A). f.options) (move_frame m r s h)
@@ -251,15 +221,9 @@ module _ {D A : Type 0} (columns : ℕ → Option ℕ) (kind : Kind) where
       let same = move_frame m r s h in
       sound_alike columns r s (ap (λ (f : Frame A). f.width) same) (ap (λ (f : Frame A). f.options) same) sound
 
-  path_frame : (r s : Renderer D A (List A)) (es : List (Entry (List A))) (bs : List (List Cell)) {xs : List (Added D A)} → Course r s es bs xs → frame s ≡ frame r
+  pub path_frame : (r s : Renderer D A (List A)) (es : List (Entry (List A))) (bs : List (List Cell)) {xs : List (Added D A)} → Course r s es bs xs → frame s ≡ frame r
   path_frame r s es bs {xs} path =
       through (λ p q. frame q ≡ frame p) (λ p q e. ap (λ (t : Renderer D A (List A)). frame t) e) (λ p q t g h. h ∙ g) move_frame path.moves r s path.makes
-
-  pub path_width : (r s : Renderer D A (List A)) (es : List (Entry (List A))) (bs : List (List Cell)) {xs : List (Added D A)} → Course r s es bs xs → s.width ≡ r.width
-  path_width r s es bs {xs} path = ap (λ (f : Frame A). f.width) (path_frame r s es bs path)
-
-  pub path_options : (r s : Renderer D A (List A)) (es : List (Entry (List A))) (bs : List (List Cell)) {xs : List (Added D A)} → Course r s es bs xs → s.options ≡ r.options
-  path_options r s es bs {xs} path = ap (λ (f : Frame A). f.options) (path_frame r s es bs path)
 
   pub path_hanging : (r s : Renderer D A (List A)) (es : List (Entry (List A))) (bs : List (List Cell)) {xs : List (Added D A)} → Course r s es bs xs → s.hanging ≡ r.hanging
   path_hanging r s es bs {xs} path = ap (λ (f : Frame A). f.hanging) (path_frame r s es bs path)

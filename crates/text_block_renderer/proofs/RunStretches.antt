@@ -1,31 +1,32 @@
 -- The lines of a run are together, and no legal layout is ahead of them.
-use Rattle.std.proofs.Common.{◌≡◌, ℕ, ◌==◌, ◌⊎◌, inl, inr, nat_lt, Bool, true, false, not, Option, Some, None, unwrap_or, List, [], ◌∷◌, ◌++◌, map, flat_map, length, take, drop, refl, ap, sym, ◌∙◌, subst, arith, append_assoc, append-nil}
+use Rattle.std.proofs.Common.{◌≡◌, ◌<◌, ℕ, ◌==◌, ◌⊎◌, inl, inr, nat_lt, Bool, true, false, not, Option, Some, None, unwrap_or, List, [], ◌∷◌, ◌++◌, map, flat_map, length, take, drop, refl, ap, sym, ◌∙◌, subst, arith, append_assoc, append-nil}
 use Rattle.std.specs.List.{AllByRecursion as Each}
-use Rattle.std.proofs.lemmas.Bool.{cond_both, eqb-true}
+use Rattle.std.proofs.lemmas.Simd.{map-map}
+use Rattle.std.proofs.lemmas.Bool.{cond_both, eqb-true, both_ways, false_from_ne_true}
 use Rattle.std.proofs.lemmas.List.{length-map, map-append, take-map, take-append-drop}
 use Rattle.std.proofs.lemmas.List.Elements.{filter-append}
 use Rattle.tbr_model.proofs.rule.HardLines.{run_of-append}
 use Rattle.tbr_model.specs.Run.{Entry, character, marker_entry, Item, glyph, is_kept, kept_items, items_width, Word, words_of, trailing}
-use Rattle.tbr_model.specs.Layout.{Slot, slot_of, word_slots, slots_of, gap_text, rest_text, line_text, joined, placed}
+use Rattle.tbr_model.specs.Layout.{Slot, slot_of, slots_within, word_slots, slots_of, gap_text, rest_text, line_text, joined, placed}
 use Rattle.tbr_model.specs.Rule.{is_space_item, run_of, Event}
 use Rattle.tbr_model.specs.Shown.{without_spaces}
 use Rattle.tbr_model.proofs.lists.Each.{each_front, each_back, each_append}
 use Rattle.tbr_model.proofs.lists.Joined.{joined-append}
 use Rattle.tbr_model.proofs.words.Items.{break_lost}
 use Rattle.tbr_model.proofs.words.KeptItems.{words_hold}
-use Rattle.tbr_wrap.specs.Runs.{EndsRun}
-use Rattle.tbr_wrap.specs.Wrapped.{HasBestLines}
+use Rattle.tbr_wrap.specs.Runs.{EndsRun, IsNormal}
+use Rattle.tbr_wrap.specs.Wrapped.{HasBestLines, padding_of}
 use Rattle.tbr_decor.specs.Decoration.{Decoration}
-use Rattle.tbr_renderer.specs.declared.options.RenderOptions.{RenderOptions}
 use Rattle.tbr_kept_lines.specs.Line.{Line}
-use Rattle.tbr_renderer.specs.Renderer.{Open, Renderer, new_block, least, overflows, with_events, with_more, block_width, may_overflow, IsSound}
+use Rattle.tbr_renderer.specs.Renderer.{Open, Renderer, new_block, with_events, with_more, block_width, may_overflow, IsSound}
 use Rattle.tbr_tagged.specs.Outcome.{done}
 use Rattle.tbr_renderer.specs.Flush.{block_lines, lines_at_end, names_at_end, after_flush}
 use Rattle.tbr_renderer.proofs.FlushedBlocks.{flushes, EndsBlock, FlushesBlock, Flushes}
 use Rattle.tbr_renderer.specs.Calls.{Call, Steps, Brings}
 use Rattle.text_block_renderer.specs.Stretches.{line_of_text, stretch, items_on, NoneIsAhead, StandsAsStretch, StaysOpen, EndsAsStretch, padded_line, lines_laid}
-use Rattle.text_block_renderer.proofs.Moves.{Move, flush, line, rule, join, turn, SameText, brought, MakesAll, any, sound_alike}
+use Rattle.text_block_renderer.proofs.Moves.{Move, flush, join, turn, brought, MakesAll, any}
 use Rattle.text_block_renderer.proofs.CallMoves.{calls_move}
+use Rattle.text_block_renderer.proofs.Lists.{each_map}
 use Rattle.text_block_renderer.proofs.AddedLines.{moves_grow, steps_grow, laid_lines}
 
 -- ---- items of lines
@@ -34,35 +35,25 @@ abbrev IsNoSpace : {T : Type 0} → Item T → Type 0
 IsNoSpace i = is_space_item i ≡ false
 
 module _ {T : Type 0} where
-  unspaced_gap : (gap : Option T) → without_spaces (gap_text gap) ≡ []
-  unspaced_gap None = refl
-  unspaced_gap (Some a) = refl
-
-  unspaced_one : (i : Item T) → IsNoSpace i → without_spaces (i ∷ []) ≡ i ∷ []
-  unspaced_one i h = rw h refl
-
-  unspaced-append : (is js : List (Item T)) → without_spaces (is ++ js) ≡ without_spaces is ++ without_spaces js
-  unspaced-append is js = filter-append (λ i. not (is_space_item i)) is js
-
   unspaced_rest : (ss : List (Slot T)) → Each (λ s. IsNoSpace s.item) ss → without_spaces (rest_text ss) ≡ map (λ s. s.item) ss
   unspaced_rest [] h = refl
   unspaced_rest (s ∷ ss) h =
-      unspaced-append (gap_text s.gap ++ s.item ∷ []) (rest_text ss)
-      ∙ ap (λ is. is ++ without_spaces (rest_text ss)) (unspaced-append (gap_text s.gap) (s.item ∷ []) ∙ ap (λ is. is ++ without_spaces (s.item ∷ [])) (unspaced_gap s.gap) ∙ unspaced_one s.item h.0)
-      ∙ ap (λ is. s.item ∷ is) (unspaced_rest ss h.1)
+      let more : without_spaces (s.item ∷ rest_text ss) ≡ s.item ∷ map (λ t. t.item) ss = rw (h.0) (ap (λ is. s.item ∷ is) (unspaced_rest ss h.1)) in
+      elim s.gap as (λ (o : Option T). without_spaces ((gap_text o ++ s.item ∷ []) ++ rest_text ss) ≡ s.item ∷ map (λ t. t.item) ss) [ None ↦ more | Some a ↦ more ]
 
   unspaced_line : (ss : List (Slot T)) → Each (λ s. IsNoSpace s.item) ss → without_spaces (line_text ss) ≡ map (λ s. s.item) ss
   unspaced_line [] h = refl
-  unspaced_line (s ∷ ss) h =
-      unspaced-append (s.item ∷ []) (rest_text ss) ∙ ap (λ is. is ++ without_spaces (rest_text ss)) (unspaced_one s.item h.0) ∙ ap (λ is. s.item ∷ is) (unspaced_rest ss h.1)
+  unspaced_line (s ∷ ss) h = rw (h.0) (ap (λ is. s.item ∷ is) (unspaced_rest ss h.1))
 
   unspaced_lines : (ls : List (List (Slot T))) → Each (λ s. IsNoSpace s.item) (joined ls) → without_spaces (joined (map line_text ls)) ≡ map (λ s. s.item) (joined ls)
   unspaced_lines [] h = refl
   unspaced_lines (l ∷ ls) h =
-      unspaced-append (line_text l) (joined (map line_text ls))
-      ∙ ap (λ is. is ++ without_spaces (joined (map line_text ls))) (unspaced_line l (each_front (λ s. IsNoSpace s.item) l (joined ls) h))
-      ∙ ap (λ is. map (λ s. s.item) l ++ is) (unspaced_lines ls (each_back (λ s. IsNoSpace s.item) l (joined ls) h))
-      ∙ sym (map-append (λ s. s.item) l (joined ls))
+      rw (
+        filter-append (λ (i : Item T). not (is_space_item i)) (line_text l) (joined (map line_text ls)),
+        unspaced_line l (each_front (λ s. IsNoSpace s.item) l (joined ls) h),
+        unspaced_lines ls (each_back (λ s. IsNoSpace s.item) l (joined ls) h),
+      )
+      (sym (map-append (λ s. s.item) l (joined ls)))
 
   -- as many items are on the first lines as the layout has placed there
   placed_on : (n : ℕ) (ls : List (List (Slot T))) → Each (λ s. IsNoSpace s.item) (joined ls) → items_on n (map line_text ls) ≡ placed n ls
@@ -74,34 +65,23 @@ module _ {T : Type 0} where
 -- ---- the slots of a run are no spaces
 
 module _ {T : Type 0} (columns : ℕ → Option ℕ) where
-  kept_no_space : (c : ℕ) (a : T) → is_kept columns c ≡ true → IsNoSpace (glyph c a)
-  kept_no_space c a h = go (c == 32) refl
-    where
-      go : (b : Bool) → c == 32 ≡ b → c == 32 ≡ false
-      go false e = e
-      go true e = absurd (let lost : is_kept columns c ≡ false = ap (is_kept columns) (eqb-true c 32 e) ∙ break_lost columns 32 refl in let no : true ≡ false = sym h ∙ lost in cc)
-
   kept_no_spaces : (run : List (Entry T)) → Each IsNoSpace (kept_items columns run)
   kept_no_spaces [] = tt
   kept_no_spaces (marker_entry name ∷ es) = (refl, kept_no_spaces es)
-  kept_no_spaces (character c a b m ∷ es) = cond_both (is_kept columns c) (glyph c a ∷ []) [] (λ is. Each IsNoSpace (is ++ kept_items columns es)) (λ e. (kept_no_space c a e, kept_no_spaces es)) (λ e. kept_no_spaces es)
+  kept_no_spaces (character c a b m ∷ es) =
+      let plain = λ (e : is_kept columns c ≡ true). false_from_ne_true (c == 32) (λ is. both_ways (is_kept columns c) (ap (is_kept columns) (eqb-true c 32 is) ∙ break_lost columns 32 refl) e) in
+      cond_both (is_kept columns c) (glyph c a ∷ []) [] (λ is. Each IsNoSpace (is ++ kept_items columns es)) (λ e. (plain e, kept_no_spaces es)) (λ e. kept_no_spaces es)
 
-  within : (wider : Bool) (is : List (Item T)) → Each IsNoSpace is → Each (λ s. IsNoSpace s.item) (map (slot_of columns wider None false) is)
-  within wider [] h = tt
-  within wider (i ∷ is) h = (h.0, within wider is h.1)
-
-  word_no_spaces : (width : ℕ) (w : Word T) → Each IsNoSpace w.items → Each (λ s. IsNoSpace s.item) (word_slots columns width w)
-  word_no_spaces width w h = go w.items refl h
-    where
-      go : (is : List (Item T)) → w.items ≡ is → Each IsNoSpace is → Each (λ s. IsNoSpace s.item) (word_slots columns width w)
-      go [] e k = rw e tt
-      go (i ∷ is) e k = rw e ((k.0, within (nat_lt width (items_width columns (i ∷ is))) is k.1))
+  within_slots : (wider : Bool) (gap : Option T) (is : List (Item T)) → Each IsNoSpace is → Each (λ s. IsNoSpace s.item) (slots_within columns wider gap is)
+  within_slots wider gap [] h = tt
+  within_slots wider gap (i ∷ is) h = (h.0, each_map IsNoSpace (λ (s : Slot T). IsNoSpace s.item) (slot_of columns wider None false) (λ j k. k) is h.1)
 
   words_no_spaces : (width : ℕ) (ws : List (Word T)) → Each IsNoSpace (flat_map (λ w. w.items) ws) → Each (λ s. IsNoSpace s.item) (flat_map (word_slots columns width) ws)
   words_no_spaces width [] h = tt
   words_no_spaces width (w ∷ ws) h =
       each_append (λ s. IsNoSpace s.item) (word_slots columns width w) (flat_map (word_slots columns width) ws)
-      (word_no_spaces width w (each_front IsNoSpace w.items (flat_map (λ v. v.items) ws) h)) (words_no_spaces width ws (each_back IsNoSpace w.items (flat_map (λ v. v.items) ws) h))
+      (within_slots (nat_lt width (items_width columns w.items)) w.gap w.items (each_front IsNoSpace w.items (flat_map (λ v. v.items) ws) h))
+      (words_no_spaces width ws (each_back IsNoSpace w.items (flat_map (λ v. v.items) ws) h))
 
   slots_no_spaces : (width : ℕ) (run : List (Entry T)) → Each (λ s. IsNoSpace s.item) (slots_of columns width run)
   slots_no_spaces width run =
@@ -118,61 +98,27 @@ module _ {T : Type 0} (columns : ℕ → Option ℕ) where
 
 module _ {D A : Type 0} (columns : ℕ → Option ℕ) where
   -- a run's texts are laid after their padding
-  stretch_laid : (r : Renderer D A (List A)) (b : Open (List A)) (ts : List (List (Item (List A)))) → lines_laid columns r (block_lines columns r b ts) ≡ stretch columns r b ts
+  stretch_laid : (r : Renderer D A (List A)) (b : Open (List A)) (ts : List (List (Item (List A)))) → lines_laid columns (record r { block = None }) (block_lines columns r b ts) ≡ stretch columns r b ts
   stretch_laid r b [] = refl
-  stretch_laid r b (t ∷ ts) = ap (λ ls. line_of_text columns r b r.waiting t ∷ ls) (others ts)
-    where
-      others : (us : List (List (Item (List A)))) → map (padded_line columns r) (block_lines columns r b us) ≡ map (λ is. line_of_text columns r b [] is) us
-      others [] = refl
-      others (u ∷ us) = ap (λ ls. line_of_text columns r b [] u ∷ ls) (others us)
-
-  -- the same lines come of renderers and blocks that pad alike, and of which the same markers wait
-  same_stretch : (r q : Renderer D A (List A)) (b c : Open (List A)) (ts : List (List (Item (List A)))) → q.width ≡ r.width → q.options ≡ r.options → q.annotations ≡ r.annotations → q.waiting ≡ r.waiting → c.padding ≡ b.padding →
-      stretch columns q c ts ≡ stretch columns r b ts
-  same_stretch r q b c [] width options annotations waiting padding = refl
-  same_stretch r q b c (t ∷ ts) width options annotations waiting padding =
-      ap (λ w. lines_of w q.options q.annotations q.waiting c.padding) width ∙ ap (λ o. lines_of r.width o q.annotations q.waiting c.padding) options ∙ ap (λ a. lines_of r.width r.options a q.waiting c.padding) annotations
-      ∙ ap (λ ns. lines_of r.width r.options r.annotations ns c.padding) waiting ∙ ap (λ p. lines_of r.width r.options r.annotations r.waiting p) padding
-    where
-      lines_of : ℕ → RenderOptions → List A → List (List ℕ) → Option (List A) → List (Line (List A))
-      lines_of w o a ns p = stretch columns (record r { width = w; options = o; annotations = a; waiting = ns }) (record b { padding = p }) (t ∷ ts)
+  stretch_laid r b (t ∷ ts) = ap (λ ls. line_of_text columns r b r.waiting t ∷ ls) (map-map (padded_line columns r) (λ is. is ++ padding_of columns b.padding (block_width r) is) ts)
 
   -- ---- the end of a run
 
   pub flush_adds : (r q : Renderer D A (List A)) (b : Open (List A)) → (h : EndsBlock columns r b q) → q.lines ≡ r.lines ++ stretch columns r b (lines_at_end columns r b)
   flush_adds r q b h =
       ap (λ (p : Renderer D A (List A)). p.lines) h.is ∙ laid_lines columns (block_lines columns r b (lines_at_end columns r b)) (record r { block = None })
-      ∙ ap (λ ls. r.lines ++ ls) (stretch_laid (record r { block = None }) b (lines_at_end columns r b) ∙ same_stretch r (record r { block = None }) b b (lines_at_end columns r b) refl refl refl refl refl)
-
-  as_stretch : (r q s : Renderer D A (List A)) (b : Open (List A)) → EndsBlock columns r b q → IsSound columns r → (more : List (Line (List A))) × (s.lines ≡ q.lines ++ more) → StandsAsStretch columns r b s.lines
-  as_stretch r q s b h sound grows = record {
-    texts = (lines_at_end columns r b);
-    names = (names_at_end columns r b);
-    ends = h.ends sound;
-    ahead = λ narrow normal. none_ahead columns (block_width r) (run_of b.events) (lines_at_end columns r b) ((h.ends sound).shown.best narrow normal);
-    after = grows.0;
-    is = grows.1 ∙ ap (λ ls. ls ++ grows.0) (flush_adds r q b h);
-  }
-
-  -- where nothing changed but what the block and the annotations are
-  as_before : (r q : Renderer D A (List A)) (b : Open (List A)) (lines : List (Line (List A))) → q.lines ≡ r.lines → q.width ≡ r.width → q.options ≡ r.options → q.annotations ≡ r.annotations → q.waiting ≡ r.waiting →
-      StandsAsStretch columns q b lines → StandsAsStretch columns r b lines
-  as_before r q b lines same width options annotations waiting h = record {
-    texts = h.texts;
-    names = h.names;
-    ends = ends;
-    ahead = λ narrow normal. none_ahead columns (block_width r) (run_of b.events) h.texts (ends.shown.best narrow normal);
-    after = h.after;
-    is = h.is ∙ ap (λ ls. ls ++ stretch columns q b h.texts ++ h.after) same ∙ ap (λ ls. r.lines ++ ls ++ h.after) (same_stretch r q b b h.texts width options annotations waiting refl);
-  }
-    where
-      ends : EndsRun columns (block_width r) (may_overflow r) (run_of b.events) h.texts h.names
-      ends =
-          subst (λ (w : ℕ). EndsRun columns (least w r.options.wrap_width) (overflows r.options (least w r.options.wrap_width)) (run_of b.events) h.texts h.names) width
-          (subst (λ (o : RenderOptions). EndsRun columns (least q.width o.wrap_width) (overflows o (least q.width o.wrap_width)) (run_of b.events) h.texts h.names) options h.ends)
+      ∙ ap (λ ls. r.lines ++ ls) (stretch_laid r b (lines_at_end columns r b))
 
   flush_stands : (r q s : Renderer D A (List A)) (b : Open (List A)) → r.block ≡ Some b → Flushes columns r q → IsSound columns r → (more : List (Line (List A))) × (s.lines ≡ q.lines ++ more) → StandsAsStretch columns r b s.lines
-  flush_stands r q s b open_block_is h sound grows = as_stretch r q s b (subst (λ (o : Option (Open (List A))). FlushesBlock columns r o q) open_block_is h) sound grows
+  flush_stands r q s b open_block_is flushes sound grows =
+      let h : EndsBlock columns r b q = subst (λ (o : Option (Open (List A))). FlushesBlock columns r o q) open_block_is flushes in record {
+        texts = lines_at_end columns r b;
+        names = names_at_end columns r b;
+        ends = h.ends sound;
+        ahead = λ narrow normal. none_ahead columns (block_width r) (run_of b.events) (lines_at_end columns r b) ((h.ends sound).shown.best narrow normal);
+        after = grows.0;
+        is = grows.1 ∙ ap (λ ls. ls ++ grows.0) (flush_adds r q b h);
+      }
 
   pub stands_for_good : (decoration : Decoration D A) (calls : List (Call (List A))) (r q s : Renderer D A (List A)) (b : Open (List A)) → IsSound columns r → r.block ≡ Some b → after_flush columns r ≡ done q → Steps columns decoration calls q s → StandsAsStretch columns r b s.lines
   stands_for_good decoration calls r q s b sound open_block_is h steps = flush_stands r q s b open_block_is (flushes columns r q h) sound (steps_grow columns decoration calls q s steps)
@@ -180,60 +126,61 @@ module _ {D A : Type 0} (columns : ℕ → Option ℕ) where
   -- ---- an open run
 
   -- More came to the block, and nothing else of lines changed.
-  record Since (r : Renderer D A (List A)) (b : Open (List A)) (es : List (Event (List A))) (q : Renderer D A (List A)) : Type 0 where
-    lines : q.lines ≡ r.lines
-    block : q.block ≡ Some (with_more b es)
-    waiting : q.waiting ≡ r.waiting
-    width : q.width ≡ r.width
-    options : q.options ≡ r.options
+  abbrev Since : Renderer D A (List A) → Open (List A) → List (Event (List A)) → Renderer D A (List A) → Type 0
+  Since r b es q = record r { lines = q.lines; block = q.block; waiting = q.waiting; width = q.width; options = q.options } ≡ record r { block = Some (with_more b es) }
 
   joined_more : (r q s : Renderer D A (List A)) (b : Open (List A)) (es more : List (Event (List A))) → Since r b es q → s ≡ with_events q more → Since r b (es ++ more) s
-  joined_more r q s b es more since h = record {
-    lines = ap (λ (p : Renderer D A (List A)). p.lines) h ∙ since.lines;
-    block = ap (λ (p : Renderer D A (List A)). p.block) h ∙ ap (λ (o : Option (Open (List A))). let c = unwrap_or o (new_block q) in Some (with_more c more)) since.block
-        ∙ ap (λ (events : List (Event (List A))). Some (record b { events = events })) (append_assoc b.events es more);
-    waiting = ap (λ (p : Renderer D A (List A)). p.waiting) h ∙ since.waiting;
-    width = ap (λ (p : Renderer D A (List A)). p.width) h ∙ since.width;
-    options = ap (λ (p : Renderer D A (List A)). p.options) h ∙ since.options;
-  }
+  joined_more r q s b es more since h =
+      ap (λ (p : Renderer D A (List A)). record r { lines = p.lines; block = p.block; waiting = p.waiting; width = p.width; options = p.options }) h
+      ∙ ap (λ (p : Renderer D A (List A)). record p { block = Some (with_more (unwrap_or p.block (new_block q)) more) }) since
+      ∙ ap (λ (events : List (Event (List A))). record r { block = Some (record b { events = events }) }) (append_assoc b.events es more)
 
-  turned : (r q s : Renderer D A (List A)) (b : Open (List A)) (es : List (Event (List A))) → Since r b es q → SameText q s → Since r b es s
-  turned r q s b es since h = record {
-    lines = h.lines ∙ since.lines;
-    block = h.block ∙ since.block;
-    waiting = h.waiting ∙ since.waiting;
-    width = h.width ∙ since.width;
-    options = h.options ∙ since.options;
+  -- under the annotations of then
+  same_stretch : (r q : Renderer D A (List A)) (b : Open (List A)) (es : List (Event (List A))) (ts : List (List (Item (List A)))) → Since r b es q →
+      q.lines ++ stretch columns q (with_more b es) ts ≡ r.lines ++ stretch columns (record r { annotations = q.annotations }) (with_more b es) ts
+  same_stretch r q b es [] since = ap (λ (p : Renderer D A (List A)). p.lines ++ []) since
+  same_stretch r q b es (t ∷ ts) since = ap (λ (p : Renderer D A (List A)). p.lines ++ stretch columns (record p { annotations = q.annotations }) (with_more b es) (t ∷ ts)) since
+
+  as_before : (r q : Renderer D A (List A)) (b : Open (List A)) (es : List (Event (List A))) (lines : List (Line (List A))) → Since r b es q →
+      StandsAsStretch columns q (with_more b es) lines → StandsAsStretch columns (record r { annotations = q.annotations }) (with_more b es) lines
+  as_before r q b es lines since h = record {
+    texts = h.texts;
+    names = h.names;
+    ends = subst (λ (p : Renderer D A (List A)). EndsRun columns (block_width p) (may_overflow p) (run_of (b.events ++ es)) h.texts h.names) since h.ends;
+    ahead = subst (λ (p : Renderer D A (List A)). may_overflow p ≡ false → IsNormal (run_of (b.events ++ es)) → NoneIsAhead columns (block_width p) (run_of (b.events ++ es)) h.texts) since h.ahead;
+    after = h.after;
+    is = h.is ∙ ap (λ ls. ls ++ h.after) (same_stretch r q b es h.texts since);
   }
 
   run_ends : (ms : List (Move D A)) (r q s : Renderer D A (List A)) (b : Open (List A)) (es : List (Event (List A))) → Since r b es q → IsSound columns r → MakesAll columns any ms q s →
       StaysOpen r b (run_of es ++ brought ms) s ⊎ EndsAsStretch columns r b (run_of es ++ brought ms) s
   run_ends [] r q s b es since sound h =
-      let open_still : StaysOpen r b (run_of es ++ []) q = record { lines = since.lines; events = es; are = sym (append-nil (run_of es)); block = since.block; waiting = since.waiting } in
+      let open_still : StaysOpen r b (run_of es ++ []) q = record {
+        lines = ap (λ (p : Renderer D A (List A)). p.lines) since;
+        events = es;
+        are = sym (append-nil (run_of es));
+        block = ap (λ (p : Renderer D A (List A)). p.block) since;
+        waiting = ap (λ (p : Renderer D A (List A)). p.waiting) since;
+      } in
       inl (subst (λ (p : Renderer D A (List A)). StaysOpen r b (run_of es ++ []) p) (sym h) open_still)
   run_ends (flush p ∷ ms) r q s b es since sound h = inr (record {
     more = es;
     later = brought ms;
     came = refl;
     annotations = q.annotations;
-    stands = as_before (record r { annotations = q.annotations }) q (with_more b es) s.lines since.lines since.width since.options refl since.waiting
-        (flush_stands q h.0 s (with_more b es) since.block h.1.1 (sound_alike columns r q since.width since.options sound) (moves_grow columns ms h.0 s h.2));
+    stands = as_before r q b es s.lines since
+        (flush_stands q h.0 s (with_more b es) (ap (λ (p : Renderer D A (List A)). p.block) since) h.1.1
+        (record { space = sound.space; wide = subst (λ (p : Renderer D A (List A)). 0 < block_width p) (sym since) sound.wide }) (moves_grow columns ms h.0 s h.2));
   })
-  run_ends (line is ∷ ms) r q s b es since sound h = absurd (let no : Some (with_more b es) ≡ None = sym since.block ∙ h.1.1 in cc)
-  run_ends (rule cells ∷ ms) r q s b es since sound h = absurd (let no : Some (with_more b es) ≡ None = sym since.block ∙ h.1.1 in cc)
   run_ends (join more ∷ ms) r q s b es since sound h =
       let came : run_of (es ++ more) ++ brought ms ≡ run_of es ++ (run_of more ++ brought ms) = ap (λ (run : List (Entry (List A))). run ++ brought ms) (run_of-append es more) ∙ append_assoc (run_of es) (run_of more) (brought ms) in
       subst (λ (fs : List (Entry (List A))). StaysOpen r b fs s ⊎ EndsAsStretch columns r b fs s) came (run_ends ms r h.0 s b (es ++ more) (joined_more r q h.0 b es more since h.1) sound h.2)
-  run_ends (turn ∷ ms) r q s b es since sound h = run_ends ms r h.0 s b es (turned r q h.0 b es since h.1) sound h.2
+  run_ends (turn ∷ ms) r q s b es since sound h = run_ends ms r h.0 s b es (cc) sound h.2
+  run_ends (other ∷ ms) r q s b es since sound h = absurd (let no : Some (with_more b es) ≡ None = sym (ap (λ (p : Renderer D A (List A)). p.block) since) ∙ h.1.1 in cc)
 
   pub brings_end : (decoration : Decoration D A) (calls : List (Call (List A))) (r s : Renderer D A (List A)) (b : Open (List A)) (es : List (Entry (List A))) → IsSound columns r → r.block ≡ Some b → Brings columns decoration calls r es s → StaysOpen r b es s ⊎ EndsAsStretch columns r b es s
   brings_end decoration calls r s b es sound open_block_is h =
       let path = calls_move columns any decoration calls r s es tt h in
-      let none_yet : Since r b [] r = record {
-        lines = refl;
-        block = open_block_is ∙ ap (λ (events : List (Event (List A))). Some (record b { events = events })) (sym (append-nil b.events));
-        waiting = refl;
-        width = refl;
-        options = refl;
-      } in
+      let none_yet : Since r b [] r = ap (λ (o : Option (Open (List A))). record r { block = o })
+      (open_block_is ∙ ap (λ (events : List (Event (List A))). Some (record b { events = events })) (sym (append-nil b.events))) in
       subst (λ (fs : List (Entry (List A))). StaysOpen r b fs s ⊎ EndsAsStretch columns r b fs s) path.brings (run_ends path.moves r r s b [] none_yet sound path.makes)

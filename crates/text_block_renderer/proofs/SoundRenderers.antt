@@ -1,8 +1,7 @@
 -- Renderers stay sound.
-use Rattle.std.proofs.Common.{◌≡◌, ◌≢◌, ◌<◌, ℕ, zero, suc, Bool, Option, None, Some, List, ap, refl, arith}
-use Rattle.std.proofs.lemmas.Bool.{cond_both}
-use Rattle.std.proofs.Math.Dec.{leb-suc-zero}
-use Rattle.std.specs.Prelude.{nat_le, if◌then◌else◌}
+use Rattle.std.proofs.Common.{◌≡◌, ◌≢◌, ◌<◌, ℕ, zero, suc, Option, None, Some, List, ap, refl, arith}
+use Rattle.std.proofs.lemmas.Bool.{cond_both, leb-true}
+use Rattle.std.specs.Prelude.{nat_le}
 use Rattle.tbr_tagged.specs.Outcome.{done}
 use Rattle.tbr_decor.specs.Decoration.{Decoration}
 use Rattle.tbr_renderer.specs.declared.options.RenderOptions.{RenderOptions}
@@ -11,7 +10,7 @@ use Rattle.tbr_renderer.specs.Calls.{Call, Steps, brought}
 use Rattle.tbr_renderer.specs.Decorated.{sub_renderer}
 use Rattle.tbr_renderer.specs.Outcomes.{run}
 use Rattle.text_block_renderer.specs.Acts.{Act, after_act}
-use Rattle.text_block_renderer.proofs.Moves.{any, sound_alike, path_width, path_options}
+use Rattle.text_block_renderer.proofs.Moves.{any, Frame, sound_alike, path_frame}
 use Rattle.text_block_renderer.proofs.CallMoves.{calls_move}
 use Rattle.text_block_renderer.proofs.ActParts.{acts_along}
 
@@ -20,13 +19,11 @@ some_columns width None wide some = wide
 some_columns width (Some zero) wide some = absurd (some refl)
 some_columns width (Some (suc n)) wide some = cond_both (nat_le width (suc n)) width (suc n) (λ w. 0 < w) (λ e. wide) (λ e. omega arith)
 
+none_least : (width : ℕ) → least width (Some 0) ≡ 0
+none_least width = cond_both (nat_le width 0) width 0 (λ n. n ≡ 0) (λ e. omega (arith, leb-true)) (λ e. refl)
+
 not_zero : (width : ℕ) (wrap : Option ℕ) → 0 < least width wrap → wrap ≢ Some 0
-not_zero width None wide is = cc
-not_zero zero (Some zero) wide is = absurd (omega (arith, wide))
-not_zero (suc n) (Some zero) wide is =
-    let none : least (suc n) (Some 0) ≡ 0 = ap (λ (less : Bool). if less then suc n else 0) (leb-suc-zero n) in
-    absurd (omega (arith, wide, none))
-not_zero width (Some (suc n)) wide is = cc
+not_zero width wrap h is = absurd (omega (arith, h, ap (least width) is, none_least width))
 
 module _ {D A : Type 0} (columns : ℕ → Option ℕ) where
   pub new_sound : columns 32 ≡ Some 1 → (width : ℕ) (options : RenderOptions) (decorator : D) → 0 < width → options.wrap_width ≢ Some 0 → IsSound columns (new_renderer {D = D} {A = A} {T = List A} width options decorator)
@@ -39,7 +36,8 @@ module _ {D A : Type 0} (columns : ℕ → Option ℕ) where
   pub calls_sound : (decoration : Decoration D A) (calls : List (Call (List A))) (r s : Renderer D A (List A)) → IsSound columns r → Steps columns decoration calls r s → IsSound columns s
   calls_sound decoration calls r s sound h =
       let path = calls_move columns any decoration calls r s (brought columns decoration calls r) tt (h, refl) in
-      sound_alike columns r s (path_width columns any r s _ _ path) (path_options columns any r s _ _ path) sound
+      let same = path_frame columns any r s _ _ path in
+      sound_alike columns r s (ap (λ (f : Frame A). f.width) same) (ap (λ (f : Frame A). f.options) same) sound
 
   pub acts_sound : (decoration : Decoration D A) (acts : List (Act A)) (r s : Renderer D A (List A)) → IsSound columns r → run (after_act columns decoration) acts r ≡ done s → IsSound columns s
   acts_sound decoration acts r s sound h = let along = acts_along columns decoration acts r s sound h in sound_alike columns r s along.width along.options sound

@@ -1,5 +1,5 @@
 -- What is written in lines: their texts, and those in front of borders.
-use Rattle.std.proofs.Common.{◌≡◌, ℕ, ◌+◌, Option, List, [], ◌∷◌, ◌++◌, map, flat_map, refl, ap, sym, ◌∙◌, append_assoc}
+use Rattle.std.proofs.Common.{◌≡◌, ℕ, ◌+◌, Option, List, [], ◌∷◌, ◌++◌, map, flat_map, refl, ap, sym, ◌∙◌, subst, append_assoc}
 use Rattle.std.specs.Prelude.{slice_range}
 use Rattle.std.specs.List.{AllZip}
 use Rattle.tbr_model.specs.Run.{Item}
@@ -13,6 +13,8 @@ use Rattle.tbr_renderer.specs.Renderer.{Renderer, line_padding}
 use Rattle.text_block_renderer.specs.Acts.{StaysLine}
 use Rattle.text_block_renderer.specs.Stretches.{padded_line, lines_laid}
 use Rattle.text_block_renderer.specs.Taken.{StandWithin, text_before, written, to_show}
+use Rattle.text_block_renderer.proofs.LastingLines.{stay_alike}
+use Rattle.text_block_renderer.proofs.AddedLines.{unmarked}
 use Rattle.text_block_renderer.proofs.Within.{two_within, itself_within, after_within, before_within}
 
 module _ {T : Type 0} where
@@ -23,13 +25,7 @@ module _ {T : Type 0} where
 
   -- lines that stay say the same
   pub stays_written : (ls ms : List (Line T)) → AllZip StaysLine ls ms → written ms ≡ written ls
-  stays_written [] [] h = refl
-  stays_written [] (m ∷ ms) h = elim h [ ]
-  stays_written (l ∷ ls) [] h = elim h [ ]
-  stays_written (text is ∷ ls) (text js ∷ ms) h = ap (λ ks. ks ++ written ms) h.0 ∙ ap (λ ks. is ++ ks) (stays_written ls ms h.1)
-  stays_written (text is ∷ ls) (border c ∷ ms) h = absurd h.0
-  stays_written (border b ∷ ls) (text js ∷ ms) h = absurd h.0
-  stays_written (border b ∷ ls) (border c ∷ ms) h = ap (λ (hs : List (Hole T)). flat_map (λ (h : Hole T). element_items h.element) hs ++ written ms) h.0.1 ∙ ap (λ ks. text_before b ++ ks) (stays_written ls ms h.1)
+  stays_written = stay_alike written written-append (λ b c h. ap (λ (hs : List (Hole T)). flat_map (λ (h : Hole T). element_items h.element) hs ++ []) h.1)
 
   module _ (columns : ℕ → Option ℕ) where
     -- a border shows the text in front of it
@@ -44,16 +40,11 @@ module _ {T : Type 0} where
     border_shown tag b = holes_shown tag b.cells 0 b.holes
 
 module _ {D A : Type 0} (columns : ℕ → Option ℕ) where
-  padded_within : (r : Renderer D A (List A)) (ts : List (List (Item (List A)))) → StandWithin (to_show columns (joined ts)) (to_show columns (written (map (padded_line columns r) ts)))
-  padded_within r [] = tt
-  padded_within r (t ∷ ts) =
-      let padding = line_padding columns r t in
-      two_within columns t (joined ts) (t ++ padding) (written (map (padded_line columns r) ts)) (before_within columns t t padding (itself_within columns t)) (padded_within r ts)
-
   -- laid texts are written, after the markers that wait
   pub laid_within : (r : Renderer D A (List A)) (ts : List (List (Item (List A)))) → StandWithin (to_show columns (joined ts)) (to_show columns (written (lines_laid columns r ts)))
   laid_within r [] = tt
   laid_within r (t ∷ ts) =
       let marked = marker_items r.waiting ++ t in
       let padding = line_padding columns r marked in
-      two_within columns t (joined ts) (marked ++ padding) (written (map (padded_line columns r) ts)) (before_within columns t marked padding (after_within columns (marker_items r.waiting) t t (itself_within columns t))) (padded_within r ts)
+      let rest = subst (λ ls. StandWithin (to_show columns (joined ts)) (to_show columns (written ls))) (unmarked columns (record r { waiting = [] }) ts refl) (laid_within (record r { waiting = [] }) ts) in
+      two_within columns t (joined ts) (marked ++ padding) (written (map (padded_line columns r) ts)) (before_within columns t marked padding (after_within columns (marker_items r.waiting) t t (itself_within columns t))) rest

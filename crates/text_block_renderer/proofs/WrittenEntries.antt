@@ -1,15 +1,14 @@
 -- What came is in the lines, with others between, whether they are padded or not.
-use Rattle.std.proofs.Common.{◌≡◌, ℕ, Option, None, List, [], ◌∷◌, ◌++◌, filter, fold, refl, ap, sym, ◌∙◌, subst, append_assoc, append-nil}
+use Rattle.std.proofs.Common.{◌≡◌, ℕ, Option, None, List, [], ◌∷◌, ◌++◌, fold, refl, ap, sym, ◌∙◌, subst, append_assoc, append-nil}
 use Rattle.std.specs.List.{AllZip}
 use Rattle.std.proofs.lemmas.List.Elements.{filter-append}
 use Rattle.tbr_model.specs.Run.{Entry, Item}
 use Rattle.tbr_model.specs.Rule.{run_of}
 use Rattle.tbr_model.specs.Layout.{joined}
 use Rattle.tbr_model.specs.Markers.{marker_items}
-use Rattle.tbr_model.specs.Shown.{is_visible_or_marker, is_entry_to_show, ShowsEntry}
+use Rattle.tbr_model.specs.Shown.{is_visible_or_marker}
 use Rattle.tbr_border.specs.Border.{Border}
 use Rattle.tbr_tagged.specs.Outcome.{done}
-use Rattle.tbr_tagged.proofs.SameItems.{all_zip_append}
 use Rattle.tbr_decor.specs.Decoration.{Decoration}
 use Rattle.tbr_kept_lines.specs.Line.{text}
 use Rattle.tbr_renderer.specs.Renderer.{Open, Renderer, line_padding, with_line, block_width, IsSound}
@@ -23,7 +22,7 @@ use Rattle.text_block_renderer.specs.Taken.{StandWithin, written, to_show, IsWri
 use Rattle.text_block_renderer.proofs.Within.{within_both, within_more, itself_within, before_within}
 use Rattle.text_block_renderer.proofs.Written.{written-append, stays_written}
 use Rattle.text_block_renderer.proofs.LineContents.{unpadded, marker_items-append}
-use Rattle.text_block_renderer.proofs.BroughtEntries.{at_shown, shown_markers, laid_stand}
+use Rattle.text_block_renderer.proofs.BroughtEntries.{Show, show_both, at_shown, shown_markers, laid_stand}
 use Rattle.text_block_renderer.proofs.Moves.{flush, any}
 use Rattle.text_block_renderer.proofs.EndedEntries.{Ended, GoesOn, move_on, acts_on}
 
@@ -31,16 +30,8 @@ module _ {A : Type 0} (columns : ℕ → Option ℕ) where
   abbrev seen : List (Item (List A)) → List (Item (List A))
   seen is = to_show columns is
 
-  abbrev Show : List (Item (List A)) → List (Entry (List A)) → Type 0
-  Show is es = AllZip (ShowsEntry (λ a b. a ≡ b)) is (filter (is_entry_to_show columns) es)
-
   two_seen : (is js : List (Item (List A))) → seen (is ++ js) ≡ seen is ++ seen js
   two_seen is js = filter-append (is_visible_or_marker columns) is js
-
-  show_both : (is js : List (Item (List A))) (es fs : List (Entry (List A))) → Show is es → Show js fs → Show (is ++ js) (es ++ fs)
-  show_both is js es fs h k =
-      subst (AllZip (ShowsEntry (λ a b. a ≡ b)) (is ++ js)) (sym (filter-append (is_entry_to_show columns) es fs))
-      (all_zip_append (ShowsEntry (λ a b. a ≡ b)) is js (filter (is_entry_to_show columns) es) (filter (is_entry_to_show columns) fs) h k)
 
 module _ {D A : Type 0} (columns : ℕ → Option ℕ) where
   -- These items are in the lines, but for the markers that wait.
@@ -55,14 +46,11 @@ module _ {D A : Type 0} (columns : ℕ → Option ℕ) where
       let marked = marker_items r.waiting ++ t in
       let more = (marked ++ line_padding columns r marked) ++ [] in
       let q = with_line columns r t in
-      let marked_seen : seen columns marked ≡ marker_items r.waiting ++ seen columns t = two_seen columns (marker_items r.waiting) t ∙ ap (λ is. is ++ seen columns t) (shown_markers columns r.waiting) in
-      let within : StandWithin (marker_items r.waiting ++ seen columns t) (seen columns more) =
-      subst (λ is. StandWithin is (seen columns more)) marked_seen (before_within columns marked (marked ++ line_padding columns r marked) [] (before_within columns marked marked (line_padding columns r marked) (itself_within columns marked))) in
-      let both : StandWithin (all ++ seen columns t) (seen columns (written q.lines)) =
-      subst (λ is. StandWithin is (seen columns (written q.lines))) (sym (append_assoc h.shown (marker_items r.waiting) (seen columns t)) ∙ ap (λ is. is ++ seen columns t) h.whole)
-      (subst (StandWithin (h.shown ++ (marker_items r.waiting ++ seen columns t))) (sym (ap (seen columns) (written-append r.lines (text (marked ++ line_padding columns r marked) ∷ [])) ∙ two_seen columns (written r.lines) more))
-      (within_both h.shown (marker_items r.waiting ++ seen columns t) (seen columns (written r.lines)) (seen columns more) h.stand within)) in
-      record { shown = all ++ seen columns t; whole = append-nil (all ++ seen columns t); stand = both }
+      let same : h.shown ++ seen columns marked ≡ all ++ seen columns t = simp (two_seen {A = A} columns, shown_markers {T = List A} columns, append_assoc, sym h.whole) in
+      let within = before_within columns marked (marked ++ line_padding columns r marked) [] (before_within columns marked marked (line_padding columns r marked) (itself_within columns marked)) in
+      let lines = ap (seen columns) (written-append r.lines (text (marked ++ line_padding columns r marked) ∷ [])) ∙ two_seen columns (written r.lines) more in
+      let both = subst (StandWithin (h.shown ++ seen columns marked)) (sym lines) (within_both h.shown (seen columns marked) (seen columns (written r.lines)) (seen columns more) h.stand within) in
+      record { shown = all ++ seen columns t; whole = append-nil (all ++ seen columns t); stand = subst (λ is. StandWithin is (seen columns (written q.lines))) same both }
 
   texts_in : (ts : List (List (Item (List A)))) (r : Renderer D A (List A)) (all : List (Item (List A))) → InLines r all → InLines (fold (with_line columns) r ts) (all ++ seen columns (joined ts))
   texts_in [] r all h = subst (InLines r) (sym (append-nil all)) h
@@ -97,15 +85,10 @@ module _ {D A : Type 0} (columns : ℕ → Option ℕ) where
       (all, order, record { shown = k.shown; whole = k.whole; stand = subst (StandWithin k.shown) (sym lines) (within_more k.shown (seen columns (written r.lines)) (seen columns (written put)) k.stand) })
 
   stay_written : (r s : Renderer D A (List A)) (es : List (Entry (List A))) → AllZip StaysLine r.lines s.lines → s.waiting ≡ r.waiting → AreWritten r es → AreWritten s es
-  stay_written r s es stay waiting (all, order, k) = (
-    all,
-    order,
-    record {
-      shown = k.shown;
-      whole = ap (λ names. k.shown ++ marker_items names) waiting ∙ k.whole;
-      stand = subst (λ is. StandWithin k.shown (seen columns is)) (sym (stays_written r.lines s.lines stay)) k.stand;
-    },
-  )
+  stay_written r s es stay waiting (all, order, k) =
+      let whole = ap (λ names. k.shown ++ marker_items names) waiting ∙ k.whole in
+      let stand = subst (λ is. StandWithin k.shown (seen columns is)) (sym (stays_written r.lines s.lines stay)) k.stand in
+      (all, order, record { shown = k.shown; whole = whole; stand = stand })
 
   written_on : GoesOn columns any AreWritten
   written_on = record {
