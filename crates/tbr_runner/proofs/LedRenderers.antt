@@ -11,8 +11,7 @@ use Rattle.tbr_commands.specs.declared.opening.Opening.{Opening}
 use Rattle.tbr_commands.specs.Opening.{IsOpening}
 use Rattle.tbr_commands.specs.Read.{opening_read}
 use Rattle.tbr_commands.proofs.Reading.{read_opening}
-use Rattle.tbr_commands.specs.Command.{Command, sub, cell}
-use Rattle.tbr_commands.specs.Syntax.{IsCommand}
+use Rattle.tbr_commands.specs.Command.{Command}
 use Rattle.tbr_stack.specs.Stack.{Level, first_renderer, top_of}
 use Rattle.tbr_program.specs.Progress.{Progress}
 use Rattle.tbr_program.specs.Closing.{with_notes, footnotes_of, closed as lines_closed, closed_text}
@@ -53,7 +52,7 @@ use Rattle.text_block_renderer.proofs.Moves.{lines_beside, flushed_none}
 use Rattle.text_block_renderer.proofs.SoundRenderers.{new_sound, inside_sound, acts_sound}
 use Rattle.text_block_renderer.proofs.LinkNumbers.{targets_come}
 use Rattle.tbr_runner.specs.StackCalls.{stack_calls, link_targets, AskFor, AskAfterFirst, LinesDo}
-use Rattle.tbr_runner.proofs.ScriptLevels.{first_led, Asks, line_keeps}
+use Rattle.tbr_runner.proofs.ScriptLevels.{first_led, line_keeps}
 use Rattle.tbr_runner.proofs.StackCalls.{lines_step, lines_end}
 use Rattle.tbr_runner.specs.Led.{IsFresh, IsLed, AreLed, IsTextOfLed, IsTextOfScript}
 
@@ -100,16 +99,11 @@ module _ {D M : Type 0} (columns : ℕ → Option ℕ) (decoration : Decoration 
 
   -- ---- such renderers
 
-  pub sized : (line : List ℕ) (command : Command) → IsCommand line command → Asks columns decoration (λ width. 0 < width) command
-  sized line (sub width) is = is.writes.2.2
-  sized line (cell width span align) is = is.writes.2.4.2
-  sized line other is = tt
-
   pub line_led : (p next : Progress D M (List M)) (number : ℕ) (line : List ℕ) → AreLed columns decoration p → after_line columns decoration number line p ≡ Ok next → AreLed columns decoration next
-  line_led p next number line h does = line_keeps columns decoration Led (λ width. 0 < width) led_on inside_led p h number line next (sized line) does
+  line_led = line_keeps columns decoration Led led_on inside_led
 
   pub of_first : (ls : List (Level Top)) (r : Top) → first_renderer ls ≡ Some r → Each (λ (l : Level Top). Led l.renderer) ls → Led r
-  of_first ls r top h = first_led columns decoration Led ls r top h
+  of_first = first_led columns decoration Led
 
   -- ---- the text
 
