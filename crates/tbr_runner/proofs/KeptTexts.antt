@@ -21,14 +21,13 @@ use Rattle.tbr_program.specs.Commands.{started}
 use Rattle.tbr_runner.proofs.ShownTexts.{led_writes}
 use Rattle.tbr_runner.proofs.LedRenderers.{led_sound, line_led, of_first, at_end, closed_led, started_led}
 use Rattle.tbr_runner.proofs.CameToRenderers.{HasStill, IsIn, only_on_stack, only_one, first_has, gives_on, line_has}
-use Rattle.tbr_runner.proofs.ScriptLevels.{each_any, Any, Sized, sized, line_waits, line_counts}
+use Rattle.tbr_runner.proofs.ScriptLevels.{Wait, line_waits, line_counts}
+use Rattle.tbr_runner.proofs.Walks.{Meets, At}
 
 module _ {D M : Type 0} (columns : ℕ → Option ℕ) (decoration : Decoration D M) where
   pub line_keeps_all : (p next : Progress D M (List M)) (number : ℕ) (line : List ℕ) → KeepsAll columns decoration p → EndsWhole (line ∷ []) p → after_line columns decoration number line p ≡ Ok next → KeepsAll columns decoration next
   line_keeps_all p next number line keeps whole makes =
-      let Waits = λ (c : Renderer D M (List M) × ℕ). NothingOverhangs c.0 in
-      let there = line_waits columns decoration Sized NothingOverhangs Any Waits (λ by width wide. tt) (λ span align r none by. none) p next number line
-      (λ command is. (sized columns decoration line command is, λ ends. whole (command, is, ends))) keeps.waiting (each_any _ (λ o. tt) p.opened) keeps.below makes in
+      let there = subst (Meets (Unit {0}) (At columns decoration (Wait columns decoration NothingOverhangs))) makes (line_waits columns decoration NothingOverhangs p number line (λ command is ends. whole (command, is, ends)) keeps.waiting keeps.below) in
       record { renderers = line_led columns decoration p next number line keeps.renderers makes; levels = line_counts columns decoration p next number line keeps.levels makes; waiting = there.waiting; below = there.below }
 
   pub started_keeps_all : columns 32 ≡ Some 1 → (opening : Opening) (decorator : D) → 0 < opening.width → opening.options.wrap_width ≢ Some 0 → KeepsAll columns decoration (started {M = M} opening decorator)

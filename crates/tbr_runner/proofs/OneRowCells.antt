@@ -1,6 +1,7 @@
 -- Nothing overhangs where cells span one row.
-use Rattle.std.proofs.Common.{◌≡◌, ◌+◌, ◌-◌, ◌⊎◌, inl, inr, ℕ, Bool, true, false, if◌then◌else◌, Option, List, [], ◌∷◌, drop, map, refl, ap, sym, ◌∙◌, subst}
+use Rattle.std.proofs.Common.{◌≡◌, ◌+◌, ◌-◌, ◌⊎◌, inl, inr, ℕ, Bool, if◌then◌else◌, Option, List, [], ◌∷◌, drop, map, refl, ap, sym, ◌∙◌, subst}
 use Rattle.std.specs.Prelude.{nat_lt}
+use Rattle.std.proofs.lemmas.Bool.{cond_both}
 use Rattle.std.specs.List.{AllZip, AllByRecursion as Each}
 use Rattle.tbr_model.proofs.lists.Each.{each_append, each_map, each_unmap}
 use Rattle.tbr_tagged.specs.Outcome.{done}
@@ -68,13 +69,9 @@ module _ {T : Type 0} where
     none_of : (c : Cell T) → LeavesNone c → Each HasNone (overhang_of draws (left c))
     none_of c (inl one) =
         subst (λ n. Each HasNone (if nat_lt 1 n then record (left c) { span = (left c).span - 1; lines = drop (if draws then 1 else 0) (left c).lines } ∷ [] else [])) (sym (span_stays collapses (last_border above) height c ∙ one)) tt
-    none_of c (inr none) = go (nat_lt 1 (left c).span)
-      where
-        go : (b : Bool) → Each HasNone (if b then record (left c) { span = (left c).span - 1; lines = drop (if draws then 1 else 0) (left c).lines } ∷ [] else [])
-        go true =
-            let lines = lines_stay (λ l. ⊥) collapses (last_border above) c (subst (Each (λ l. ⊥)) (sym none) tt) in
-            (no_lines _ (each_drop (λ l. ⊥) (if draws then 1 else 0) (left c).lines (each_drop (λ l. ⊥) height _ lines)), tt)
-        go false = tt
+    none_of c (inr none) =
+        let lines = lines_stay (λ l. ⊥) collapses (last_border above) c (subst (Each (λ l. ⊥)) (sym none) tt) in
+        cond_both (nat_lt 1 (left c).span) _ [] (Each HasNone) (λ more. (no_lines _ (each_drop (λ l. ⊥) (if draws then 1 else 0) (left c).lines (each_drop (λ l. ⊥) height _ lines)), tt)) (λ last. tt)
 
     none_overhang : (cs : List (Cell T)) → Each LeavesNone cs → Each HasNone (overhang draws (cells_left height (columns_shown collapses (cells_under collapses (last_border above) cs))))
     none_overhang cs none = subst (λ columns. Each HasNone (overhang draws (cells_left height columns))) (sym (columns_are collapses (last_border above) cs)) (go cs none)

@@ -20,8 +20,8 @@ use Rattle.tbr_program.specs.Prefixes.{prefixes}
 use Rattle.tbr_program.specs.Progress.{Opened, Progress}
 use Rattle.tbr_program.specs.Commands.{after_line}
 use Rattle.tbr_runner.specs.Kept.{EndsOne}
-use Rattle.tbr_runner.specs.Led.{AllAre}
-use Rattle.tbr_runner.proofs.Walks.{Cells, Levels, Holds, At, Asks, IsReady, TakesCells, Walk, line_makes}
+use Rattle.tbr_runner.specs.Led.{AllAre, CellsAre}
+use Rattle.tbr_runner.proofs.Walks.{Meets, Cells, Levels, Holds, At, Asks, IsReady, TakesCells, Walk, line_meets, line_makes}
 
 pub each_any : {X : Type 0} (P : X → Type 0) → ((x : X) → P x) → (xs : List X) → Each P xs
 each_any P any [] = tt
@@ -93,13 +93,15 @@ module _ {D M : Type 0} (columns : ℕ → Option ℕ) (decoration : Decoration 
       (p next : Progress D M (List M)) (number : ℕ) (line : List ℕ) → AllAre Is p → after_line columns decoration number line p ≡ Ok next → AllAre Is next
   line_keeps Is on inside = line_goes Is (λ c. on (call c)) inside (λ act r s cells into waits. on act r s)
 
-  -- what opened levels, and what waits
-  pub line_waits : (Asked : Opener → ℕ → Type 0) (Ends : Top → Type 0) (By : Opener → Type 0) (Waits : Top × ℕ → Type 0) → ((by : Opener) (width : ℕ) → Asked by width → By by) → ((span : ℕ) (align : CellAlign) (r : Top) → Ends r → By (Cell span align) → Waits (r, span)) →
-      (p next : Progress D M (List M)) (number : ℕ) (line : List ℕ) → ((command : Command) → IsCommand line command → Asks columns decoration Asked command × (EndsOne command → (r : Top) → top_of p.stack ≡ Some r → Ends r)) →
-      Each Waits p.pending.cells → Each (λ (o : Opened D M (List M)). By o.by) p.opened → Each (λ (o : Opened D M (List M)). Each Waits (let w = o.below in w.cells)) p.opened → after_line columns decoration number line p ≡ Ok next → At columns decoration (Fits (λ r. Unit {0}) By Waits) next
-  line_waits Asked Ends By Waits opens ends p next number line asks waiting opened below does =
-      let walk = fits_walk (Unit {0}) Asked Ends (λ r. Unit {0}) By Waits (λ r is. any_ready r) (λ c is. any_ready c.0) (λ c r s does is. tt) (λ act r s cells into waits does is. tt) (λ by width r asked is. (tt, opens by width asked)) (λ span align r of is by. ends span align r of by) in
-      line_makes columns decoration Asked Ends _ _ walk p next number line asks (record { on_stack = each_any _ (λ r. tt) _; waiting = waiting; opened = opened; below = below }) does
+  -- where the renderers of cells that wait are such, since each is when its level ends
+  abbrev pub Wait : (Top → Type 0) → Holds columns decoration
+  Wait Ends = Fits (λ r. Unit {0}) Any (λ c. Ends c.0)
+
+  pub line_waits : (Ends : Top → Type 0) (p : Progress D M (List M)) (number : ℕ) (line : List ℕ) → ((command : Command) → IsCommand line command → EndsOne command → (r : Top) → top_of p.stack ≡ Some r → Ends r) →
+      CellsAre Ends p.pending → Each (λ (o : Opened D M (List M)). CellsAre Ends o.below) p.opened → Meets (Unit {0}) (At columns decoration (Wait Ends)) (after_line columns decoration number line p)
+  line_waits Ends p number line ends waiting below =
+      let walk = fits_walk (Unit {0}) Sized Ends (λ r. Unit {0}) Any (λ c. Ends c.0) (λ r is. any_ready r) (λ c is. any_ready c.0) (λ c r s does is. tt) (λ act r s cells into wait does is. tt) (λ by width r wide is. (tt, tt)) (λ span align r of is by. of) in
+      line_meets columns decoration (Unit {0}) Sized Ends (Wait Ends) (Wait Ends) walk number p line (λ command is. (sized line command is, ends command is)) (record { on_stack = each_any _ (λ r. tt) _; waiting = waiting; opened = each_any _ (λ o. tt) p.opened; below = below })
 
   -- ---- one renderer for each level, and one below them
 
