@@ -78,20 +78,15 @@ module _ {D M : Type 0} (columns : ℕ → Option ℕ) (decoration : Decoration 
     takes = λ act r s rs cells levels into does h. record { on_stack = (takes act r s cells into h.waiting does h.on_stack.0, h.on_stack.1); waiting = tt; opened = h.opened; below = h.below };
   }
 
-  -- where all renderers are such, also those of cells that wait
-  pub line_goes : (Is : Top → Type 0) → ((c : Call (List M)) (r s : Top) → after columns decoration c r ≡ done s → Is r → Is s) → ((width : ℕ) (r : Top) → 0 < width → Is r → Is (sub_renderer decoration width r)) →
-      ((act : Act M) (r s : Top) (cells : Cells columns decoration) → TakesCells columns decoration cells act → Each (λ (c : Top × ℕ). Is c.0) cells → after_act columns decoration act r ≡ done s → Is r → Is s) →
-      (p next : Progress D M (List M)) (number : ℕ) (line : List ℕ) → AllAre Is p → after_line columns decoration number line p ≡ Ok next → AllAre Is next
-  line_goes Is called inside takes p next number line h does =
-      let here : At columns decoration (Fits Is Any (λ c. Is c.0)) p = record { on_stack = each_map (λ l. l.renderer) _ Is (λ l is. is) p.stack.levels h.on_stack; waiting = h.waiting; opened = each_any _ (λ o. tt) p.opened; below = h.below } in
-      let walk = fits_walk (Unit {0}) Sized (λ r. Unit {0}) Is Any (λ c. Is c.0) (λ r is. any_ready r) (λ c is. any_ready c.0) called takes (λ by width r wide is. (inside width r wide is, tt)) (λ span align r ends is by. is) in
-      let there = line_makes columns decoration Sized (λ r. Unit {0}) _ _ walk p next number line (λ command is. (sized line command is, λ ends r top. tt)) here does in
-      record { on_stack = each_unmap (λ l. l.renderer) _ Is (λ l is. is) next.stack.levels there.on_stack; waiting = there.waiting; below = there.below }
-
-  -- what all acts keep
+  -- where all renderers are such, also those of cells that wait, and all acts keep that
   pub line_keeps : (Is : Top → Type 0) → ((act : Act M) (r s : Top) → after_act columns decoration act r ≡ done s → Is r → Is s) → ((width : ℕ) (r : Top) → 0 < width → Is r → Is (sub_renderer decoration width r)) →
       (p next : Progress D M (List M)) (number : ℕ) (line : List ℕ) → AllAre Is p → after_line columns decoration number line p ≡ Ok next → AllAre Is next
-  line_keeps Is on inside = line_goes Is (λ c. on (call c)) inside (λ act r s cells into waits. on act r s)
+  line_keeps Is on inside p next number line h does =
+      let here : At columns decoration (Fits Is Any (λ c. Is c.0)) p = record { on_stack = each_map (λ l. l.renderer) _ Is (λ l is. is) p.stack.levels h.on_stack; waiting = h.waiting; opened = each_any _ (λ o. tt) p.opened; below = h.below } in
+      let walk = fits_walk (Unit {0}) Sized (λ r. Unit {0}) Is Any (λ c. Is c.0) (λ r is. any_ready r) (λ c is. any_ready c.0) (λ c. on (call c)) (λ act r s cells into waits. on act r s)
+          (λ by width r wide is. (inside width r wide is, tt)) (λ span align r ends is by. is) in
+      let there = line_makes columns decoration Sized (λ r. Unit {0}) _ _ walk p next number line (λ command is. (sized line command is, λ ends r top. tt)) here does in
+      record { on_stack = each_unmap (λ l. l.renderer) _ Is (λ l is. is) next.stack.levels there.on_stack; waiting = there.waiting; below = there.below }
 
   -- where the renderers of cells that wait are such, since each is when its level ends
   abbrev pub Wait : (Top → Type 0) → Holds columns decoration

@@ -1,8 +1,8 @@
 -- A script whose blocks and cells have two columns or more isn't too narrow.
-use Rattle.std.proofs.Common.{◌≡◌, ◌≤◌, ◌+◌, inl, inr, ℕ, Bool, true, false, if◌then◌else◌, Option, Some, None, Err, List, [], ◌∷◌, refl, ap, sym, ◌∙◌, subst, arith}
+use Rattle.std.proofs.Common.{◌≡◌, ◌≤◌, ◌+◌, inl, inr, ℕ, Option, Some, None, Err, List, [], ◌∷◌, refl, ap, sym, ◌∙◌, subst, arith}
 use Rattle.std.specs.Prelude.{nat_le, encode_utf8_all}
 use Rattle.std.specs.List.{AllByRecursion as Each}
-use Rattle.std.proofs.lemmas.Bool.{leb-true}
+use Rattle.std.proofs.lemmas.Bool.{leb-true, cond_both}
 use Rattle.tbr_tagged.specs.Outcome.{done, refused, if_live}
 use Rattle.tbr_tagged.specs.declared.Error.TheVariants as E
 use Rattle.tbr_tagged.proofs.Outcomes.{live_refused}
@@ -38,12 +38,9 @@ use Rattle.tbr_model.proofs.lists.Each.{each_unmap}
 
 wraps_two : (width other : ℕ) (wrap : Option ℕ) → 2 ≤ width → 2 ≤ least other wrap → 2 ≤ least width wrap
 wraps_two width other None wide both = wide
-wraps_two width other (Some w) wide both = go (nat_le other w) (nat_le width w) refl both
-  where
-    go : (a b : Bool) → nat_le other w ≡ a → 2 ≤ (if a then other else w) → 2 ≤ (if b then width else w)
-    go a true e two = wide
-    go true false e two = omega (arith, leb-true other w e, two)
-    go false false e two = two
+wraps_two width other (Some w) wide both =
+    let below : least other (Some w) ≤ w = cond_both (nat_le other w) other w (λ n. n ≤ w) (λ e. leb-true other w e) (λ e. omega arith) in
+    cond_both (nat_le width w) width w (λ n. 2 ≤ n) (λ e. wide) (λ e. omega (arith, both, below))
 
 -- ---- calls
 
