@@ -19,9 +19,9 @@ use Rattle.text_block_renderer.proofs.LinkNumbers.{targets_come}
 use Rattle.tbr_commands.specs.declared.opening.Opening.{Opening}
 use Rattle.tbr_program.specs.Commands.{started}
 use Rattle.tbr_runner.proofs.ShownTexts.{led_writes}
-use Rattle.tbr_runner.proofs.LedRenderers.{led_sound, line_led, of_first, at_end, closed_led, started_led}
+use Rattle.tbr_runner.proofs.LedRenderers.{led_sound, line_led, at_end, closed_led, started_led}
 use Rattle.tbr_runner.proofs.CameToRenderers.{HasStill, IsIn, only_on_stack, only_one, first_has, gives_on, line_has}
-use Rattle.tbr_runner.proofs.ScriptLevels.{Wait, line_waits, line_counts}
+use Rattle.tbr_runner.proofs.ScriptLevels.{first_led, Wait, line_waits, line_counts}
 use Rattle.tbr_runner.proofs.Walks.{Meets, At}
 
 module _ {D M : Type 0} (columns : ℕ → Option ℕ) (decoration : Decoration D M) where
@@ -36,12 +36,9 @@ module _ {D M : Type 0} (columns : ℕ → Option ℕ) (decoration : Decoration 
   -- ---- a script's lines
 
   module _ (first : Renderer D M (List M)) (es : List (Entry (List M))) where
-    abbrev In : Progress D M (List M) → Type 0
-    In p = IsIn columns decoration first es p
-
     lines_keep : (number : ℕ) (lines : List (List ℕ)) (p q : Progress D M (List M)) → KeepsAll columns decoration p → ((front back : List (List ℕ)) (there : Progress D M (List M)) → lines ≡ front ++ back → LinesDo columns decoration p number front there → IsShort columns decoration there × EndsWhole back there) →
-        LinesDo columns decoration p number lines q → In p → KeepsAll columns decoration q × In q
-    lines_keep number [] p q keeps at same h = (subst (KeepsAll columns decoration) (sym same) keeps, subst In (sym same) h)
+        LinesDo columns decoration p number lines q → IsIn columns decoration first es p → KeepsAll columns decoration q × IsIn columns decoration first es q
+    lines_keep number [] p q keeps at same h = (subst (KeepsAll columns decoration) (sym same) keeps, subst (IsIn columns decoration first es) (sym same) h)
     lines_keep number (line ∷ lines) p q keeps at (next, does, lead) h =
         let (short, whole) = at [] (line ∷ lines) p refl refl in
         lines_keep (number + 1) lines next q (line_keeps_all p next number line keeps whole does)
@@ -60,7 +57,7 @@ module _ {D M : Type 0} (columns : ℕ → Option ℕ) (decoration : Decoration 
       let (kept, has) = lines_keep led.first es number lines p there keeps at end.lead (inl (first_has columns decoration led.first es p.stack.levels r is_top still)) in
       let (top, is, closed_is, none_open, none_wait) = at_end columns decoration end.last there bytes end.ends in
       let led_there = kept.renderers in
-      let led_last = of_first columns decoration there.stack.levels top is led_there.on_stack in
+      let led_last = first_led columns decoration (IsLed columns decoration) there.stack.levels top is led_there.on_stack in
       let (of, gives_it) = closed_led columns decoration there.stack.links top bytes led_last closed_is in
       let gave = gives_on columns decoration led.first es top _ led_last.live ((at lines [] there (sym (append-nil lines)) end.lead).1 tt top is) gives_it (only_one columns decoration led.first es there.stack.levels top is (omega (arith, kept.levels, ap length none_open)) (only_on_stack columns decoration led.first es there none_open none_wait has)) in
       let origin : IsLed columns decoration gave.origin = record { first = led.first; fresh = led.fresh; sound = led.sound; acts = gave.still.acts; leads = gave.still.leads; live = gave.live } in

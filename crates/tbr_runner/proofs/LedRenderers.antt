@@ -1,6 +1,5 @@
 -- Each renderer of a script is led to by calls and rows.
 use Rattle.std.proofs.Common.{◌≡◌, ◌≢◌, ◌<◌, ◌+◌, inl, inr, Ok, ℕ, Bool, true, false, if◌then◌else◌, Option, Some, None, List, [], ◌∷◌, ◌++◌, flat_map, fold, refl, ap, sym, ◌∙◌, subst, arith}
-use Rattle.std.specs.List.{AllByRecursion as Each}
 use Rattle.std.specs.Cmp.Lexicographic.{pointwise}
 use Rattle.tbr_model.specs.Run.{Item}
 use Rattle.tbr_tagged.specs.Outcome.{done, refused}
@@ -12,7 +11,7 @@ use Rattle.tbr_commands.specs.Opening.{IsOpening}
 use Rattle.tbr_commands.specs.Read.{opening_read}
 use Rattle.tbr_commands.proofs.Reading.{read_opening}
 use Rattle.tbr_commands.specs.Command.{Command}
-use Rattle.tbr_stack.specs.Stack.{Level, first_renderer, top_of}
+use Rattle.tbr_stack.specs.Stack.{top_of}
 use Rattle.tbr_program.specs.Progress.{Progress}
 use Rattle.tbr_program.specs.Closing.{with_notes, footnotes_of, closed as lines_closed, closed_text}
 use Rattle.tbr_program.specs.Decorations.{plain_decoration, trivial_decoration, rich_decoration}
@@ -106,9 +105,6 @@ module _ {D M : Type 0} (columns : ℕ → Option ℕ) (decoration : Decoration 
   pub line_led : (p next : Progress D M (List M)) (number : ℕ) (line : List ℕ) → AreLed columns decoration p → after_line columns decoration number line p ≡ Ok next → AreLed columns decoration next
   line_led = line_keeps columns decoration Led led_on inside_led
 
-  pub of_first : (ls : List (Level Top)) (r : Top) → first_renderer ls ≡ Some r → Each (λ (l : Level Top). Led l.renderer) ls → Led r
-  of_first = first_led columns decoration Led
-
   -- ---- the text
 
   -- another decorator changes no line
@@ -184,7 +180,7 @@ module _ {D M : Type 0} (columns : ℕ → Option ℕ) (decoration : Decoration 
       let end = lines_end columns decoration p number lines text gives in
       let there = end.there in
       let (r, top, is, none_open, none_wait) = at_end end.last there text end.ends in
-      let (led, gives_it) = closed_led there.stack.links r text (of_first there.stack.levels r top (let all = lines_led number lines p there h end.lead in all.on_stack)) is in
+      let (led, gives_it) = closed_led there.stack.links r text (first_led columns decoration Led there.stack.levels r top (let all = lines_led number lines p there h end.lead in all.on_stack)) is in
       let steps = lines_step columns decoration number lines end.commands p there end.ask end.lead in
       (end.commands, end.ask, subst (λ ts. IsTextOfLed columns decoration ts text) (targets_come columns decoration (stack_calls end.commands) p.stack there.stack steps) led)
 

@@ -20,9 +20,9 @@ use Rattle.text_block_renderer.specs.Acts.{Act, call, row as row_of_cells, after
 use Rattle.tbr_script.specs.Refusal.{IsOfScript}
 use Rattle.tbr_script.specs.declared.error.RunError.{RunError}
 use Rattle.tbr_script.specs.declared.error.RunError.TheVariants.{TooNarrow, OutOfMemory, NothingToEnd, NotACommand, RowDoesNotFit}
-use Rattle.tbr_stack.specs.Stack.{Level, Stack, first_renderer, top_of, below, in_first, with_top}
+use Rattle.tbr_stack.specs.Stack.{Level, Stack, first_renderer, top_of, in_first, with_top}
 use Rattle.tbr_stack.specs.Top.{in_top}
-use Rattle.tbr_stack.specs.Links.{opened, link_number, shown_number, open_links, with_link, without_open_link, after_end_with}
+use Rattle.tbr_stack.specs.Links.{link_number, shown_number, open_links, with_link, without_open_link, after_end_with}
 use Rattle.tbr_commands.specs.Begun.{ends_nothing, counted}
 use Rattle.tbr_commands.specs.Request.{call_of}
 use Rattle.tbr_commands.specs.Command.{Command, ask, link, end_link, sub, append, cell, end_cell, row, vertical_row}
