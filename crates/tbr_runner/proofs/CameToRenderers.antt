@@ -1,5 +1,5 @@
 -- Where in a script is what came to one of its renderers: in it, or in lines that others took from it.
-use Rattle.std.proofs.Common.{◌∙◌, ◌≡◌, ◌≤◌, ◌<◌, ◌^◌, ◌+◌, ◌⊎◌, inl, inr, ℕ, zero, suc, Option, None, Some, Ok, List, [], ◌∷◌, ◌++◌, length, take, replicate, chars, refl, ap, sym, subst, arith, append_assoc}
+use Rattle.std.proofs.Common.{◌∙◌, ◌≡◌, ◌≤◌, ◌<◌, ◌^◌, ◌⊎◌, inl, inr, ℕ, zero, suc, Option, None, Some, Ok, List, [], ◌∷◌, ◌++◌, length, replicate, chars, refl, ap, sym, subst, arith, append_assoc}
 use Rattle.std.specs.List.{AllZip, AllByRecursion as Each}
 use Rattle.std.proofs.lemmas.List.{length-take, length-replicate}
 use Rattle.tbr_model.specs.Run.{Entry}
@@ -44,11 +44,9 @@ module _ {X : Type 0} where
   some_before P (x ∷ xs) ys (inr h) = inr (some_before P xs ys h)
 
 -- as many prefixes as lines
-enough : {X : Type 0} (x y : X) (n k : ℕ) → n ≤ k + 1 → n ≤ length (take n (x ∷ replicate k y))
-enough x y n k few = omega (arith, few, length-replicate k y, length-take n (x ∷ replicate k y))
-
 as_many : (first next : List ℕ) (n : ℕ) → n < 2 ^ 64 → n ≤ length (prefixes first next n)
-as_many first next n few = enough (chars first) (chars next) n others (omega (arith, few, is_others 18446744073709551614 refl))
+as_many first next n few =
+    omega (arith, few, is_others 18446744073709551614 refl, length-replicate others (chars next), length-take n (chars first ∷ replicate others (chars next)))
 
 module _ {D M : Type 0} (columns : ℕ → Option ℕ) (decoration : Decoration D M) where
   abbrev Top : Type 0

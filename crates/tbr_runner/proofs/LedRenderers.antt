@@ -121,13 +121,10 @@ module _ {D M : Type 0} (columns : ℕ → Option ℕ) (decoration : Decoration 
       ap (λ (s : Top). if fits_at_end columns r b then done (record s { waiting = s.waiting ++ names_at_end columns r b }) else refused TooNarrow) (lines_alike d (block_lines columns r b (lines_at_end columns r b)) (record r { block = None }))
       ∙ sym (if_map (changed (with_decorator d)) (fits_at_end columns r b) (done (flushed columns r (block_lines columns r b (lines_at_end columns r b)) (names_at_end columns r b))) (refused TooNarrow))
 
-  begun_alike : (d : D) (r : Top) → block_started columns (with_decorator d r) ≡ with_decorator d (block_started columns r)
-  begun_alike d r = sym (if_map (with_decorator d) (has_content r) (with_empty_line columns r) (record r { block_ended = false }))
-
   notes_alike : (d : D) (notes : List (List (Element M))) (r : Top) → (let s = with_notes columns notes (with_decorator d r) in s.lines) ≡ (let s = with_notes columns notes r in s.lines)
   notes_alike d [] r = refl
   notes_alike d (note ∷ notes) r =
-      ap (λ (q : Top). let s = with_footnotes columns q (note ∷ notes) in s.lines) (begun_alike d r)
+      ap (λ (q : Top). let s = with_footnotes columns q (note ∷ notes) in s.lines) (sym (if_map (with_decorator d) (has_content r) (with_empty_line columns r) (record r { block_ended = false })))
       ∙ ap (λ (s : Top). s.lines) (lines_alike d (flat_map (footnote_lines columns (block_started columns r)) (note ∷ notes)) (block_started columns r))
 
   -- footnotes after a flush
