@@ -21,14 +21,10 @@ module _ {D M : Type 0} (columns : ℕ → Option ℕ) (decoration : Decoration 
   at_end p [] none = refl
   at_end p (b ∷ bs) none = absurd (no_length (length bs) none)
 
-  after_first : (p : Place columns decoration) (line : List ℕ) (lines : List (List ℕ)) (made : Made columns decoration) → after_line columns decoration number line p ≡ made → rendered_on columns decoration number (line ∷ lines) p ≡ unless_refused (rendered_on columns decoration (number + 1) lines) made
-  after_first p line lines made is = ap (unless_refused (rendered_on columns decoration (number + 1) lines)) is
-
-  pub line_done : (p q : Place columns decoration) (rest line after : List ℕ) → lines_of rest ≡ line ∷ lines_of after → after_line columns decoration number line p ≡ Ok q → rendered_on columns decoration number (lines_of rest) p ≡ rendered_on columns decoration (number + 1) (lines_of after) q
-  line_done p q rest line after are is = ap (λ lines. rendered_on columns decoration number lines p) are ∙ after_first p line (lines_of after) (Ok q) is
-
-  pub line_refused : (p : Place columns decoration) (rest line after : List ℕ) (e : RunError) → lines_of rest ≡ line ∷ lines_of after → after_line columns decoration number line p ≡ Err e → rendered_on columns decoration number (lines_of rest) p ≡ Err e
-  line_refused p rest line after e are is = ap (λ lines. rendered_on columns decoration number lines p) are ∙ after_first p line (lines_of after) (Err e) is
+  -- what comes of the first line
+  pub line_made : (p : Place columns decoration) (rest line after : List ℕ) (made : Made columns decoration) → lines_of rest ≡ line ∷ lines_of after → after_line columns decoration number line p ≡ made →
+      rendered_on columns decoration number (lines_of rest) p ≡ unless_refused (rendered_on columns decoration (number + 1) (lines_of after)) made
+  line_made p rest line after made are is = ap (λ lines. rendered_on columns decoration number lines p) are ∙ ap (unless_refused (rendered_on columns decoration (number + 1) (lines_of after))) is
 
   -- ---- lines that are done
 

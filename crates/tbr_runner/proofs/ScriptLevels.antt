@@ -84,7 +84,7 @@ module _ {D M : Type 0} (columns : ℕ → Option ℕ) (decoration : Decoration 
   line_keeps Is on inside p next number line h does =
       let here : At columns decoration (Fits Is Any (λ c. Is c.0)) p = record { on_stack = each_map (λ l. l.renderer) _ Is (λ l is. is) p.stack.levels h.on_stack; waiting = h.waiting; opened = each_any _ (λ o. tt) p.opened; below = h.below } in
       let walk = fits_walk (Unit {0}) Sized (λ r. Unit {0}) Is Any (λ c. Is c.0) (λ r is. any_ready r) (λ c is. any_ready c.0) (λ c. on (call c)) (λ act r s cells into waits. on act r s)
-          (λ by width r wide is. (inside width r wide is, tt)) (λ span align r ends is by. is) in
+      (λ by width r wide is. (inside width r wide is, tt)) (λ span align r ends is by. is) in
       let there = line_makes columns decoration Sized (λ r. Unit {0}) _ _ walk p next number line (λ command is. (sized line command is, λ ends r top. tt)) here does in
       record { on_stack = each_unmap (λ l. l.renderer) _ Is (λ l is. is) next.stack.levels there.on_stack; waiting = there.waiting; below = there.below }
 
