@@ -1,5 +1,5 @@
 -- What came to a renderer of a script is in the lines of its text.
-use Rattle.std.proofs.Common.{true, ◌≡◌, ◌<◌, ◌+◌, inl, ℕ, Option, Some, Ok, List, [], ◌∷◌, ◌++◌, length, append-nil, ◌≢◌, refl, ap, sym, subst, arith}
+use Rattle.std.proofs.Common.{◌≡◌, ◌<◌, ◌+◌, inl, ℕ, Option, Some, Ok, List, [], ◌∷◌, ◌++◌, length, append-nil, ◌≢◌, refl, ap, sym, subst, arith}
 use Rattle.tbr_model.specs.Run.{Entry}
 use Rattle.tbr_decor.specs.Decoration.{Decoration}
 use Rattle.text_block_renderer.specs.Renderer.{Renderer}
@@ -10,37 +10,25 @@ use Rattle.tbr_stack.specs.Stack.{top_of}
 use Rattle.tbr_commands.specs.Command.{Command}
 use Rattle.tbr_program.specs.Progress.{Progress}
 use Rattle.tbr_program.specs.Commands.{after_line}
-use Rattle.tbr_program.proofs.CommandParts.{one_ok}
 use Rattle.tbr_runner.specs.Led.{IsLed}
 use Rattle.tbr_runner.specs.Kept.{EndsWhole, KeepsAll, IsShort, TextKeeps}
 use Rattle.tbr_runner.specs.Scripts.{rendered_on}
 use Rattle.tbr_runner.specs.StackCalls.{stack_calls, link_targets, AskFor, LinesDo}
-use Rattle.tbr_runner.proofs.RenderedLines.{line_command}
 use Rattle.tbr_runner.proofs.StackCalls.{lines_step, lines_end}
 use Rattle.text_block_renderer.proofs.LinkNumbers.{targets_come}
 use Rattle.tbr_commands.specs.declared.opening.Opening.{Opening}
 use Rattle.tbr_program.specs.Commands.{started}
-use Rattle.tbr_rows.proofs.Among.{each_gives}
 use Rattle.tbr_runner.proofs.ShownTexts.{led_writes}
-use Rattle.tbr_runner.proofs.LedRenderers.{led_on, led_sound, inside_led, sized, of_first, at_end, closed_led, started_led}
-use Rattle.tbr_runner.proofs.CameToRenderers.{HasStill, IsIn, only_on_stack, only_one, first_has, gives_on, command_has}
-use Rattle.tbr_runner.proofs.ScriptLevels.{Fits, opens_any, line_fits, line_keeps}
+use Rattle.tbr_runner.proofs.LedRenderers.{led_sound, line_led, at_end, closed_led, started_led}
+use Rattle.tbr_runner.proofs.CameToRenderers.{HasStill, IsIn, only_on_stack, only_one, first_has, gives_on, line_has}
+use Rattle.tbr_runner.proofs.ScriptLevels.{first_led, Wait, line_waits, line_counts}
+use Rattle.tbr_runner.proofs.Walks.{Meets, At}
 
 module _ {D M : Type 0} (columns : ℕ → Option ℕ) (decoration : Decoration D M) where
   pub line_keeps_all : (p next : Progress D M (List M)) (number : ℕ) (line : List ℕ) → KeepsAll columns decoration p → EndsWhole (line ∷ []) p → after_line columns decoration number line p ≡ Ok next → KeepsAll columns decoration next
   line_keeps_all p next number line keeps whole makes =
-      let Waits = λ (c : Renderer D M (List M) × ℕ). NothingOverhangs c.0 in
-      let renderers = keeps.renderers in
-      let here : Fits columns decoration true (λ r. Unit {0}) (λ by. Unit {0}) Waits p = record { on_stack = each_gives _ _ (λ l led. tt) p.stack.levels renderers.on_stack; levels = keeps.levels; waiting = keeps.waiting; opened = each_gives _ _ (λ level wait. tt) p.opened keeps.below; below = keeps.below } in
-      let shape =
-      line_fits columns decoration true (λ r. Unit {0}) (λ width. 0 < width) (λ by. Unit {0}) Waits (λ c r s e k. tt) (λ width r wide k. tt) p here number line next
-      (λ command is. (sized columns decoration line command is, opens_any columns decoration command, λ ends r top k span align by. whole (command, is, ends) r top)) (λ collapse cells gives r s e k. tt) makes in
-      record {
-        renderers = line_keeps columns decoration (IsLed columns decoration) (λ width. 0 < width) (led_on columns decoration) (inside_led columns decoration) p keeps.renderers number line next (sized columns decoration line) makes;
-        levels = shape.levels;
-        waiting = shape.waiting;
-        below = shape.below;
-      }
+      let there = subst (Meets (Unit {0}) (At columns decoration (Wait columns decoration NothingOverhangs))) makes (line_waits columns decoration NothingOverhangs p number line (λ command is ends. whole (command, is, ends)) keeps.waiting keeps.below) in
+      record { renderers = line_led columns decoration p next number line keeps.renderers makes; levels = line_counts columns decoration p next number line keeps.levels makes; waiting = there.waiting; below = there.below }
 
   pub started_keeps_all : columns 32 ≡ Some 1 → (opening : Opening) (decorator : D) → 0 < opening.width → opening.options.wrap_width ≢ Some 0 → KeepsAll columns decoration (started {M = M} opening decorator)
   started_keeps_all space opening decorator wide some = record { renderers = started_led columns decoration space opening decorator wide some; levels = refl; waiting = tt; below = tt }
@@ -48,23 +36,14 @@ module _ {D M : Type 0} (columns : ℕ → Option ℕ) (decoration : Decoration 
   -- ---- a script's lines
 
   module _ (first : Renderer D M (List M)) (es : List (Entry (List M))) where
-    abbrev In : Progress D M (List M) → Type 0
-    In p = IsIn columns decoration first es p
-
-    line_has : (number : ℕ) (line : List ℕ) (p next : Progress D M (List M)) → KeepsAll columns decoration p → IsShort columns decoration p → EndsWhole (line ∷ []) p → after_line columns decoration number line p ≡ Ok next → In p → In next
-    line_has number [] p next keeps short whole e h = subst In (sym (one_ok p next e)) h
-    line_has number (b ∷ bs) p next keeps short whole e h =
-        let (command, is, makes) = line_command columns decoration number p (Ok next) tt b bs e in
-        command_has columns decoration first es number command p next keeps short (λ ends. whole (command, is, ends)) keeps.renderers makes h
-
     lines_keep : (number : ℕ) (lines : List (List ℕ)) (p q : Progress D M (List M)) → KeepsAll columns decoration p → ((front back : List (List ℕ)) (there : Progress D M (List M)) → lines ≡ front ++ back → LinesDo columns decoration p number front there → IsShort columns decoration there × EndsWhole back there) →
-        LinesDo columns decoration p number lines q → In p → KeepsAll columns decoration q × In q
-    lines_keep number [] p q keeps at same h = (subst (KeepsAll columns decoration) (sym same) keeps, subst In (sym same) h)
+        LinesDo columns decoration p number lines q → IsIn columns decoration first es p → KeepsAll columns decoration q × IsIn columns decoration first es q
+    lines_keep number [] p q keeps at same h = (subst (KeepsAll columns decoration) (sym same) keeps, subst (IsIn columns decoration first es) (sym same) h)
     lines_keep number (line ∷ lines) p q keeps at (next, does, lead) h =
         let (short, whole) = at [] (line ∷ lines) p refl refl in
         lines_keep (number + 1) lines next q (line_keeps_all p next number line keeps whole does)
         (λ front back there are led. at (line ∷ front) back there (ap (λ ls. line ∷ ls) are) (next, does, led)) lead
-        (line_has number line p next keeps short whole does h)
+        (line_has columns decoration first es number line p next keeps short whole does h)
 
   -- what came to the renderer on top, and later, is in the lines of the text
   pub text_keeps : (p : Progress D M (List M)) (number : ℕ) (lines : List (List ℕ)) (bytes : List ℕ) (r : Renderer D M (List M)) → KeepsAll columns decoration p → ((front back : List (List ℕ)) (there : Progress D M (List M)) → lines ≡ front ++ back → LinesDo columns decoration p number front there → IsShort columns decoration there × EndsWhole back there) →
@@ -78,7 +57,7 @@ module _ {D M : Type 0} (columns : ℕ → Option ℕ) (decoration : Decoration 
       let (kept, has) = lines_keep led.first es number lines p there keeps at end.lead (inl (first_has columns decoration led.first es p.stack.levels r is_top still)) in
       let (top, is, closed_is, none_open, none_wait) = at_end columns decoration end.last there bytes end.ends in
       let led_there = kept.renderers in
-      let led_last = of_first columns decoration there.stack.levels top is led_there.on_stack in
+      let led_last = first_led columns decoration (IsLed columns decoration) there.stack.levels top is led_there.on_stack in
       let (of, gives_it) = closed_led columns decoration there.stack.links top bytes led_last closed_is in
       let gave = gives_on columns decoration led.first es top _ led_last.live ((at lines [] there (sym (append-nil lines)) end.lead).1 tt top is) gives_it (only_one columns decoration led.first es there.stack.levels top is (omega (arith, kept.levels, ap length none_open)) (only_on_stack columns decoration led.first es there none_open none_wait has)) in
       let origin : IsLed columns decoration gave.origin = record { first = led.first; fresh = led.fresh; sound = led.sound; acts = gave.still.acts; leads = gave.still.leads; live = gave.live } in

@@ -1,6 +1,5 @@
 -- Each renderer of a script is led to by calls and rows.
 use Rattle.std.proofs.Common.{◌≡◌, ◌≢◌, ◌<◌, ◌+◌, inl, inr, Ok, ℕ, Bool, true, false, if◌then◌else◌, Option, Some, None, List, [], ◌∷◌, ◌++◌, flat_map, fold, refl, ap, sym, ◌∙◌, subst, arith}
-use Rattle.std.specs.List.{AllByRecursion as Each}
 use Rattle.std.specs.Cmp.Lexicographic.{pointwise}
 use Rattle.tbr_model.specs.Run.{Item}
 use Rattle.tbr_tagged.specs.Outcome.{done, refused}
@@ -11,16 +10,15 @@ use Rattle.tbr_commands.specs.declared.opening.Opening.{Opening}
 use Rattle.tbr_commands.specs.Opening.{IsOpening}
 use Rattle.tbr_commands.specs.Read.{opening_read}
 use Rattle.tbr_commands.proofs.Reading.{read_opening}
-use Rattle.tbr_commands.specs.Command.{Command, sub, cell}
-use Rattle.tbr_commands.specs.Syntax.{IsCommand}
-use Rattle.tbr_stack.specs.Stack.{Level, first_renderer, top_of}
+use Rattle.tbr_commands.specs.Command.{Command}
+use Rattle.tbr_stack.specs.Stack.{top_of}
 use Rattle.tbr_program.specs.Progress.{Progress}
 use Rattle.tbr_program.specs.Closing.{with_notes, footnotes_of, closed as lines_closed, closed_text}
 use Rattle.tbr_program.specs.Decorations.{plain_decoration, trivial_decoration, rich_decoration}
 use Rattle.tbr_commands.specs.declared.opening.Decorator.{Decorator}
 use Rattle.tbr_commands.specs.declared.opening.Decorator.TheVariants.{Plain, Trivial, Rich}
 use Rattle.tbr_commands.specs.declared.options.Setting.{Setting}
-use Rattle.tbr_commands.specs.declared.options.Setting.TheVariants.{Wrap, Overflow, Pad, NoBorders, NoWrapLinks, Footnotes, NoStrike, Images}
+use Rattle.tbr_commands.specs.declared.options.Setting.TheVariants.{Wrap}
 use Rattle.tbr_commands.specs.Options.{IsSetting, with_setting, AreOptions}
 use Rattle.tbr_renderer.specs.Options.{default_options}
 use Rattle.tbr_renderer.specs.declared.RenderOptions.{RenderOptions}
@@ -53,9 +51,13 @@ use Rattle.text_block_renderer.proofs.Moves.{lines_beside, flushed_none}
 use Rattle.text_block_renderer.proofs.SoundRenderers.{new_sound, inside_sound, acts_sound}
 use Rattle.text_block_renderer.proofs.LinkNumbers.{targets_come}
 use Rattle.tbr_runner.specs.StackCalls.{stack_calls, link_targets, AskFor, AskAfterFirst, LinesDo}
-use Rattle.tbr_runner.proofs.ScriptLevels.{first_led, Asks, line_keeps}
+use Rattle.tbr_runner.proofs.ScriptLevels.{first_led, line_keeps}
 use Rattle.tbr_runner.proofs.StackCalls.{lines_step, lines_end}
 use Rattle.tbr_runner.specs.Led.{IsFresh, IsLed, AreLed, IsTextOfLed, IsTextOfScript}
+
+if_map : {X Y : Type 0} (f : X → Y) (b : Bool) (x y : X) → f (if b then x else y) ≡ (if b then f x else f y)
+if_map f true x y = refl
+if_map f false x y = refl
 
 module _ {D M : Type 0} (columns : ℕ → Option ℕ) (decoration : Decoration D M) where
   abbrev pub Top : Type 0
@@ -100,16 +102,8 @@ module _ {D M : Type 0} (columns : ℕ → Option ℕ) (decoration : Decoration 
 
   -- ---- such renderers
 
-  pub sized : (line : List ℕ) (command : Command) → IsCommand line command → Asks columns decoration (λ width. 0 < width) command
-  sized line (sub width) is = is.writes.2.2
-  sized line (cell width span align) is = is.writes.2.4.2
-  sized line other is = tt
-
   pub line_led : (p next : Progress D M (List M)) (number : ℕ) (line : List ℕ) → AreLed columns decoration p → after_line columns decoration number line p ≡ Ok next → AreLed columns decoration next
-  line_led p next number line h does = line_keeps columns decoration Led (λ width. 0 < width) led_on inside_led p h number line next (sized line) does
-
-  pub of_first : (ls : List (Level Top)) (r : Top) → first_renderer ls ≡ Some r → Each (λ (l : Level Top). Led l.renderer) ls → Led r
-  of_first ls r top h = first_led columns decoration Led ls r top h
+  line_led = line_keeps columns decoration Led led_on inside_led
 
   -- ---- the text
 
@@ -123,26 +117,14 @@ module _ {D M : Type 0} (columns : ℕ → Option ℕ) (decoration : Decoration 
 
   block_alike : (d : D) (r : Top) (o : Option (Open (List M))) → after_block columns (with_decorator d r) o ≡ changed (with_decorator d) (after_block columns r o)
   block_alike d r None = refl
-  block_alike d r (Some b) = go (fits_at_end columns r b)
-    where
-      lines : List (List (Item (List M)))
-      lines = block_lines columns r b (lines_at_end columns r b)
-
-      go : (fits : Bool) → (if fits then done (flushed columns (with_decorator d r) lines (names_at_end columns r b)) else refused TooNarrow) ≡ changed (with_decorator d) (if fits then done (flushed columns r lines (names_at_end columns r b)) else refused TooNarrow)
-      go true = ap (λ (s : Top). done (record s { waiting = s.waiting ++ names_at_end columns r b })) (lines_alike d lines (record r { block = None }))
-      go false = refl
-
-  begun_alike : (d : D) (r : Top) → block_started columns (with_decorator d r) ≡ with_decorator d (block_started columns r)
-  begun_alike d r = go (has_content r)
-    where
-      go : (b : Bool) → (if b then with_empty_line columns (with_decorator d r) else record (with_decorator d r) { block_ended = false }) ≡ with_decorator d (if b then with_empty_line columns r else record r { block_ended = false })
-      go true = refl
-      go false = refl
+  block_alike d r (Some b) =
+      ap (λ (s : Top). if fits_at_end columns r b then done (record s { waiting = s.waiting ++ names_at_end columns r b }) else refused TooNarrow) (lines_alike d (block_lines columns r b (lines_at_end columns r b)) (record r { block = None }))
+      ∙ sym (if_map (changed (with_decorator d)) (fits_at_end columns r b) (done (flushed columns r (block_lines columns r b (lines_at_end columns r b)) (names_at_end columns r b))) (refused TooNarrow))
 
   notes_alike : (d : D) (notes : List (List (Element M))) (r : Top) → (let s = with_notes columns notes (with_decorator d r) in s.lines) ≡ (let s = with_notes columns notes r in s.lines)
   notes_alike d [] r = refl
   notes_alike d (note ∷ notes) r =
-      ap (λ (q : Top). let s = with_footnotes columns q (note ∷ notes) in s.lines) (begun_alike d r)
+      ap (λ (q : Top). let s = with_footnotes columns q (note ∷ notes) in s.lines) (sym (if_map (with_decorator d) (has_content r) (with_empty_line columns r) (record r { block_ended = false })))
       ∙ ap (λ (s : Top). s.lines) (lines_alike d (flat_map (footnote_lines columns (block_started columns r)) (note ∷ notes)) (block_started columns r))
 
   -- footnotes after a flush
@@ -195,7 +177,7 @@ module _ {D M : Type 0} (columns : ℕ → Option ℕ) (decoration : Decoration 
       let end = lines_end columns decoration p number lines text gives in
       let there = end.there in
       let (r, top, is, none_open, none_wait) = at_end end.last there text end.ends in
-      let (led, gives_it) = closed_led there.stack.links r text (of_first there.stack.levels r top (let all = lines_led number lines p there h end.lead in all.on_stack)) is in
+      let (led, gives_it) = closed_led there.stack.links r text (first_led columns decoration Led there.stack.levels r top (let all = lines_led number lines p there h end.lead in all.on_stack)) is in
       let steps = lines_step columns decoration number lines end.commands p there end.ask end.lead in
       (end.commands, end.ask, subst (λ ts. IsTextOfLed columns decoration ts text) (targets_come columns decoration (stack_calls end.commands) p.stack there.stack steps) led)
 
@@ -209,34 +191,28 @@ module _ {D M : Type 0} (columns : ℕ → Option ℕ) (decoration : Decoration 
 -- ---- a whole script
 
 module _ (columns : ℕ → Option ℕ) (space : columns 32 ≡ Some 1) where
+  setting_wraps : (word : List ℕ) (setting : Setting) (options : RenderOptions) → IsSetting word setting → options.wrap_width ≢ Some 0 → (let o = with_setting options setting in o.wrap_width) ≢ Some 0
+  setting_wraps word (Wrap n) options is some = λ none. let zero_is : n ≡ 0 = cc none in omega (arith, is.2.2, zero_is)
+  setting_wraps word other options is some = some
+
   some_wrap : (words : List (List ℕ)) (settings : List Setting) (options : RenderOptions) → AllZip IsSetting words settings → options.wrap_width ≢ Some 0 → (let o = fold with_setting options settings in o.wrap_width) ≢ Some 0
   some_wrap [] [] options all some = some
   some_wrap [] (s ∷ ss) options all some = elim all [ ]
   some_wrap (w ∷ ws) [] options all some = elim all [ ]
-  some_wrap (w ∷ ws) (Wrap n ∷ ss) options all some =
-      some_wrap ws ss (record options { wrap_width = Some n }) all.1 (λ none. let zero_is : n ≡ 0 = cc in omega (arith, all.0.2.2, zero_is))
-  some_wrap (w ∷ ws) (Overflow ∷ ss) options all some = some_wrap ws ss (with_setting options Overflow) all.1 some
-  some_wrap (w ∷ ws) (Pad ∷ ss) options all some = some_wrap ws ss (with_setting options Pad) all.1 some
-  some_wrap (w ∷ ws) (NoBorders ∷ ss) options all some = some_wrap ws ss (with_setting options NoBorders) all.1 some
-  some_wrap (w ∷ ws) (NoWrapLinks ∷ ss) options all some = some_wrap ws ss (with_setting options NoWrapLinks) all.1 some
-  some_wrap (w ∷ ws) (Footnotes ∷ ss) options all some = some_wrap ws ss (with_setting options Footnotes) all.1 some
-  some_wrap (w ∷ ws) (NoStrike ∷ ss) options all some = some_wrap ws ss (with_setting options NoStrike) all.1 some
-  some_wrap (w ∷ ws) (Images mode ∷ ss) options all some = some_wrap ws ss (with_setting options (Images mode)) all.1 some
+  some_wrap (w ∷ ws) (s ∷ ss) options all some = some_wrap ws ss (with_setting options s) all.1 (setting_wraps w s options all.0 some)
 
   wraps : (words : List (List ℕ)) (options : RenderOptions) → AreOptions words options → options.wrap_width ≢ Some 0
   wraps words options (settings, all, is) = subst (λ (o : RenderOptions). o.wrap_width ≢ Some 0) (sym is) (some_wrap words settings default_options all (λ none. cc))
 
+  begun_led : {D M : Type 0} (decoration : Decoration D M) (decorator : D) (opening : Opening) (number : ℕ) (lines : List (List ℕ)) (text : List ℕ) → 0 < opening.width → opening.options.wrap_width ≢ Some 0 →
+      rendered_on columns decoration number lines (started opening decorator) ≡ Ok text → (commands : List Command) × AskFor lines commands × IsTextOfLed columns decoration (link_targets commands) text
+  begun_led decoration decorator opening number lines text wide some h = text_led columns decoration (started opening decorator) number lines text (started_led columns decoration space opening decorator wide some) h
+
   under_led : (decorator : Decorator) (opening : Opening) (number : ℕ) (lines : List (List ℕ)) (text : List ℕ) → 0 < opening.width → opening.options.wrap_width ≢ Some 0 → rendered_under columns decorator opening number lines ≡ Ok text →
       (commands : List Command) × AskFor lines commands × IsTextOfScript columns (link_targets commands) text
-  under_led Plain opening number lines text wide some h =
-      let (commands, asks, led) = text_led columns plain_decoration (started opening (record {})) number lines text (started_led columns plain_decoration space opening (record {}) wide some) h in
-      (commands, asks, inl led)
-  under_led Trivial opening number lines text wide some h =
-      let (commands, asks, led) = text_led columns trivial_decoration (started opening (record {})) number lines text (started_led columns trivial_decoration space opening (record {}) wide some) h in
-      (commands, asks, inr (inl led))
-  under_led Rich opening number lines text wide some h =
-      let (commands, asks, led) = text_led columns rich_decoration (started opening (record {})) number lines text (started_led columns rich_decoration space opening (record {}) wide some) h in
-      (commands, asks, inr (inr led))
+  under_led Plain opening number lines text wide some h = let (commands, asks, led) = begun_led plain_decoration (record {}) opening number lines text wide some h in (commands, asks, inl led)
+  under_led Trivial opening number lines text wide some h = let (commands, asks, led) = begun_led trivial_decoration (record {}) opening number lines text wide some h in (commands, asks, inr (inl led))
+  under_led Rich opening number lines text wide some h = let (commands, asks, led) = begun_led rich_decoration (record {}) opening number lines text wide some h in (commands, asks, inr (inr led))
 
   begins_led : (number : ℕ) (lines : List (List ℕ)) (text : List ℕ) → rendered_from columns number lines ≡ Ok text → (commands : List Command) × AskAfterFirst lines commands × IsTextOfScript columns (link_targets commands) text
   begins_led number [] text h = cc

@@ -5,6 +5,7 @@ pub mod LedRenderers
 pub mod TwoColumns
 pub mod ShownTexts
 pub mod CameToRenderers
+pub mod Walks
 pub mod ScriptLevels
 pub mod KeptTexts
 pub mod OneRowCells

@@ -1,5 +1,5 @@
 -- What commands do to a stack is what its calls do.
-use Rattle.std.proofs.Common.{◌≡◌, ℕ, ◌+◌, Option, List, [], ◌∷◌, ◌++◌, chars, length, Ok, refl, ap, sym, ◌∙◌, subst, inl, inr}
+use Rattle.std.proofs.Common.{◌≡◌, ℕ, ◌+◌, Option, List, [], ◌∷◌, ◌++◌, chars, length, Ok, refl, ap, sym, ◌∙◌, subst}
 use Rattle.tbr_decor.specs.Decoration.{Decoration}
 use Rattle.tbr_tagged.specs.Outcome.{Outcome, done}
 use Rattle.text_block_renderer.specs.Renderer.{Renderer}
@@ -22,7 +22,8 @@ use Rattle.tbr_program.specs.Commands.{with_stack, level_opened, block_made, req
 use Rattle.tbr_commands.proofs.Reading.{command_is_read}
 use Rattle.tbr_program.proofs.CommandParts.{one_ok, unless, if_so, some_are, of_top, stack_done, opens, block_ends, cell_ends}
 use Rattle.tbr_runner.specs.Scripts.{rendered_on}
-use Rattle.tbr_runner.proofs.RenderedLines.{Parts, line_parts, line_command}
+use Rattle.tbr_runner.proofs.RenderedLines.{line_parts, line_asks}
+use Rattle.tbr_commands.specs.Read.{command_read}
 use Rattle.tbr_runner.specs.StackCalls.{calls_of, stack_calls, AskFor, LinesDo}
 
 module _ {D M : Type 0} (columns : ℕ → Option ℕ) (decoration : Decoration D M) where
@@ -100,14 +101,11 @@ module _ {D M : Type 0} (columns : ℕ → Option ℕ) (decoration : Decoration 
 
   pub lines_end : (p : Progress D M (List M)) (number : ℕ) (lines : List (List ℕ)) (text : List ℕ) → rendered_on columns decoration number lines p ≡ Ok text → End p number lines text
   lines_end p number [] text ends = record { commands = []; there = p; last = number; ask = refl; lead = refl; ends = ends }
-  lines_end p number (line ∷ lines) text gives = after_first (λ next gives. lines_end next (number + 1) lines text gives) line (line_parts columns decoration number p line lines (Ok text) gives)
+  lines_end p number (line ∷ lines) text gives =
+      let (next, does, others) = line_parts columns decoration number (after_line columns decoration number line p) lines text gives in after_first line does (lines_end next (number + 1) lines text others)
     where
-      after_first : ((next : Progress D M (List M)) → rendered_on columns decoration (number + 1) lines next ≡ Ok text → End next (number + 1) lines text) → (line : List ℕ) → Parts columns decoration number (after_line columns decoration number line p) lines (Ok text) → End p number (line ∷ lines) text
-      after_first others line (inl (e, refuses, is)) = absurd (let no : ⊥ = cc is in no)
-      after_first others [] (inr (next, does, gives)) =
-          let end = others next gives in
-          record { commands = end.commands; there = end.there; last = end.last; ask = end.ask; lead = (next, does, end.lead); ends = end.ends }
-      after_first others (b ∷ bs) (inr (next, does, gives)) =
-          let end = others next gives in
-          let (command, is, makes) = line_command columns decoration number p (Ok next) tt b bs does in
+      after_first : {next : Progress D M (List M)} (line : List ℕ) → after_line columns decoration number line p ≡ Ok next → End next (number + 1) lines text → End p number (line ∷ lines) text
+      after_first {next} [] does end = record { commands = end.commands; there = end.there; last = end.last; ask = end.ask; lead = (next, does, end.lead); ends = end.ends }
+      after_first {next} (b ∷ bs) does end =
+          let (command, is) = line_asks columns decoration number p next (b ∷ bs) (command_read (b ∷ bs)) refl does in
           record { commands = command ∷ end.commands; there = end.there; last = end.last; ask = (command, end.commands, is, refl, end.ask); lead = (next, does, end.lead); ends = end.ends }

@@ -1,8 +1,8 @@
-use Rattle.std.proofs.Common.{◌≡◌, Err, arith, ◌∙◌}
+use Rattle.std.proofs.Common.{◌≡◌, Ok, Err, arith, ◌∙◌}
 use Rattle.std.proofs.lemmas.Result.{err_from_is_err_and}
 use Rattle.tbr_decor.specs.Decoration.{decoration_of}
 use Rattle.tbr_program.specs.Progress.{progress_meant}
-use Rattle.tbr_runner.proofs.RenderedLines.{at_end, line_done, line_refused}
+use Rattle.tbr_runner.proofs.RenderedLines.{at_end, line_made}
 use Rattle.tbr_runner.proofs.ScriptRefusals.{if_err_is, line_of_script}
 use Rattle.tbr_runner.proofs.runner.run_lines.Goals as goal
 
@@ -12,14 +12,14 @@ returns-in_err-run_line-clause-refusal g c =
     let p = err_from_is_err_and c.from_residual.result c.from_residual.ensures.1 in
     let same : c.from_residual.result ≡ Err c.in_err-run_line.field-0.0 = cc (p.1, p.2) in
     if_err_is _ c.from_residual.result c.in_err-run_line.field-0.0 same (λ found. c.loop-rest.invariant.so_far
-    ∙ line_refused g.W.CharWidth.columns (decoration_of g.D.TextDecorator) c.loop-rest.number here c.loop-rest.rest.now c.split_line.result.0.now c.split_line.result.1.now c.in_err-run_line.field-0.0 c.split_line.ensures.lines (c.in_err-run_line.ensures.runs.refused found))
+    ∙ line_made g.W.CharWidth.columns (decoration_of g.D.TextDecorator) c.loop-rest.number here c.loop-rest.rest.now c.split_line.result.0.now c.split_line.result.1.now (Err c.in_err-run_line.field-0.0) c.split_line.ensures.lines (c.in_err-run_line.ensures.runs.refused found))
 
 pub loop-rest-preserved : goal.loop-rest-preserved
 loop-rest-preserved g c =
     let here = progress_meant g.D.TextDecorator.meaning c.loop-rest.program in
     let next = progress_meant g.D.TextDecorator.meaning c.run_line.new.self in
     record {
-      so_far = c.loop-rest.invariant.so_far ∙ line_done g.W.CharWidth.columns (decoration_of g.D.TextDecorator) c.loop-rest.number here next c.loop-rest.rest.now c.split_line.result.0.now c.split_line.result.1.now c.split_line.ensures.lines c.in_ok-run_line.ensures.runs.ok;
+      so_far = c.loop-rest.invariant.so_far ∙ line_made g.W.CharWidth.columns (decoration_of g.D.TextDecorator) c.loop-rest.number here c.loop-rest.rest.now c.split_line.result.0.now c.split_line.result.1.now (Ok next) c.split_line.ensures.lines c.in_ok-run_line.ensures.runs.ok;
       bound = omega (arith, c.loop-rest.invariant.bound, c.split_line.ensures.shorter);
       goes_on = c.in_ok-run_line.ensures.runs.goes_on;
     }
