@@ -6,7 +6,7 @@ use Rattle.std.proofs.lemmas.List.Concat.{flat_map-append}
 use Rattle.std.proofs.lemmas.List.Folds.{flat_map-map}
 use Rattle.tbr_model.specs.Run.{Entry, Item}
 use Rattle.tbr_model.specs.Layout.{joined}
-use Rattle.tbr_model.proofs.lists.Each.{each_append}
+use Rattle.tbr_model.proofs.lists.Each.{each_append, each_map}
 use Rattle.tbr_border.specs.Border.{Border}
 use Rattle.tbr_border.specs.Cell.{Cell as BorderCell}
 use Rattle.tbr_rows.specs.Meant.{SeenRow}
@@ -37,7 +37,6 @@ use Rattle.text_block_renderer.proofs.RowsOfCells.{row_flushes, under_row, row_b
 use Rattle.text_block_renderer.proofs.LastingLines.{all_stay, stay_on, stay_texts, top_put_back}
 use Rattle.tbr_rows.proofs.Among.{each_gives}
 use Rattle.tbr_tagged.proofs.SameItems.{all_zip_append}
-use Rattle.text_block_renderer.proofs.Lists.{each_map}
 use Rattle.text_block_renderer.proofs.OverhangingCells.{Chain, chain_append}
 
 module _ {D A : Type 0} (columns : ℕ → Option ℕ) where
@@ -133,7 +132,7 @@ module _ {D A : Type 0} (columns : ℕ → Option ℕ) where
         options = ap (λ (f : Frame A). f.options) same;
         came = record {
           pieces = map part parts;
-          are = each_map (IsPart columns r) (IsPiece columns r) part (λ p k. k) parts came.parts.are;
+          are = each_map part (IsPart columns r) (IsPiece columns r) (λ p k. k) parts came.parts.are;
           lines = subst (λ ls. AllZip StaysLine ls s.lines) (came.parts.lines ∙ ap (λ ls. r.lines ++ ls) (sym (flat_map-map (lines_of_piece columns) part parts))) (all_stay s.lines);
           entries = came.parts.entries ∙ ap (λ fs. fs ++ open_run s.block) (sym (flat_map-map (entries_of_piece columns) part parts));
           put_rows = ap (map cells_in) (no_rows parts);

@@ -6,6 +6,7 @@ use Rattle.tbr_model.specs.declared.white_space.WhiteSpace.TheVariants.{Normal, 
 use Rattle.tbr_model.specs.Run.{Entry, character, marker_entry}
 use Rattle.tbr_model.specs.Hard.{HasMode}
 use Rattle.tbr_model.specs.Shown.{IsNotPre}
+use Rattle.tbr_model.proofs.lists.Each.{each_unmap}
 use Rattle.tbr_rows.specs.Cells.{AreApart}
 use Rattle.tbr_rows.specs.CellsShown.{IsFilled, HasFilledCells}
 use Rattle.tbr_tagged.specs.Outcome.{done}
@@ -19,7 +20,6 @@ use Rattle.text_block_renderer.specs.Headline.{NoLayoutIsAhead, StandsOnce, Cell
 use Rattle.text_block_renderer.proofs.RunStretches.{none_ahead}
 use Rattle.text_block_renderer.proofs.TwoColumns.{act_fits}
 use Rattle.tbr_rows.proofs.Among.{each_gives}
-use Rattle.text_block_renderer.proofs.Lists.{each_unmap}
 use Rattle.text_block_renderer.proofs.OverhangingCells.{Chain, cells_filled, cells_shown}
 use Rattle.text_block_renderer.proofs.ActParts.{acts_along}
 
@@ -49,7 +49,7 @@ module _ {D A : Type 0} (columns : ℕ → Option ℕ) where
           each_cell_shows_its_texts_once = λ one none fit before rows after cell are is_cell span.
               cells_shown columns one r.options.draw_borders before rows after cell r.hanging s.hanging span is_cell
               (each_gives (λ p. CellsFit columns (cells_in p)) (λ p. HasFilledCells columns (made p)) (cells_filled columns one) _
-              (subst (Each (λ p. CellsFit columns (cells_in p))) are (each_unmap (CellsFit columns) cells_in (rows_in along.came.pieces) (subst (Each (CellsFit columns)) (sym along.came.put_rows) fit))))
+              (subst (Each (λ p. CellsFit columns (cells_in p))) are (each_unmap cells_in (λ p. CellsFit columns (cells_in p)) (CellsFit columns) (λ p k. k) (rows_in along.came.pieces) (subst (Each (CellsFit columns)) (sym along.came.put_rows) fit))))
               (subst (λ cells. AreApart 0 cells × Each (IsFilled columns) cells) (sym none) (tt, tt))
               (subst (λ ps. Chain columns r.options.draw_borders r.hanging ps s.hanging) are along.chain);
           two_columns_are_enough = λ two wide act narrow. act_fits columns sound.space two decoration act s (subst (λ n. 2 ≤ n) (sym same) wide) narrow;

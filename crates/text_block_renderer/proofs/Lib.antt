@@ -23,7 +23,6 @@ pub mod TakenLines
 pub mod LinkNumbers
 pub mod TwoColumns
 pub mod LastingLines
-pub mod Lists
 pub mod OverhangingCells
 pub mod ActParts
 pub mod Headline

@@ -10,7 +10,7 @@ use Rattle.tbr_model.specs.Run.{Entry, character, marker_entry, Item, glyph, is_
 use Rattle.tbr_model.specs.Layout.{Slot, slot_of, slots_within, word_slots, slots_of, gap_text, rest_text, line_text, joined, placed}
 use Rattle.tbr_model.specs.Rule.{is_space_item, run_of, Event}
 use Rattle.tbr_model.specs.Shown.{without_spaces}
-use Rattle.tbr_model.proofs.lists.Each.{each_front, each_back, each_append}
+use Rattle.tbr_model.proofs.lists.Each.{each_front, each_back, each_append, each_map}
 use Rattle.tbr_model.proofs.lists.Joined.{joined-append}
 use Rattle.tbr_model.proofs.words.Items.{break_lost}
 use Rattle.tbr_model.proofs.words.KeptItems.{words_hold}
@@ -26,7 +26,6 @@ use Rattle.tbr_renderer.specs.Calls.{Call, Steps, Brings}
 use Rattle.text_block_renderer.specs.Stretches.{line_of_text, stretch, items_on, NoneIsAhead, StandsAsStretch, StaysOpen, EndsAsStretch, padded_line, lines_laid}
 use Rattle.text_block_renderer.proofs.Moves.{Move, flush, join, turn, brought, MakesAll, any}
 use Rattle.text_block_renderer.proofs.CallMoves.{calls_move}
-use Rattle.text_block_renderer.proofs.Lists.{each_map}
 use Rattle.text_block_renderer.proofs.AddedLines.{moves_grow, steps_grow, laid_lines}
 
 -- ---- items of lines
@@ -74,7 +73,7 @@ module _ {T : Type 0} (columns : ℕ → Option ℕ) where
 
   within_slots : (wider : Bool) (gap : Option T) (is : List (Item T)) → Each IsNoSpace is → Each (λ s. IsNoSpace s.item) (slots_within columns wider gap is)
   within_slots wider gap [] h = tt
-  within_slots wider gap (i ∷ is) h = (h.0, each_map IsNoSpace (λ (s : Slot T). IsNoSpace s.item) (slot_of columns wider None false) (λ j k. k) is h.1)
+  within_slots wider gap (i ∷ is) h = (h.0, each_map (slot_of columns wider None false) IsNoSpace (λ (s : Slot T). IsNoSpace s.item) (λ j k. k) is h.1)
 
   words_no_spaces : (width : ℕ) (ws : List (Word T)) → Each IsNoSpace (flat_map (λ w. w.items) ws) → Each (λ s. IsNoSpace s.item) (flat_map (word_slots columns width) ws)
   words_no_spaces width [] h = tt
