@@ -28,6 +28,14 @@ static void want_text(tbr_renderer *r, const char *wanted) {
     }
 }
 
+/* What calls that refuse would write stays as it was. */
+static void want_unwritten(const char *text, size_t number) {
+    if (strcmp(text, "before") || number != SIZE_MAX) {
+        puts("a call that refuses writes");
+        failures++;
+    }
+}
+
 static tbr_renderer *new_renderer(size_t width) {
     tbr_options options = tbr_options_default(width);
     tbr_renderer *r;
@@ -98,8 +106,8 @@ static void nothing_to_end(tbr_renderer *r) {
 }
 
 static void lines_too_early(tbr_renderer *r) {
-    char text[8];
-    size_t length;
+    char text[8] = "before";
+    size_t length = SIZE_MAX;
     tbr_line line;
     tbr_piece piece;
     tbr_annotation annotation;
@@ -110,6 +118,7 @@ static void lines_too_early(tbr_renderer *r) {
     WANT(tbr_marker_name(r, 0, text, sizeof text, &length), TBR_NOT_FINISHED);
     WANT(tbr_get_annotation(r, 0, 0, &annotation), TBR_NOT_FINISHED);
     WANT(tbr_annotation_target(r, 0, 0, text, sizeof text, &length), TBR_NOT_FINISHED);
+    want_unwritten(text, length);
 }
 
 /* What is open where a level or the whole would end. */
@@ -131,9 +140,9 @@ static void still_open(tbr_renderer *r) {
 /* ---- a renderer that is finished ---- */
 
 static void fill_too_late(tbr_renderer *r) {
-    size_t count;
+    size_t count = SIZE_MAX;
     bool is_so;
-    char text[8];
+    char text[8] = "before";
     WANT(tbr_add_text(r, "late"), TBR_FINISHED);
     WANT(tbr_start_block(r), TBR_FINISHED);
     WANT(tbr_start_link(r, "late"), TBR_FINISHED);
@@ -146,6 +155,7 @@ static void fill_too_late(tbr_renderer *r) {
     WANT(tbr_width_minus(r, 2, 1, &count), TBR_FINISHED);
     WANT(tbr_open_levels(r, &count), TBR_FINISHED);
     WANT(tbr_quote_prefix(r, text, sizeof text, &count), TBR_FINISHED);
+    want_unwritten(text, count);
     WANT(tbr_refusal(r), TBR_OK);
 }
 

@@ -2,13 +2,14 @@
 use Rattle.std.specs.Prelude.{◌≡◌, ◌≢◌, ℕ, Option, Some, Result, Ok, Err, OnOk, IfOk, IfErr, MatchResult, List, length}
 use Rattle.tbr_commands.specs.Command.{Command}
 use Rattle.tbr_commands.specs.declared.opening.Opening.{Opening}
+use Rattle.tbr_c_lines.specs.Copied.{CopiesMade}
 use Rattle.tbr_c_lines.specs.Status.{status_of}
 use Rattle.tbr_c_lines.specs.declared.fault.Fault.{Fault}
 use Rattle.tbr_c_lines.specs.declared.fault.Fault.TheVariants as fault
 use Rattle.tbr_c_lines.specs.declared.line.LineSize.{LineSize}
 use Rattle.tbr_c.specs.declared.state.State.{State}
-use Rattle.tbr_c.specs.State.{Begins, HasEnded, IsKept, Keeps, Does, Refuses, refused_as, EndsAs, EndsIn, RefusesEnd, HasText, TakesLine, HasNoNext, CopiesRest}
-use Rattle.tbr_c.specs.Questions.{Puts}
+use Rattle.tbr_c.specs.State.{Begins, HasEnded, after_refusal, Does, Refuses, refused_as, EndsAs, EndsIn, RefusesEnd, HasText, TakesLine, HasNoNext}
+use Rattle.tbr_c.specs.Questions.{Puts, rest_of}
 
 -- It does what arguments ask for, as a script does.
 abbrev pub DoesAsked : State → Result Command Fault → State → Type 0
@@ -21,14 +22,13 @@ RefusesAsked before (Ok command) f = Refuses before command f
 RefusesAsked before (Err why) f = f ≡ refused_as before why
 
 -- What is answered to arguments that ask for this command, or for none, and what the renderer holds then. It was done,
--- or is refused as in a script. `OutOfMemory` and `TooNarrow` are kept, and each other refusal leaves what was there.
+-- or is refused as in a script.
 pub record IsAnswer (before : State) (asked : Result Command Fault) (done : Result (Unit {0}) Fault) (after : State) :
     Type 0 where
   pub ended : HasEnded before done
   pub does : OnOk done (DoesAsked before asked after)
   pub refused : IfErr done (λ f. f ≢ fault.OutOfMemory → RefusesAsked before asked f)
-  pub kept : IfErr done (λ f. IsKept f → Keeps after f)
-  pub left : IfErr done (λ f. (IsKept f → ⊥) → after ≡ before)
+  pub left : IfErr done (λ f. after ≡ after_refusal f before)
 
 -- C is given this back, and the status of an answer.
 abbrev pub Gives : State → Result Command Fault → Option State → ℕ → Type 0
@@ -40,8 +40,7 @@ Gives before asked back status =
 pub record IsEnd {X : Type 0} (before : State) (done : Result X Fault) (after : State) : Type 0 where
   pub ended : HasEnded before done
   pub refused : IfErr done (λ f. f ≢ fault.OutOfMemory → RefusesEnd before f)
-  pub kept : IfErr done (λ f. IsKept f → Keeps after f)
-  pub left : IfErr done (λ f. (IsKept f → ⊥) → after ≡ before)
+  pub left : IfErr done (λ f. after ≡ after_refusal f before)
 
 -- C is given back lines, and the status of the end.
 abbrev pub GivesEnd : State → Option State → ℕ → Type 0
@@ -72,20 +71,17 @@ GivesNew asked before back status =
     (made : Result State Fault) × IsMade asked made × MatchResult made (λ state. back ≡ Some state) (λ _. back ≡ before)
     × (status ≡ status_of made)
 
--- A question for the text of all lines that weren't taken is answered, and C is given back what the renderer holds then.
--- Where memory is refused that is kept.
-abbrev pub GivesRest : State → Option State → List ℕ → List ℕ → ℕ → ℕ → Type 0
-GivesRest state back before after needed status =
-    (done : Result (Unit {0}) Fault) × (next : State) × CopiesRest state before after needed done
-    × IfErr done (λ f. IsKept f → Keeps next f) × MatchResult done (λ _. next ≡ state) (λ f. (IsKept f → ⊥) → next ≡ state)
-    × (back ≡ Some next) × (status ≡ status_of done)
+-- The text of all lines that weren't taken is copied, or it is refused, and C is given back what the renderer holds then.
+abbrev pub GivesRest : State → Option State → List ℕ → List ℕ → ℕ → ℕ → ℕ → Type 0
+GivesRest state back before after old needed status =
+    (done : Result (Unit {0}) Fault) × CopiesMade (rest_of state) before after old needed (status_of done)
+    × MatchResult done (λ _. back ≡ Some state) (λ f. back ≡ Some (after_refusal f state)) × (status ≡ status_of done)
 
--- The first line that wasn't taken is taken, or it is refused why there is none. `OutOfMemory` is kept.
+-- The first line that wasn't taken is taken, or it is refused why there is none.
 pub record IsNext (before : State) (done : Result LineSize Fault) (after : State) : Type 0 where
   pub taken : IfOk done (TakesLine before after)
   pub none : IfErr done (λ f. f ≢ fault.OutOfMemory → HasNoNext before f)
-  pub kept : IfErr done (λ f. IsKept f → Keeps after f)
-  pub left : IfErr done (λ f. (IsKept f → ⊥) → after ≡ before)
+  pub left : IfErr done (λ f. after ≡ after_refusal f before)
 
 -- C is given its size, and back what the renderer holds then.
 abbrev pub GivesNext : State → Option State → LineSize → LineSize → ℕ → Type 0

@@ -12,8 +12,8 @@ use Rattle.tbr_stack.specs.Stack.{Stack, top_of}
 use Rattle.tbr_stack.specs.Links.{open_links}
 use Rattle.tbr_program.specs.Progress.{Progress}
 use Rattle.tbr_program.specs.Decorations.{plain_decoration, trivial_decoration, rich_decoration}
-use Rattle.tbr_c_lines.specs.Copied.{IsCopied}
 use Rattle.tbr_c_lines.specs.Status.{code_of, fault_of}
+use Rattle.tbr_c_lines.specs.Lines.{text_of}
 use Rattle.tbr_c_lines.specs.Line.{Line, placed, marked, annotated, target_of, kind_of}
 use Rattle.tbr_c_lines.specs.declared.fault.Fault.{Fault}
 use Rattle.tbr_c_lines.specs.declared.fault.Fault.TheVariants as fault
@@ -22,6 +22,7 @@ use Rattle.tbr_c_lines.specs.declared.line.AnnotationKind.{AnnotationKind}
 use Rattle.tbr_c.specs.declared.state.Facts.{Facts}
 use Rattle.tbr_c.specs.declared.state.State.{State}
 use Rattle.tbr_c.specs.declared.state.State.TheVariants.{Plain, Trivial, Rich, Finished, Refused}
+use Rattle.tbr_c.specs.State.{lines_in}
 use Rattle.tbr_c.specs.Arguments.{and_then}
 
 -- ---- how C is answered
@@ -30,12 +31,6 @@ use Rattle.tbr_c.specs.Arguments.{and_then}
 abbrev pub Puts : {X : Type 0} → Result X Fault → X → X → ℕ → Type 0
 Puts answer before after status =
     MatchResult answer (λ x. (after ≡ x) × (status ≡ 0)) (λ f. (after ≡ before) × (status ≡ code_of f))
-
--- A text is copied, or the status of why there is none is answered, and nothing changes in the buffer.
-abbrev pub Copies : Result (List ℕ) Fault → List ℕ → List ℕ → ℕ → ℕ → Type 0
-Copies answer before after needed status =
-    MatchResult answer (λ text. IsCopied text before after needed status)
-    (λ f. (after ≡ before) × (status ≡ code_of f))
 
 -- ---- while calls go in
 
@@ -96,14 +91,16 @@ abbrev pub refusal_of : State → Result (Unit {0}) Fault
 refusal_of (Refused e) = Err (fault_of e)
 refusal_of other = Ok tt
 
+-- ---- of what is finished
+
+-- the text of all lines that weren't taken, each with a newline
+abbrev pub rest_of : State → Result (List ℕ) Fault
+rest_of state = and_then (lines_in state) (λ lines. Ok (encode_utf8_all (text_of lines.rest)))
+
 -- ---- of the line that was taken last
 
 abbrev pub line_taken : State → Result Line Fault
-line_taken (Finished lines) = ok_or lines.current fault.NoLine
-line_taken (Refused e) = Err (fault_of e)
-line_taken (Plain program) = Err fault.NotFinished
-line_taken (Trivial program) = Err fault.NotFinished
-line_taken (Rich program) = Err fault.NotFinished
+line_taken state = and_then (lines_in state) (λ lines. ok_or lines.current fault.NoLine)
 
 -- its text
 abbrev pub text_taken : State → Result (List ℕ) Fault

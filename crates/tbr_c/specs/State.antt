@@ -1,5 +1,8 @@
 -- How far a renderer is that C holds.
-use Rattle.std.specs.Prelude.{◌≡◌, ◌≢◌, ℕ, None, Some, Result, Ok, Err, List, [], chars, encode_utf8_all}
+use Rattle.std.specs.Prelude.{◌≡◌, ℕ, Option, None, Some, unwrap_or, Result, Ok, Err, MatchResult, List, [], chars, encode_utf8_all}
+use Rattle.std.specs.Option.{option_map}
+use Rattle.tbr_tagged.specs.declared.Error.{Error}
+use Rattle.tbr_tagged.specs.declared.Error.TheVariants as block
 use Rattle.tbr_tagged.specs.UnicodeColumns.{unicode_columns}
 use Rattle.tbr_decor.specs.Style.{style_of}
 use Rattle.tbr_script.specs.declared.error.RunError.{RunError}
@@ -9,10 +12,9 @@ use Rattle.tbr_commands.specs.declared.opening.Opening.{Opening}
 use Rattle.tbr_program.specs.Progress.{GoesOn, progress_meant}
 use Rattle.tbr_program.specs.Decorations.{plain_decoration, trivial_decoration, rich_decoration}
 use Rattle.tbr_program.specs.Commands.{after_command, ended, started}
-use Rattle.tbr_c_lines.specs.Copied.{IsCopied}
-use Rattle.tbr_c_lines.specs.Status.{fault_of, fault_of_command, status_of}
+use Rattle.tbr_c_lines.specs.Status.{fault_of, fault_of_command}
 use Rattle.tbr_c_lines.specs.Line.{Line, size_of}
-use Rattle.tbr_c_lines.specs.Lines.{NoneLeft, TakesFirst, text_of}
+use Rattle.tbr_c_lines.specs.Lines.{Lines, NoneLeft, TakesFirst, text_of}
 use Rattle.tbr_c_lines.specs.declared.line.LineSize.{LineSize}
 use Rattle.tbr_c_lines.specs.declared.lines.Rest.{Rest}
 use Rattle.tbr_c_lines.specs.declared.fault.Fault.{Fault}
@@ -43,16 +45,15 @@ MayFinish (Rich program) = (program.opened ≡ []) × (program.pending.cells ≡
 MayFinish (Finished lines) = ⊥
 MayFinish (Refused e) = ⊥
 
--- a refusal that is kept
-abbrev pub IsKept : Fault → Type 0
-IsKept fault.OutOfMemory = Unit {0}
-IsKept fault.TooNarrow = Unit {0}
-IsKept other = ⊥
+-- a refusal that is kept, as what is kept of it
+abbrev pub kept : Fault → Option Error
+kept fault.OutOfMemory = Some block.OutOfMemory
+kept fault.TooNarrow = Some block.TooNarrow
+kept other = None
 
--- It keeps this refusal.
-abbrev pub Keeps : State → Fault → Type 0
-Keeps (Refused e) f = f ≡ fault_of e
-Keeps other f = ⊥
+-- What a renderer is after a refusal: another one leaves it as it was.
+abbrev pub after_refusal : Fault → State → State
+after_refusal f state = unwrap_or (option_map Refused (kept f)) state
 
 -- What is finished, or keeps a refusal, answers that.
 abbrev pub HasEnded : {X : Type 0} → State → Result X Fault → Type 0
@@ -125,44 +126,26 @@ RefusesEnd (Rich p) f = (e : RunError) × EndsAs (Rich p) (Err e) × (f ≡ faul
 
 -- ---- its lines
 
--- With what lines are refused: those of one that is filled, or keeps a refusal.
-abbrev pub HasNoLines : State → Fault → Type 0
-HasNoLines (Finished lines) f = ⊥
-HasNoLines (Refused e) f = f ≡ fault_of e
-HasNoLines (Plain program) f = f ≡ fault.NotFinished
-HasNoLines (Trivial program) f = f ≡ fault.NotFinished
-HasNoLines (Rich program) f = f ≡ fault.NotFinished
+-- Its lines where it is finished. What is filled has none yet, and what keeps a refusal has that.
+abbrev pub lines_in : State → Result Lines Fault
+lines_in (Finished lines) = Ok lines
+lines_in (Refused e) = Err (fault_of e)
+lines_in (Plain program) = Err fault.NotFinished
+lines_in (Trivial program) = Err fault.NotFinished
+lines_in (Rich program) = Err fault.NotFinished
 
--- With what the next line is refused: as lines are, or where none is left.
+-- With what the next line is refused: as its lines are, or where none is left.
 abbrev pub HasNoNext : State → Fault → Type 0
-HasNoNext (Finished lines) f = (f ≡ fault.NoLine) × NoneLeft lines.rest
-HasNoNext (Refused e) f = f ≡ fault_of e
-HasNoNext (Plain program) f = f ≡ fault.NotFinished
-HasNoNext (Trivial program) f = f ≡ fault.NotFinished
-HasNoNext (Rich program) f = f ≡ fault.NotFinished
+HasNoNext state f =
+    MatchResult (lines_in state) (λ lines. (f ≡ fault.NoLine) × NoneLeft lines.rest) (λ why. f ≡ why)
 
 -- The first of the lines that weren't taken is the one that was taken last now, and has this size.
 abbrev pub TakesLine : State → State → LineSize → Type 0
-TakesLine (Finished lines) next size =
-    (line : Line) × (rest : Rest) × TakesFirst lines.rest line rest
-    × (next ≡ Finished (record { rest = rest; current = Some line })) × (size ≡ size_of line)
-TakesLine (Refused e) next size = ⊥
-TakesLine (Plain program) next size = ⊥
-TakesLine (Trivial program) next size = ⊥
-TakesLine (Rich program) next size = ⊥
+TakesLine state next size =
+    MatchResult (lines_in state) (λ lines. (line : Line) × (rest : Rest) × TakesFirst lines.rest line rest
+    × (next ≡ Finished (record { rest = rest; current = Some line })) × (size ≡ size_of line)) (λ _. ⊥)
 
 -- Its lines have these bytes, each with a newline, and none was taken yet.
 abbrev pub HasText : State → List ℕ → Type 0
 HasText (Finished lines) bytes = (chars bytes ≡ text_of lines.rest) × (lines.current ≡ None)
 HasText other bytes = ⊥
-
--- What is answered to a question for the text of all lines that weren't taken, each with a newline: it is copied, or
--- memory for it is refused.
-abbrev pub CopiesRest : State → List ℕ → List ℕ → ℕ → Result (Unit {0}) Fault → Type 0
-CopiesRest (Finished lines) before after needed done =
-    done ≢ Err fault.OutOfMemory → (text : List ℕ) × (chars text ≡ text_of lines.rest)
-    × IsCopied text before after needed (status_of done)
-CopiesRest (Refused e) before after needed done = done ≡ Err (fault_of e)
-CopiesRest (Plain program) before after needed done = done ≡ Err fault.NotFinished
-CopiesRest (Trivial program) before after needed done = done ≡ Err fault.NotFinished
-CopiesRest (Rich program) before after needed done = done ≡ Err fault.NotFinished

@@ -16,7 +16,7 @@ pub fn put<T: Copy>(found: Result<T, Fault>, out: &mut T) -> u32
 /// Copies a text into a buffer, as `copy_out` does. Where there is none, nothing changes there.
 pub fn copy(found: Result<&str, Fault>, out: &mut [u8], needed: &mut usize) -> u32
     ensures { MatchResult found.entry (λ text. IsCopied text.now out.old out.new needed.new result)
-        (λ f. (out.new ≡ out.old) × (result ≡ code_of f)) }
+        (λ f. (out.new ≡ out.old) × (needed.new ≡ needed.old) × (result ≡ code_of f)) }
 {
     match found {
         Ok(text) => status(copy_out(text.as_bytes(), out, needed)),

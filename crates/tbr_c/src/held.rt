@@ -2,11 +2,12 @@
 ghost use Rattle.std.specs.Prelude.{◌≡◌, ◌≢◌, ◌<◌, ℕ, List, None, Some, Result, Ok, Err, IfOk, IfErr, OnOk, MatchResult, string_bytes};
 ghost use Rattle.tbr_c.specs.Answers.{IsAnswer, IsEnd, HasLength, IsNext};
 ghost use Rattle.tbr_c.specs.Arguments.{Reads};
-ghost use Rattle.tbr_c.specs.State.{CanGoOn, Begins, MayFinish, EndsIn, CopiesRest, IsKept, Keeps};
-ghost use Rattle.tbr_c.specs.Questions.{facts_of, width_left, prefix_of, refusal_of, line_taken};
+ghost use Rattle.tbr_c.specs.State.{CanGoOn, Begins, MayFinish, EndsIn, after_refusal};
+ghost use Rattle.tbr_c.specs.Questions.{facts_of, width_left, prefix_of, refusal_of, line_taken, rest_of};
 ghost use Rattle.tbr_c.specs.declared.state.State.TheVariants as S;
 ghost use Rattle.tbr_decor.specs.Prefix.{asked_prefix};
-ghost use Rattle.tbr_c_lines.specs.Status.{fault_of};
+ghost use Rattle.tbr_c_lines.specs.Copied.{CopiesMade};
+ghost use Rattle.tbr_c_lines.specs.Status.{fault_of, status_of};
 ghost use Rattle.tbr_c_lines.specs.declared.fault.Fault.{Fault as Refusal};
 ghost use Rattle.tbr_c_lines.specs.declared.fault.Fault.TheVariants as F;
 ghost use Rattle.tbr_commands.specs.Command.{Command as Asked, command_of, IsSized};
@@ -175,10 +176,8 @@ impl Held {
     /// Copies the text of all lines that weren't taken, each with a newline, as `copy_out` does. `NotFinished` where
     /// the renderer isn't finished. `OutOfMemory` is kept.
     pub fn copy_text(&mut self, out: &mut [u8], needed: &mut usize) -> Result<(), Fault>
-        ensures text { CopiesRest self.old out.old out.new needed.new result }
-        ensures unwritten { IfErr result (λ _. out.new ≡ out.old) }
-        ensures kept { IfErr result (λ f. IsKept f → Keeps self.new f) }
-        ensures left { MatchResult result (λ _. self.new ≡ self.old) (λ f. (IsKept f → ⊥) → self.new ≡ self.old) }
+        ensures text { CopiesMade (rest_of self.old) out.old out.new needed.old needed.new (status_of result) }
+        ensures left { MatchResult result (λ _. self.new ≡ self.old) (λ f. self.new ≡ after_refusal f self.old) }
     {
         let done = self.state.copy_text(self.alloc, out, needed);
         self.state.keep(done)

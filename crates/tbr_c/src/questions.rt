@@ -1,9 +1,10 @@
 //! Questions to a renderer that is filled. None changes it.
-ghost use Rattle.std.specs.Prelude.{◌≡◌, ◌≢◌, Some};
+ghost use Rattle.std.specs.Prelude.{◌≡◌, Some};
 ghost use Rattle.tbr_decor.specs.Prefix.{asked_prefix};
 ghost use Rattle.tbr_decor.specs.Prefix as prefixes;
 ghost use Rattle.tbr_c_lines.specs.Status.{status_of};
-ghost use Rattle.tbr_c.specs.Questions.{Puts, Copies, facts_of, fact_of, width_left, prefix_of, refusal_of};
+ghost use Rattle.tbr_c_lines.specs.Copied.{CopiesMade};
+ghost use Rattle.tbr_c.specs.Questions.{Puts, facts_of, fact_of, width_left, prefix_of, refusal_of};
 
 use crate::answers::{copy, put};
 use crate::handle::{Handle, Returned, hand_back};
@@ -121,9 +122,8 @@ fn prefix(
     length: &mut usize,
     back: &mut Returned,
 ) -> u32
-    ensures text { result ≢ 1 →
-        Copies (prefix_of (asked_prefix prefix) renderer.value) out.old out.new length.new result }
-    ensures unwritten { result ≢ 0 → out.new ≡ out.old }
+    ensures text { CopiesMade (prefix_of (asked_prefix prefix) renderer.value)
+        out.old out.new length.old length.new result }
     ensures same { back.new.value ≡ Some renderer.value }
 {
     let mut held = renderer.open();
@@ -142,8 +142,8 @@ pub extern "C" fn tbr1_quote_prefix(
     length: &mut usize,
     back: &mut Returned,
 ) -> u32
-    ensures text { result ≢ 1 → Copies (prefix_of prefixes.quote renderer.value) out.old out.new length.new result }
-    ensures unwritten { result ≢ 0 → out.new ≡ out.old }
+    ensures text { CopiesMade (prefix_of prefixes.quote renderer.value)
+        out.old out.new length.old length.new result }
     ensures same { back.new.value ≡ Some renderer.value }
 {
     prefix(renderer, DecoratorPrefix::Quote, out, length, back)
@@ -156,9 +156,8 @@ pub extern "C" fn tbr1_item_prefix(
     length: &mut usize,
     back: &mut Returned,
 ) -> u32
-    ensures text { result ≢ 1 →
-        Copies (prefix_of prefixes.unordered_item renderer.value) out.old out.new length.new result }
-    ensures unwritten { result ≢ 0 → out.new ≡ out.old }
+    ensures text { CopiesMade (prefix_of prefixes.unordered_item renderer.value)
+        out.old out.new length.old length.new result }
     ensures same { back.new.value ≡ Some renderer.value }
 {
     prefix(renderer, DecoratorPrefix::Item, out, length, back)
@@ -172,9 +171,8 @@ pub extern "C" fn tbr1_ordered_item_prefix(
     length: &mut usize,
     back: &mut Returned,
 ) -> u32
-    ensures text { result ≢ 1 →
-        Copies (prefix_of (prefixes.ordered_item number) renderer.value) out.old out.new length.new result }
-    ensures unwritten { result ≢ 0 → out.new ≡ out.old }
+    ensures text { CopiesMade (prefix_of (prefixes.ordered_item number) renderer.value)
+        out.old out.new length.old length.new result }
     ensures same { back.new.value ≡ Some renderer.value }
 {
     prefix(
@@ -194,9 +192,8 @@ pub extern "C" fn tbr1_header_prefix(
     length: &mut usize,
     back: &mut Returned,
 ) -> u32
-    ensures text { result ≢ 1 →
-        Copies (prefix_of (prefixes.header level) renderer.value) out.old out.new length.new result }
-    ensures unwritten { result ≢ 0 → out.new ≡ out.old }
+    ensures text { CopiesMade (prefix_of (prefixes.header level) renderer.value)
+        out.old out.new length.old length.new result }
     ensures same { back.new.value ≡ Some renderer.value }
 {
     prefix(renderer, DecoratorPrefix::Header(level), out, length, back)

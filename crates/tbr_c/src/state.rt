@@ -9,10 +9,11 @@ ghost use Rattle.tbr_script.specs.declared.error.RunError.TheVariants as script;
 ghost use Rattle.tbr_commands.specs.Command.{command_of, IsSized};
 ghost use Rattle.tbr_program.specs.Progress.{GoesOn, progress_meant};
 ghost use Rattle.tbr_program.specs.Commands.{after_command, ended, started as begun};
-ghost use Rattle.tbr_c_lines.specs.Status.{fault_of_command};
+ghost use Rattle.tbr_c_lines.specs.Copied.{CopiesMade};
+ghost use Rattle.tbr_c_lines.specs.Status.{fault_of_command, status_of};
 ghost use Rattle.tbr_c_lines.specs.Lines.{line_text};
-ghost use Rattle.tbr_c.specs.State.{CanGoOn, Begins, MayFinish, IsKept, Keeps, HasEnded, Does, Refuses, refused_as, EndsAs, EndsIn, RefusesEnd, HasNoLines, TakesLine, HasNoNext, CopiesRest};
-ghost use Rattle.tbr_c.specs.Questions.{on_top, facts_in, facts_of, width_left, prefix_of};
+ghost use Rattle.tbr_c.specs.State.{CanGoOn, Begins, MayFinish, kept, after_refusal, HasEnded, Does, Refuses, refused_as, EndsAs, EndsIn, RefusesEnd, lines_in, TakesLine, HasNoNext};
+ghost use Rattle.tbr_c.specs.Questions.{on_top, facts_in, facts_of, width_left, prefix_of, rest_of};
 ghost use Rattle.tbr_c.specs.declared.state.State.TheVariants as S;
 ghost use Rattle.tbr_c_lines.specs.declared.fault.Fault.TheVariants as F;
 
@@ -88,7 +89,7 @@ impl State {
         ensures done { OnOk result (Does self.old (command_of command.now) self.new) }
         ensures refused { IfErr result (λ fault. fault ≢ F.OutOfMemory →
             Refuses self.old (command_of command.now) fault) }
-        ensures left { IfErr result (λ fault. (IsKept fault → ⊥) → self.new ≡ self.old) }
+        ensures left { IfErr result (λ fault. kept fault ≡ None → self.new ≡ self.old) }
         ensures ended { HasEnded self.old result }
     {
         match self {
@@ -120,7 +121,7 @@ impl State {
         ensures open { IfOk result (λ facts. (0 < facts.open_levels) ⊎ (0 < facts.waiting_cells) →
             RefusesEnd self.now F.StillOpen) }
         ensures refused { IfErr result (λ fault. RefusesEnd self.now fault) }
-        ensures kept { IfErr result (λ fault. IsKept fault → Keeps self.now fault) }
+        ensures left { IfErr result (λ fault. self.now ≡ after_refusal fault self.now) }
     {
         match self {
             State::Plain(program) => Ok(facts_of(program)),
@@ -199,7 +200,7 @@ impl State {
 
     /// The lines. `NotFinished` where the renderer isn't finished.
     pub fn lines(&self) -> Result<&Lines, Fault>
-        ensures { MatchResult result (λ lines. self.now ≡ S.Finished lines.now) (λ fault. HasNoLines self.now fault) }
+        ensures { MatchResult result (λ lines. lines_in self.now ≡ Ok lines.now) (λ f. lines_in self.now ≡ Err f) }
     {
         match self {
             State::Finished(lines) => Ok(lines),
@@ -217,8 +218,7 @@ impl State {
         needed: &mut usize,
     ) -> Result<(), Fault>
         requires { CanGoOn self.old }
-        ensures text { CopiesRest self.old out.old out.new needed.new result }
-        ensures unwritten { IfErr result (λ _. out.new ≡ out.old) }
+        ensures text { CopiesMade (rest_of self.old) out.old out.new needed.old needed.new (status_of result) }
         ensures left { self.new ≡ self.old }
     {
         match self {
@@ -246,12 +246,10 @@ impl State {
 
     /// Keeps a refusal, if it is one to be kept.
     pub fn keep<T: Drop>(&mut self, done: Result<T, Fault>) -> Result<T, Fault>
-        requires { MatchResult done (λ _. CanGoOn self.old) (λ fault. (IsKept fault → ⊥) → CanGoOn self.old) }
+        requires { MatchResult done (λ _. CanGoOn self.old) (λ fault. kept fault ≡ None → CanGoOn self.old) }
         ensures goes_on { CanGoOn self.new }
         ensures done { result ≡ done }
-        ensures left { MatchResult done (λ _. self.new ≡ self.old)
-            (λ fault. (IsKept fault → ⊥) → self.new ≡ self.old) }
-        ensures kept { IfErr done (λ fault. IsKept fault → Keeps self.new fault) }
+        ensures left { MatchResult done (λ _. self.new ≡ self.old) (λ f. self.new ≡ after_refusal f self.old) }
     {
         match done {
             Err(Fault::OutOfMemory) => *self = State::Refused(Error::OutOfMemory),
@@ -297,7 +295,7 @@ fn run_on<D: TextDecorator>(
         IfErr result (λ fault. fault ≢ F.OutOfMemory → (e : Unrun)
         × (make (command_of command.now) (progress_meant D.meaning program.old) ≡ Err e)
         × (fault ≡ fault_of_command e)) }
-    ensures left { IfErr result (λ fault. (IsKept fault → ⊥) → program.new ≡ program.old) }
+    ensures left { IfErr result (λ fault. kept fault ≡ None → program.new ≡ program.old) }
 {
     match program.run(alloc, 0, command) {
         Ok(()) => Ok(()),

@@ -1,7 +1,8 @@
 //! Lines of a renderer that is finished.
 ghost use Rattle.std.specs.Prelude.{◌≡◌, ◌≢◌, Some, Ok, Err, MatchResult};
 ghost use Rattle.tbr_c.specs.Answers.{GivesRest, GivesNext};
-ghost use Rattle.tbr_c.specs.Questions.{Puts, Copies, text_taken, piece_taken, name_taken, annotation_taken, kind_taken, target_taken};
+ghost use Rattle.tbr_c_lines.specs.Copied.{Copies};
+ghost use Rattle.tbr_c.specs.Questions.{Puts, text_taken, piece_taken, name_taken, annotation_taken, kind_taken, target_taken};
 
 use crate::answers::{copy, put};
 use crate::handle::{Handle, Returned, hand_back};
@@ -16,8 +17,7 @@ pub extern "C" fn tbr1_text(
     needed: &mut usize,
     back: &mut Returned,
 ) -> u32
-    ensures text { GivesRest renderer.value back.new.value out.old out.new needed.new result }
-    ensures unwritten { result ≢ 0 → out.new ≡ out.old }
+    ensures { GivesRest renderer.value back.new.value out.old out.new needed.old needed.new result }
 {
     let mut held = renderer.open();
     let done = held.copy_text(out, needed);
@@ -42,7 +42,7 @@ pub extern "C" fn tbr1_line_text(
     needed: &mut usize,
     back: &mut Returned,
 ) -> u32
-    ensures text { Copies (text_taken renderer.value) out.old out.new needed.new result }
+    ensures text { Copies (text_taken renderer.value) out.old out.new needed.old needed.new result }
     ensures same { back.new.value ≡ Some renderer.value }
 {
     let held = renderer.open();
@@ -89,7 +89,7 @@ pub extern "C" fn tbr1_marker_name(
     needed: &mut usize,
     back: &mut Returned,
 ) -> u32
-    ensures name { Copies (name_taken place renderer.value) out.old out.new needed.new result }
+    ensures name { Copies (name_taken place renderer.value) out.old out.new needed.old needed.new result }
     ensures same { back.new.value ≡ Some renderer.value }
 {
     let held = renderer.open();
@@ -147,7 +147,8 @@ pub extern "C" fn tbr1_annotation_target(
     needed: &mut usize,
     back: &mut Returned,
 ) -> u32
-    ensures target { Copies (target_taken piece place renderer.value) out.old out.new needed.new result }
+    ensures target { Copies (target_taken piece place renderer.value)
+        out.old out.new needed.old needed.new result }
     ensures same { back.new.value ≡ Some renderer.value }
 {
     let held = renderer.open();

@@ -1,7 +1,7 @@
 //! The lines of a renderer that is finished.
-ghost use Rattle.std.specs.Prelude.{◌≡◌, ◌≢◌, ◌++◌, ℕ, List, [], None, Some, Ok, Err, chars, flat_map, IfOk, IfErr, IfSome, OnOk, MatchResult};
+ghost use Rattle.std.specs.Prelude.{◌≡◌, ◌≢◌, ◌++◌, [], None, Some, Ok, Err, encode_utf8_all, flat_map, IfOk, IfErr, IfSome, OnOk, MatchResult};
 ghost use Rattle.tbr_tagged.specs.View.{chars_of};
-ghost use Rattle.tbr_c_lines.specs.Copied.{IsCopied};
+ghost use Rattle.tbr_c_lines.specs.Copied.{CopiesMade};
 ghost use Rattle.tbr_c_lines.specs.Status.{status_of};
 ghost use Rattle.tbr_c_lines.specs.Line as seen;
 ghost use Rattle.tbr_c_lines.specs.Lines as left;
@@ -100,9 +100,8 @@ impl Lines {
         out: &mut [u8],
         needed: &mut usize,
     ) -> Result<(), Fault>
-        ensures text { result ≢ Err F.OutOfMemory → (text : List ℕ) × (chars text ≡ left.text_of self.old.rest)
-            × IsCopied text out.old out.new needed.new (status_of result) }
-        ensures unwritten { IfErr result (λ _. out.new ≡ out.old) }
+        ensures text { CopiesMade (Ok (encode_utf8_all (left.text_of self.old.rest)))
+            out.old out.new needed.old needed.new (status_of result) }
         ensures left { self.new ≡ self.old }
     {
         match &self.rest {
@@ -156,9 +155,8 @@ fn copy_kept<T>(
 ) -> Result<(), Fault>
     requires { IfSome kept.old (λ text. chars_of text ≡ flat_map left.line_text lines.now.items) }
     ensures kept { IfSome kept.new (λ text. chars_of text ≡ flat_map left.line_text lines.now.items) }
-    ensures text { result ≢ Err F.OutOfMemory → (text : List ℕ) × (chars text ≡ flat_map left.line_text lines.now.items)
-        × IsCopied text out.old out.new needed.new (status_of result) }
-    ensures unwritten { IfErr result (λ _. out.new ≡ out.old) }
+    ensures text { CopiesMade (Ok (encode_utf8_all (flat_map left.line_text lines.now.items)))
+        out.old out.new needed.old needed.new (status_of result) }
 {
     let text = match kept.take() {
         Some(text) => text,

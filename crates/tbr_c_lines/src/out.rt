@@ -1,15 +1,13 @@
 //! Answers that go out to C.
-ghost use Rattle.std.specs.Prelude.{◌≡◌, ◌≤◌, ◌<◌, ◌++◌, Ok, Err, MatchResult, length, drop};
-ghost use Rattle.tbr_c_lines.specs.declared.fault.Fault.TheVariants as F;
+ghost use Rattle.std.specs.Prelude.{◌≡◌, Ok, Err, MatchResult};
+ghost use Rattle.tbr_c_lines.specs.Copied.{IsCopied};
+ghost use Rattle.tbr_c_lines.specs.Status.{status_of};
 
 use crate::fault::Fault;
 
 /// Copies a text into a buffer, if that has room for all of it. `needed` becomes the bytes of the text in any case.
 pub fn copy_out(text: &[u8], out: &mut [u8], needed: &mut usize) -> Result<(), Fault>
-    ensures needed { needed.new ≡ length text.now }
-    ensures whole { length text.now ≤ length out.old →
-        (result ≡ Ok tt) × (out.new ≡ text.now ++ drop (length text.now) out.old) }
-    ensures small { length out.old < length text.now → (result ≡ Err F.BufferTooSmall) × (out.new ≡ out.old) }
+    ensures { IsCopied text.now out.old out.new needed.new (status_of result) }
 {
     *needed = text.len();
     if out.len() < text.len() {

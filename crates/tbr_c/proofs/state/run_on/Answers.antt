@@ -1,6 +1,6 @@
-use Rattle.std.proofs.Common.{ap, sym, subst, ◌∙◌}
+use Rattle.std.proofs.Common.{ap, sym, ◌∙◌}
 use Rattle.tbr_c_lines.specs.Status.{fault_of_command}
-use Rattle.tbr_c.specs.State.{IsKept}
+use Rattle.tbr_c.specs.State.{kept}
 use Rattle.tbr_c.proofs.Kept.{not_kept}
 use Rattle.tbr_c.proofs.state.run_on.Goals as goal
 
@@ -10,6 +10,6 @@ returns-in-Err-clause-refused g c = λ other.
     (c.in-Err.e, c.in-Err.ensures.runs.refused (λ memory. other (is ∙ ap fault_of_command memory)), is)
 
 pub returns-in-Err-clause-left : goal.returns-in-Err-clause-left
-returns-in-Err-clause-left g c = λ other.
-    let not = not_kept c.in-Err.e (λ is. other (subst IsKept (sym c.of_command.ensures) is)) in
+returns-in-Err-clause-left g c = λ none.
+    let not = not_kept c.in-Err.e (sym (ap kept c.of_command.ensures) ∙ none) in
     c.in-Err.ensures.runs.left not.0 not.1
