@@ -45,13 +45,13 @@ MayFinish (Rich program) = (program.opened ≡ []) × (program.pending.cells ≡
 MayFinish (Finished lines) = ⊥
 MayFinish (Refused e) = ⊥
 
--- a refusal that is kept, as what is kept of it
+-- what is kept of a refusal, if it is one that is kept
 abbrev pub kept : Fault → Option Error
 kept fault.OutOfMemory = Some block.OutOfMemory
 kept fault.TooNarrow = Some block.TooNarrow
 kept other = None
 
--- What a renderer is after a refusal: another one leaves it as it was.
+-- What a renderer is after a refusal. One that isn't kept leaves it as it was.
 abbrev pub after_refusal : Fault → State → State
 after_refusal f state = unwrap_or (option_map Refused (kept f)) state
 

@@ -56,7 +56,8 @@ module _ {D M : Type 0} (columns : ℕ → Option ℕ) (decoration : Decoration 
   Lines = List (Line (List M))
 
   -- one renderer takes lines more
-  taken_on : (depth : ℕ) (inside between outside : Lines) → AreTakenIn columns decoration depth inside between → TakesIn columns decoration between outside → AreTakenIn columns decoration (suc depth) inside outside
+  taken_on : (depth : ℕ) (inside between outside : Lines) → AreTakenIn columns decoration depth inside between → TakesIn columns decoration between outside →
+      AreTakenIn columns decoration (suc depth) inside outside
   taken_on zero inside between outside same takes = (outside, subst (λ (ls : Lines). TakesIn columns decoration ls outside) same takes, refl)
   taken_on (suc depth) inside between outside (first, here, rest) takes = (first, here, taken_on depth first between outside rest takes)
 
@@ -97,7 +98,8 @@ module _ {D M : Type 0} (columns : ℕ → Option ℕ) (decoration : Decoration 
     Has r = HasStill r ⊎ HasTaken r
 
     -- by acts that put what they bring last
-    has_on : (act : Act M) (r s : Top) → ((fs : List (Entry (List M))) → act_comes columns decoration act r fs ≡ fs ++ act_brought columns decoration act r) → after_act columns decoration act r ≡ done s → Has r → Has s
+    has_on : (act : Act M) (r s : Top) → ((fs : List (Entry (List M))) → act_comes columns decoration act r fs ≡ fs ++ act_brought columns decoration act r) →
+        after_act columns decoration act r ≡ done s → Has r → Has s
     has_on act r s last does (inl h) =
         let more = act_brought columns decoration act r in
         let (leads, came) = acts_then columns decoration h.acts act first r s [] h.leads does in
@@ -164,7 +166,8 @@ module _ {D M : Type 0} (columns : ℕ → Option ℕ) (decoration : Decoration 
     -- ---- what a renderer takes
 
     -- one of those that give what is taken
-    some_gives : {Y : Type 0} (Gives : Top × ℕ → Y → Type 0) (lines_of : Y → Lines) → ((c : Top × ℕ) (y : Y) → Gives c y → handed_out columns c.0 ≡ done (lines_of y)) → (cells : List (Top × ℕ)) (ys : List Y) → AllZip Gives cells ys →
+    some_gives : {Y : Type 0} (Gives : Top × ℕ → Y → Type 0) (lines_of : Y → Lines) → ((c : Top × ℕ) (y : Y) → Gives c y → handed_out columns c.0 ≡ done (lines_of y)) →
+        (cells : List (Top × ℕ)) (ys : List Y) → AllZip Gives cells ys →
         Each (λ (c : Top × ℕ). IsLed columns decoration c.0) cells → Each (λ (c : Top × ℕ). NothingOverhangs c.0) cells → Waits cells → (y : Y) × StandsAmong y ys × Gave (lines_of y)
     some_gives Gives lines_of gives [] ys zip led none h = absurd h
     some_gives Gives lines_of gives (c ∷ cells) [] zip led none h = absurd zip
@@ -181,7 +184,8 @@ module _ {D M : Type 0} (columns : ℕ → Option ℕ) (decoration : Decoration 
     cells_come other r s cells into does led waiting none h = absurd into
 
     -- what such acts bring comes last
-    brought_last : (act : Act M) (r : Top) (cells : List (Top × ℕ)) → TakesCells columns decoration cells act → (fs : List (Entry (List M))) → act_comes columns decoration act r fs ≡ fs ++ act_brought columns decoration act r
+    brought_last : (act : Act M) (r : Top) (cells : List (Top × ℕ)) → TakesCells columns decoration cells act → (fs : List (Entry (List M))) →
+        act_comes columns decoration act r fs ≡ fs ++ act_brought columns decoration act r
     brought_last (row_of_cells collapse given) r cells into fs = refl
     brought_last (call c) r cells into fs = refl
     brought_last other r cells into fs = absurd into
@@ -203,7 +207,8 @@ module _ {D M : Type 0} (columns : ℕ → Option ℕ) (decoration : Decoration 
     first_goes r s rs cells levels goes (inr rest) = inr rest
 
     -- a level ends: it is in its renderer, or in what is left
-    ended_has : (inside : Top) (rs : List Top) (cells : List (Top × ℕ)) (levels : List (Opened D M (List M))) → OnStack (inside ∷ rs) ⊎ (Waits [] ⊎ (Waits cells ⊎ WaitsBelow levels)) → Has inside ⊎ IsSomewhere rs cells levels
+    ended_has : (inside : Top) (rs : List Top) (cells : List (Top × ℕ)) (levels : List (Opened D M (List M))) →
+        OnStack (inside ∷ rs) ⊎ (Waits [] ⊎ (Waits cells ⊎ WaitsBelow levels)) → Has inside ⊎ IsSomewhere rs cells levels
     ended_has inside rs cells levels (inl (inl has)) = inl has
     ended_has inside rs cells levels (inl (inr on)) = inr (inl on)
     ended_has inside rs cells levels (inr (inl none)) = absurd none
@@ -234,7 +239,8 @@ module _ {D M : Type 0} (columns : ℕ → Option ℕ) (decoration : Decoration 
       ];
     }
 
-    pub line_has : (number : ℕ) (line : List ℕ) (p next : Progress D M (List M)) → KeepsAll columns decoration p → IsShort columns decoration p → EndsWhole (line ∷ []) p → after_line columns decoration number line p ≡ Ok next → IsIn p → IsIn next
+    pub line_has : (number : ℕ) (line : List ℕ) (p next : Progress D M (List M)) → KeepsAll columns decoration p → IsShort columns decoration p →
+        EndsWhole (line ∷ []) p → after_line columns decoration number line p ≡ Ok next → IsIn p → IsIn next
     line_has number line p next keeps short whole does h =
         let led = keeps.renderers in
         line_makes columns decoration Sized Ends Before IsSomewhere has_walk p next number line

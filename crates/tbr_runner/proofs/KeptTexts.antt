@@ -25,18 +25,21 @@ use Rattle.tbr_runner.proofs.ScriptLevels.{first_led, Wait, line_waits, line_cou
 use Rattle.tbr_runner.proofs.Walks.{Meets, At}
 
 module _ {D M : Type 0} (columns : ℕ → Option ℕ) (decoration : Decoration D M) where
-  pub line_keeps_all : (p next : Progress D M (List M)) (number : ℕ) (line : List ℕ) → KeepsAll columns decoration p → EndsWhole (line ∷ []) p → after_line columns decoration number line p ≡ Ok next → KeepsAll columns decoration next
+  pub line_keeps_all : (p next : Progress D M (List M)) (number : ℕ) (line : List ℕ) → KeepsAll columns decoration p → EndsWhole (line ∷ []) p →
+      after_line columns decoration number line p ≡ Ok next → KeepsAll columns decoration next
   line_keeps_all p next number line keeps whole makes =
       let there = subst (Meets (Unit {0}) (At columns decoration (Wait columns decoration NothingOverhangs))) makes (line_waits columns decoration NothingOverhangs p number line (λ command is ends. whole (command, is, ends)) keeps.waiting keeps.below) in
       record { renderers = line_led columns decoration p next number line keeps.renderers makes; levels = line_counts columns decoration p next number line keeps.levels makes; waiting = there.waiting; below = there.below }
 
-  pub started_keeps_all : columns 32 ≡ Some 1 → (opening : Opening) (decorator : D) → 0 < opening.width → opening.options.wrap_width ≢ Some 0 → KeepsAll columns decoration (started {M = M} opening decorator)
+  pub started_keeps_all : columns 32 ≡ Some 1 → (opening : Opening) (decorator : D) → 0 < opening.width → opening.options.wrap_width ≢ Some 0 →
+      KeepsAll columns decoration (started {M = M} opening decorator)
   started_keeps_all space opening decorator wide some = record { renderers = started_led columns decoration space opening decorator wide some; levels = refl; waiting = tt; below = tt }
 
   -- ---- a script's lines
 
   module _ (first : Renderer D M (List M)) (es : List (Entry (List M))) where
-    lines_keep : (number : ℕ) (lines : List (List ℕ)) (p q : Progress D M (List M)) → KeepsAll columns decoration p → ((front back : List (List ℕ)) (there : Progress D M (List M)) → lines ≡ front ++ back → LinesDo columns decoration p number front there → IsShort columns decoration there × EndsWhole back there) →
+    lines_keep : (number : ℕ) (lines : List (List ℕ)) (p q : Progress D M (List M)) → KeepsAll columns decoration p →
+        ((front back : List (List ℕ)) (there : Progress D M (List M)) → lines ≡ front ++ back → LinesDo columns decoration p number front there → IsShort columns decoration there × EndsWhole back there) →
         LinesDo columns decoration p number lines q → IsIn columns decoration first es p → KeepsAll columns decoration q × IsIn columns decoration first es q
     lines_keep number [] p q keeps at same h = (subst (KeepsAll columns decoration) (sym same) keeps, subst (IsIn columns decoration first es) (sym same) h)
     lines_keep number (line ∷ lines) p q keeps at (next, does, lead) h =
@@ -46,7 +49,8 @@ module _ {D M : Type 0} (columns : ℕ → Option ℕ) (decoration : Decoration 
         (line_has columns decoration first es number line p next keeps short whole does h)
 
   -- what came to the renderer on top, and later, is in the lines of the text
-  pub text_keeps : (p : Progress D M (List M)) (number : ℕ) (lines : List (List ℕ)) (bytes : List ℕ) (r : Renderer D M (List M)) → KeepsAll columns decoration p → ((front back : List (List ℕ)) (there : Progress D M (List M)) → lines ≡ front ++ back → LinesDo columns decoration p number front there → IsShort columns decoration there × EndsWhole back there) →
+  pub text_keeps : (p : Progress D M (List M)) (number : ℕ) (lines : List (List ℕ)) (bytes : List ℕ) (r : Renderer D M (List M)) → KeepsAll columns decoration p →
+      ((front back : List (List ℕ)) (there : Progress D M (List M)) → lines ≡ front ++ back → LinesDo columns decoration p number front there → IsShort columns decoration there × EndsWhole back there) →
       top_of p.stack ≡ Some r → (led : IsLed columns decoration r) → rendered_on columns decoration number lines p ≡ Ok bytes →
       (commands : List Command) × AskFor lines commands × TextKeeps columns decoration (p.stack.links ++ link_targets commands) bytes (acts_come columns decoration led.acts led.first [])
   text_keeps p number lines bytes r keeps at is_top led gives =
@@ -59,7 +63,9 @@ module _ {D M : Type 0} (columns : ℕ → Option ℕ) (decoration : Decoration 
       let led_there = kept.renderers in
       let led_last = first_led columns decoration (IsLed columns decoration) there.stack.levels top is led_there.on_stack in
       let (of, gives_it) = closed_led columns decoration there.stack.links top bytes led_last closed_is in
-      let gave = gives_on columns decoration led.first es top _ led_last.live ((at lines [] there (sym (append-nil lines)) end.lead).1 tt top is) gives_it (only_one columns decoration led.first es there.stack.levels top is (omega (arith, kept.levels, ap length none_open)) (only_on_stack columns decoration led.first es there none_open none_wait has)) in
+      let none_left = (at lines [] there (sym (append-nil lines)) end.lead).1 tt top is in
+      let gave = gives_on columns decoration led.first es top _ led_last.live none_left gives_it
+      (only_one columns decoration led.first es there.stack.levels top is (omega (arith, kept.levels, ap length none_open)) (only_on_stack columns decoration led.first es there none_open none_wait has)) in
       let origin : IsLed columns decoration gave.origin = record { first = led.first; fresh = led.fresh; sound = led.sound; acts = gave.still.acts; leads = gave.still.leads; live = gave.live } in
       let so_far = subst (IsWrittenSoFar columns gave.origin) (sym gave.still.came) (led_writes columns decoration gave.origin origin) in
       let steps = lines_step columns decoration number lines end.commands p there end.ask end.lead in

@@ -136,7 +136,8 @@ module _ {D M : Type 0} (columns : ℕ → Option ℕ) (decoration : Decoration 
       let begun = led_on (call start_block) r q starts k in
       led_on (fmt_links (note ∷ notes)) q (with_footnotes columns q (note ∷ notes)) (live_goes q.failure (done (with_footnotes columns q (note ∷ notes))) begun.live) begun
 
-  pub closed_led : (targets : List (List ℕ)) (r : Top) (text : List ℕ) → Led r → closed_text columns decoration targets r ≡ done text → (of : IsTextOfLed columns decoration targets text) × (handed_out columns r ≡ done (let m = of.renderer in m.lines))
+  pub closed_led : (targets : List (List ℕ)) (r : Top) (text : List ℕ) → Led r → closed_text columns decoration targets r ≡ done text →
+      (of : IsTextOfLed columns decoration targets text) × (handed_out columns r ≡ done (let m = of.renderer in m.lines))
   closed_led targets r text k h =
       let d = decoration.after r.decorator (change.finalise (listed r.options targets)) in
       let notes = footnotes_of columns decoration targets r in
@@ -163,7 +164,8 @@ module _ {D M : Type 0} (columns : ℕ → Option ℕ) (decoration : Decoration 
   lines_led number (line ∷ lines) p q h (next, does, lead) = lines_led (number + 1) lines next q (line_led p next number line h does) lead
 
   -- the renderer whose text the end gives
-  pub at_end : (number : ℕ) (p : Progress D M (List M)) (text : List ℕ) → ended columns decoration number p ≡ Ok text → (r : Top) × (top_of p.stack ≡ Some r) × (closed_text columns decoration p.stack.links r ≡ done text) × (p.opened ≡ []) × (p.pending.cells ≡ [])
+  pub at_end : (number : ℕ) (p : Progress D M (List M)) (text : List ℕ) → ended columns decoration number p ≡ Ok text →
+      (r : Top) × (top_of p.stack ≡ Some r) × (closed_text columns decoration p.stack.links r ≡ done text) × (p.opened ≡ []) × (p.pending.cells ≡ [])
   at_end number p text is =
       let (none_open, first) = none_are p.opened (NotACommand number) _ (Ok text) (λ no. no) tt is in
       let (none_wait, next) = none_are p.pending.cells (NotACommand number) _ (Ok text) (λ no. no) tt first in
@@ -195,7 +197,8 @@ module _ (columns : ℕ → Option ℕ) (space : columns 32 ≡ Some 1) where
   setting_wraps word (Wrap n) options is some = λ none. let zero_is : n ≡ 0 = cc none in omega (arith, is.2.2, zero_is)
   setting_wraps word other options is some = some
 
-  some_wrap : (words : List (List ℕ)) (settings : List Setting) (options : RenderOptions) → AllZip IsSetting words settings → options.wrap_width ≢ Some 0 → (let o = fold with_setting options settings in o.wrap_width) ≢ Some 0
+  some_wrap : (words : List (List ℕ)) (settings : List Setting) (options : RenderOptions) → AllZip IsSetting words settings → options.wrap_width ≢ Some 0 →
+      (let o = fold with_setting options settings in o.wrap_width) ≢ Some 0
   some_wrap [] [] options all some = some
   some_wrap [] (s ∷ ss) options all some = elim all [ ]
   some_wrap (w ∷ ws) [] options all some = elim all [ ]
@@ -204,27 +207,32 @@ module _ (columns : ℕ → Option ℕ) (space : columns 32 ≡ Some 1) where
   wraps : (words : List (List ℕ)) (options : RenderOptions) → AreOptions words options → options.wrap_width ≢ Some 0
   wraps words options (settings, all, is) = subst (λ (o : RenderOptions). o.wrap_width ≢ Some 0) (sym is) (some_wrap words settings default_options all (λ none. cc))
 
-  begun_led : {D M : Type 0} (decoration : Decoration D M) (decorator : D) (opening : Opening) (number : ℕ) (lines : List (List ℕ)) (text : List ℕ) → 0 < opening.width → opening.options.wrap_width ≢ Some 0 →
+  begun_led : {D M : Type 0} (decoration : Decoration D M) (decorator : D) (opening : Opening) (number : ℕ) (lines : List (List ℕ)) (text : List ℕ) → 0 < opening.width →
+      opening.options.wrap_width ≢ Some 0 →
       rendered_on columns decoration number lines (started opening decorator) ≡ Ok text → (commands : List Command) × AskFor lines commands × IsTextOfLed columns decoration (link_targets commands) text
   begun_led decoration decorator opening number lines text wide some h = text_led columns decoration (started opening decorator) number lines text (started_led columns decoration space opening decorator wide some) h
 
-  under_led : (decorator : Decorator) (opening : Opening) (number : ℕ) (lines : List (List ℕ)) (text : List ℕ) → 0 < opening.width → opening.options.wrap_width ≢ Some 0 → rendered_under columns decorator opening number lines ≡ Ok text →
+  under_led : (decorator : Decorator) (opening : Opening) (number : ℕ) (lines : List (List ℕ)) (text : List ℕ) → 0 < opening.width → opening.options.wrap_width ≢ Some 0 →
+      rendered_under columns decorator opening number lines ≡ Ok text →
       (commands : List Command) × AskFor lines commands × IsTextOfScript columns (link_targets commands) text
   under_led Plain opening number lines text wide some h = let (commands, asks, led) = begun_led plain_decoration (record {}) opening number lines text wide some h in (commands, asks, inl led)
   under_led Trivial opening number lines text wide some h = let (commands, asks, led) = begun_led trivial_decoration (record {}) opening number lines text wide some h in (commands, asks, inr (inl led))
   under_led Rich opening number lines text wide some h = let (commands, asks, led) = begun_led rich_decoration (record {}) opening number lines text wide some h in (commands, asks, inr (inr led))
 
-  begins_led : (number : ℕ) (lines : List (List ℕ)) (text : List ℕ) → rendered_from columns number lines ≡ Ok text → (commands : List Command) × AskAfterFirst lines commands × IsTextOfScript columns (link_targets commands) text
+  begins_led : (number : ℕ) (lines : List (List ℕ)) (text : List ℕ) → rendered_from columns number lines ≡ Ok text →
+      (commands : List Command) × AskAfterFirst lines commands × IsTextOfScript columns (link_targets commands) text
   begins_led number [] text h = cc
   begins_led number ([] ∷ lines) text h = begins_led (number + 1) lines text h
   begins_led number ((b ∷ bs) ∷ lines) text h = read_led (opening_read (b ∷ bs)) (read_opening (b ∷ bs)) h
     where
-      read_led : (read : Option Opening) → ((opening : Opening) → read ≡ Some opening → IsOpening (b ∷ bs) opening) → rendered_by columns read number lines ≡ Ok text → (commands : List Command) × AskFor lines commands × IsTextOfScript columns (link_targets commands) text
+      read_led : (read : Option Opening) → ((opening : Opening) → read ≡ Some opening → IsOpening (b ∷ bs) opening) → rendered_by columns read number lines ≡ Ok text →
+          (commands : List Command) × AskFor lines commands × IsTextOfScript columns (link_targets commands) text
       read_led None is h = cc
       read_led (Some opening) is h =
           let asked = is opening refl in
           let (digits, words, are, size, options) = asked.asks in
           under_led opening.decorator opening (number + 1) lines text size.2 (wraps words opening.options options) h
 
-  pub script_led : (script text : List ℕ) → rendered columns script ≡ Ok text → (commands : List Command) × AskAfterFirst (lines_of script) commands × IsTextOfScript columns (link_targets commands) text
+  pub script_led : (script text : List ℕ) → rendered columns script ≡ Ok text →
+      (commands : List Command) × AskAfterFirst (lines_of script) commands × IsTextOfScript columns (link_targets commands) text
   script_led script text h = begins_led 1 (lines_of script) text h

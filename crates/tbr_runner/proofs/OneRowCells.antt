@@ -93,7 +93,8 @@ module _ {D M : Type 0} (columns : ℕ → Option ℕ) (decoration : Decoration 
   call_none c r s does none =
       subst (Each HasNone) (sym (path_hanging columns any r s _ _ (calls_move columns any decoration (c ∷ []) r s _ tt (alone columns decoration c r s does)))) none
 
-  row_none : (collapse : Bool) (cells : List (GivenCell (List M))) → Each IsOne cells → (r s : Top) → after_act columns decoration (row_of_cells collapse cells) r ≡ done s → NothingOverhangs r → NothingOverhangs s
+  row_none : (collapse : Bool) (cells : List (GivenCell (List M))) → Each IsOne cells → (r s : Top) →
+      after_act columns decoration (row_of_cells collapse cells) r ≡ done s → NothingOverhangs r → NothingOverhangs s
   row_none collapse cells one r s does none =
       let (m, flushed, puts, brings) = act_step columns decoration (row_of_cells collapse cells) r s does in
       let means = puts.means in
@@ -113,7 +114,8 @@ module _ {D M : Type 0} (columns : ℕ → Option ℕ) (decoration : Decoration 
   abbrev Stays : Progress D M (List M) → Type 0
   Stays p = At columns decoration (Fits columns decoration NothingOverhangs IsOfOneRow Waits) p
 
-  takes_none : (act : Act M) (r s : Top) (cells : List (Top × ℕ)) → TakesCells columns decoration cells act → Each Waits cells → after_act columns decoration act r ≡ done s → NothingOverhangs r → NothingOverhangs s
+  takes_none : (act : Act M) (r s : Top) (cells : List (Top × ℕ)) → TakesCells columns decoration cells act → Each Waits cells →
+      after_act columns decoration act r ≡ done s → NothingOverhangs r → NothingOverhangs s
   takes_none (call c) r s cells into wait does none = call_none c r s does none
   takes_none (row_of_cells collapse given) r s cells into wait does none =
       row_none collapse given (zip_gives Waits (GivesCell columns decoration) IsOne (λ c g gives waits. gives.0 ∙ waits.1) cells given into wait) r s does none
@@ -126,7 +128,8 @@ module _ {D M : Type 0} (columns : ℕ → Option ℕ) (decoration : Decoration 
       (λ by width r one none. (tt, one)) (λ span align r ends none one. (none, one)) in
       lines_keep (number + 1) lines next q (line_makes columns decoration (λ by width. IsOfOneRow by) (λ r. Unit {0}) _ _ walk p next number line (λ command is. (one.0 command is, λ ends r top. tt)) h does) one.1 lead
 
-  pub lines_none : (p there : Progress D M (List M)) (number : ℕ) (front back : List (List ℕ)) → KeepsAll columns decoration p → OverhangsNowhere p → Each LineAsksForOneRow front → LinesDo columns decoration p number front there → OverhangsNowhere there × EndsWhole back there
+  pub lines_none : (p there : Progress D M (List M)) (number : ℕ) (front back : List (List ℕ)) → KeepsAll columns decoration p → OverhangsNowhere p →
+      Each LineAsksForOneRow front → LinesDo columns decoration p number front there → OverhangsNowhere there × EndsWhole back there
   lines_none p there number front back keeps none one lead =
       let all = none.renderers in
       let below = each_gives _ _ (λ (o : Opened D M (List M)) both. each_both (λ c. NothingOverhangs c.0) (λ c. c.1 ≡ 1) (let w = o.below in w.cells) both.0 both.1) p.opened (each_both _ _ p.opened all.below none.below) in

@@ -22,7 +22,8 @@ module _ {D M : Type 0} (columns : ℕ → Option ℕ) (decoration : Decoration 
   at_end p (b ∷ bs) none = absurd (no_length (length bs) none)
 
   -- what comes of the first line
-  pub line_made : (p : Place columns decoration) (rest line after : List ℕ) (made : Made columns decoration) → lines_of rest ≡ line ∷ lines_of after → after_line columns decoration number line p ≡ made →
+  pub line_made : (p : Place columns decoration) (rest line after : List ℕ) (made : Made columns decoration) → lines_of rest ≡ line ∷ lines_of after →
+      after_line columns decoration number line p ≡ made →
       rendered_on columns decoration number (lines_of rest) p ≡ unless_refused (rendered_on columns decoration (number + 1) (lines_of after)) made
   line_made p rest line after made are is = ap (λ lines. rendered_on columns decoration number lines p) are ∙ ap (unless_refused (rendered_on columns decoration (number + 1) (lines_of after))) is
 
@@ -35,14 +36,16 @@ module _ {D M : Type 0} (columns : ℕ → Option ℕ) (decoration : Decoration 
   line_parts (Err e) lines text is = absurd (let no : ⊥ = cc is in no)
 
   -- and a line that is done and isn't empty asks for a command
-  pub line_asks : (p next : Place columns decoration) (line : List ℕ) (read : Option Command) → command_read line ≡ read → after_read columns decoration number read p ≡ Ok next → (command : Command) × IsCommand line command
+  pub line_asks : (p next : Place columns decoration) (line : List ℕ) (read : Option Command) → command_read line ≡ read →
+      after_read columns decoration number read p ≡ Ok next → (command : Command) × IsCommand line command
   line_asks p next line None reads is = absurd (let no : ⊥ = cc is in no)
   line_asks p next line (Some command) reads is = (command, read_command line command reads)
 
 -- ---- the first command
 
 module _ (columns : ℕ → Option ℕ) (number : ℕ) where
-  pub first_read : (rest line after : List ℕ) (found : Option Opening) → false ≡ (length line == 0) → lines_of rest ≡ line ∷ lines_of after → found ≡ opening_read line → rendered_from columns number (lines_of rest) ≡ rendered_by columns found number (lines_of after)
+  pub first_read : (rest line after : List ℕ) (found : Option Opening) → false ≡ (length line == 0) → lines_of rest ≡ line ∷ lines_of after → found ≡ opening_read line →
+      rendered_from columns number (lines_of rest) ≡ rendered_by columns found number (lines_of after)
   first_read rest [] after found some are is = absurd (false≢true some)
   first_read rest (b ∷ bs) after found some are is = ap (rendered_from columns number) are ∙ ap (λ o. rendered_by columns o number (lines_of after)) (sym is)
 

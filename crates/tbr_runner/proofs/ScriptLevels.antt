@@ -79,7 +79,8 @@ module _ {D M : Type 0} (columns : ℕ → Option ℕ) (decoration : Decoration 
   }
 
   -- where all renderers are such, also those of cells that wait, and all acts keep that
-  pub line_keeps : (Is : Top → Type 0) → ((act : Act M) (r s : Top) → after_act columns decoration act r ≡ done s → Is r → Is s) → ((width : ℕ) (r : Top) → 0 < width → Is r → Is (sub_renderer decoration width r)) →
+  pub line_keeps : (Is : Top → Type 0) → ((act : Act M) (r s : Top) → after_act columns decoration act r ≡ done s → Is r → Is s) →
+      ((width : ℕ) (r : Top) → 0 < width → Is r → Is (sub_renderer decoration width r)) →
       (p next : Progress D M (List M)) (number : ℕ) (line : List ℕ) → AllAre Is p → after_line columns decoration number line p ≡ Ok next → AllAre Is next
   line_keeps Is on inside p next number line h does =
       let here : At columns decoration (Fits Is Any (λ c. Is c.0)) p = record { on_stack = each_map (λ l. l.renderer) _ Is (λ l is. is) p.stack.levels h.on_stack; waiting = h.waiting; opened = each_any _ (λ o. tt) p.opened; below = h.below } in
@@ -92,7 +93,8 @@ module _ {D M : Type 0} (columns : ℕ → Option ℕ) (decoration : Decoration 
   abbrev pub Wait : (Top → Type 0) → Holds columns decoration
   Wait Ends = Fits (λ r. Unit {0}) Any (λ c. Ends c.0)
 
-  pub line_waits : (Ends : Top → Type 0) (p : Progress D M (List M)) (number : ℕ) (line : List ℕ) → ((command : Command) → IsCommand line command → EndsOne command → (r : Top) → top_of p.stack ≡ Some r → Ends r) →
+  pub line_waits : (Ends : Top → Type 0) (p : Progress D M (List M)) (number : ℕ) (line : List ℕ) →
+      ((command : Command) → IsCommand line command → EndsOne command → (r : Top) → top_of p.stack ≡ Some r → Ends r) →
       CellsAre Ends p.pending → Each (λ (o : Opened D M (List M)). CellsAre Ends o.below) p.opened → Meets (Unit {0}) (At columns decoration (Wait Ends)) (after_line columns decoration number line p)
   line_waits Ends p number line ends waiting below =
       let walk = fits_walk (Unit {0}) Sized Ends (λ r. Unit {0}) Any (λ c. Ends c.0) (λ r is. any_ready r) (λ c is. any_ready c.0) (λ c r s does is. tt) (λ act r s cells into wait does is. tt) (λ by width r wide is. (tt, tt)) (λ span align r of is by. of) in
@@ -103,7 +105,8 @@ module _ {D M : Type 0} (columns : ℕ → Option ℕ) (decoration : Decoration 
   abbrev Counts : Holds columns decoration
   Counts rs cells levels = length rs ≡ length levels + 1
 
-  pub line_counts : (p next : Progress D M (List M)) (number : ℕ) (line : List ℕ) → length p.stack.levels ≡ length p.opened + 1 → after_line columns decoration number line p ≡ Ok next → length next.stack.levels ≡ length next.opened + 1
+  pub line_counts : (p next : Progress D M (List M)) (number : ℕ) (line : List ℕ) → length p.stack.levels ≡ length p.opened + 1 →
+      after_line columns decoration number line p ≡ Ok next → length next.stack.levels ≡ length next.opened + 1
   line_counts p next number line h does =
       let walk : Walk columns decoration (Unit {0}) Sized (λ r. Unit {0}) Counts Counts = record {
         ready = λ rs cells levels h. (each_any _ any_ready rs, each_any _ (λ (c : Top × ℕ). any_ready c.0) cells);

@@ -38,7 +38,8 @@ module _ {D M : Type 0} (columns : ℕ → Option ℕ) (decoration : Decoration 
   steps_append (call ∷ calls) rest s m t (between, does, others) steps = (between, does, steps_append calls rest between m t others steps)
 
   -- a change of the top, whatever is pending then
-  top_steps : (p next : Progress D M (List M)) (left : Pending D M (List M)) (make : Top → Outcome Top) → with_stack columns decoration (record p { pending = left }) (in_top make p.stack) ≡ Ok next → Steps (change_top ∷ []) p.stack next.stack
+  top_steps : (p next : Progress D M (List M)) (left : Pending D M (List M)) (make : Top → Outcome Top) →
+      with_stack columns decoration (record p { pending = left }) (in_top make p.stack) ≡ Ok next → Steps (change_top ∷ []) p.stack next.stack
   top_steps p next left make is =
       let (s, made, same) = stack_done columns decoration (record p { pending = left }) (in_top make p.stack) next is in
       let changes = top_changed make p.stack s made in
@@ -73,7 +74,8 @@ module _ {D M : Type 0} (columns : ℕ → Option ℕ) (decoration : Decoration 
       top_steps p next (without_cells p.pending) (row_made columns decoration p.pending collapse) lays
   command_steps number vertical_row p next is = top_steps p next (without_cells p.pending) (vertical_made columns decoration p.pending) is
 
-  pub lines_step : (number : ℕ) (lines : List (List ℕ)) (commands : List Command) (p q : Progress D M (List M)) → AskFor lines commands → LinesDo columns decoration p number lines q → Steps (stack_calls commands) p.stack q.stack
+  pub lines_step : (number : ℕ) (lines : List (List ℕ)) (commands : List Command) (p q : Progress D M (List M)) → AskFor lines commands →
+      LinesDo columns decoration p number lines q → Steps (stack_calls commands) p.stack q.stack
   lines_step number [] commands p q none same = subst (λ cs. Steps (stack_calls cs) p.stack q.stack) (sym none) (ap (λ (o : Progress D M (List M)). o.stack) same)
   lines_step number ([] ∷ lines) commands p q asks (next, same, lead) =
       subst (λ (o : Progress D M (List M)). Steps (stack_calls commands) o.stack q.stack) (one_ok p next same) (lines_step (number + 1) lines commands next q asks lead)
@@ -82,7 +84,9 @@ module _ {D M : Type 0} (columns : ℕ → Option ℕ) (decoration : Decoration 
       subst (λ cs. Steps (stack_calls cs) p.stack q.stack) (sym are)
       (steps_append (calls_of command) (stack_calls others) p.stack next.stack q.stack first (lines_step (number + 1) lines others next q asks lead))
 
-  pub link_number_is_its_own : (target : List ℕ) (number : ℕ) (lines : List (List ℕ)) (commands : List Command) (p m q : Progress D M (List M)) → after_command columns decoration number (link target) p ≡ Ok m → AskFor lines commands → LinesDo columns decoration m (number + 1) lines q → IsNextToEnd (0 ∷ []) (stack_calls commands) →
+  pub link_number_is_its_own : (target : List ℕ) (number : ℕ) (lines : List (List ℕ)) (commands : List Command) (p m q : Progress D M (List M)) →
+      after_command columns decoration number (link target) p ≡ Ok m → AskFor lines commands → LinesDo columns decoration m (number + 1) lines q →
+      IsNextToEnd (0 ∷ []) (stack_calls commands) →
       after_link_end columns decoration q.stack ≡ after_end_as columns decoration (length p.stack.links + 1) q.stack
   link_number_is_its_own target number lines commands p m q begins asks lead next =
       let (s, starts, same) = stack_done columns decoration p _ m begins in

@@ -111,7 +111,8 @@ module _ {D M : Type 0} (columns : ℕ → Option ℕ) (decoration : Decoration 
       rest_meets ⊥ AllTwo (λ text. Unit {0}) (rendered_on columns decoration (number + 1) lines) (after_line columns decoration number line p)
       (line_meets columns decoration ⊥ (λ by width. 2 ≤ width) (λ r. Unit {0}) _ _ walk number p line (λ command is. (asks.0 command is, λ ends r top. tt)) h) (λ next two. no_lines next (number + 1) lines two asks.1)
 
-  pub not_too_narrow : (opening : Opening) (decorator : D) → 2 ≤ least opening.width opening.options.wrap_width → (number : ℕ) (lines : List (List ℕ)) → Each LineAsksForTwo lines → rendered_on columns decoration number lines (started opening decorator) ≡ Err TooNarrow → ⊥
+  pub not_too_narrow : (opening : Opening) (decorator : D) → 2 ≤ least opening.width opening.options.wrap_width → (number : ℕ) (lines : List (List ℕ)) →
+      Each LineAsksForTwo lines → rendered_on columns decoration number lines (started opening decorator) ≡ Err TooNarrow → ⊥
   not_too_narrow opening decorator wide number lines asks h =
       let r : Top = new_renderer opening.width opening.options decorator in
       let led = nothing_came columns decoration r (record { lines = refl; block = refl; waiting = refl; hanging = refl }) (record { space = space; wide = omega (arith, wide) }) refl in

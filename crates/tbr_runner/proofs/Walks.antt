@@ -75,7 +75,8 @@ module _ (narrow : Type 0) where
   some_meet Is [] some none one other = other
   some_meet Is (y ∷ ys) some none one other = one
 
-  pub rest_meets : {X Y : Type 0} (Is : X → Type 0) (Then : Y → Type 0) (rest : X → Result Y RunError) (made : Result X RunError) → Meets Is made → ((x : X) → Is x → Meets Then (rest x)) → Meets Then (unless_refused rest made)
+  pub rest_meets : {X Y : Type 0} (Is : X → Type 0) (Then : Y → Type 0) (rest : X → Result Y RunError) (made : Result X RunError) → Meets Is made →
+      ((x : X) → Is x → Meets Then (rest x)) → Meets Then (unless_refused rest made)
   rest_meets Is Then rest (Ok x) h more = more x h
   rest_meets Is Then rest (Err TooNarrow) h more = h
   rest_meets Is Then rest (Err OutOfMemory) h more = h
@@ -240,7 +241,8 @@ module _ {D M : Type 0} (columns : ℕ → Option ℕ) (decoration : Decoration 
       cell_meets (Cell span align) [] [] ends h = tt
       cell_meets (Cell span align) (l ∷ ls) [] ends h = walk.waits span align l.renderer (renderers ls) left others (ends l.renderer refl) h
 
-    ended_meets : (number : ℕ) (end : Opener → Option (Top → Place columns decoration → Made columns decoration)) (p : Place columns decoration) (opens : Levels) → ((r : Top) → top_of p.stack ≡ Some r → Ends r) →
+    ended_meets : (number : ℕ) (end : Opener → Option (Top → Place columns decoration → Made columns decoration)) (p : Place columns decoration) (opens : Levels) →
+        ((r : Top) → top_of p.stack ≡ Some r → Ends r) →
         ((by : Opener) (left : Pending D M (List M)) (others : Levels) → Ended number p left others end by p.stack.levels p.pending.cells) → Before (renderers p.stack.levels) p.pending.cells opens →
         Makes (level_ended columns decoration number end p opens)
     ended_meets number end p [] ends does h = tt
@@ -261,14 +263,16 @@ module _ {D M : Type 0} (columns : ℕ → Option ℕ) (decoration : Decoration 
           fine_then narrow (λ s. Here (s ∷ rs)) _ (after columns decoration (finish end.link) r) _ (called_fine (finish end.link) r rs h) (λ s still. called_fine (add_inline_text (link_number k)) s rs still)
 
       -- the cells that wait, as they are taken
-      row_meets : {X : Type 0} (Gives : X → Type 0) (given : Outcome X) (act : X → Act M) → (AreReady narrow p.pending.cells → Fine narrow Gives given) → ((x : X) → Gives x → TakesCells p.pending.cells (act x)) → At Before p →
+      row_meets : {X : Type 0} (Gives : X → Type 0) (given : Outcome X) (act : X → Act M) → (AreReady narrow p.pending.cells → Fine narrow Gives given) →
+          ((x : X) → Gives x → TakesCells p.pending.cells (act x)) → At Before p →
           Makes (with_stack columns decoration (record p { pending = without_cells p.pending }) (in_top (taking (after columns decoration new_line) given (λ x. after_act columns decoration (act x))) p.stack))
       row_meets Gives given act gives takes h =
           changed_meets Here (λ rs. After rs [] p.opened) (record p { pending = without_cells p.pending }) p.stack _ (λ rs is. is) h (λ r rs k.
           let may = walk.ready (r ∷ rs) p.pending.cells p.opened k in
           taking_fine narrow _ Gives given act r may.0.0 (gives may.1) (λ x t give does. walk.takes (act x) r t rs p.pending.cells p.opened (takes x give) does k))
 
-      pub command_meets : (command : Command) → Asks Asked command → (EndsOne command → (r : Top) → top_of p.stack ≡ Some r → Ends r) → At Before p → Makes (after_command columns decoration number command p)
+      pub command_meets : (command : Command) → Asks Asked command → (EndsOne command → (r : Top) → top_of p.stack ≡ Some r → Ends r) → At Before p →
+          Makes (after_command columns decoration number command p)
       command_meets (ask request) asked ends h =
           let q : Place columns decoration = record p { pending = record p.pending { begun = counted p.pending.begun request } } in
           cond_both (ends_nothing p.pending.begun request) (Err (NothingToEnd number)) _ Makes (λ none. tt)
