@@ -72,9 +72,11 @@ GivesNew asked before back status =
     × (status ≡ status_of made)
 
 -- The text of all lines that weren't taken is copied, or it is refused, and C is given back what the renderer holds then.
+-- Memory is refused only where there is such a text.
 abbrev pub GivesRest : State → Option State → List ℕ → List ℕ → ℕ → ℕ → ℕ → Type 0
 GivesRest state back before after old needed status =
     (done : Result (Unit {0}) Fault) × CopiesMade (rest_of state) before after old needed (status_of done)
+    × IfErr (rest_of state) (λ f. done ≡ Err f)
     × MatchResult done (λ _. back ≡ Some state) (λ f. back ≡ Some (after_refusal f state)) × (status ≡ status_of done)
 
 -- The first line that wasn't taken is taken, or it is refused why there is none.

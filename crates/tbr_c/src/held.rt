@@ -177,6 +177,7 @@ impl Held {
     /// the renderer isn't finished. `OutOfMemory` is kept.
     pub fn copy_text(&mut self, out: &mut [u8], needed: &mut usize) -> Result<(), Fault>
         ensures text { CopiesMade (rest_of self.old) out.old out.new needed.old needed.new (status_of result) }
+        ensures none { IfErr (rest_of self.old) (λ f. result ≡ Err f) }
         ensures left { MatchResult result (λ _. self.new ≡ self.old) (λ f. self.new ≡ after_refusal f self.old) }
     {
         let done = self.state.copy_text(self.alloc, out, needed);

@@ -219,6 +219,7 @@ impl State {
     ) -> Result<(), Fault>
         requires { CanGoOn self.old }
         ensures text { CopiesMade (rest_of self.old) out.old out.new needed.old needed.new (status_of result) }
+        ensures none { IfErr (rest_of self.old) (λ f. result ≡ Err f) }
         ensures left { self.new ≡ self.old }
     {
         match self {
