@@ -1,16 +1,16 @@
 -- The bytes of characters.
-use Rattle.std.proofs.Common.{◌≡◌, ℕ, suc, zero, ◌+◌, ◌-◌, ◌<◌, ◌≤◌, true, List, [], ◌∷◌, ◌++◌, Option, length, take, drop, encode_utf8, refl, ap, sym, ◌∙◌, subst, arith, append_assoc, append-nil, None, Some, add-one, take-append-drop, length-append, length-take-le, length-drop}
+use Rattle.std.proofs.Common.{◌≡◌, ℕ, suc, zero, ◌+◌, ◌-◌, ◌<◌, ◌≤◌, true, List, [], ◌∷◌, ◌++◌, Option, length, take, drop, encode_utf8, refl, ap, sym, ◌∙◌, subst, arith, append_assoc, append-nil, None, Some, add-one, take-append-drop, length-append, length-take-le, length-drop, replicate}
 use Rattle.std.specs.List.{slice_get}
 use Rattle.std.specs.Option.{MatchOption}
 use Rattle.std.specs.Str.{IsAscii, IsUtf8, is_utf8, chars, IsCharBoundary}
 use Rattle.std.specs.Char.{IsScalar}
 use Rattle.std.proofs.Math.Seq.{take-append_seam}
 use Rattle.std.proofs.lemmas.Bool.{and_parts}
-use Rattle.std.proofs.lemmas.List.{drop_at, drop-drop, drop-append-le}
+use Rattle.std.proofs.lemmas.List.{drop_at, drop-drop, drop-append-le, length-replicate}
 use Rattle.std.proofs.lemmas.Str.{IsUtf8-append, IsUtf8-nil, IsCharBoundary-from_drop, length-le-encodes, encodes-chars, scalars-chars, chars-encodes, encodes-append, IsCharBoundary-at_seam, IsUtf8-encode, IsUtf8-past_char, is_utf8-from_IsUtf8, IsUtf8-from_is_utf8, chars-append, chars-nil, chars_past_char, IsUtf8-from_ascii, chars-IsAscii, encodes-IsAscii}
 use lib.Utf8.{encodes, scalar, scalars}
 use Rattle.tbr_flat.specs.Flat.{IsLeft}
-use Rattle.tbr_tagged.proofs.TextAfter.{chars_push, chars_none}
+use Rattle.tbr_tagged.proofs.TextAfter.{chars_push, chars_none, spaces_ascii}
 
 -- ---- what is left of a text
 
@@ -170,6 +170,12 @@ module _ (bytes : List ℕ) (i n : ℕ) (cs : List ℕ) (h : IsLeft bytes i n) (
   char_joined xs c e s =
       let one : chars (encode_utf8 c) ≡ c ∷ [] = chars_push [] c IsUtf8-nil s ∙ ap (λ ds. ds ++ c ∷ []) chars-nil in
       subst (λ ds. IsAfter xs i (n + 1) (cs ++ ds)) one (joined xs (encode_utf8 c) 1 e (IsUtf8-encode c s) (ap length (sym one)))
+
+  pub spaces_joined : (xs : List ℕ) (k : ℕ) → xs ≡ bytes ++ replicate k 32 → IsAfter xs i (n + k) (cs ++ replicate k 32)
+  spaces_joined xs k e =
+      let seen : chars (replicate k 32) ≡ replicate k 32 = chars-IsAscii (replicate k 32) (spaces_ascii k) in
+      subst (λ ds. IsAfter xs i (n + k) (cs ++ ds)) seen
+      (joined xs (replicate k 32) k e (IsUtf8-from_ascii (replicate k 32) (spaces_ascii k)) (sym (ap length seen ∙ length-replicate k 32)))
 
   -- the first characters are forgotten
   pub forgotten : (m k : ℕ) → k ≡ length (encodes (take m cs)) → IsAfter bytes (i + k) (n - m) (drop m cs)

@@ -1,19 +1,15 @@
 -- What is counted and taken away at the end of a text and at its beginning.
-use Rattle.std.proofs.Common.{◌≡◌, true, ℕ, suc, zero, ◌+◌, ◌-◌, ◌<◌, ◌≤◌, List, ◌∷◌, ◌++◌, length, take, drop, get_or, replicate, refl, ap, sym, ◌∙◌, subst, arith, append_assoc}
-use Rattle.std.specs.Str.{IsUtf8, IsAscii, chars, IsCharBoundary}
+use Rattle.std.proofs.Common.{◌≡◌, true, ℕ, suc, ◌+◌, ◌-◌, ◌<◌, ◌≤◌, List, ◌∷◌, ◌++◌, length, take, drop, get_or, replicate, refl, ap, sym, ◌∙◌, subst, arith, append_assoc}
+use Rattle.std.specs.Str.{IsUtf8, chars, IsCharBoundary}
 use Rattle.std.proofs.Math.Seq.{take-append_seam, get_or-append_seam}
 use Rattle.std.proofs.lemmas.List.{take-append-drop, take_at, drop_at, length-append, length-take, length-replicate}
 use Rattle.std.proofs.lemmas.Str.{IsUtf8-take, IsUtf8-from_ascii, IsCharBoundary-from_drop, chars-append, chars-IsAscii, encodes-chars, encodes-append, encodes-IsAscii, scalars-chars, chars-encodes}
 use lib.Utf8.{encodes, scalars}
 use Rattle.tbr_flat.specs.Flat.{IsLeft}
+use Rattle.tbr_tagged.proofs.TextAfter.{spaces_ascii}
 use Rattle.tbr_flat.proofs.TextBytes.{IsAfter, left_after, left_utf8, left_count, scalars_take}
 
 -- ---- spaces at the end
-
-spaces_ascii : (n : ℕ) → IsAscii (replicate n 32)
-spaces_ascii zero i = omega arith
-spaces_ascii (suc n) zero = omega arith
-spaces_ascii (suc n) (suc i) = spaces_ascii n i
 
 -- the last bytes are spaces
 pub end_spaces : (text : List ℕ) (n : ℕ) → IsUtf8 text → n ≤ length text → drop (length text - n) text ≡ replicate n 32 → (front : List ℕ) × (chars text ≡ front ++ replicate n 32)

@@ -10,7 +10,7 @@ use std::alloc::Global;
 use std::marker::Model;
 use std::str::Chars;
 use tbr_model::CharWidth;
-use tbr_tagged::{OutOfMemory, spaces, text_width};
+use tbr_tagged::{OutOfMemory, append_spaces, text_width};
 
 /// While fewer bytes than these were taken, they stay in memory.
 const FEW: usize = 1024;
@@ -125,12 +125,9 @@ impl TextQueue {
         ensures ok { OnOk result (self.new ≡ self.old ++ replicate count 32) }
         ensures err { OnErr result (self.new ≡ self.old) }
     {
-        // One space needs no text of its own.
-        if count == 1 {
-            return self.push(' ');
-        }
-        let spaces = spaces(*self.text.allocator(), count)?;
-        self.push_str(spaces.as_str(), count)
+        append_spaces(&mut self.text, count)?;
+        self.len += count;
+        Ok(())
     }
 
     /// Adds all characters of another text, which has none then. Where memory is refused both stay as they were.

@@ -4,13 +4,12 @@ ghost use Rattle.std.specs.List.{AllByRecursion as Each};
 ghost use Rattle.tbr_model.specs.Run.{glyph};
 ghost use Rattle.tbr_tagged.specs.Copies.{CopiesAreEqual};
 ghost use Rattle.tbr_tagged.specs.Elements.{items_of, text_items, SameItems, IsMerged};
-ghost use Rattle.tbr_tagged.specs.View.{chars_of};
 ghost use Rattle.tbr_rows.specs.Texts as model;
 
 use crate::column::Column;
 use std::alloc::Global;
-use tbr_border::{BorderHoriz, RenderLine};
-use tbr_tagged::{OutOfMemory, TaggedLine, TaggedString, spaces};
+use tbr_border::RenderLine;
+use tbr_tagged::{OutOfMemory, TaggedLine, TaggedString};
 
 /// The lines of a row: as many as asked for. They are taken out of its cells.
 pub(crate) fn lines_of<T: Eq + Clone + Drop>(
@@ -47,12 +46,23 @@ fn line_of<T: Eq + Clone + Drop>(
     ensures merged { IfOk result (λ line. IsMerged T.eq line) }
     ensures rest { OnOk result (columns.new.items ≡ map (model.dropped 1) columns.old.items) }
 {
+    let room = room_for(columns);
     let mut line = TaggedLine::new(alloc);
     for i in 0..columns.len() {
         push_separator(&mut line, i, separator, tag)?;
-        push_first(alloc, &mut line, &mut columns[i], tag)?;
+        push_first(&mut line, &mut columns[i], tag)?;
+        line.make_room(room);
     }
     Ok(line)
+}
+
+/// How many bytes a line of a row mostly has: one for each column, and three for what parts two cells.
+fn room_for<T>(columns: &[Column<T>]) -> usize {
+    let mut bytes = 0usize;
+    for column in columns {
+        bytes = bytes.saturating_add(column.cell.width).saturating_add(3);
+    }
+    bytes
 }
 
 /// Appends the separator that comes before a cell, unless that is the first.
@@ -75,7 +85,6 @@ fn push_separator<T: Eq + Clone>(
 
 /// Appends a cell's first line, which it takes out, or its filler.
 fn push_first<T: Eq + Clone + Drop>(
-    alloc: Global,
     line: &mut TaggedLine<T>,
     column: &mut Column<T>,
     tag: &T,
@@ -88,7 +97,7 @@ fn push_first<T: Eq + Clone + Drop>(
 {
     match column.cell.lines.pop_front() {
         Some(first) => push_line(line, text_in_row(first, tag)?),
-        None => push_filler(alloc, line, column, tag),
+        None => push_filler(line, column, tag),
     }
 }
 
@@ -106,9 +115,8 @@ fn text_in_row<T: Eq + Clone + Drop>(
     }
 }
 
-/// Appends what fills the place of a cell that has no line left.
+/// Appends what fills the place of a cell that has no line left: the vertical lines above its merged border, or spaces.
 fn push_filler<T: Eq + Clone + Drop>(
-    alloc: Global,
     line: &mut TaggedLine<T>,
     column: &Column<T>,
     tag: &T,
@@ -118,23 +126,12 @@ fn push_filler<T: Eq + Clone + Drop>(
         ++ text_items (model.filler_above column.now.cell.width column.now.bottom) tag.now)) }
     ensures merged { IsMerged T.eq line.old → OnOk result (IsMerged T.eq line.new) }
 {
-    let s = filler(alloc, column.cell.width, &column.bottom)?;
+    let Some(border) = &column.bottom else {
+        return line.push_spaces(column.cell.width, tag);
+    };
+    let s = border.to_vertical_lines_above()?;
     let tag = tag.clone()?;
     line.push_str(TaggedString { s, tag })
-}
-
-/// The vertical lines above a cell's merged border, or spaces.
-fn filler<T>(
-    alloc: Global,
-    width: usize,
-    bottom: &Option<BorderHoriz<T>>,
-) -> Result<String, OutOfMemory>
-    ensures { IfOk result (λ text. chars_of text ≡ model.filler_above width bottom.now) }
-{
-    match bottom {
-        Some(border) => border.to_vertical_lines_above(),
-        None => spaces(alloc, width),
-    }
 }
 
 /// Appends a line to another.

@@ -1,12 +1,12 @@
 -- Text after a line of pieces.
-use Rattle.std.proofs.Common.{◌≡◌, ℕ, suc, ◌-◌, ◌<◌, Bool, true, false, Some, option_map, List, [], ◌∷◌, ◌++◌, map, length, get_or, set, encode_utf8, refl, ap, sym, ◌∙◌, arith, append-nil}
+use Rattle.std.proofs.Common.{◌≡◌, ℕ, zero, suc, ◌-◌, ◌<◌, Bool, true, false, Some, option_map, List, [], ◌∷◌, ◌++◌, map, length, get_or, set, replicate, encode_utf8, refl, ap, sym, ◌∙◌, arith, append-nil}
 use Rattle.std.specs.List.{slice_get}
 use Rattle.std.proofs.lemmas.Bool.{cond_both}
-use Rattle.std.specs.Str.{IsUtf8, chars}
+use Rattle.std.specs.Str.{IsAscii, IsUtf8, chars}
 use lib.Utf8.{encodes}
 use Rattle.std.specs.Char.{IsScalar}
 use Rattle.std.specs.Cmp.{IsEquivalence}
-use Rattle.std.proofs.lemmas.Str.{chars-append, chars-encodes}
+use Rattle.std.proofs.lemmas.Str.{chars-append, chars-encodes, chars-IsAscii}
 use Rattle.tbr_tagged.specs.Elements.{Element, piece, marker_element, SameElement, SameElements, with_text, extend_last, last_of, is_piece_under, push_text, push_element, HasText, AreParted, IsPartedFrom, IsMerged}
 
 -- one more character at the end of a text
@@ -15,6 +15,15 @@ chars_one c h = rw append-nil at (chars-encodes (c ∷ []) (rw h refl))
 
 pub chars_push : (bs : List ℕ) (c : ℕ) → IsUtf8 bs → IsScalar c → chars (bs ++ encode_utf8 c) ≡ chars bs ++ c ∷ []
 chars_push bs c u h = chars-append bs (encode_utf8 c) u ∙ ap (λ cs. chars bs ++ cs) (chars_one c h)
+
+pub spaces_ascii : (n : ℕ) → IsAscii (replicate n 32)
+spaces_ascii zero i = omega arith
+spaces_ascii (suc n) zero = omega arith
+spaces_ascii (suc n) (suc i) = spaces_ascii n i
+
+pub chars_spaces : (bs : List ℕ) (n : ℕ) → IsUtf8 bs → chars (bs ++ replicate n 32) ≡ chars bs ++ replicate n 32
+chars_spaces bs n u =
+    chars-append bs (replicate n 32) u ∙ ap (λ cs. chars bs ++ cs) (chars-IsAscii (replicate n 32) (spaces_ascii n))
 
 pub chars_none : (bs : List ℕ) → length bs ≡ 0 → chars bs ≡ []
 unfolding chars

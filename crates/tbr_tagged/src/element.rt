@@ -188,6 +188,15 @@ pub fn extend_by_spaces<T>(
     Ok(())
 }
 
+/// Makes room ahead of time for a piece's text of so many bytes, if there is memory for them.
+pub fn make_room<T>(element: &mut TaggedLineElement<T>, bytes: usize)
+    ensures { element_of element.new ≡ element_of element.old }
+{
+    if let TaggedLineElement::Str(piece) = element {
+        let _ = piece.s.reserve(bytes.saturating_sub(piece.s.len()));
+    }
+}
+
 /// A piece of one character under a copy of the tag. It refuses only where memory is refused.
 pub fn new_piece<T: Eq + Clone>(
     alloc: Global,

@@ -13,8 +13,8 @@ ghost use Rattle.tbr_tagged.specs.View.{chars_of, elements_of};
 ghost use Rattle.tbr_tagged.specs.Walks.{elements_left, elements_to_come};
 
 use crate::element::{
-    TaggedLineElement, extend, extend_by_char, extend_by_spaces, extend_front, is_under, prepend,
-    set_text,
+    TaggedLineElement, extend, extend_by_char, extend_by_spaces, extend_front, is_under, make_room,
+    prepend, set_text,
 };
 use crate::elements;
 use crate::error::OutOfMemory;
@@ -193,6 +193,15 @@ impl<T> ElementList<T> {
         match self {
             ElementList::Alone(element) => extend_by_spaces(element, count),
             ElementList::Listed(list) => elements::extend_last_by_spaces(list, count),
+        }
+    }
+
+    /// Makes room ahead of time for a text of so many bytes, if there is a single element, and memory for them.
+    pub fn make_room(&mut self, bytes: usize)
+        ensures { elements_of (stored self.new) ≡ elements_of (stored self.old) }
+    {
+        if let ElementList::Alone(element) = self {
+            make_room(element, bytes);
         }
     }
 

@@ -75,7 +75,7 @@ pub fn pad<T: Eq + Clone + Drop>(
 }
 
 /// Appends `count` spaces under a copy of the tag. Where memory is refused nothing changes.
-fn push_spaces<T: Eq + Clone + Drop>(
+pub fn push_spaces<T: Eq + Clone + Drop>(
     elements: &mut ElementList<T>,
     count: usize,
     tag: &T,

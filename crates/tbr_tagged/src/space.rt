@@ -1,5 +1,5 @@
 //! White space.
-ghost use Rattle.std.specs.Prelude.{◌≡◌, ◌++◌, IfOk, OnOk, OnErr};
+ghost use Rattle.std.specs.Prelude.{◌≡◌, ◌++◌, string_bytes, IfOk, OnOk, OnErr};
 ghost use Rattle.tbr_model.specs.Run as model;
 ghost use Rattle.tbr_tagged.specs.Padding as padding;
 ghost use Rattle.tbr_tagged.specs.View.{chars_of};
@@ -9,6 +9,9 @@ use std::alloc::Global;
 
 /// The last character that is white space.
 const LAST_SPACE: char = '\u{3000}';
+
+/// As many spaces as are appended at once.
+const SPACES: &str = "                                ";
 
 /// Whether a character takes space wherever it is: it is no white space, or U+00A0.
 pub fn always_takes_space(c: char) -> bool
@@ -33,14 +36,17 @@ pub fn spaces(alloc: Global, count: usize) -> Result<String, OutOfMemory>
     Ok(s)
 }
 
-/// Appends `count` spaces to a text. Where memory is refused the text stays as it was.
-pub(crate) fn append_spaces(text: &mut String, count: usize) -> Result<(), OutOfMemory>
-    ensures ok { OnOk result (chars_of text.new ≡ chars_of text.old ++ padding.spaces count) }
-    ensures err { OnErr result (chars_of text.new ≡ chars_of text.old) }
+/// Appends `count` spaces, of one byte each, to a text. Where memory is refused the text stays as it was.
+pub fn append_spaces(text: &mut String, count: usize) -> Result<(), OutOfMemory>
+    ensures ok { OnOk result (string_bytes text.new ≡ string_bytes text.old ++ padding.spaces count) }
+    ensures err { OnErr result (string_bytes text.new ≡ string_bytes text.old) }
 {
     text.reserve(count)?;
-    for _ in 0..count {
-        text.push(' ')?;
+    let mut left = count;
+    while left > 0 {
+        let some = left.min(SPACES.len());
+        text.push_str(&SPACES[..some])?;
+        left -= some;
     }
     Ok(())
 }

@@ -16,7 +16,7 @@ use crate::element::{TaggedLineElement, TaggedString};
 use crate::element_list::ElementList;
 use crate::error::OutOfMemory;
 use crate::iterators::{Chars, IntoIter, Iter, TaggedStrings};
-use crate::padding::{CellAlign, columns_in_front, pad};
+use crate::padding::{CellAlign, columns_in_front, pad, push_spaces};
 use std::alloc::Global;
 use std::marker::Model;
 use tbr_model::CharWidth;
@@ -146,6 +146,13 @@ impl<T: Eq> TaggedLine<T> {
         push_piece(&mut self.elements, ts)
     }
 
+    /// Makes room ahead of time for a text of so many bytes, if the line is of one piece, and there is memory for them.
+    pub fn make_room(&mut self, bytes: usize)
+        ensures { self.new ≡ self.old }
+    {
+        self.elements.make_room(bytes);
+    }
+
     /// Appends a character. It extends the last piece if that is under an equal tag, and else begins a piece under a
     /// copy of the tag.
     ///
@@ -216,6 +223,21 @@ impl<T: Eq + Drop> TaggedLine<T> {
 }
 
 impl<T: Eq + Clone + Drop> TaggedLine<T> {
+    /// Appends `count` spaces. They extend the last piece if that is under an equal tag, and else begin a piece under a
+    /// copy of the tag.
+    ///
+    /// Where memory is refused the line stays as it was.
+    pub fn push_spaces(&mut self, count: usize, tag: &T) -> Result<(), OutOfMemory>
+        requires { CopiesAreEqual T.is_clone T.eq }
+        ensures ok { OnOk result (SameElements T.eq self.new (push_text T.eq self.old (spaces count) tag.now)) }
+        ensures items { OnOk result
+            (SameItems T.eq (items_of self.new) (items_of self.old ++ text_items (spaces count) tag.now)) }
+        ensures merged { IsMerged T.eq self.old → OnOk result (IsMerged T.eq self.new) }
+        ensures err { OnErr result (self.new ≡ self.old) }
+    {
+        push_spaces(&mut self.elements, count, tag)
+    }
+
     /// Fills the line up to `width` columns with spaces after it, under a copy of the tag. A line that is as wide
     /// already stays as it is.
     ///

@@ -11,10 +11,10 @@ loop-i-preserved g c =
     let inv = c.loop-i.invariant in
     let x = c.index_mut.result.now in
     let read : x ≡ get_or xs i x = read_dropped xs i x below (c.index_mut.ensures.value ∙ ap (λ cs. get_or cs i x) inv.columns) in
-    record {
+    rw c.make_room.ensures (record {
       items =
           one_more_cell g.T.PartialEq.eq g.met.T.Eq.laws (glyph c.args.separator c.args.tag.now) c.args.tag.now xs i x c.loop-i.line c.push_separator.new.line c.push_first.new.line below read
           inv.items c.in_ok-push_separator.ensures.items c.in_ok-push_first.ensures.items;
       merged = c.in_ok-push_first.ensures.merged (c.in_ok-push_separator.ensures.merged inv.merged);
       columns = ap (λ cs. set cs i c.push_first.new.column) inv.columns ∙ one_more_dropped xs i x c.push_first.new.column below read c.in_ok-push_first.ensures.rest;
-    }
+    })

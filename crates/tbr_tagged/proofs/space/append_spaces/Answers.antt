@@ -1,24 +1,34 @@
-use Rattle.std.proofs.Common.{rules, chars, ap, ◌∙◌, [], ◌∷◌, ◌++◌, append-nil, append_assoc, arith, sym, replicate}
-use Rattle.std.specs.Char.{IsScalar}
+use Rattle.std.proofs.Common.{ℕ, ◌≡◌, ◌<◌, ◌≤◌, ◌-◌, ◌+◌, List, ◌++◌, ap, ◌∙◌, append_assoc, arith, replicate}
+use Rattle.std.specs.List.{slice_index, slice_range}
 use Rattle.std.specs.String.{string_bytes}
-use Rattle.std.proofs.lemmas.Str.{IsUtf8-string_bytes}
-use Rattle.std.proofs.lemmas.List.{replicate_more}
-use Rattle.tbr_tagged.proofs.TextAfter.{chars_push}
+use Rattle.std.proofs.lemmas.List.{get_or-replicate, take-replicate, replicate-append-replicate}
 use Rattle.tbr_tagged.proofs.space.append_spaces.Goals as goal
 
-space_is_scalar : IsScalar 32
-space_is_scalar = search rules
+-- each of so many spaces is one byte
+space_at : (n : ℕ) → n < 32 → slice_index (replicate 32 32) n ≡ 32
+space_at n inside = get_or-replicate {A = ℕ} 32 n 32 0 inside
 
-pub loop-init : goal.loop-init
-loop-init c = (ap chars c.in_ok-reserve.ensures.bytes ∙ sym (append-nil (chars (string_bytes c.args.text.now))), omega (arith, c.in_ok-reserve.ensures.ok))
+more_spaces : (bs : List ℕ) (count left n : ℕ) → left ≤ count → n ≤ left → n ≤ 32 →
+    (bs ++ replicate (count - left) 32) ++ slice_range (replicate 32 32) 0 n ≡ bs ++ replicate (count - (left - n)) 32
+more_spaces bs count left n within some few =
+    let front : n - 0 ≡ n = omega arith in
+    let all : count - (left - n) ≡ (count - left) + n = omega (arith, within, some) in
+    rw (front, all, take-replicate {X = ℕ} n 32 32 few) (append_assoc bs (replicate (count - left) 32) (replicate n 32)
+    ∙ ap (λ cs. bs ++ cs) (replicate-append-replicate (count - left) n 32))
 
-pub loop-preserved : goal.loop-preserved
-loop-preserved c = (
-  ap chars c.in_ok-push.ensures.bytes ∙ chars_push (string_bytes c.loop.text) 32 (IsUtf8-string_bytes c.loop.text) space_is_scalar ∙ ap (λ cs. cs ++ 32 ∷ []) c.loop.invariant.0
-      ∙ append_assoc (chars (string_bytes c.args.text.now)) (replicate c.loop.counter 32) (32 ∷ []) ∙ ap (λ cs. chars (string_bytes c.args.text.now) ++ cs) (replicate_more c.loop.counter 32),
-  omega (arith, c.loop.invariant.1, c.in_ok-push.ensures.len, c.in_ok-push.ensures.capacity, c.loop-test.true),
+pub range-requires-clause-end_boundary : goal.range-requires-clause-end_boundary
+range-requires-clause-end_boundary c = (
+  omega (arith, c.min-some.ensures),
+  λ inside high. absurd (omega (arith, high, space_at c.min-some.result inside)),
 )
 
--- the room was reserved before
-pub returns-in_err-push-clause-err : goal.returns-in_err-push-clause-err
-returns-in_err-push-clause-err c = absurd (omega (arith, c.loop.invariant.1, c.in_err-push.ensures.full, c.loop-test.true))
+pub loop-left-preserved : goal.loop-left-preserved
+loop-left-preserved c = (
+  omega (arith, c.loop-left.invariant.0),
+  c.in_ok-push_str.ensures.bytes
+      ∙ ap (λ bs. bs ++ c.range.result.now) c.loop-left.invariant.1
+      ∙ ap (λ cs. (string_bytes c.args.text.now ++ replicate (c.args.count - c.loop-left.left) 32) ++ cs) c.range.ensures.value
+      ∙ more_spaces (string_bytes c.args.text.now) c.args.count c.loop-left.left c.min-some.result c.loop-left.invariant.0
+      (omega (arith, c.min-some.ensures)) (omega (arith, c.min-some.ensures)),
+  omega (arith, c.loop-left.invariant.2, c.in_ok-push_str.ensures.len, c.in_ok-push_str.ensures.capacity, c.range.ensures.len),
+)

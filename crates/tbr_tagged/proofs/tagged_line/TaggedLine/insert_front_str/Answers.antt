@@ -1,4 +1,4 @@
-use Rattle.std.proofs.Common.{map, ◌<◌, length}
+use Rattle.std.proofs.Common.{map}
 use Rattle.std.specs.Str.{chars}
 use Rattle.tbr_tagged.specs.Stored.{stored}
 use Rattle.tbr_tagged.specs.View.{element_of}
