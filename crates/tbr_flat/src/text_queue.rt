@@ -125,6 +125,10 @@ impl TextQueue {
         ensures ok { OnOk result (self.new ≡ self.old ++ replicate count 32) }
         ensures err { OnErr result (self.new ≡ self.old) }
     {
+        // One space, as between two words, is pushed as any character is.
+        if count == 1 {
+            return self.push(' ');
+        }
         append_spaces(&mut self.text, count)?;
         self.len += count;
         Ok(())

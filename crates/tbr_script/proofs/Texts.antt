@@ -1,8 +1,10 @@
 -- Texts, as they are read piece by piece.
-use Rattle.std.proofs.Common.{◌≡◌, ◌≢◌, ℕ, suc, ◌<◌, ◌==◌, Option, None, Some, List, [], ◌∷◌, ◌++◌, length, get_or, encode_utf8, refl, sym, ap, ◌∙◌, arith, lit<, append_assoc, append-nil}
+use Rattle.std.proofs.Common.{◌≡◌, ◌≢◌, ℕ, suc, ◌<◌, ◌==◌, Option, None, Some, List, [], ◌∷◌, ◌++◌, length, get_or, take, drop, take-append-drop, drop-cons, add-one, ◌+◌, ◌-◌, encode_utf8, refl, sym, ap, ◌∙◌, arith, lit<, append_assoc, append-nil}
+use Rattle.std.specs.List.{slice_range}
 use Rattle.std.specs.Option.{option_map, option_and_then}
 use Rattle.std.proofs.lemmas.Bool.{eqb-true}
 use Rattle.std.proofs.lemmas.Bool.Decides.{nat_tests}
+use Rattle.std.proofs.lemmas.Grind.{common_steps}
 use Rattle.std.proofs.lemmas.Iterator.Adapters.{option_map_id}
 use Rattle.std.proofs.lemmas.Str.{char_from_byte}
 use Rattle.tbr_script.specs.Script.{character_by_letter}
@@ -22,6 +24,18 @@ plain (x ∷ xs) ys none =
 
 pub plain_all : (xs : List ℕ) → ((i : ℕ) → i < length xs → get_or xs i 0 ≢ 92) → text_read xs ≡ Some xs
 plain_all xs none = ap text_read (sym (append-nil xs)) ∙ plain xs [] none ∙ ap Some (append-nil xs)
+
+-- a backslash after bytes that mean themselves
+pub up_to_escape : (writing before after : List ℕ) (k : ℕ) → k < length writing → get_or writing k 0 ≡ 92 → ((i : ℕ) → i < k → get_or writing i 0 ≢ 92) →
+    before ≡ slice_range writing 0 k → after ≡ drop (k + 1) writing → text_read writing ≡ option_map (λ more. before ++ more) (read_from in_escape after)
+up_to_escape writing before after k inside is none front back =
+    let all : k - 0 ≡ k = omega arith in
+    let head : before ≡ take k writing = front ∙ ap (λ n. take n writing) all in
+    let tail : drop k writing ≡ 92 ∷ after =
+    drop-cons writing k 0 inside ∙ (λ i. is i ∷ drop (sym (add-one k) i) writing) ∙ ap (λ zs. 92 ∷ zs) (sym back) in
+    let parts : writing ≡ before ++ 92 ∷ after = sym (take-append-drop k writing) ∙ (λ i. sym head i ++ tail i) in
+    ap text_read parts ∙ plain before (92 ∷ after)
+    (λ i lt. let same : get_or before i 0 ≡ get_or writing i 0 = grind (arith, common_steps) in λ e. none i (grind (arith, common_steps)) (sym same ∙ e))
 
 -- ---- escapes
 
@@ -55,14 +69,14 @@ braced after inner digits rest brace (parts, none) = sym (ap (read_from at_brace
 
 module _ (writing text rest : List ℕ) (so_far : text_read writing ≡ option_map (λ more. text ++ more) (text_read rest)) where
   -- up to an escape
-  pub at_escape : (before after : List ℕ) (o : Option (List ℕ)) → (rest ≡ before ++ 92 ∷ after) × ((i : ℕ) → i < length before → get_or before i 0 ≢ 92) → o ≡ read_from in_escape after →
+  pub at_escape : (before : List ℕ) (o p : Option (List ℕ)) → text_read rest ≡ option_map (λ more. before ++ more) p → o ≡ p →
       text_read writing ≡ option_map (λ more. text ++ more) (option_map (λ more. before ++ more) o)
-  at_escape before after o (parts, none) is =
-      so_far ∙ ap (option_map (λ more. text ++ more)) (ap text_read parts ∙ plain before (92 ∷ after) none ∙ ap (option_map (λ more. before ++ more)) (sym is))
+  at_escape before o p means is =
+      so_far ∙ ap (option_map (λ more. text ++ more)) (means ∙ ap (option_map (λ more. before ++ more)) (sym is))
 
   -- up to the end
-  pub at_end : (whole : List ℕ) → ((i : ℕ) → i < length rest → get_or rest i 0 ≢ 92) → whole ≡ text ++ rest → Some whole ≡ text_read writing
-  at_end whole none is = ap Some is ∙ sym (so_far ∙ ap (option_map (λ more. text ++ more)) (plain_all rest none))
+  pub at_end : (whole : List ℕ) → text_read rest ≡ Some rest → whole ≡ text ++ rest → Some whole ≡ text_read writing
+  at_end whole means is = ap Some is ∙ sym (so_far ∙ ap (option_map (λ more. text ++ more)) means)
 
 -- a text, and an escape after bytes that mean themselves
 pub joined : (text before d mid new : List ℕ) (rest : Option (List ℕ)) → mid ≡ text ++ before → new ≡ mid ++ d →

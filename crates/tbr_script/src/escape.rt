@@ -1,9 +1,10 @@
 //! Texts of a script.
-ghost use Rattle.std.specs.Prelude.{◌≡◌, ◌≤◌, length, IfOk, IfSome, string_bytes};
+ghost use Rattle.std.specs.Prelude.{◌≡◌, ◌<◌, ◌≤◌, ◌++◌, None, Some, length, IfOk, IfSome, string_bytes};
 ghost use Rattle.std.specs.Option.{option_map, option_and_then};
 ghost use Rattle.tbr_script.specs.Read.{in_escape, at_brace, with_character, read_from, text_read};
 
 use crate::number::character;
+use memchr::memchr;
 use std::alloc::{AllocError, Global};
 
 /// The text with its escapes replaced. `Ok(None)` where a backslash begins no escape. It refuses only where memory is
@@ -13,7 +14,7 @@ pub fn unescape(alloc: Global, writing: &str) -> Result<Option<String>, AllocErr
 {
     let mut text = String::with_capacity(alloc, writing.len())?;
     let mut rest = writing;
-    while let Some((before, after)) = rest.split_once('\\') {
+    while let Some((before, after)) = split_at_escape(rest) {
         let Some((c, later)) = escape(after) else {
             return Ok(None);
         };
@@ -23,6 +24,17 @@ pub fn unescape(alloc: Global, writing: &str) -> Result<Option<String>, AllocErr
     }
     text.push_str(rest)?;
     Ok(Some(text))
+}
+
+/// What comes before the first escape, and what comes after its backslash.
+fn split_at_escape(writing: &str) -> Option<(&str, &str)>
+    ensures none { result ≡ None → text_read writing.now ≡ Some writing.now }
+    ensures text { IfSome result (λ r. text_read writing.now
+        ≡ option_map (λ more. r.0.now ++ more) (read_from in_escape r.1.now)) }
+    ensures shorter { IfSome result (λ r. length r.1.now < length writing.now) }
+{
+    let at = memchr(b'\\', writing.as_bytes())?;
+    Some((&writing[..at], &writing[at + 1..]))
 }
 
 /// The character of the escape that begins after a backslash, and what follows the escape.

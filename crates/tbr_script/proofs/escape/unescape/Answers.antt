@@ -1,7 +1,6 @@
-use Rattle.std.proofs.Common.{◌≡◌, ℕ, List, ◌++◌, Some, None, sym, subst, ◌∙◌, lit<, string_bytes, encode_utf8, rules}
+use Rattle.std.proofs.Common.{refl, ◌≡◌, ℕ, List, ◌++◌, None, sym, subst, ◌∙◌, string_bytes, encode_utf8, rules}
 use Rattle.std.specs.Option.{option_map}
 use Rattle.std.proofs.lemmas.Iterator.Adapters.{option_map_id}
-use Rattle.std.proofs.lemmas.Str.Pattern.{split_parts}
 use Rattle.tbr_script.specs.Read.{text_read}
 use Rattle.tbr_script.proofs.Texts.{at_escape, at_end, joined}
 use Rattle.tbr_script.proofs.escape.unescape.Goals as goal
@@ -14,27 +13,23 @@ loop-before-init c =
 pub returns-in_default-escape : goal.returns-in_default-escape
 returns-in_default-escape c =
     let rest = c.loop-before.rest.now in
-    let before = c.in-Some.before in
-    let after = c.in-Some.after in
-    sym (at_escape c.args.writing.now (string_bytes c.loop-before.text) rest c.loop-before.invariant.text before.now after.now None
-    (split_parts 92 rest (Some (before, after)) c.in-Some.ensures.cases (lit< tt)) c.in_default-escape.ensures.text)
+    sym (at_escape c.args.writing.now (string_bytes c.loop-before.text) rest c.loop-before.invariant.text c.in-Some.before.now None _
+    c.in-Some.ensures.text c.in_default-escape.ensures.text)
 
 pub loop-before-preserved : goal.loop-before-preserved
 loop-before-preserved c =
-    let rest = c.loop-before.rest.now in
     let later = c.in-Some-escape.later.now in
-    let before = c.in-Some.before in
-    let after = c.in-Some.after in
+    let before = c.in-Some.before.now in
     let text = string_bytes c.loop-before.text in
     let d = encode_utf8 c.in-Some-escape.c in
     record {
       utf8 = search rules;
-      text = at_escape c.args.writing.now text rest c.loop-before.invariant.text before.now after.now _
-          (split_parts 92 rest (Some (before, after)) c.in-Some.ensures.cases (lit< tt)) c.in-Some-escape.ensures.text
-          ∙ joined text before.now d (string_bytes c.push_str.new.self) (string_bytes c.push.new.self) (text_read later) c.in_ok-push_str.ensures.bytes c.in_ok-push.ensures.bytes;
+      text = at_escape c.args.writing.now text c.loop-before.rest.now c.loop-before.invariant.text before _ _
+          c.in-Some.ensures.text c.in-Some-escape.ensures.text
+          ∙ joined text before d (string_bytes c.push_str.new.self) (string_bytes c.push.new.self) (text_read later) c.in_ok-push_str.ensures.bytes c.in_ok-push.ensures.bytes;
     }
 
 pub returns : goal.returns
 returns c =
-    let rest = c.loop-before.rest.now in
-    at_end c.args.writing.now (string_bytes c.loop-before.text) rest c.loop-before.invariant.text _ (split_parts 92 rest None c.in_default.ensures.cases (lit< tt)) c.in_ok-push_str-2.ensures.bytes
+    at_end c.args.writing.now (string_bytes c.loop-before.text) c.loop-before.rest.now c.loop-before.invariant.text _
+    (c.in_default.ensures.none refl) c.in_ok-push_str-2.ensures.bytes
