@@ -1,5 +1,5 @@
 //! Lines as a renderer keeps them.
-ghost use Rattle.std.specs.Prelude.{◌≡◌, ◌≢◌, ◌++◌, ◌∷◌, [], List, None, Some, true, not, map, filter, length, IfOk, IfSome, OnOk};
+ghost use Rattle.std.specs.Prelude.{◌≡◌, ◌≢◌, ◌++◌, ◌∷◌, [], List, None, Some, true, not, map, filter, length, IfOk, IfSome, OnErr, OnOk};
 ghost use Rattle.std.specs.List.{AllZip, AllByRecursion as Each, list_any};
 ghost use Rattle.tbr_tagged.specs.Copies.{CopiesAreEqual};
 ghost use Rattle.tbr_border.specs.RenderLine.{IsMergedText};
@@ -96,7 +96,7 @@ impl<T: Eq + Drop> KeptLines<T> {
 
     /// Adds lines after the others, each of pieces that are the longest stretches under equal tags. Where memory is
     /// refused they are lost.
-    pub fn extend(&mut self, mut lines: Vec<RenderLine<T>>) -> Result<(), OutOfMemory>
+    pub fn extend(&mut self, lines: Vec<RenderLine<T>>) -> Result<(), OutOfMemory>
         requires { Each (IsMergedText T.eq) lines.items }
         ensures { OnOk result (self.new ≡ self.old ++ map line_seen lines.items) }
     {
@@ -104,7 +104,7 @@ impl<T: Eq + Drop> KeptLines<T> {
         let Some(with_content) = self.with_content.checked_add(more) else {
             return Err(OutOfMemory);
         };
-        self.last.append(&mut lines)?;
+        append_all(&mut self.last, lines)?;
         self.with_content = with_content;
         Ok(())
     }
@@ -158,8 +158,7 @@ impl<T: Eq + Clone + Drop> KeptLines<T> {
             return Ok(self.last);
         }
         let mut lines = lines_of(self.alloc, self.above)?;
-        let mut last = self.last;
-        lines.append(&mut last)?;
+        append_all(&mut lines, self.last)?;
         Ok(lines)
     }
 }
@@ -218,11 +217,27 @@ fn lines_of<T: Eq + Clone + Drop>(
     ensures merged { IfOk result (λ lines. Each (IsMergedText T.eq) lines.items) }
 {
     let mut lines = Vec::new(alloc);
-    for mut part in parts {
-        lines.append(&mut part.before)?;
+    for part in parts {
+        append_all(&mut lines, part.before)?;
         push_lines(&mut lines, part.ended)?;
     }
     Ok(lines)
+}
+
+/// Adds lines after others. Where there are no others, none is moved. Where memory is refused the others stay.
+fn append_all<T: Drop>(
+    lines: &mut Vec<RenderLine<T>>,
+    mut more: Vec<RenderLine<T>>,
+) -> Result<(), OutOfMemory>
+    ensures ok { OnOk result (lines.new.items ≡ lines.old.items ++ more.items) }
+    ensures err { OnErr result (lines.new.items ≡ lines.old.items) }
+{
+    if lines.is_empty() {
+        *lines = more;
+        return Ok(());
+    }
+    lines.append(&mut more)?;
+    Ok(())
 }
 
 /// Adds the lines that a block has ended, each by itself.

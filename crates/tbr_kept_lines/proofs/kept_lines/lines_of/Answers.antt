@@ -15,7 +15,7 @@ loop-part-preserved g c =
     let whole = sym c.into_iter-part-iterator.ensures.into_iter_gives.0 ∙ items_left start start c.loop-part.part-iterator c.next.new.self c.loop-part.yielded part refl c.loop-part.yielded_by c.in-Some.ensures.steps.0 in
     let holds : HoldsPart eq part = each_at (HoldsPart eq) c.loop-part.yielded part _ (subst (λ ps. Each (HoldsPart eq) ps) whole c.requires.parts) in
     let (more, is, same, merged) = c.in_ok-push_lines.ensures in
-    let all : c.push_lines.new.lines.items ≡ (lines ++ part.before.items) ++ more = is ∙ ap (λ ls. ls ++ more) c.in_ok-append.ensures.items in (
+    let all : c.push_lines.new.lines.items ≡ (lines ++ part.before.items) ++ more = is ∙ ap (λ ls. ls ++ more) c.in_ok-append_all.ensures.ok in (
       part_listed eq g.met.T.Eq.laws c.loop-part.yielded part lines more c.push_lines.new.lines.items inv.0 same all,
       all_merged eq lines part.before.items more c.push_lines.new.lines.items inv.1 holds.merged merged all,
     )

@@ -12,7 +12,7 @@ invariant_of-self-2 g c =
     let IsMerged = IsMergedText g.T.PartialEq.eq in
     let last = c.self.inside.last.items in
     let more = c.args.lines.items in
-    let items = c.in_ok-append.ensures.items in
+    let items = c.in_ok-append_all.ensures.ok in
     record {
       parts = h.parts;
       content_above = h.content_above;
