@@ -59,13 +59,13 @@ pub escaped : (bytes : List ℕ) (i : ℕ) → i < length bytes → get_or bytes
 escaped bytes i lt is = sym (if_so (list_any (λ b. b == backslash) bytes) _ _ (any_backslash bytes i lt is))
 
 -- and one without
-pub as_it_is : {E : Type 0} (Q : E → Type 0) (bytes : List ℕ) (r : Result (Bor (List ℕ)) E) → ((i : ℕ) → i < length bytes → get_or bytes i 0 ≢ 92) → MatchResult r (λ s. (s.now ≡ bytes) × IsUtf8 bytes) (λ e. (IsUtf8 bytes → ⊥) × Q e) →
+pub as_it_is : {E : Type 0} (bytes : List ℕ) (r : Result (Bor (List ℕ)) E) → ((i : ℕ) → i < length bytes → get_or bytes i 0 ≢ 92) → MatchResult r (λ s. (s.now ≡ bytes) × IsUtf8 bytes) (λ _. IsUtf8 bytes → ⊥) →
     option_map (λ s. s.now) (result_ok r) ≡ as_written bytes
-as_it_is {E} Q bytes r none h = go r h ∙ sym (if_not (list_any (λ b. b == backslash) bytes) _ _ (no_backslash bytes none))
+as_it_is {E} bytes r none h = go r h ∙ sym (if_not (list_any (λ b. b == backslash) bytes) _ _ (no_backslash bytes none))
   where
-    go : (r : Result (Bor (List ℕ)) E) → MatchResult r (λ s. (s.now ≡ bytes) × IsUtf8 bytes) (λ e. (IsUtf8 bytes → ⊥) × Q e) → option_map (λ s. s.now) (result_ok r) ≡ (if is_utf8 bytes then Some bytes else None)
+    go : (r : Result (Bor (List ℕ)) E) → MatchResult r (λ s. (s.now ≡ bytes) × IsUtf8 bytes) (λ _. IsUtf8 bytes → ⊥) → option_map (λ s. s.now) (result_ok r) ≡ (if is_utf8 bytes then Some bytes else None)
     go (Ok s) h = ap Some h.0 ∙ sym (if_so (is_utf8 bytes) (Some bytes) None (is_utf8-from_IsUtf8 bytes h.1))
-    go (Err e) h = unread Some bytes h.0
+    go (Err e) h = unread Some bytes h
 
 -- without a backslash a text means itself
 plain_command : (line bytes : List ℕ) → line ≡ codes "text " ++ bytes → IsUtf8 bytes → ((i : ℕ) → i < length bytes → get_or bytes i 0 ≢ 92) → command_read line ≡ Some (ask (text bytes))

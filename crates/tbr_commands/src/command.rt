@@ -13,6 +13,7 @@ use crate::request::kind::Kind;
 use crate::request::layout::Layout;
 use crate::spaces::split_at_space;
 use memchr::memchr;
+use simdutf8::basic::from_utf8;
 use std::alloc::{AllocError, Global};
 use tbr_script::{TextPair, parse_size, unescape};
 
@@ -55,7 +56,7 @@ impl Command {
         let writing = line.strip_prefix(b"text ")?;
         match memchr(b'\\', writing) {
             Some(_) => None,
-            None => str::from_utf8(writing).ok(),
+            None => from_utf8(writing).ok(),
         }
     }
 
@@ -64,7 +65,7 @@ impl Command {
     pub fn parse(alloc: Global, line: &[u8]) -> Result<Option<Command>, AllocError>
         ensures { IfOk result (λ found. option_map command_of found ≡ command_read line.now) }
     {
-        let Ok(line) = str::from_utf8(line) else {
+        let Ok(line) = from_utf8(line) else {
             return Ok(None);
         };
         match Command::named(line) {

@@ -6,11 +6,11 @@ use Rattle.tbr_commands.specs.Read.{line_read}
 use Rattle.tbr_commands.proofs.command.Command.parse.Goals as goal
 
 pub returns-in_default : goal.returns-in_default
-returns-in_default c = unread line_read c.args.line.now c.in_default.ensures.cases.0
+returns-in_default c = unread line_read c.args.line.now c.in_default.ensures
 
 pub returns-in-Some : goal.returns-in-Some
 returns-in-Some c =
-    sym (name_is_line c.in-Ok.line.now (command_of c.in-Some.command) (sym c.in-Some.ensures)) ∙ read_utf8 line_read c.args.line.now c.in-Ok.line.now c.in-Ok.ensures.cases.0 c.in-Ok.ensures.cases.1
+    sym (name_is_line c.in-Ok.line.now (command_of c.in-Some.command) (sym c.in-Some.ensures)) ∙ read_utf8 line_read c.args.line.now c.in-Ok.line.now c.in-Ok.ensures.0 c.in-Ok.ensures.1
 
 pub returns-in-None : goal.returns-in-None
-returns-in-None c = let is = read_utf8 line_read c.args.line.now c.in-Ok.line.now c.in-Ok.ensures.cases.0 c.in-Ok.ensures.cases.1 in search rules
+returns-in-None c = let is = read_utf8 line_read c.args.line.now c.in-Ok.line.now c.in-Ok.ensures.0 c.in-Ok.ensures.1 in search rules

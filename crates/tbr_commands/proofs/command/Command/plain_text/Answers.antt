@@ -26,7 +26,7 @@ returns-in-None-clause-value c =
     let writing = c.in_ok-writing.writing in
     let after = strip_prefix_is Decides-eqb c.args.line.now (codes "text ") (Some writing) c.in_ok-writing.ensures.cases in
     ap (option_map (λ s. s.now)) c.ok.ensures.value
-    ∙ as_it_is _ writing.now c.from_utf8.result (λ k lt is. c.in-None.ensures k (omega arith) lt (search (rules, tests, is))) c.from_utf8.ensures.cases
+    ∙ as_it_is writing.now c.from_utf8.result (λ k lt is. c.in-None.ensures k (omega arith) lt (search (rules, tests, is))) c.from_utf8.ensures
     ∙ plain_is c.args.line.now writing.now after
 
 pub returns-in-None-clause-asked : goal.returns-in-None-clause-asked
@@ -34,4 +34,4 @@ returns-in-None-clause-asked c =
     let after = strip_prefix_is Decides-eqb c.args.line.now (codes "text ") (Some c.in_ok-writing.writing) c.in_ok-writing.ensures.cases in
     subst (λ o. IfSome o (λ s. command_read c.args.line.now ≡ Some (ask (text s.now)))) (sym c.ok.ensures.value)
     (plain_text _ c.args.line.now c.in_ok-writing.writing.now c.from_utf8.result after
-    (λ k lt is. c.in-None.ensures k (omega arith) lt (search (rules, tests, is))) c.from_utf8.ensures.cases)
+    (λ k lt is. c.in-None.ensures k (omega arith) lt (search (rules, tests, is))) c.from_utf8.ensures)
