@@ -1,30 +1,25 @@
 -- What the code finds is what is read.
-use Rattle.std.proofs.Common.{◌≡◌, ◌≢◌, ℕ, zero, suc, Bool, true, false, ◌||◌, ◌<◌, ◌==◌, if◌then◌else◌, List, [], ◌∷◌, ◌++◌, length, get_or, Option, Some, None, MatchResult, Result, Ok, Err, IfSome, codes, lit<, arith, rules, refl, sym, ap, ◌∙◌, subst, inr}
+use Rattle.std.proofs.Common.{◌≡◌, ◌≢◌, ℕ, zero, suc, Bool, true, false, ◌||◌, ◌<◌, ◌==◌, if◌then◌else◌, List, [], ◌∷◌, ◌++◌, length, get_or, Option, Some, None, MatchResult, Result, Ok, Err, IfSome, codes, arith, rules, refl, sym, ap, ◌∙◌, subst, inr}
 use Rattle.std.specs.Borrow.{Bor}
 use Rattle.std.specs.List.{list_any}
 use Rattle.std.specs.Option.{option_map}
 use Rattle.std.specs.Result.{result_ok}
 use Rattle.std.specs.Str.{IsUtf8, is_utf8}
 use Rattle.std.proofs.lemmas.Str.{IsUtf8-append, IsUtf8-from_ascii, IsUtf8-from_is_utf8, is_utf8-from_IsUtf8}
-use Rattle.std.proofs.lemmas.Str.Pattern.{IsSplitOnceResult, split_parts}
 use Rattle.tbr_script.specs.Script.{backslash}
 use Rattle.tbr_script.proofs.Texts.{plain_all}
 use Rattle.tbr_script.proofs.Reading.{test, if_so, if_not, written_text}
 use Rattle.tbr_commands.specs.Request.{text}
 use Rattle.tbr_commands.specs.Command.{ask}
 use Rattle.tbr_commands.specs.Read.{split_at_space, command_read, as_written, plain_read}
-use Rattle.tbr_commands.proofs.Reading.{no_byte, split, command_is_read}
+use Rattle.tbr_commands.proofs.Reading.{no_byte, command_is_read}
 
 -- ---- lines
 
-unsplit : (bs : List ℕ) → ((i : ℕ) → i < length bs → get_or bs i 0 ≢ 32) → split_at_space bs ≡ None
+pub unsplit : (bs : List ℕ) → ((i : ℕ) → i < length bs → get_or bs i 0 ≢ 32) → split_at_space bs ≡ None
 unsplit [] none = refl
 unsplit (b ∷ bs) none =
     if_not (b == 32) _ _ (no_byte b 32 (none 0 (omega arith))) ∙ ap (option_map (λ (p : List ℕ × List ℕ). (b ∷ p.0, p.1))) (unsplit bs (λ i lt. none (suc i) (omega arith)))
-
-pub split_is : (bs : List ℕ) (r : Option (Bor (List ℕ) × Bor (List ℕ))) → IsSplitOnceResult 32 bs r → option_map (λ p. (p.0.now, p.1.now)) r ≡ split_at_space bs
-split_is bs None h = sym (unsplit bs (split_parts 32 bs None h (lit< tt)))
-split_is bs (Some x) h = let parts = split_parts 32 bs (Some x) h (lit< tt) in sym (ap split_at_space parts.0 ∙ split x.0.now x.1.now parts.1)
 
 -- a line that is UTF-8 is read
 pub read_utf8 : {X : Type 0} (read : List ℕ → Option X) (line bs : List ℕ) → bs ≡ line → IsUtf8 line → read bs ≡ (if is_utf8 line then read line else None)

@@ -68,20 +68,16 @@ impl Command {
         let Ok(line) = from_utf8(line) else {
             return Ok(None);
         };
-        match Command::named(line) {
-            Some(command) => Ok(Some(command)),
-            None => Command::of_words(alloc, line),
-        }
+        Command::of_line(alloc, line)
     }
 
-    /// The command that a line is which is no name alone.
-    fn of_words(alloc: Global, line: &str) -> Result<Option<Command>, AllocError>
-        requires { name_read line.now ≡ None }
+    /// What a line asks for that is UTF-8.
+    fn of_line(alloc: Global, line: &str) -> Result<Option<Command>, AllocError>
         ensures { IfOk result (λ found. option_map command_of found ≡ line_read line.now) }
     {
         match split_at_space(line) {
             Some((word, argument)) => Command::with_argument(alloc, word, argument),
-            None => Ok(None),
+            None => Ok(Command::named(line)),
         }
     }
 

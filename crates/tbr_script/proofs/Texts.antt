@@ -25,17 +25,22 @@ plain (x ∷ xs) ys none =
 pub plain_all : (xs : List ℕ) → ((i : ℕ) → i < length xs → get_or xs i 0 ≢ 92) → text_read xs ≡ Some xs
 plain_all xs none = ap text_read (sym (append-nil xs)) ∙ plain xs [] none ∙ ap Some (append-nil xs)
 
--- a backslash after bytes that mean themselves
-pub up_to_escape : (writing before after : List ℕ) (k : ℕ) → k < length writing → get_or writing k 0 ≡ 92 → ((i : ℕ) → i < k → get_or writing i 0 ≢ 92) →
-    before ≡ slice_range writing 0 k → after ≡ drop (k + 1) writing → text_read writing ≡ option_map (λ more. before ++ more) (read_from in_escape after)
-up_to_escape writing before after k inside is none front back =
+-- a text in two, at the first byte of its kind
+pub parted_at : (b : ℕ) (bs before after : List ℕ) (k : ℕ) → k < length bs → get_or bs k 0 ≡ b → ((i : ℕ) → i < k → get_or bs i 0 ≢ b) →
+    before ≡ slice_range bs 0 k → after ≡ drop (k + 1) bs → (bs ≡ before ++ b ∷ after) × ((i : ℕ) → i < length before → get_or before i 0 ≢ b)
+parted_at b bs before after k inside is none front back =
     let all : k - 0 ≡ k = omega arith in
-    let head : before ≡ take k writing = front ∙ ap (λ n. take n writing) all in
-    let tail : drop k writing ≡ 92 ∷ after =
-    drop-cons writing k 0 inside ∙ (λ i. is i ∷ drop (sym (add-one k) i) writing) ∙ ap (λ zs. 92 ∷ zs) (sym back) in
-    let parts : writing ≡ before ++ 92 ∷ after = sym (take-append-drop k writing) ∙ (λ i. sym head i ++ tail i) in
-    ap text_read parts ∙ plain before (92 ∷ after)
-    (λ i lt. let same : get_or before i 0 ≡ get_or writing i 0 = grind (arith, common_steps) in λ e. none i (grind (arith, common_steps)) (sym same ∙ e))
+    let head : before ≡ take k bs = front ∙ ap (λ n. take n bs) all in
+    let tail : drop k bs ≡ b ∷ after =
+    drop-cons bs k 0 inside ∙ (λ i. is i ∷ drop (sym (add-one k) i) bs) ∙ ap (λ zs. b ∷ zs) (sym back) in (
+      sym (take-append-drop k bs) ∙ (λ i. sym head i ++ tail i),
+      λ i lt. let same : get_or before i 0 ≡ get_or bs i 0 = grind (arith, common_steps) in λ e. none i (grind (arith, common_steps)) (sym same ∙ e),
+    )
+
+-- a backslash after bytes that mean themselves
+pub up_to_escape : (writing before after : List ℕ) → (writing ≡ before ++ 92 ∷ after) × ((i : ℕ) → i < length before → get_or before i 0 ≢ 92) →
+    text_read writing ≡ option_map (λ more. before ++ more) (read_from in_escape after)
+up_to_escape writing before after parts = ap text_read parts.0 ∙ plain before (92 ∷ after) parts.1
 
 -- ---- escapes
 
