@@ -243,3 +243,5 @@ module _ {A B : Type 0} (f : A → B) (columns : ℕ → Option ℕ) (width : �
       let q : Progress A = flush_word columns width p in
       ap (λ (r : Progress B). (end_if_character r.laid).line ++ r.word) (flush_word-map p)
       ∙ ap (λ (l : Laid B). l.line ++ map_items f q.word) (end_if_character-map q.laid) ∙ sym (map-append (map_item f) (end_if_character q.laid).line q.word)
+
+pub ruleset rule_maps = (progress-map, finished-map, waiting-map)

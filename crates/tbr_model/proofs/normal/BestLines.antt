@@ -53,7 +53,7 @@ module _ {A : Type 0} (columns : ℕ → Option ℕ) (width : ℕ) where
       )
   ends r false e h narrow = (h.narrow, ap (λ (l : Laid A). l.done) (end_if_character_text (wrapped columns width r.words) h.last))
 
-  last_narrow : (r : Reading A) (b : Bool) → has_character r.items ≡ b → AllLaid (IsNarrowItem columns width) (end_if_character (if b then lay columns width (state_of columns width r) else state_of columns width r).laid) →
+  pub last_narrow : (r : Reading A) (b : Bool) → has_character r.items ≡ b → AllLaid (IsNarrowItem columns width) (end_if_character (if b then lay columns width (state_of columns width r) else state_of columns width r).laid) →
       b ≡ true → IsNarrow columns width r.items
   last_narrow r true e all some = lay_narrow columns width r e (laid_end_if_character (IsNarrowItem columns width) (lay columns width (state_of columns width r)).laid all)
   last_narrow r false e all some = cc

@@ -1,6 +1,7 @@
 -- Markers that are left where a run of Normal mode ends.
 use Rattle.std.proofs.Common.{◌≡◌, ℕ, Bool, true, false, if◌then◌else◌, Option, List, [], ◌∷◌, ◌++◌, refl, ap, sym, ◌∙◌, subst}
 use Rattle.std.specs.List.{AllByRecursion as Each}
+use Rattle.tbr_model.proofs.normal.BestLines.{last_narrow}
 use Rattle.tbr_model.specs.declared.white_space.WhiteSpace.TheVariants.{Normal}
 use Rattle.tbr_model.specs.Run.{has_character, Reading, word_of, reading, trailing}
 use Rattle.tbr_model.specs.Greedy.{Lines, wrapped, IsNarrow}
@@ -16,10 +17,6 @@ module _ {A : Type 0} (columns : ℕ → Option ℕ) (width : ℕ) where
   -- where a reading is, with its word laid if it has a character
   abbrev flushed : Reading A → Bool → Progress A
   flushed r b = if b then lay columns width (state_of columns width r) else state_of columns width r
-
-  flushed_narrow : (r : Reading A) (b : Bool) → has_character r.items ≡ b → AllLaid (IsNarrowItem columns width) (end_if_character (flushed r b).laid) → b ≡ true → IsNarrow columns width r.items
-  flushed_narrow r true e all some = lay_narrow columns width r e (laid_end_if_character (IsNarrowItem columns width) (lay columns width (state_of columns width r)).laid all)
-  flushed_narrow r false e all some = cc
 
   left_over : (r : Reading A) (b : Bool) → has_character r.items ≡ b → Lined columns width r.words → (b ≡ true → IsNarrow columns width r.items) →
       (end_if_character (flushed r b).laid).line ++ (flushed r b).word ≡ (if b then [] else r.items)
@@ -39,5 +36,5 @@ module _ {A : Type 0} (columns : ℕ → Option ℕ) (width : ℕ) where
       let r : Reading A = reading columns (run_of es) in
       let before : AllLaid P p.laid = laid_before_end columns width P es modes all in
       let state = normal_state columns width es modes before in
-      let narrow = flushed_narrow r (has_character r.items) refl (subst (λ (q : Progress A). AllLaid P (finished columns width q)) state.0 all) in
+      let narrow = last_narrow columns width r (has_character r.items) refl (subst (λ (q : Progress A). AllLaid P (finished columns width q)) state.0 all) in
       ap (waiting columns width) state.0 ∙ left_over r (has_character r.items) refl state.1 narrow
