@@ -1,7 +1,7 @@
 -- The layout that places each word where it fits, and why it is best.
 use Rattle.std.proofs.Common.{◌≡◌, ℕ, ◌<◌, ◌≤◌, Bool, true, false, not, ◌&&◌, ◌||◌, nat_le, if◌then◌else◌, IsTrue, IsFalse, List, [], ◌∷◌, ◌++◌, length, refl, ap, sym, ◌∙◌, inl, inr, arith, length-append, append_assoc, append-nil, subst, leb-true, leb-false}
 use Rattle.std.specs.List.{AllByRecursion as Each}
-use Rattle.std.proofs.lemmas.Bool.{or_right}
+use Rattle.std.proofs.lemmas.Bool.{or_right, cond_both}
 use Rattle.tbr_model.specs.Layout.{Slot, joined, line_width, MayFollow, FirstMayBegin, OthersMayFollow, IsLegalLine, IsLongest, IsGreedy, HasNoEmptyLine}
 use Rattle.tbr_model.specs.Greedy.{close, Lines, fill}
 use Rattle.tbr_model.proofs.lists.Joined.{cut_twice, joined-append}
@@ -152,21 +152,10 @@ next_holds_slots width slots done last v some h stays legal = record {
 pub fill_holds_slots : {A : Type 0} (width : ℕ) (slots : List (Slot A)) (done : List (List (Slot A))) (last v : List (Slot A)) → 0 < length last →
     HoldsSlots width slots (record { done = done; last = last }) → Each (InWider width) v → HoldsSlots width (slots ++ v) (fill width done last v)
 fill_holds_slots width slots done last [] some h inside = rw append-nil h
-fill_holds_slots {A} width slots done last (s ∷ v) some h inside = go (nat_le (line_width (last ++ s ∷ [])) width) refl (
-    λ fits. fill_holds_slots width (slots ++ s ∷ []) done (last ++ s ∷ []) v (omega (arith, length-append last (s ∷ [])))
-    (longer_holds_slots width slots done last (s ∷ []) h (longer width last (s ∷ []) some h.legal fits (rw inside.0.0 refl, tt))) inside.1
-    ) (
-    λ not_fits. fill_holds_slots width (slots ++ s ∷ []) (done ++ last ∷ []) (s ∷ []) v (omega arith)
-    (next_holds_slots width slots done last (s ∷ []) some h (stays_by_unit width last s [] not_fits tt)
-    (record { fits = omega (arith, inside.0.2); first = or_right s.begins s.wider inside.0.1; others = tt })) inside.1
-    )
-  where
-    Goal : Lines A → Type 0
-    Goal lines = HoldsSlots width (slots ++ (s ∷ v)) lines
-
-    go : (b : Bool) → nat_le (line_width (last ++ s ∷ [])) width ≡ b →
-        (line_width (last ++ s ∷ []) ≤ width → HoldsSlots width ((slots ++ s ∷ []) ++ v) (fill width done (last ++ s ∷ []) v)) →
-        (width < line_width (last ++ s ∷ []) → HoldsSlots width ((slots ++ s ∷ []) ++ v) (fill width (done ++ last ∷ []) (s ∷ []) v)) →
-        HoldsSlots width (slots ++ (s ∷ v)) (if b then fill width done (last ++ s ∷ []) v else fill width (done ++ last ∷ []) (s ∷ []) v)
-    go true e short long = rw append_assoc at (short (leb-true _ _ e))
-    go false e short long = rw append_assoc at (long (leb-false _ _ e))
+fill_holds_slots {A} width slots done last (s ∷ v) some h inside =
+    cond_both (nat_le (line_width (last ++ s ∷ [])) width) _ _ (HoldsSlots width (slots ++ (s ∷ v)))
+    (λ fits. rw append_assoc at (fill_holds_slots width (slots ++ s ∷ []) done (last ++ s ∷ []) v (omega (arith, length-append last (s ∷ [])))
+    (longer_holds_slots width slots done last (s ∷ []) h (longer width last (s ∷ []) some h.legal (leb-true _ _ fits) (rw inside.0.0 refl, tt))) inside.1))
+    (λ over. rw append_assoc at (fill_holds_slots width (slots ++ s ∷ []) (done ++ last ∷ []) (s ∷ []) v (omega arith)
+    (next_holds_slots width slots done last (s ∷ []) some h (stays_by_unit width last s [] (leb-false _ _ over) tt)
+    (record { fits = omega (arith, inside.0.2); first = or_right s.begins s.wider inside.0.1; others = tt })) inside.1))

@@ -14,12 +14,21 @@ pub each_append : {X : Type 0} (P : X → Type 0) (a b : List X) → Each P a �
 each_append P [] b h k = k
 each_append P (x ∷ a) b h k = (h.0, each_append P a b h.1 k)
 
+-- a function goes into both cases
+pub if_same : {X Y : Type 0} (f : X → Y) (b : Bool) (x y : X) (z w : Y) → z ≡ f x → w ≡ f y → (if b then z else w) ≡ f (if b then x else y)
+if_same f true x y z w p q = p
+if_same f false x y z w p q = q
+
 -- what one more item keeps
 pub from_front : {X : Type 0} (P : List X → Type 0) → ((xs : List X) (x : X) → P xs → P (xs ++ x ∷ [])) → (front xs : List X) → P front → P (front ++ xs)
 from_front P more front [] h = subst P (sym (append-nil front)) h
 from_front P more front (x ∷ xs) h = subst P (append_assoc front (x ∷ []) xs) (from_front P more (front ++ x ∷ []) xs (more front x h))
 
 -- ---- under a function
+
+pub map_same : {X : Type 0} (g : X → X) → ((x : X) → g x ≡ x) → (xs : List X) → map g xs ≡ xs
+map_same g same [] = refl
+map_same g same (x ∷ xs) = rw (same x) (ap (λ ys. x ∷ ys) (map_same g same xs))
 
 pub each_map : {X Y : Type 0} (g : X → Y) (P : X → Type 0) (Q : Y → Type 0) → ((x : X) → P x → Q (g x)) → (xs : List X) → Each P xs → Each Q (map g xs)
 each_map g P Q one [] h = tt

@@ -7,8 +7,7 @@ use Rattle.tbr_model.specs.Run.{Entry, character, marker_entry, Item, glyph, mar
 use Rattle.tbr_model.specs.Layout.{joined}
 use Rattle.tbr_model.specs.Hard.{onto_first, hard_lines, Parted, glyphs_of, letters_of, entry_letters, is_visible, is_visible_entry, visible_glyphs, visible_entries, IsShown, ShowsVisible, IsPrintableLine, IsTabbedLine, IsSpaces, blank_lines, StandUnder, HasMain, HasContinuation, ShowsHardLine, ShowsPre, ShowsPreWrap, ShowsTabs}
 use Rattle.tbr_model.specs.Mapped.{map_item, map_items, map_entry, map_run, map_lines}
-use Rattle.tbr_model.proofs.lists.Each.{filter-map, zip-map}
-use Rattle.tbr_model.proofs.rule.DoneLines.{if_same}
+use Rattle.tbr_model.proofs.lists.Each.{if_same, filter-map, zip-map}
 use Rattle.tbr_model.proofs.maps.Layouts.{joined-map}
 
 -- ---- hard lines

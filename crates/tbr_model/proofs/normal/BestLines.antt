@@ -39,7 +39,7 @@ module _ {A : Type 0} (columns : ℕ → Option ℕ) (width : ℕ) where
 
   last_push : (r : Reading A) → Lined columns width r.words → has_character r.items ≡ true → IsNarrow columns width r.items → LastHas (wrapped columns width (r.words ++ word_of r ∷ [])).last
   last_push r h some narrow =
-      subst (λ (q : Lines A). LastHas q.last) (sym (wrapped-push columns width r.words (word_of r))) (place_characters columns width (wrapped columns width r.words) (word_of r) h.full h.last some narrow).1
+      subst (λ (q : Lines A). LastHas q.last) (sym (wrapped-push columns width r.words (word_of r))) (place_characters columns width (wrapped columns width r.words) r.gap r.items h.full h.last some narrow).1
 
   ends : (r : Reading A) (b : Bool) → has_character r.items ≡ b → Lined columns width r.words → (b ≡ true → IsNarrow columns width r.items) →
       (let words = (if b then r.words ++ word_of r ∷ [] else r.words) in

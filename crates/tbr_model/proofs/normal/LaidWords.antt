@@ -3,7 +3,7 @@ use Rattle.std.proofs.Common.{◌≡◌, ℕ, ◌+◌, ◌<◌, ◌≤◌, Bool,
 use Rattle.std.specs.List.{AllByRecursion as Each}
 use Rattle.std.proofs.lemmas.Bool.{cond_both, cases_Bool}
 use Rattle.std.proofs.lemmas.List.{map-append}
-use Rattle.tbr_model.proofs.rule.DoneLines.{if_same}
+use Rattle.tbr_model.proofs.lists.Each.{if_same}
 use Rattle.tbr_model.specs.declared.white_space.WhiteSpace.TheVariants.{Normal}
 use Rattle.tbr_model.specs.Run.{Item, glyph, marker, item_width, items_width, has_character}
 use Rattle.tbr_model.specs.Layout.{Slot, slot_of, slots_within, line_text, rest_text, gap_text, line_width, rest_width, gap_width, line_has_character}

@@ -101,7 +101,7 @@ module _ {A : Type 0} (columns : ℕ → Option ℕ) (width : ℕ) where
   lined_push words w h narrow wide =
       let lines : Lines A = wrapped columns width words in
       let placed : wrapped columns width (words ++ w ∷ []) ≡ place_word columns width lines w = wrapped-push words w in
-      let letters = place_characters columns width lines w h.full h.last (wide_items columns w.items wide) narrow in
+      let letters = place_characters columns width lines w.gap w.items h.full h.last (wide_items columns w.items wide) narrow in
       record {
         narrow = each_append WordNarrow words (w ∷ []) h.narrow (narrow, tt);
         wide = each_append WordWide words (w ∷ []) h.wide (wide, tt);

@@ -22,7 +22,7 @@ module _ {A : Type 0} (columns : ℕ → Option ℕ) (width : ℕ) where
       (end_if_character (flushed r b).laid).line ++ (flushed r b).word ≡ (if b then [] else r.items)
   left_over r true e h narrow =
       let lines : Lines A = wrapped columns width (r.words ++ word_of r ∷ []) in
-      let placed = place_characters columns width (wrapped columns width r.words) (word_of r) h.full h.last e (narrow refl) in
+      let placed = place_characters columns width (wrapped columns width r.words) r.gap r.items h.full h.last e (narrow refl) in
       let last : LastHas lines.last = subst (λ (q : Lines A). LastHas q.last) (sym (wrapped-push columns width r.words (word_of r))) placed.1 in
       ap (λ (q : Progress A). (end_if_character q.laid).line ++ q.word) (lay_reading columns width r h e (narrow refl)) ∙ ap (λ (l : Laid A). l.line ++ []) (end_if_character_text lines last)
   left_over r false e h narrow = ap (λ (l : Laid A). l.line ++ r.items) (end_if_character_text (wrapped columns width r.words) h.last)

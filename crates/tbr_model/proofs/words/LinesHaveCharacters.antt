@@ -86,24 +86,20 @@ pub items_within : {A : Type 0} (columns : ℕ → Option ℕ) (wider : Bool) (i
 items_within columns wider [] = refl
 items_within columns wider (i ∷ is) = ap (λ js. i ∷ js) (items_within columns wider is)
 
-pub place_characters : {A : Type 0} (columns : ℕ → Option ℕ) (width : ℕ) (lines : Lines A) (w : Word A) → Each HasGlyph lines.done → LastHas lines.last → has_character w.items ≡ true → IsNarrow columns width w.items →
-    Each HasGlyph (place_word columns width lines w).done × LastHas (place_word columns width lines w).last
-place_characters {A} columns width lines w h k some narrow = go w.items refl some narrow
-  where
-    go : (is : List (Item A)) → w.items ≡ is → has_character is ≡ true → IsNarrow columns width is →
-        (let r = place_word columns width lines (record { gap = w.gap; items = is }) in Each HasGlyph r.done × LastHas r.last)
-    go [] e some narrow = cc
-    go (i ∷ is) e some narrow =
-        cond_both (nat_le (line_width (lines.last ++ slots)) width) _ _ (λ (q : Lines A). Each HasGlyph q.done × LastHas q.last)
-        (λ _. (h, last_has (lines.last ++ slots) (back_has lines.last slots word_has)))
-        (λ full. cond_both wider _ _ (λ (q : Lines A). Each HasGlyph q.done × LastHas q.last)
-        (λ _. filled) (λ not_wider. (each_append HasGlyph lines.done (lines.last ∷ []) h (open_has lines.last k (leb-false _ _ full) (ltb-false _ _ not_wider), tt), word_has)))
+pub place_characters : {A : Type 0} (columns : ℕ → Option ℕ) (width : ℕ) (lines : Lines A) (gap : Option A) (is : List (Item A)) → Each HasGlyph lines.done → LastHas lines.last → has_character is ≡ true → IsNarrow columns width is →
+    (let r = place_word columns width lines (record { gap = gap; items = is }) in Each HasGlyph r.done × LastHas r.last)
+place_characters columns width lines gap [] h k some narrow = cc
+place_characters {A} columns width lines gap (i ∷ is) h k some narrow =
+    cond_both (nat_le (line_width (lines.last ++ slots)) width) _ _ (λ (q : Lines A). Each HasGlyph q.done × LastHas q.last)
+    (λ _. (h, last_has (lines.last ++ slots) (back_has lines.last slots word_has)))
+    (λ full. cond_both wider _ _ (λ (q : Lines A). Each HasGlyph q.done × LastHas q.last)
+    (λ _. filled) (λ not_wider. (each_append HasGlyph lines.done (lines.last ∷ []) h (open_has lines.last k (leb-false _ _ full) (ltb-false _ _ not_wider), tt), word_has)))
       where
         wider : Bool
         wider = nat_lt width (items_width columns (i ∷ is))
 
         first : Slot A
-        first = slot_of columns wider w.gap true i
+        first = slot_of columns wider gap true i
 
         rest : List (Slot A)
         rest = map (slot_of columns wider None false) is
@@ -130,7 +126,7 @@ fold_characters : {A : Type 0} (columns : ℕ → Option ℕ) (width : ℕ) (wor
     Each HasGlyph (fold (place_word columns width) lines words).done × LastHas (fold (place_word columns width) lines words).last
 fold_characters columns width [] lines h k some narrow = (h, k)
 fold_characters columns width (w ∷ words) lines h k some narrow =
-    let placed = place_characters columns width lines w h k some.0 narrow.0 in
+    let placed = place_characters columns width lines w.gap w.items h k some.0 narrow.0 in
     fold_characters columns width words (place_word columns width lines w) placed.0 placed.1 some.1 narrow.1
 
 -- ---- the words of a run have characters
