@@ -2,7 +2,7 @@
 use Rattle.std.proofs.Common.{◌≡◌, ℕ, ◌<◌, ◌⊎◌, inl, inr, ◌||◌, nat_lt, unwrap_or, if◌then◌else◌, append_assoc, Bool, true, false, not, Option, List, [], ◌∷◌, ◌++◌, length, refl, ap, sym, ◌∙◌, arith}
 use Rattle.std.specs.List.{list_any, AllZip}
 use Rattle.std.specs.Char.{is_whitespace}
-use Rattle.std.proofs.lemmas.Bool.{cases_lt}
+use Rattle.std.proofs.lemmas.Bool.{cases_lt, cases_Bool}
 use Rattle.std.proofs.lemmas.Bool.{and_left, and_right, not_from_true, or_cases, or_from, le-ltb}
 use Rattle.std.proofs.lemmas.List.Folds.{list_any-append}
 use Rattle.tbr_model.specs.Run.{Entry, Item, glyph, marker, item_width, items_width, is_kept}
@@ -72,11 +72,7 @@ module _ {A : Type 0} (columns : ℕ → Option ℕ) where
   some_passing : (is : List (Item A)) → some_shown (shown is) ≡ some_shown is
   some_passing [] = refl
   some_passing (marker name ∷ is) = some_passing is
-  some_passing (glyph c a ∷ is) = go (shows_columns columns c) refl (some_passing is)
-    where
-      go : (b : Bool) → shows_columns columns c ≡ b → some_shown (shown is) ≡ some_shown is → some_shown (if b then glyph c a ∷ shown is else shown is) ≡ b || some_shown is
-      go true e rest = rw e refl
-      go false e rest = rest
+  some_passing (glyph c a ∷ is) = elim (cases_Bool (shows_columns columns c)) [ inl e ↦ rw (e, e) refl | inr e ↦ rw e (some_passing is) ]
 
   some_alike : (is : List (Item A)) (es : List (Entry A)) → AllZip (StandsFor AnyMode) is es → some_shown is ≡ run_shows_columns columns es
   some_alike =

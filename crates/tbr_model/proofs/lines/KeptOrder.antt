@@ -2,7 +2,7 @@
 use Rattle.std.proofs.Common.{◌≡◌, ℕ, ◌⊎◌, inl, inr, Bool, true, false, not, Option, List, [], ◌∷◌, ◌++◌, filter, refl, ap, sym, ◌∙◌, subst}
 use Rattle.std.specs.Char.{is_whitespace}
 use Rattle.std.specs.List.{AllZip}
-use Rattle.std.proofs.lemmas.Bool.{and_left}
+use Rattle.std.proofs.lemmas.Bool.{and_left, cases_Bool}
 use Rattle.std.proofs.lemmas.List.Elements.{filter-append}
 use Rattle.tbr_model.specs.declared.white_space.WhiteSpace.{WhiteSpace}
 use Rattle.tbr_model.specs.Run.{Entry, character, Item, glyph, marker, is_kept}
@@ -41,11 +41,7 @@ module _ {A : Type 0} (columns : ℕ → Option ℕ) (width : ℕ) (Same : A →
   under x a b (inr e) = inr (rw (← e.0) (same x))
 
   one_in_order : (c : ℕ) (x a b : A) (m : WhiteSpace) (is : List (Item A)) (es : List (Entry A)) → (x ≡ a) ⊎ ((x ≡ b) × Unit {0}) → InOrder is es → InOrder (glyph c x ∷ is) (character c a b m ∷ es)
-  one_in_order c x a b m is es either rest = go (is_visible columns c) refl
-    where
-      go : (v : Bool) → is_visible columns c ≡ v → InOrder (glyph c x ∷ is) (character c a b m ∷ es)
-      go true e = rw e ((refl, under x a b either), rest)
-      go false e = rw e rest
+  one_in_order c x a b m is es either rest = elim (cases_Bool (is_visible columns c)) [ inl e ↦ rw e ((refl, under x a b either), rest) | inr e ↦ rw e rest ]
 
   -- The visible characters and the markers of a run are on its lines and then wait, in their order.
   pub shown_in_order : (es : List (Event A)) → ShowsInOrder columns Same (run_of es) (lines_of columns width es) (names_waiting columns width es)

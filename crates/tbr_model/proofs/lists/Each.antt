@@ -40,11 +40,7 @@ each_unmap g P Q one (x ∷ xs) h = (one x h.0, each_unmap g P Q one xs h.1)
 
 pub filter-map : {X Y : Type 0} (g : X → Y) (p : X → Bool) (q : Y → Bool) → ((x : X) → q (g x) ≡ p x) → (xs : List X) → filter q (map g xs) ≡ map g (filter p xs)
 filter-map g p q same [] = refl
-filter-map {X} {Y} g p q same (x ∷ xs) = ap (λ k. if k then g x ∷ filter q (map g xs) else filter q (map g xs)) (same x) ∙ go (filter-map g p q same xs) (p x)
-  where
-    go : filter q (map g xs) ≡ map g (filter p xs) → (k : Bool) → (let ys : List Y = if k then g x ∷ filter q (map g xs) else filter q (map g xs) in ys) ≡ map g (if k then x ∷ filter p xs else filter p xs)
-    go rest true = ap (λ ys. g x ∷ ys) rest
-    go rest false = rest
+filter-map g p q same (x ∷ xs) = let rest = filter-map g p q same xs in rw (same x) (if_same (map g) (p x) _ _ _ _ (ap (λ ys. g x ∷ ys) rest) rest)
 
 pub zip-map : {X Y Z W : Type 0} (R : X → Y → Type 0) (S : Z → W → Type 0) (g : X → Z) (k : Y → W) → ((x : X) (y : Y) → R x y → S (g x) (k y)) → (xs : List X) (ys : List Y) → AllZip R xs ys → AllZip S (map g xs) (map k ys)
 zip-map R S g k each [] [] h = tt

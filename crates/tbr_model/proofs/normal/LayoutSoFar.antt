@@ -1,7 +1,7 @@
 -- A run of Normal mode is, by the rule, at the texts of the layout of its words so far.
 use Rattle.std.proofs.Common.{◌≡◌, ℕ, ◌+◌, ◌<◌, ◌≤◌, ◌⊎◌, inl, inr, Bool, true, false, nat_lt, nat_le, ◌&&◌, not, ◌==◌, if◌then◌else◌, is_some, Option, None, Some, List, [], ◌∷◌, ◌++◌, map, fold, refl, ap, sym, ◌∙◌, subst, append_assoc, append-nil, ltb-true, lt-ltb}
 use Rattle.std.specs.List.{AllByRecursion as Each}
-use Rattle.std.proofs.lemmas.Bool.{cond_both, or_parts}
+use Rattle.std.proofs.lemmas.Bool.{cond_both, or_parts, cases_Bool}
 use Rattle.std.proofs.lemmas.List.Sums.{fold-append}
 use Rattle.tbr_model.specs.declared.white_space.WhiteSpace.{WhiteSpace}
 use Rattle.tbr_model.specs.declared.white_space.WhiteSpace.TheVariants.{Normal, Pre, PreWrap}
@@ -220,11 +220,7 @@ module _ {A : Type 0} (columns : ℕ → Option ℕ) (width : ℕ) where
   goes r (marker_entry name) mode h narrow = goes_marker r name h
   goes r (character c a b Pre) mode h narrow = cc
   goes r (character c a b PreWrap) mode h narrow = cc
-  goes r (character c a b Normal) mode h narrow = go (is_break c) refl
-    where
-      go : (x : Bool) → is_break c ≡ x → Goes r (character c a b Normal) (read columns r (character c a b Normal))
-      go true e = goes_break r c a b e h (narrow e)
-      go false e = goes_other r c a b e h
+  goes r (character c a b Normal) mode h narrow = elim (cases_Bool (is_break c)) [ inl e ↦ goes_break r c a b e h (narrow e) | inr e ↦ goes_other r c a b e h ]
 
   -- ---- a run
 

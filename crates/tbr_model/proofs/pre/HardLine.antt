@@ -1,6 +1,7 @@
 -- What a block shows of one hard line of Pre.
 use Rattle.std.proofs.Common.{◌≡◌, ℕ, suc, ◌+◌, ◌<◌, ◌≤◌, nat_le, Bool, true, false, Option, Some, None, List, [], ◌∷◌, ◌++◌, map, filter, fold, length, refl, ap, sym, ◌∙◌, arith, subst, le-leb}
 use Rattle.std.specs.List.{AllByRecursion as Each}
+use Rattle.std.proofs.lemmas.Bool.{true_from_ne_false}
 use Rattle.tbr_model.specs.declared.white_space.WhiteSpace.TheVariants.{Pre}
 use Rattle.tbr_model.specs.Run.{Entry, character, marker_entry, Item, items_width, has_character, is_kept}
 use Rattle.tbr_model.specs.Layout.{joined}
@@ -55,11 +56,7 @@ module _ {A : Type 0} (columns : ℕ → Option ℕ) (width : ℕ) (p : Progress
   all_waiting printable = (waits printable).waiting ∙ ap (λ cs. cs ++ entry_letters (run_of es)) (fresh_waiting p f)
 
   some_waits : IsPrintableLine columns (run_of es) → ¬ (IsSpaces (entry_letters (run_of es))) → has_character q.word ≡ true
-  some_waits printable other = go (has_character q.word) refl
-    where
-      go : (b : Bool) → has_character q.word ≡ b → has_character q.word ≡ true
-      go true e = e
-      go false e = absurd (other ((waits printable).spaces e).1)
+  some_waits printable other = true_from_ne_false (has_character q.word) (λ e. other ((waits printable).spaces e).1)
 
   line_fits : IsPrintableLine columns (run_of es) → ¬ (IsSpaces (entry_letters (run_of es))) → length (run_of es) ≤ width → IsShownBy (entry_letters (run_of es) ∷ []) laid
   line_fits printable other fits =

@@ -16,12 +16,10 @@ use Rattle.tbr_model.proofs.prewrap.WrappedLines.{wrapped_line}
 
 spaces_or : (cs : List ℕ) → IsSpaces cs ⊎ ¬ (IsSpaces cs)
 spaces_or [] = inl tt
-spaces_or (c ∷ cs) = go (eqb_tells c 32) (spaces_or cs)
-  where
-    go : (((c == 32) ≡ true) × (c ≡ 32)) ⊎ (((c == 32) ≡ false) × (c ≢ 32)) → IsSpaces cs ⊎ ¬ (IsSpaces cs) → IsSpaces (c ∷ cs) ⊎ ¬ (IsSpaces (c ∷ cs))
-    go (inl w) (inl all) = inl (w.1, all)
-    go (inl w) (inr other) = inr (λ h. other h.1)
-    go (inr w) rest = inr (λ h. w.1 h.0)
+spaces_or (c ∷ cs) = elim (eqb_tells c 32) [
+  | inl w ↦ elim (spaces_or cs) [ inl all ↦ inl (w.1, all) | inr other ↦ inr (λ h. other h.1) ]
+  | inr w ↦ inr (λ h. w.1 h.0)
+]
 
 spaces_after : (cs : List ℕ) → (rest : List ℕ) × IsSpaces rest × (cs ≡ without_last_spaces cs ++ rest)
 spaces_after [] = ([], tt, refl)

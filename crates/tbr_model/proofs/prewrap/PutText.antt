@@ -2,6 +2,7 @@
 use Rattle.std.proofs.Common.{◌≡◌, ◌≢◌, ℕ, ◌+◌, ◌<◌, ◌≤◌, ◌⊎◌, inl, inr, ◌==◌, Bool, true, false, nat_le, Option, List, [], ◌∷◌, ◌++◌, map, length, refl, ap, sym, ◌∙◌, arith, append_assoc, append-nil, length-append, subst, leb-true, leb-false, ne_eqb}
 use Rattle.std.specs.List.{AllByRecursion as Each}
 use Rattle.std.proofs.lemmas.List.{map-append}
+use Rattle.std.proofs.lemmas.Bool.{cases_Bool}
 use Rattle.tbr_model.specs.Run.{Item, glyph, marker}
 use Rattle.tbr_model.specs.Laid.{Laid, extended, end_line, put_item, put_items}
 use Rattle.tbr_model.specs.Rule.{without_trailing}
@@ -14,27 +15,11 @@ use Rattle.tbr_model.proofs.prewrap.WrappedText.{AreNonBlank, GoesOnFrom, ends_n
 -- an open line whose text is no spaces at its end has none there
 pub trailing_whole : {A : Type 0} (is : List (Item A)) → (letters_of is ≡ []) ⊎ EndsWithNonBlank (letters_of is) → without_trailing is ≡ is
 trailing_whole [] h = refl
-trailing_whole {A} (marker name ∷ is) h = go (without_trailing is) refl (trailing_whole is h)
-  where
-    go : (js : List (Item A)) → without_trailing is ≡ js → js ≡ is → without_trailing (marker name ∷ is) ≡ marker name ∷ is
-    go [] e f = rw e (ap (λ (ks : List (Item A)). marker name ∷ ks) f)
-    go (j ∷ js) e f = rw e (ap (λ (ks : List (Item A)). marker name ∷ ks) f)
-trailing_whole {A} (glyph c a ∷ is) (inl none) = cc
-trailing_whole {A} (glyph c a ∷ is) (inr ends) = go (without_trailing is) refl (trailing_whole is (after (last_of c (letters_of is) ends)))
-  where
-    after : ((letters_of is ≡ []) × (c ≢ 32)) ⊎ EndsWithNonBlank (letters_of is) → (letters_of is ≡ []) ⊎ EndsWithNonBlank (letters_of is)
-    after (inl h) = inl h.0
-    after (inr h) = inr h
-
-    alone : is ≡ [] → ((letters_of is ≡ []) × (c ≢ 32)) ⊎ EndsWithNonBlank (letters_of is) → c ≢ 32
-    alone e (inl h) = h.1
-    alone e (inr h) = absurd (subst (λ (ks : List (Item A)). EndsWithNonBlank (letters_of ks)) e h)
-
-    go : (js : List (Item A)) → without_trailing is ≡ js → js ≡ is → without_trailing (glyph c a ∷ is) ≡ glyph c a ∷ is
-    go [] e f =
-        let other : (c == 32) ≡ false = ne_eqb c 32 (alone (sym f) (last_of c (letters_of is) ends)) in
-        rw (e, other) (ap (λ (ks : List (Item A)). glyph c a ∷ ks) f)
-    go (j ∷ js) e f = rw e (ap (λ (ks : List (Item A)). glyph c a ∷ ks) f)
+trailing_whole (marker name ∷ []) h = refl
+trailing_whole (marker name ∷ i ∷ is) h = rw (trailing_whole (i ∷ is) h) refl
+trailing_whole (glyph c a ∷ is) (inl none) = cc
+trailing_whole (glyph c a ∷ []) (inr ends) = rw (ne_eqb c 32 ends.0) refl
+trailing_whole (glyph c a ∷ i ∷ is) (inr ends) = rw (trailing_whole (i ∷ is) (last_of c (letters_of (i ∷ is)) ends)) refl
 
 pub nonblanks : {A : Type 0} (columns : ℕ → Option ℕ) (is : List (Item A)) → Each (IsVisibleOrMarker columns) is → AreNonBlank (letters_of is)
 nonblanks columns [] h = tt
@@ -119,16 +104,11 @@ module _ {A : Type 0} (columns : ℕ → Option ℕ) (width : ℕ) (some : 0 < w
       (omega (arith, measured)) (omega (arith, fits)) in
       record { nonblank = k.nonblank; fits = k.fits; columns_are = k.columns_are; measured = k.measured; goes = λ text ls h. (let g = k.goes text ls h in record { all = g.all; are = g.are; goes = g.goes; reach = g.reach }) })
   put_text (glyph c a ∷ is) l y plain letters nonblank measured fits =
-      go (nat_le (l.width + 1) width) refl
-      (λ room. put_text is (extended l (glyph c a ∷ []) 1) (y ++ c ∷ []) plain.1 (letters_of-append l.line (glyph c a ∷ []) ∙ ap (λ cs. cs ++ c ∷ []) letters)
-      (each_append (λ d. 33 ≤ d) y (c ∷ []) nonblank (plain.0.from, tt)) (omega (arith, measured, length-append y (c ∷ []))) room)
-      (put_text is (extended (end_line l) (glyph c a ∷ []) 1) (c ∷ []) plain.1 refl (plain.0.from, tt) refl (omega (arith, some)))
-    where
-      go : (b : Bool) → nat_le (l.width + 1) width ≡ b →
-          (l.width + 1 ≤ width → PutsText (extended l (glyph c a ∷ []) 1) (y ++ c ∷ []) (letters_of is) (put_items columns width (extended l (glyph c a ∷ []) 1) is)) →
-          PutsText (extended (end_line l) (glyph c a ∷ []) 1) (c ∷ []) (letters_of is) (put_items columns width (extended (end_line l) (glyph c a ∷ []) 1) is) →
-          PutsText l y (c ∷ letters_of is) (put_items columns width (put_item columns width l (glyph c a)) is)
-      go true e here k = rw (put_here columns width some l c a plain.0.one (leb-true _ _ e)) (put_one_here l c a y (letters_of is) _ (here (leb-true _ _ e)))
-      go false e here k =
-          rw (put_next columns width some l c a plain.0.one (leb-false _ _ e))
-          (put_one_next l c a y (letters_of is) _ letters nonblank (omega (arith, leb-false _ _ e, measured, fits)) plain.0.from k)
+      elim (cases_Bool (nat_le (l.width + 1) width)) [
+        | inl e ↦ rw (put_here columns width some l c a plain.0.one (leb-true _ _ e)) (put_one_here l c a y (letters_of is) _
+            (put_text is (extended l (glyph c a ∷ []) 1) (y ++ c ∷ []) plain.1 (letters_of-append l.line (glyph c a ∷ []) ∙ ap (λ cs. cs ++ c ∷ []) letters)
+            (each_append (λ d. 33 ≤ d) y (c ∷ []) nonblank (plain.0.from, tt)) (omega (arith, measured, length-append y (c ∷ []))) (leb-true _ _ e)))
+        | inr e ↦ rw (put_next columns width some l c a plain.0.one (leb-false _ _ e))
+            (put_one_next l c a y (letters_of is) _ letters nonblank (omega (arith, leb-false _ _ e, measured, fits)) plain.0.from
+            (put_text is (extended (end_line l) (glyph c a ∷ []) 1) (c ∷ []) plain.1 refl (plain.0.from, tt) refl (omega (arith, some))))
+      ]

@@ -108,9 +108,9 @@ from_some width (c ∷ line) text ls some h = h
 pub from_none : (width : ℕ) (line text : List ℕ) (ls : List (List ℕ)) → line ≡ [] → IsWrapped width [] text ls → GoesOn width line text ls
 from_none width line text ls none h = subst (λ (cs : List ℕ). GoesOn width cs text ls) (sym none) h
 
--- a text that ends with a non-blank is one, or what is after its first character does
-pub last_of : (c : ℕ) (cs : List ℕ) → EndsWithNonBlank (c ∷ cs) → ((cs ≡ []) × (c ≢ 32)) ⊎ EndsWithNonBlank cs
-last_of c [] h = inl (refl, h.0)
+-- in a text that ends with a non-blank, what is after its first character is nothing, or does
+pub last_of : (c : ℕ) (cs : List ℕ) → EndsWithNonBlank (c ∷ cs) → (cs ≡ []) ⊎ EndsWithNonBlank cs
+last_of c [] h = inl refl
 last_of c (d ∷ cs) h = inr h
 
 -- ---- where lines begin

@@ -2,7 +2,7 @@
 use Rattle.std.proofs.Common.{◌≡◌, ℕ, ◌⊎◌, inl, inr, Bool, true, false, not, Option, List, [], ◌∷◌, ◌++◌, filter, fold, refl, ap, ◌∙◌, arith, length-append}
 use Rattle.std.specs.List.{AllZip, AllByRecursion as Each}
 use Rattle.std.specs.Char.{is_whitespace}
-use Rattle.std.proofs.lemmas.Bool.{and_left, and_right, not_from_true}
+use Rattle.std.proofs.lemmas.Bool.{and_left, and_right, not_from_true, cases_Bool}
 use Rattle.std.proofs.lemmas.List.Elements.{filter-append}
 use Rattle.tbr_model.specs.declared.white_space.WhiteSpace.{WhiteSpace}
 use Rattle.tbr_model.specs.declared.white_space.WhiteSpace.TheVariants.{Pre}
@@ -46,12 +46,7 @@ pub visible_zip : {A : Type 0} (columns : ℕ → Option ℕ) (Modes : WhiteSpac
     (is : List (Item A)) (es : List (Entry A)) → AllZip (StandsFor Modes) is es → AllZip S (visible_glyphs columns is) (visible_entries columns es)
 visible_zip {A} columns Modes S each =
     by_entry Modes (λ is es. AllZip S (visible_glyphs columns is) (visible_entries columns es)) tt
-    (λ c x a b m is es either rest. go c x a b m is es (each c x a b m either) rest (is_visible columns c) refl) (λ name is es rest. rest)
-  where
-    go : (c : ℕ) (x a b : A) (m : WhiteSpace) (is : List (Item A)) (es : List (Entry A)) → S (c, x) (character c a b m) → AllZip S (visible_glyphs columns is) (visible_entries columns es) → (v : Bool) → is_visible columns c ≡ v →
-        AllZip S (visible_glyphs columns (glyph c x ∷ is)) (visible_entries columns (character c a b m ∷ es))
-    go c x a b m is es s rest true e = rw e (s, rest)
-    go c x a b m is es s rest false e = rw e rest
+    (λ c x a b m is es either rest. elim (cases_Bool (is_visible columns c)) [ inl e ↦ rw e (each c x a b m either, rest) | inr e ↦ rw e rest ]) (λ name is es rest. rest)
 
 module _ {A : Type 0} (columns : ℕ → Option ℕ) (width : ℕ) (Same : A → A → Type 0) (same : (x : A) → Same x x) where
   -- the visible characters of a run from where a hard line begins, before a newline and at the end of the run

@@ -4,6 +4,7 @@ use Rattle.std.specs.List.{AllByRecursion as Each}
 use Rattle.std.proofs.lemmas.Bool.{cond_both, both_ways}
 use Rattle.std.proofs.lemmas.Bool.Decides.{eqb_tells}
 use Rattle.std.proofs.lemmas.List.{length-replicate}
+use Rattle.tbr_model.proofs.lists.Each.{if_same}
 use Rattle.tbr_model.specs.declared.white_space.WhiteSpace.{WhiteSpace}
 use Rattle.tbr_model.specs.declared.white_space.WhiteSpace.TheVariants.{Normal}
 use Rattle.tbr_model.specs.Run.{character, marker_entry, has_character}
@@ -23,13 +24,10 @@ abbrev pub filled : ℕ → ℕ → List ℕ
 filled n c = if c == 9 then replicate (8 - n % 8) 32 else c ∷ []
 
 filled_first : (n c : ℕ) (cs : List ℕ) → tabs_filled n (c ∷ cs) ≡ filled n c ++ tabs_filled (n + length (filled n c)) cs
-filled_first n c cs = go (c == 9)
-  where
-    go : (b : Bool) →
-        (if b then replicate (8 - n % 8) 32 ++ tabs_filled (n + (8 - n % 8)) cs else c ∷ tabs_filled (suc n) cs)
-        ≡ (if b then replicate (8 - n % 8) 32 else c ∷ []) ++ tabs_filled (n + length (if b then replicate (8 - n % 8) 32 else c ∷ [])) cs
-    go true = ap (λ k. replicate (8 - n % 8) 32 ++ tabs_filled (n + k) cs) (sym (length-replicate {A = ℕ} (8 - n % 8) 32))
-    go false = ap (λ k. c ∷ tabs_filled k cs) (let e : suc n ≡ n + 1 = omega arith in e)
+filled_first n c cs =
+    if_same (λ (ds : List ℕ). ds ++ tabs_filled (n + length ds) cs) (c == 9) _ _ _ _
+    (ap (λ k. replicate (8 - n % 8) 32 ++ tabs_filled (n + k) cs) (sym (length-replicate {A = ℕ} (8 - n % 8) 32)))
+    (ap (λ k. c ∷ tabs_filled k cs) (let e : suc n ≡ n + 1 = omega arith in e))
 
 module _ {A : Type 0} (columns : ℕ → Option ℕ) (width : ℕ) (a b : A) (mode : WhiteSpace) (kept : mode ≢ Normal) (x : List ℕ) (p : Progress A) (h : HoldsText columns x p) where
   tab_entered : length x + (8 - length x % 8) ≤ width → HoldsText columns (x ++ replicate (8 - length x % 8) 32) (enter columns width p (character 9 a b mode))

@@ -1,7 +1,7 @@
 -- The words of a run hold its kept items, and which runs have a legal layout.
-use Rattle.std.proofs.Common.{◌≡◌, ℕ, ◌≤◌, Bool, true, false, nat_lt, if◌then◌else◌, Option, None, List, [], ◌∷◌, ◌++◌, map, fold, flat_map, refl, ap, sym, ◌∙◌, arith, append_assoc, append-nil, subst}
+use Rattle.std.proofs.Common.{◌≡◌, ℕ, ◌≤◌, Bool, true, false, nat_lt, if◌then◌else◌, Option, None, List, [], ◌∷◌, ◌++◌, map, fold, flat_map, refl, ap, sym, ◌∙◌, arith, append_assoc, append-nil, subst, inl, inr}
 use Rattle.std.specs.List.{AllByRecursion as Each}
-use Rattle.std.proofs.lemmas.Bool.{cond_both, and_parts}
+use Rattle.std.proofs.lemmas.Bool.{cond_both, and_parts, cases_Bool}
 use Rattle.std.proofs.lemmas.List.Concat.{flat_map-append}
 use Rattle.tbr_model.specs.Run.{Entry, character, marker_entry, Item, item_width, items_width, items_of, kept_items, is_kept, is_break_entry, has_character, Word, word_of, Reading, start, works, read, reading, words_of, trailing}
 use Rattle.tbr_model.specs.Layout.{Slot, slot_of, word_slots, slots_of, joined, line_width, rest_width, IsLegalLine, IsLegal, IsBest}
@@ -33,14 +33,10 @@ held-fold columns (e ∷ run) r =
     held-fold columns run (read columns r e) ∙ ap (λ is. is ++ kept_items columns run) (held-read columns r e) ∙ append_assoc (held r) (items_of columns e) (kept_items columns run)
 
 pub words_hold : {A : Type 0} (columns : ℕ → Option ℕ) (run : List (Entry A)) → flat_map (λ w. w.items) (words_of columns run) ++ trailing columns run ≡ kept_items columns run
-words_hold {A} columns run = go (has_character r.items) ∙ held-fold columns run start
-  where
-    r : Reading A
-    r = reading columns run
-
-    go : (b : Bool) → flat_map (λ w. w.items) (if b then r.words ++ word_of r ∷ [] else r.words) ++ (if b then [] else r.items) ≡ held r
-    go true = simp (flat_map-append, append-nil)
-    go false = refl
+words_hold {A} columns run = elim (cases_Bool (has_character (reading columns run).items)) [
+  | inl e ↦ rw e (simp (flat_map-append, append-nil) (held-fold columns run start))
+  | inr e ↦ rw e (held-fold columns run start)
+]
 
 -- ---- which runs have a legal layout
 

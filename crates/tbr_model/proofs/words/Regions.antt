@@ -3,12 +3,12 @@ use Rattle.std.proofs.Common.{◌≡◌, ℕ, zero, suc, ◌+◌, Bool, true, fa
 use Rattle.std.specs.List.{AllByRecursion as Each, list_any}
 use Rattle.std.proofs.lemmas.List.Concat.{flat_map-append}
 use Rattle.std.proofs.lemmas.List.Sums.{fold-append}
-use Rattle.std.proofs.lemmas.Bool.{and_from, and_parts, false_from_ne_true}
+use Rattle.std.proofs.lemmas.Bool.{and_from, and_parts, false_from_ne_true, cases_Bool}
 use Rattle.tbr_model.specs.Run.{Entry, character, marker_entry, Item, glyph, items_width, items_of, kept_items, is_kept, is_break, is_break_entry, blank_of, first_of, has_character, Word, word_of, Reading, works, read, words_of, trailing}
 use Rattle.tbr_model.specs.Regions.{takes_columns, HasColumns, NoBreakWorks, Region, region_entries, EndsAtWorkingBreak, IsParted, first_blank, word_after, words_after, words_between, markers_left}
 use Rattle.tbr_model.proofs.words.Items.{items_width-append}
 use Rattle.tbr_model.proofs.lists.Joined.{cut_twice}
-use Rattle.tbr_model.proofs.lists.Each.{each_append}
+use Rattle.tbr_model.proofs.lists.Each.{each_append, if_same}
 
 -- ---- a kept character of positive width, and the width of kept items
 
@@ -57,11 +57,7 @@ goes_on {A} columns words before since e h =
     rw stays same
   where
     stays : works columns (read_since columns words before since) e ≡ false
-    stays = go (is_break_entry e) refl
-      where
-        go : (b : Bool) → is_break_entry e ≡ b → b && nat_lt 0 (items_width columns (kept_items columns since)) ≡ false
-        go true k = sym (has_columns_width columns since) ∙ false_from_ne_true _ (h k)
-        go false k = refl
+    stays = elim (cases_Bool (is_break_entry e)) [ inl k ↦ rw k (sym (has_columns_width columns since) ∙ false_from_ne_true _ (h k)) | inr k ↦ rw k refl ]
 
     blank : first_of (first_blank (before ++ since)) (blank_of e) ≡ first_blank (before ++ (since ++ e ∷ []))
     blank = ap (first_of (first_blank (before ++ since))) (sym (first_of_none (blank_of e))) ∙ sym (first_blank-append (before ++ since) (e ∷ [])) ∙ ap first_blank (append_assoc before since (e ∷ []))
@@ -106,11 +102,7 @@ left r = if has_character r.items then [] else r.items
 over_rest : {A : Type 0} (columns : ℕ → Option ℕ) (words : List (Word A)) (before rest : List (Entry A)) →
     (finished (read_since columns words before rest) ≡ words ++ words_after columns before [] rest) × (left (read_since columns words before rest) ≡ markers_left columns rest)
 unfolding finished left
-over_rest {A} columns words before rest = (go (has_character (kept_items columns rest)), refl)
-  where
-    go : (b : Bool) → (if b then words ++ word_after columns before rest ∷ [] else words) ≡ words ++ (if b then word_after columns before rest ∷ [] else [])
-    go true = refl
-    go false = sym (append-nil words)
+over_rest {A} columns words before rest = (if_same (λ (ws : List (Word A)). words ++ ws) (has_character (kept_items columns rest)) _ _ _ _ refl (sym (append-nil words)), refl)
 
 over_parts : {A : Type 0} (columns : ℕ → Option ℕ) (words : List (Word A)) (before : List (Entry A)) (regions : List (Region A)) (rest : List (Entry A)) →
     Each (EndsAtWorkingBreak columns) regions → NoBreakWorks columns rest →
