@@ -1,5 +1,4 @@
 -- Runs of `PreWrap` mode.
-pub mod Entry
 pub mod Stretches
 pub mod WordUnderWay
 pub mod WrappedText

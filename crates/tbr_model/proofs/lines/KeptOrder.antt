@@ -16,16 +16,13 @@ use Rattle.tbr_model.proofs.rule.Walk.{any_entries}
 use Rattle.tbr_model.proofs.rule.Markers.{waiting_none, marker_items_alone}
 use Rattle.tbr_model.proofs.rule.VisibleCharacters.{white_not_visible}
 
-hidden_one : {A : Type 0} (columns : ℕ → Option ℕ) (c : ℕ) (a : A) → is_visible columns c ≡ false → filter (is_visible_or_marker columns) (glyph c a ∷ []) ≡ []
-hidden_one columns c a h = rw h refl
-
 looks_in_order : {A : Type 0} (columns : ℕ → Option ℕ) → LooksAtKept {A = A} columns AnyEntry AnyMode (filter (is_visible_or_marker columns))
 looks_in_order columns = record {
   modes = λ c a b m h. tt;
   append = filter-append (is_visible_or_marker columns);
   nothing = refl;
-  lost = λ c a h. hidden_one columns c a (and_left (is_kept columns c) (not (is_whitespace c)) h);
-  white = λ m c a h. hidden_one columns c a (white_not_visible columns c h);
+  lost = λ c a h. (let hides : is_visible columns c ≡ false = and_left (is_kept columns c) (not (is_whitespace c)) h in rw hides refl);
+  white = λ m c a h. rw (white_not_visible columns c h) refl;
 }
 
 markers_all : {A : Type 0} (columns : ℕ → Option ℕ) (names : List (List ℕ)) → filter (is_visible_or_marker {A = A} columns) (marker_items names) ≡ marker_items names

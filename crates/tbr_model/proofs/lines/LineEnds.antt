@@ -31,10 +31,6 @@ module _ {A : Type 0} (columns : ℕ → Option ℕ) (width : ℕ) where
   break_rests : (p : Progress A) → columns_so_far columns p ≤ width → Rests p (break_word columns width p)
   break_rests p fits = cond_both (nat_lt 0 (items_width columns p.word)) _ _ (Rests p) (λ _. lay_rests p fits) (λ _. unchanged p)
 
-  break_if_rests : (b : Bool) (p : Progress A) → columns_so_far columns p ≤ width → Rests p (if b then break_word columns width p else p)
-  break_if_rests true p fits = break_rests p fits
-  break_if_rests false p fits = unchanged p
-
   -- ---- entries that end no line
 
   abbrev Ends : Progress A → Progress A → Type 0
@@ -64,7 +60,7 @@ module _ {A : Type 0} (columns : ℕ → Option ℕ) (width : ℕ) where
   entry_ends_none p (character c a b Pre) fits other = preserve_done c a b Pre p other
   entry_ends_none p (character c a b PreWrap) fits other =
       let q : Progress A = if is_break c then break_word columns width p else p in
-      preserve_done c a b PreWrap q other ∙ (break_if_rests (is_break c) p fits).done
+      preserve_done c a b PreWrap q other ∙ cond_both (is_break c) _ _ (Ends p) (λ _. (break_rests p fits).done) (λ _. refl)
 
   -- ---- a newline and a tab
 

@@ -18,17 +18,14 @@ passing test is = filter (item_passes test) is
 pub passing-append : {A : Type 0} (test : ℕ → Bool) (is js : List (Item A)) → passing test (is ++ js) ≡ passing test is ++ passing test js
 passing-append test is js = filter-append (item_passes test) is js
 
-pub passes_none : {A : Type 0} (test : ℕ → Bool) (c : ℕ) (a : A) → test c ≡ false → passing test (glyph c a ∷ []) ≡ []
-passes_none test c a h = rw h refl
-
 pub looks_at_passing : {A : Type 0} (columns : ℕ → Option ℕ) (Comes : Entry A → Type 0) (Modes : WhiteSpace → Type 0) (test : ℕ → Bool) → ((c : ℕ) (a b : A) (m : WhiteSpace) → Comes (character c a b m) → Modes m) →
     ((c : ℕ) → is_kept columns c ≡ false → test c ≡ false) → (Modes PreWrap → (c : ℕ) → is_whitespace c ≡ true → test c ≡ false) → LooksAtKept columns Comes Modes (passing test)
 looks_at_passing columns Comes Modes test modes lost white = record {
   modes = modes;
   append = passing-append test;
   nothing = refl;
-  lost = λ c a h. passes_none test c a (lost c h);
-  white = λ m c a h. passes_none test c a (white m c h);
+  lost = λ c a h. rw (lost c h) refl;
+  white = λ m c a h. rw (white m c h) refl;
 }
 
 -- items that have no character all pass

@@ -8,14 +8,14 @@ use Rattle.tbr_model.specs.Layout.{joined}
 use Rattle.tbr_model.specs.Rule.{Event, run_of, Progress, flush_word, step, newline, finished}
 use Rattle.tbr_model.specs.Hard.{HasMode, entry_letters}
 use Rattle.tbr_model.proofs.rule.HardLineStart.{BeginsHardLine}
-use Rattle.tbr_model.proofs.rule.LaidText.{kept_of, kept-append, none_kept, kept_one}
+use Rattle.tbr_model.proofs.rule.LaidText.{kept_of, kept-append, none_kept}
 use Rattle.tbr_model.proofs.rule.Content.{LooksAtKept, StandsFor, by_entry, found_from}
 
 abbrev IsPre : WhiteSpace → Type 0
 IsPre mode = mode ≡ Pre
 
 looks_at_kept : {A : Type 0} (columns : ℕ → Option ℕ) → LooksAtKept {A = A} columns (HasMode Pre) IsPre (kept_of columns)
-looks_at_kept columns = record { modes = λ c a b m h. h; append = kept-append columns; nothing = refl; lost = kept_one columns; white = λ m c a h. cc }
+looks_at_kept columns = record { modes = λ c a b m h. h; append = kept-append columns; nothing = refl; lost = λ c a h. rw h refl; white = λ m c a h. cc }
 
 -- the kept ones among items that stand for entries
 kept_alike : {A : Type 0} (columns : ℕ → Option ℕ) (is : List (Item A)) (es : List (Entry A)) → AllZip (StandsFor IsPre) is es → kept_of columns is ≡ filter (is_kept columns) (entry_letters es)

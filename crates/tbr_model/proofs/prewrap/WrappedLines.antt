@@ -1,5 +1,5 @@
 -- A hard line of `PreWrap` is wrapped: spaces are dropped, and a line ends, only where the next stretch doesn't fit.
-use Rattle.std.proofs.Common.{◌≡◌, ℕ, ◌+◌, ◌<◌, ◌≤◌, ◌⊎◌, inl, inr, Bool, true, false, nat_le, if◌then◌else◌, Option, Some, None, List, [], ◌∷◌, ◌++◌, map, fold, replicate, length, refl, ap, sym, ◌∙◌, arith, append_assoc, append-nil, length-append, subst, leb-true, leb-false}
+use Rattle.std.proofs.Common.{◌≡◌, ℕ, ◌+◌, ◌<◌, ◌≤◌, ◌⊎◌, inl, inr, Bool, true, false, nat_le, if◌then◌else◌, Option, Some, None, List, [], ◌∷◌, ◌++◌, map, fold, replicate, length, refl, ap, sym, ◌∙◌, arith, append_assoc, append-nil, length-append, subst, leb-true, leb-false, lt-ltb}
 use Rattle.std.specs.List.{AllByRecursion as Each}
 use Rattle.std.proofs.lemmas.Bool.{cond_both}
 use Rattle.std.proofs.lemmas.Bool.Decides.{eqb_tells}
@@ -13,8 +13,7 @@ use Rattle.tbr_model.proofs.rule.BlankLines.{not_broken}
 use Rattle.tbr_model.proofs.words.Items.{letters_of-append, some_letters, has_letters, no_letters, no_character_no_width, WaitsIn, pending_width-of}
 use Rattle.tbr_model.proofs.tabs.FittingText.{laid_letters}
 use Rattle.tbr_model.proofs.prewrap.WordUnderWay.{IsVisibleOrMarker, plain_width, plain_leading, IsReadyForWord, waits, join_ready, again_ready, fresh_ready}
-use Rattle.tbr_model.proofs.prewrap.Entry.{enter_wrap_space, enter_wrap_visible, break_some}
-use Rattle.tbr_model.proofs.rule.Printable.{visible_of}
+use Rattle.tbr_model.proofs.rule.Printable.{visible_of, preserved_space, entered_visible}
 use Rattle.tbr_model.proofs.rule.HardLineStart.{BeginsHardLine}
 use Rattle.tbr_model.proofs.prewrap.WrappedText.{GoesOnFrom, GoesOn, IsOpen, ends_nonblank, ends_append, goes_on_some, ended, begun, on_line, from_some, from_none, begins_after, first_begins, spaces_alone, one_more_space}
 use Rattle.tbr_model.proofs.prewrap.PutText.{trailing_whole, nonblanks, PutsText, ReachesFrom, put_text}
@@ -269,6 +268,9 @@ module _ {A : Type 0} (columns : ℕ → Option ℕ) (width : ℕ) (some : 0 < w
   abbrev ReadsSpace : List (Event A) → Progress A → A → A → Progress A → Type 0
   ReadsSpace es p a b q = WrapsText p (text_ahead p (32 ∷ entry_letters (run_of es))) (end_laid_from (keep_space 32 (tag_of q a b) PreWrap (Some 1) q) es)
 
+  break_some : (p : Progress A) → 0 < items_width columns p.word → break_word columns width p ≡ lay columns width p
+  break_some p takes = rw (lt-ltb _ _ takes) refl
+
   space_read : (es : List (Event A)) (p : Progress A) (a b : A) → IsReadyForWord columns p → IsOpen width (letters_of p.laid.line) →
       ((n : Progress A) → IsReadyForWord columns n → IsOpen width (letters_of n.laid.line) → WrapsText n (text_ahead n (entry_letters (run_of es))) (end_laid_from n es)) →
       ReadsSpace es p a b (break_word columns width p)
@@ -284,7 +286,7 @@ module _ {A : Type 0} (columns : ℕ → Option ℕ) (width : ℕ) (some : 0 < w
           let n : Progress A = spaced q (tag_of q a b) in
           let plain : Each (IsVisibleOrMarker columns) q.word = subst (Each (IsVisibleOrMarker columns)) (sym k.word) tt in
           let rest = later n (waits columns q (tag_of q a b) plain k.columns_are) (inr k.line) in
-          subst (ReadsSpace es p a b) (sym (break_some columns width p (omega (arith, plain_width columns p.word h.plain, some_letters p.word e))))
+          subst (ReadsSpace es p a b) (sym (break_some p (omega (arith, plain_width columns p.word h.plain, some_letters p.word e))))
           (kept q (ap has_character k.word) (space_laid p (tag_of q a b) (entry_letters (run_of es)) (end_laid_from n es) k rest))
       go false e =
           let n : Progress A = spaced p (tag_of p a b) in
@@ -299,21 +301,21 @@ module _ {A : Type 0} (columns : ℕ → Option ℕ) (width : ℕ) (some : 0 < w
       record { lines = k.lines; are = k.are; goes = k.goes; last = k.last }
   wraps_read (entry (marker_entry name) ∷ es) p one modes printable h line = absurd printable.0
   wraps_read (entry (character c a b mode) ∷ es) p one modes printable h line =
-      elim (eqb_tells c 32) [
+      rw (modes.0) (elim (eqb_tells c 32) [
         | inl w ↦
-            subst (λ d. WrapsText p (text_ahead p (d ∷ entry_letters (run_of es))) (flush_word columns width (fold (step columns width) (enter columns width p (character d a b mode)) es)).laid) (sym w.1)
+            subst (λ d. WrapsText p (text_ahead p (d ∷ entry_letters (run_of es))) (flush_word columns width (fold (step columns width) (enter columns width p (character d a b PreWrap)) es)).laid) (sym w.1)
             (subst (λ (r : Progress A). WrapsText p (text_ahead p (32 ∷ entry_letters (run_of es))) (flush_word columns width (fold (step columns width) r es)).laid)
-            (sym (enter_wrap_space columns width a b mode p modes.0 one)) (space_read es p a b h line (λ n ready open_line. wraps_read es n one modes.1 printable.1 ready open_line)))
+            (sym (preserved_space columns width a b PreWrap (break_word columns width p) one)) (space_read es p a b h line (λ n ready open_line. wraps_read es n one modes.1 printable.1 ready open_line)))
         | inr w ↦
             let v = visible_of columns c printable.0 w.1 in
             let n = join c (tag_of p a b) PreWrap p in
             let k = wraps_read es n one modes.1 printable.1 (join_ready columns p c (tag_of p a b) v h) line in
             let text : letters_of n.word ++ entry_letters (run_of es) ≡ letters_of p.word ++ (c ∷ entry_letters (run_of es)) =
             ap (λ cs. cs ++ entry_letters (run_of es)) (letters_of-append p.word (glyph c (tag_of p a b) ∷ [])) ∙ append_assoc (letters_of p.word) (c ∷ []) (entry_letters (run_of es)) in
-            subst (λ (r : Progress A). WrapsText p (text_ahead p (c ∷ entry_letters (run_of es))) (flush_word columns width (fold (step columns width) r es)).laid) (sym (enter_wrap_visible columns width a b mode p modes.0 c v))
+            subst (λ (r : Progress A). WrapsText p (text_ahead p (c ∷ entry_letters (run_of es))) (flush_word columns width (fold (step columns width) r es)).laid) (sym (entered_visible columns width c a b PreWrap p (λ e. cc) v))
             (subst (λ (t : List ℕ). WrapsText p (replicate (pending_width p.space) 32 ++ t) (flush_word columns width (fold (step columns width) n es)).laid) text
             (record { lines = k.lines; are = k.are; goes = k.goes; last = k.last }))
-      ]
+      ])
 
 -- the lines of a hard line, before a newline and at the end of the run
 pub wrapped_line : {A : Type 0} (columns : ℕ → Option ℕ) (width : ℕ) → 0 < width → columns 32 ≡ Some 1 → (p : Progress A) (es : List (Event A)) → BeginsHardLine p → Each (HasMode PreWrap) (run_of es) →

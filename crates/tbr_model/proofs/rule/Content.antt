@@ -10,7 +10,7 @@ use Rattle.tbr_model.specs.Run.{Entry, character, marker_entry, Item, glyph, mar
 use Rattle.tbr_model.specs.Layout.{joined}
 use Rattle.tbr_model.specs.Laid.{Laid, nothing_laid, extended, end_line}
 use Rattle.tbr_model.specs.Rule.{Event, run_of, Progress, is_space_item, is_white_item, without_trailing, trimmed, is_pre, flush_word, newline, step, progress, finished, waiting, lines_of}
-use Rattle.tbr_model.proofs.rule.LaidText.{text, text-extended, text-end_line}
+use Rattle.tbr_model.proofs.rule.LaidText.{text, text-extended, text-end_line, trailing_cases}
 use Rattle.tbr_model.proofs.rule.HardLineStart.{BeginsHardLine}
 use Rattle.tbr_model.proofs.rule.HardLines.{no_character_after_end, flush_flushes}
 use Rattle.tbr_model.proofs.rule.Walk.{KeptByRule, word_flushed, line_ended, run_ended, walked, run_walked}
@@ -76,16 +76,9 @@ module _ {A X : Type 0} {columns : ℕ → Option ℕ} {Comes : Entry A → Type
   space_first (marker name) is h = cc
 
   trailing_same : (is : List (Item A)) → found (without_trailing is) ≡ found is
-  trailing_same [] = refl
-  trailing_same (i ∷ is) = go (without_trailing is) refl (trailing_same is)
-    where
-      after_first : (js : List (Item A)) → found js ≡ found is → found (i ∷ js) ≡ found (i ∷ is)
-      after_first js h = looks.append (i ∷ []) js ∙ ap (λ xs. found (i ∷ []) ++ xs) h ∙ sym (looks.append (i ∷ []) is)
-
-      go : (js : List (Item A)) → without_trailing is ≡ js → found js ≡ found is → found (without_trailing (i ∷ is)) ≡ found (i ∷ is)
-      go [] e h =
-          rw e (cond_both (is_space_item i) _ _ (λ (js : List (Item A)). found js ≡ found (i ∷ is)) (λ s. h ∙ sym (space_first i is s)) (λ _. after_first [] h))
-      go (j ∷ js) e h = rw e (after_first (j ∷ js) h)
+  trailing_same =
+      trailing_cases (λ is js. found js ≡ found is) refl
+      (λ i is js h. looks.append (i ∷ []) js ∙ ap (λ xs. found (i ∷ []) ++ xs) h ∙ sym (looks.append (i ∷ []) is)) (λ i is s h. h ∙ sym (space_first i is s))
 
   -- ---- what is found on the lines that are done and the open one, and in the word
 

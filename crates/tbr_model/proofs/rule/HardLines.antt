@@ -63,10 +63,6 @@ pub restart_after : {A : Type 0} (p : Progress A) → after p.laid.done (restart
 unfolding restart
 restart_after {A} p = ap (λ ls. record p { laid = record p.laid { done = ls } }) (append-nil p.laid.done)
 
-if_break : {A : Type 0} (columns : ℕ → Option ℕ) (width : ℕ) (b : Bool) (p : Progress A) → flush_word columns width (if b then break_word columns width p else p) ≡ flush_word columns width p
-if_break columns width true p = flush_after_break columns width p
-if_break columns width false p = refl
-
 -- in a preserving mode a newline ends the line after the word
 pub enter_newline : {A : Type 0} (columns : ℕ → Option ℕ) (width : ℕ) (p : Progress A) (e : Entry A) → Preserves e → is_newline e ≡ true →
     enter columns width p e ≡ newline (flush_word columns width p)
@@ -74,7 +70,7 @@ enter_newline columns width p (marker_entry name) m h = cc
 enter_newline columns width p (character c a b Normal) m h = absurd (m refl)
 enter_newline {A} columns width p (character c a b Pre) m h = let n : c ≡ 10 = eqb-true c 10 h in rw n refl
 enter_newline {A} columns width p (character c a b PreWrap) m h =
-    let n : c ≡ 10 = eqb-true c 10 h in rw n (ap newline (if_break columns width (is_break 10) p))
+    let n : c ≡ 10 = eqb-true c 10 h in rw n (ap newline (flush_after_break columns width p))
 
 -- ---- hard lines
 

@@ -28,17 +28,14 @@ none_visible columns (marker m ∷ is) h = none_visible columns is h
 pub white_not_visible : (columns : ℕ → Option ℕ) (c : ℕ) → is_whitespace c ≡ true → is_visible columns c ≡ false
 white_not_visible columns c h = and_right (is_kept columns c) (not (is_whitespace c)) (not_from_true (is_whitespace c) h)
 
-hidden : {A : Type 0} (columns : ℕ → Option ℕ) (c : ℕ) (a : A) → is_visible columns c ≡ false → visible_glyphs columns (glyph c a ∷ []) ≡ []
-hidden columns c a h = rw h refl
-
 pub looks_at_characters : {A : Type 0} (columns : ℕ → Option ℕ) (Comes : Entry A → Type 0) (Modes : WhiteSpace → Type 0) → ((c : ℕ) (a b : A) (m : WhiteSpace) → Comes (character c a b m) → Modes m) →
     LooksAtKept columns Comes Modes (visible_glyphs columns)
 looks_at_characters columns Comes Modes modes = record {
   modes = modes;
   append = visible-append columns;
   nothing = refl;
-  lost = λ c a h. hidden columns c a (and_left (is_kept columns c) (not (is_whitespace c)) h);
-  white = λ m c a h. hidden columns c a (white_not_visible columns c h);
+  lost = λ c a h. (let hides : is_visible columns c ≡ false = and_left (is_kept columns c) (not (is_whitespace c)) h in rw hides refl);
+  white = λ m c a h. rw (white_not_visible columns c h) refl;
 }
 
 -- the visible ones among items that stand for entries, where each has a relation to its entry

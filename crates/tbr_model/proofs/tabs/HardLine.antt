@@ -14,7 +14,7 @@ use Rattle.tbr_model.specs.Hard.{HasMode, Preserves, is_newline, letters_of, ent
 use Rattle.tbr_model.proofs.words.Items.{back_has, no_character_no_width, no_letters}
 use Rattle.tbr_model.proofs.rule.BlankLines.{all_preserve}
 use Rattle.tbr_model.proofs.rule.HardLineStart.{BeginsHardLine}
-use Rattle.tbr_model.proofs.rule.Printable.{IsVisible, prepared, entered, preserved_space, preserved_visible, visible_of}
+use Rattle.tbr_model.proofs.rule.Printable.{IsVisible, prepared, entered, preserved_space, entered_visible, visible_of}
 use Rattle.tbr_model.proofs.tabs.FittingText.{HoldsText, lay_fits, laid_letters, flush_reads, prepared_reads, space_reads, continuation_reads, character_reads, character_joins, tab_reads}
 
 -- ---- one entry
@@ -43,12 +43,11 @@ module _ {A : Type 0} (columns : ℕ → Option ℕ) (width : ℕ) (a b : A) (mo
       subst (HoldsText columns (x ++ 32 ∷ [])) (sym (entered columns width 32 a b mode p kept ∙ preserved_space columns width a b mode (prepared columns width 32 mode p) one))
       (space_reads columns (tag_of (prepared columns width 32 mode p) a b) mode x (prepared columns width 32 mode p) one ready)
 
-  pub visible_entered : (c : ℕ) → IsVisible columns c → length x ≤ width →
+  pub visible_entered : (c : ℕ) → IsVisible columns c →
       HoldsText columns (x ++ c ∷ []) (enter columns width p (character c a b mode)) × has_character (enter columns width p (character c a b mode)).word ≡ true
-  visible_entered c v fits =
-      let ready = prepared_reads columns width c mode x p h fits in
-      subst (λ (q : Progress A). HoldsText columns (x ++ c ∷ []) q × has_character q.word ≡ true) (sym (entered columns width c a b mode p kept ∙ preserved_visible columns width c a b mode (prepared columns width c mode p) v))
-      (character_reads columns width c a b mode x (prepared columns width c mode p) v.one ready, character_joins columns width c a b mode (prepared columns width c mode p))
+  visible_entered c v =
+      subst (λ (q : Progress A). HoldsText columns (x ++ c ∷ []) q × has_character q.word ≡ true) (sym (entered_visible columns width c a b mode p kept v))
+      (character_reads columns width c a b mode x p v.one h, character_joins columns width c a b mode p)
 
   abbrev Goal : ℕ → Type 0
   Goal c =
@@ -62,7 +61,7 @@ module _ {A : Type 0} (columns : ℕ → Option ℕ) (width : ℕ) (a b : A) (mo
     | inl w ↦ subst Goal (sym w.1) (space_entered one (omega (arith, fits)), λ v. absurd (v.0 refl))
     | inr w ↦
         let other : (c == 9) ≡ false = ne_eqb c 9 (λ e. absurd (omega (arith, printable.0, e))) in
-        let both = visible_entered c (visible_of columns c printable w.1) (omega (arith, fits)) in
+        let both = visible_entered c (visible_of columns c printable w.1) in
         rw other (both.0, λ _. both.1)
   ]
 

@@ -117,17 +117,13 @@ joined_close : {X : Type 0} (ls : List (List X)) (l : List X) → joined (close 
 joined_close ls [] = sym (append-nil (joined ls))
 joined_close ls (x ∷ l) = joined-append ls ((x ∷ l) ∷ []) ∙ ap (λ r. joined ls ++ r) (append-nil (x ∷ l))
 
-each_close : {X : Type 0} (P : List X → Type 0) (ls : List (List X)) (l : List X) → Each P ls → P l → Each P (close ls l)
+each_close : {X : Type 0} (P : List X → Type 0) (ls : List (List X)) (l : List X) → Each P ls → (0 < length l → P l) → Each P (close ls l)
 each_close P ls [] h p = h
-each_close P ls (x ∷ l) h p = each_append P ls ((x ∷ l) ∷ []) h (p, tt)
-
-full_close : {X : Type 0} (ls : List (List X)) (l : List X) → HasNoEmptyLine ls → HasNoEmptyLine (close ls l)
-full_close ls [] h = h
-full_close ls (x ∷ l) h = each_append (λ l. 0 < length l) ls ((x ∷ l) ∷ []) h ((let p : 0 < length (x ∷ l) = omega arith in p), tt)
+each_close P ls (x ∷ l) h p = each_append P ls ((x ∷ l) ∷ []) h (p (omega arith), tt)
 
 -- the lines, the open one closed, are the best
 pub holds_best : {A : Type 0} (width : ℕ) (slots : List (Slot A)) (lines : Lines A) → HoldsSlots width slots lines → IsBest width slots (close lines.done lines.last)
 holds_best width slots lines h =
     greedy_best width slots (close lines.done lines.last)
-    (record { whole = joined_close lines.done lines.last ∙ h.whole; each = each_close (IsLegalLine width) lines.done lines.last h.each h.legal })
-    (full_close lines.done lines.last h.full) (greedy_close width lines.done lines.last h.closed)
+    (record { whole = joined_close lines.done lines.last ∙ h.whole; each = each_close (IsLegalLine width) lines.done lines.last h.each (λ _. h.legal) })
+    (each_close (λ l. 0 < length l) lines.done lines.last h.full (λ some. some)) (greedy_close width lines.done lines.last h.closed)
