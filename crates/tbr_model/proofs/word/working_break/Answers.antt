@@ -13,21 +13,6 @@ use Rattle.tbr_model.proofs.word.working_break.Goals.{else-works-via-then-works+
 pub loop-place-init : goal.loop-place-init
 loop-place-init g c = (refl, no_break g.W.CharWidth.columns)
 
-pub returns-then-is_break : goal.returns-then-is_break
-returns-then-is_break g c =
-    let es = c.args.entries.now in
-    let i = c.loop-place.place in
-    let e = c.index-entries-place.result in
-    let front = values_front es i in (
-      entry_value e,
-      value_at es i e c.loop-place-test.true c.index-entries-place.is,
-      record {
-        is_break = sym c.is_break.ensures ∙ c.if-is_break.true;
-        works = rw (← front) (sym c.loop-place.invariant.0 ∙ c.if-works.true);
-        none_before = subst (NoBreakWorks g.W.CharWidth.columns) front c.loop-place.invariant.1;
-      },
-    )
-
 pub loop-place-preserved : goal.loop-place-preserved
 loop-place-preserved g c =
     let columns = g.W.CharWidth.columns in
