@@ -1,5 +1,5 @@
 -- The visible characters and the markers of a run keep their order.
-use Rattle.std.proofs.Common.{◌≡◌, ℕ, ◌⊎◌, inl, inr, Bool, true, false, not, Option, List, [], ◌∷◌, ◌++◌, filter, refl, ap, sym, ◌∙◌, subst}
+use Rattle.std.proofs.Common.{◌≡◌, ℕ, ◌⊎◌, inl, inr, false, not, Option, List, [], ◌∷◌, ◌++◌, filter, refl, ap, sym, ◌∙◌, subst}
 use Rattle.std.specs.Char.{is_whitespace}
 use Rattle.std.specs.List.{AllZip}
 use Rattle.std.proofs.lemmas.Bool.{and_left, cases_Bool}

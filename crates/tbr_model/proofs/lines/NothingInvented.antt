@@ -1,5 +1,5 @@
 -- What is on the lines of a run comes from it.
-use Rattle.std.proofs.Common.{◌≡◌, ℕ, inl, inr, ◌==◌, Bool, true, false, not, Option, List, refl}
+use Rattle.std.proofs.Common.{◌≡◌, ℕ, inl, inr, ◌==◌, true, not, Option, List, refl}
 use Rattle.std.specs.List.{Contains}
 use Rattle.std.specs.Prelude.{slice_index_or}
 use Rattle.std.specs.Char.{is_whitespace}

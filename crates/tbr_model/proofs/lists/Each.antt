@@ -1,5 +1,5 @@
 -- What holds of each item of two lists, of one after the other, and of a list under a function.
-use Rattle.std.proofs.Common.{◌≡◌, Bool, true, false, if◌then◌else◌, List, [], ◌∷◌, ◌++◌, map, filter, refl, ap, sym, ◌∙◌, subst, append_assoc, append-nil}
+use Rattle.std.proofs.Common.{◌≡◌, Bool, true, false, if◌then◌else◌, List, [], ◌∷◌, ◌++◌, map, filter, refl, ap, sym, subst, append_assoc, append-nil}
 use Rattle.std.specs.List.{AllZip, AllByRecursion as Each}
 
 pub each_front : {X : Type 0} (P : X → Type 0) (a b : List X) → Each P (a ++ b) → Each P a

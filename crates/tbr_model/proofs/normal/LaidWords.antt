@@ -113,11 +113,14 @@ module _ {A : Type 0} (columns : ℕ → Option ℕ) (width : ℕ) where
       on : (k : Laid A) → put_item columns width (text_of (record { done = done; last = last })) s.item ≡ k →
           put_items columns width (text_of (record { done = done; last = last })) (map (λ t. t.item) (s ∷ ss)) ≡ put_items columns width k (map (λ t. t.item) ss)
       on k same = ap (λ (l : Laid A). put_items columns width l (map (λ t. t.item) ss)) same
+
       long : line_width (last ++ s ∷ []) ≡ line_width last + item_width columns s.item
       long = omega (arith, line_width-one last s h.0.0, h.0.1)
+
       hidden : (l : List (Slot A)) → gap_after l s.gap ≡ None
       hidden [] = refl
       hidden (t ∷ l) = h.0.0
+
       text : line_text (last ++ s ∷ []) ≡ line_text last ++ s.item ∷ []
       text = word_text last s [] tt ∙ ap (λ o. line_text last ++ (gap_text o ++ s.item ∷ [])) (hidden last)
 

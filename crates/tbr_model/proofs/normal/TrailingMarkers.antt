@@ -10,8 +10,8 @@ use Rattle.tbr_model.specs.Rule.{Event, run_of, Progress, lay, progress, finishe
 use Rattle.tbr_model.specs.Hard.{HasMode}
 use Rattle.tbr_model.proofs.words.LinesHaveCharacters.{LastHas, place_characters}
 use Rattle.tbr_model.proofs.normal.LaidWords.{end_if_character_text}
-use Rattle.tbr_model.proofs.normal.StaysLaid.{AllLaid, IsNarrowItem, laid_end_if_character, laid_before_end}
-use Rattle.tbr_model.proofs.normal.LayoutSoFar.{Lined, state_of, lay_narrow, lay_reading, wrapped-push, normal_state}
+use Rattle.tbr_model.proofs.normal.StaysLaid.{AllLaid, IsNarrowItem, laid_before_end}
+use Rattle.tbr_model.proofs.normal.LayoutSoFar.{Lined, state_of, lay_reading, wrapped-push, normal_state}
 
 module _ {A : Type 0} (columns : ℕ → Option ℕ) (width : ℕ) where
   -- where a reading is, with its word laid if it has a character

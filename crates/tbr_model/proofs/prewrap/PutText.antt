@@ -1,10 +1,10 @@
 -- The items of a word of `PreWrap`, put one by one: on which lines its text is.
-use Rattle.std.proofs.Common.{◌≡◌, ◌≢◌, ℕ, ◌+◌, ◌<◌, ◌≤◌, ◌⊎◌, inl, inr, ◌==◌, Bool, true, false, nat_le, Option, List, [], ◌∷◌, ◌++◌, map, length, refl, ap, sym, ◌∙◌, arith, append_assoc, append-nil, length-append, subst, leb-true, leb-false, ne_eqb}
+use Rattle.std.proofs.Common.{◌≡◌, ℕ, ◌+◌, ◌<◌, ◌≤◌, ◌⊎◌, inl, inr, nat_le, Option, List, [], ◌∷◌, ◌++◌, map, length, refl, ap, sym, ◌∙◌, arith, append_assoc, append-nil, length-append, subst, leb-true, leb-false, ne_eqb}
 use Rattle.std.specs.List.{AllByRecursion as Each}
 use Rattle.std.proofs.lemmas.List.{map-append}
 use Rattle.std.proofs.lemmas.Bool.{cases_Bool}
 use Rattle.tbr_model.specs.Run.{Item, glyph, marker}
-use Rattle.tbr_model.specs.Laid.{Laid, extended, end_line, put_item, put_items}
+use Rattle.tbr_model.specs.Laid.{Laid, extended, end_line, put_items}
 use Rattle.tbr_model.specs.Rule.{without_trailing}
 use Rattle.tbr_model.specs.Hard.{letters_of, EndsWithNonBlank, first_stretch, BeginsAfter}
 use Rattle.tbr_model.proofs.lists.Each.{each_append}

@@ -2,10 +2,10 @@
 use Rattle.std.proofs.Common.{◌≡◌, ℕ, ◌&&◌, nat_lt, is_none, Option, Some, None, List, [], ◌∷◌, ◌++◌, fold, refl, ap, sym, ◌∙◌, false, append-nil, append_assoc}
 use Rattle.std.specs.Option.{option_map}
 use Rattle.tbr_model.specs.declared.white_space.WhiteSpace.{WhiteSpace}
-use Rattle.tbr_model.specs.Run.{character, marker_entry, Item, glyph, marker, is_blank, Entry}
+use Rattle.tbr_model.specs.Run.{character, marker_entry, Item, glyph, marker, is_blank}
 use Rattle.tbr_model.specs.Laid.{Laid, put_items}
 use Rattle.tbr_model.specs.Rule.{Event, call, entry, Space, Progress, collapse, newline, tab, preserve, step, finished}
-use Rattle.tbr_model.specs.Mapped.{map_item, map_items, map_lines, map_event, map_space}
+use Rattle.tbr_model.specs.Mapped.{map_item, map_items, map_event, map_space}
 pub use Rattle.tbr_model.proofs.lists.Each.{if_same}
 use Rattle.tbr_model.proofs.lists.Each.{map_same}
 use Rattle.tbr_model.proofs.maps.Rule.{moved_laid, moved, put_items-map, tab-map, preserve-map, step-map, steps-map, finished_moved}

@@ -1,10 +1,10 @@
 -- What holds of one hard line at a time holds of a run of them.
-use Rattle.std.proofs.Common.{◌≡◌, ℕ, ◌+◌, nat_le, nat_lt, Bool, true, false, if◌then◌else◌, Option, List, [], ◌∷◌, ◌++◌, fold, refl, ap, sym, ◌∙◌, subst, append_assoc, append-nil, ltb-true}
+use Rattle.std.proofs.Common.{◌≡◌, ℕ, ◌+◌, nat_le, nat_lt, Bool, true, false, Option, List, [], ◌∷◌, ◌++◌, fold, refl, ap, sym, ◌∙◌, subst, append_assoc, append-nil, ltb-true}
 use Rattle.std.specs.List.{AllByRecursion as Each}
 use Rattle.std.proofs.lemmas.Bool.{cond_both, eqb-true}
 use Rattle.std.proofs.lemmas.List.Sums.{fold-append}
 use Rattle.tbr_model.specs.declared.white_space.WhiteSpace.TheVariants.{Normal, Pre, PreWrap}
-use Rattle.tbr_model.specs.Run.{Entry, character, marker_entry, Item, items_width, has_character, is_break}
+use Rattle.tbr_model.specs.Run.{Entry, character, marker_entry, Item, items_width, has_character}
 use Rattle.tbr_model.specs.Laid.{Laid, end_if_character}
 use Rattle.tbr_model.specs.Rule.{Event, call, entry, run_of, Progress, at_start, wrap_space, pending_width, lay_fresh, lay, flush_word, break_word, newline, enter, step, finished, lines_of}
 use Rattle.tbr_model.specs.Hard.{Preserves, is_newline, onto_first, hard_lines, Parted}

@@ -3,7 +3,7 @@ use Rattle.std.proofs.Common.{◌≡◌, ℕ, ◌+◌, nat_le, ◌==◌, false, 
 use Rattle.std.proofs.lemmas.Bool.{cond_both}
 use Rattle.std.proofs.lemmas.List.Elements.{filter-append}
 use Rattle.tbr_model.specs.Rule.{is_space_item, without_trailing}
-use Rattle.tbr_model.specs.Run.{Item, glyph, item_width, is_kept, has_character}
+use Rattle.tbr_model.specs.Run.{Item, item_width, is_kept, has_character}
 use Rattle.tbr_model.specs.Layout.{joined}
 use Rattle.tbr_model.specs.Laid.{Laid, extended, end_line, end_if_character, end_if_columns, put_item, put_items}
 use Rattle.tbr_model.specs.Hard.{letters_of}
@@ -63,4 +63,3 @@ kept-append columns a b = ap (filter (is_kept columns)) (letters_of-append a b) 
 
 pub none_kept : {A : Type 0} (columns : ℕ → Option ℕ) (is : List (Item A)) → has_character is ≡ false → kept_of columns is ≡ []
 none_kept columns is h = ap (λ gs. filter (is_kept columns) (map (λ g. g.0) gs)) (no_glyphs is h)
-

@@ -1,5 +1,5 @@
 -- A block shows the visible characters of its run once, in order.
-use Rattle.std.proofs.Common.{◌≡◌, ℕ, ◌⊎◌, inl, inr, Bool, true, false, not, Option, List, [], ◌∷◌, ◌++◌, filter, fold, refl, ap, ◌∙◌, arith, length-append}
+use Rattle.std.proofs.Common.{◌≡◌, ℕ, ◌⊎◌, inl, inr, true, false, not, Option, List, [], ◌∷◌, ◌++◌, filter, fold, refl, ap, ◌∙◌, arith, length-append}
 use Rattle.std.specs.List.{AllZip, AllByRecursion as Each}
 use Rattle.std.specs.Char.{is_whitespace}
 use Rattle.std.proofs.lemmas.Bool.{and_left, and_right, not_from_true, cases_Bool}

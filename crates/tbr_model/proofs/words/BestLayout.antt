@@ -3,7 +3,7 @@ use Rattle.std.proofs.Common.{◌≡◌, ℕ, ◌+◌, ◌<◌, ◌≤◌, Bool,
 use Rattle.std.specs.List.{AllByRecursion as Each}
 use Rattle.std.proofs.lemmas.Bool.{cond_both}
 use Rattle.tbr_model.specs.Run.{Item, item_width, items_width, Word}
-use Rattle.tbr_model.specs.Layout.{Slot, slot_of, word_slots, joined, line_width, rest_width, MayFollow, FirstMayBegin, IsLegalLine, HasNoEmptyLine, IsBest}
+use Rattle.tbr_model.specs.Layout.{Slot, slot_of, word_slots, joined, line_width, rest_width, MayFollow, FirstMayBegin, IsLegalLine, IsBest}
 use Rattle.tbr_model.proofs.lists.Joined.{joined-append}
 use Rattle.tbr_model.proofs.lists.Each.{each_append}
 use Rattle.tbr_model.proofs.layouts.Ahead.{line_width_back, greedy_best}

@@ -1,9 +1,9 @@
 -- The words of a run hold its kept items, and which runs have a legal layout.
-use Rattle.std.proofs.Common.{◌≡◌, ℕ, ◌≤◌, Bool, true, false, nat_lt, if◌then◌else◌, Option, None, List, [], ◌∷◌, ◌++◌, map, fold, flat_map, refl, ap, sym, ◌∙◌, arith, append_assoc, append-nil, subst, inl, inr}
+use Rattle.std.proofs.Common.{◌≡◌, ℕ, ◌≤◌, Bool, true, false, nat_lt, Option, None, List, [], ◌∷◌, ◌++◌, map, fold, flat_map, refl, ap, sym, ◌∙◌, arith, append_assoc, append-nil, subst, inl, inr}
 use Rattle.std.specs.List.{AllByRecursion as Each}
 use Rattle.std.proofs.lemmas.Bool.{cond_both, and_parts, cases_Bool}
 use Rattle.std.proofs.lemmas.List.Concat.{flat_map-append}
-use Rattle.tbr_model.specs.Run.{Entry, character, marker_entry, Item, item_width, items_width, items_of, kept_items, is_kept, is_break_entry, has_character, Word, word_of, Reading, start, works, read, reading, words_of, trailing}
+use Rattle.tbr_model.specs.Run.{Entry, character, marker_entry, Item, item_width, items_width, items_of, kept_items, is_kept, is_break_entry, has_character, Word, Reading, start, works, read, reading, words_of, trailing}
 use Rattle.tbr_model.specs.Layout.{Slot, slot_of, word_slots, slots_of, joined, line_width, rest_width, IsLegalLine, IsLegal, IsBest}
 use Rattle.tbr_model.proofs.lists.Each.{each_front, each_back, each_append}
 use Rattle.tbr_model.specs.Greedy.{close, wrapped, IsNarrow}

@@ -94,32 +94,32 @@ place_characters {A} columns width lines gap (i ∷ is) h k some narrow =
     (λ _. (h, last_has (lines.last ++ slots) (back_has lines.last slots word_has)))
     (λ full. cond_both wider _ _ (λ (q : Lines A). Each HasGlyph q.done × LastHas q.last)
     (λ _. filled) (λ not_wider. (each_append HasGlyph lines.done (lines.last ∷ []) h (open_has lines.last k (leb-false _ _ full) (ltb-false _ _ not_wider), tt), word_has)))
-      where
-        wider : Bool
-        wider = nat_lt width (items_width columns (i ∷ is))
+  where
+    wider : Bool
+    wider = nat_lt width (items_width columns (i ∷ is))
 
-        first : Slot A
-        first = slot_of columns wider gap true i
+    first : Slot A
+    first = slot_of columns wider gap true i
 
-        rest : List (Slot A)
-        rest = map (slot_of columns wider None false) is
+    rest : List (Slot A)
+    rest = map (slot_of columns wider None false) is
 
-        slots : List (Slot A)
-        slots = first ∷ rest
+    slots : List (Slot A)
+    slots = first ∷ rest
 
-        word_has : HasGlyph slots
-        word_has = ap (λ js. has_character (i ∷ js)) (items_within columns wider is) ∙ some
+    word_has : HasGlyph slots
+    word_has = ap (λ js. has_character (i ∷ js)) (items_within columns wider is) ∙ some
 
-        filled : (let r = fill width (close lines.done lines.last) [] slots in Each HasGlyph r.done × LastHas r.last)
-        filled =
-            let fits : nat_le (line_width ([] ++ first ∷ [])) width ≡ true = le-leb _ _ (omega (arith, narrow.0)) in
-            let both = fill_characters columns width (close lines.done lines.last) (first ∷ []) rest (each_close lines.done lines.last h k) (inner_slots columns width wider is narrow.1) (omega (arith, narrow.0))
-            (λ none. omega (arith, one_width columns first refl none)) word_has in
-            rw fits (both.0, last_has (fill width (close lines.done lines.last) (first ∷ []) rest).last both.1)
+    filled : (let r = fill width (close lines.done lines.last) [] slots in Each HasGlyph r.done × LastHas r.last)
+    filled =
+        let fits : nat_le (line_width ([] ++ first ∷ [])) width ≡ true = le-leb _ _ (omega (arith, narrow.0)) in
+        let both = fill_characters columns width (close lines.done lines.last) (first ∷ []) rest (each_close lines.done lines.last h k) (inner_slots columns width wider is narrow.1) (omega (arith, narrow.0))
+        (λ none. omega (arith, one_width columns first refl none)) word_has in
+        rw fits (both.0, last_has (fill width (close lines.done lines.last) (first ∷ []) rest).last both.1)
 
-        open_has : (l : List (Slot A)) → LastHas l → width < line_width (l ++ slots) → items_width columns (i ∷ is) ≤ width → HasGlyph l
-        open_has [] p wide narrow = absurd (omega (arith, wide, narrow, rest_width_within columns wider is))
-        open_has (s ∷ l) p wide narrow = p
+    open_has : (l : List (Slot A)) → LastHas l → width < line_width (l ++ slots) → items_width columns (i ∷ is) ≤ width → HasGlyph l
+    open_has [] p wide narrow = absurd (omega (arith, wide, narrow, rest_width_within columns wider is))
+    open_has (s ∷ l) p wide narrow = p
 
 fold_characters : {A : Type 0} (columns : ℕ → Option ℕ) (width : ℕ) (words : List (Word A)) (lines : Lines A) → Each HasGlyph lines.done → LastHas lines.last →
     Each (λ w. has_character w.items ≡ true) words → Each (λ w. IsNarrow columns width w.items) words →

@@ -1,7 +1,5 @@
-use Rattle.std.proofs.Common.{◌≡◌, suc, take, take_all, refl, arith, add-one}
-use Rattle.tbr_model.specs.Layout.{rest_width}
-use Rattle.tbr_model.specs.Slot.{slot_values}
-use Rattle.tbr_model.proofs.layouts.StoredSlots.{rest_width_more, rest_width_front, gap_byte, line_width_whole}
+use Rattle.std.proofs.Common.{arith, add-one}
+use Rattle.tbr_model.proofs.layouts.StoredSlots.{rest_width_more, gap_byte}
 use Rattle.tbr_model.proofs.layout.line_width.Goals as goal
 
 pub loop-slot-preserved : goal.loop-slot-preserved

@@ -1,12 +1,12 @@
-use Rattle.std.proofs.Common.{◌||◌, IsTrue, refl, ap, sym, ◌∙◌, subst, take}
+use Rattle.std.proofs.Common.{◌||◌, IsTrue, refl, ap, sym, ◌∙◌, take}
 use Rattle.std.specs.List.{list_any}
 use Rattle.std.proofs.lemmas.Bool.{or_right}
 use Rattle.tbr_model.specs.Run.{is_break_entry}
-use Rattle.tbr_model.specs.Regions.{takes_columns, HasColumns, NoBreakWorks}
+use Rattle.tbr_model.specs.Regions.{takes_columns, HasColumns}
 use Rattle.tbr_model.specs.Entry.{entry_value, entry_values}
 use Rattle.tbr_model.proofs.words.Regions.{no_break, longer_rest}
 use Rattle.std.proofs.Math.Bool.{or-false}
-use Rattle.tbr_model.proofs.words.StoredEntries.{list_any_more, values_more, value_at, values_front}
+use Rattle.tbr_model.proofs.words.StoredEntries.{list_any_more, values_more}
 use Rattle.tbr_model.proofs.word.working_break.Goals as goal
 use Rattle.tbr_model.proofs.word.working_break.Goals.{else-works-via-then-works+else-is_break, else-works-via-else-works, then-takes_columns, else-takes_columns}
 
