@@ -1,6 +1,5 @@
 -- Runs of `PreWrap` mode.
 pub mod Stretches
-pub mod WordUnderWay
 pub mod WrappedText
 pub mod PutText
 pub mod WrappedLines

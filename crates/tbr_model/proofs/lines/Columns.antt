@@ -12,10 +12,9 @@ use Rattle.tbr_model.specs.Rule.{Event, run_of, Progress, without_trailing, prog
 use Rattle.tbr_model.specs.Hard.{is_visible, letters_of}
 use Rattle.tbr_model.specs.Shown.{shows_columns, run_shows_columns, HasColumns}
 use Rattle.tbr_model.proofs.words.Items.{letters_of-append}
-use Rattle.tbr_model.proofs.rule.Content.{LooksAtKept, AnyEntry, AnyMode, StandsFor, by_entry, found_under_way}
+use Rattle.tbr_model.proofs.rule.Content.{LooksAtKept, AnyEntry, AnyMode, StandsFor, by_entry, found_under_way, passing, passing-append, looks_at_passing}
 use Rattle.tbr_model.proofs.rule.LaidText.{text}
 use Rattle.tbr_model.proofs.rule.Walk.{KeptByRule, any_entries, run_walked}
-use Rattle.tbr_model.proofs.lines.Passing.{passing, passing-append, looks_at_passing}
 
 module _ {A : Type 0} (columns : ℕ → Option ℕ) where
   -- the visible characters of items that take columns, and the markers

@@ -10,10 +10,9 @@ use Rattle.tbr_model.specs.Rule.{Event, run_of, is_space_item, progress, waiting
 use Rattle.tbr_model.specs.Hard.{HasMode}
 use Rattle.tbr_model.specs.Shown.{without_spaces}
 use Rattle.tbr_model.proofs.words.Items.{break_lost}
-use Rattle.tbr_model.proofs.rule.Content.{StandsFor, by_entry, found_at_end}
+use Rattle.tbr_model.proofs.rule.Content.{StandsFor, by_entry, found_at_end, item_passes, passing, passing-append, markers_pass}
 use Rattle.tbr_model.proofs.rule.Walk.{MayJoin}
 use Rattle.tbr_model.proofs.rule.Markers.{waiting_none}
-use Rattle.tbr_model.proofs.lines.Passing.{item_passes, passing, passing-append, markers_pass}
 use Rattle.tbr_model.proofs.lines.WaitingMarkers.{IsNormalMode, looks_at_kept}
 use Rattle.tbr_model.proofs.lines.EachItem.{Brings, each_on_lines}
 

@@ -11,11 +11,10 @@ use Rattle.tbr_model.specs.Layout.{joined}
 use Rattle.tbr_model.specs.Rule.{Event, run_of, progress, waiting, lines_of}
 use Rattle.tbr_model.specs.Markers.{names_in_items, marked_after, names_after}
 use Rattle.tbr_model.specs.Hard.{HasMode, is_visible}
-use Rattle.tbr_model.proofs.rule.Content.{LooksAtKept, AnyEntry, AnyMode, StandsFor, by_entry, found_at_end}
+use Rattle.tbr_model.proofs.rule.Content.{LooksAtKept, AnyEntry, AnyMode, StandsFor, by_entry, found_at_end, passing, looks_at_passing}
 use Rattle.tbr_model.proofs.rule.Walk.{any_entries}
 use Rattle.tbr_model.proofs.rule.VisibleCharacters.{white_not_visible}
 use Rattle.tbr_model.proofs.rule.Markers.{waiting_none}
-use Rattle.tbr_model.proofs.lines.Passing.{passing, looks_at_passing}
 
 -- ---- tests
 

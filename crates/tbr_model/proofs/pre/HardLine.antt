@@ -1,22 +1,44 @@
 -- What a block shows of one hard line of Pre.
-use Rattle.std.proofs.Common.{◌≡◌, ℕ, suc, ◌+◌, ◌<◌, ◌≤◌, nat_le, Bool, true, false, Option, Some, None, List, [], ◌∷◌, ◌++◌, map, filter, fold, length, refl, ap, sym, ◌∙◌, arith, subst, le-leb}
-use Rattle.std.specs.List.{AllByRecursion as Each}
-use Rattle.std.proofs.lemmas.Bool.{true_from_ne_false}
+use Rattle.std.proofs.Common.{◌≡◌, ℕ, if◌then◌else◌, Option, List, ◌∷◌, filter, fold, refl, ap, ◌∙◌, suc, ◌+◌, ◌<◌, ◌≤◌, nat_le, Bool, true, false, Some, None, [], ◌++◌, map, length, sym, arith, subst, le-leb}
+use Rattle.std.specs.List.{AllZip, AllByRecursion as Each}
+use Rattle.tbr_model.specs.declared.white_space.WhiteSpace.{WhiteSpace}
 use Rattle.tbr_model.specs.declared.white_space.WhiteSpace.TheVariants.{Pre}
-use Rattle.tbr_model.specs.Run.{Entry, character, marker_entry, Item, items_width, has_character, is_kept}
+use Rattle.tbr_model.specs.Run.{Entry, Item, is_kept, character, marker_entry, items_width, has_character}
 use Rattle.tbr_model.specs.Layout.{joined}
-use Rattle.tbr_model.specs.Laid.{Laid, end_line, end_if_character}
-use Rattle.tbr_model.specs.Rule.{Event, run_of, Space, Progress, pending_width, space_text, flush_word, newline, finished, step}
-use Rattle.tbr_model.specs.Hard.{HasMode, is_newline, glyphs_of, letters_of, entry_letters, IsPrintableEntry, IsPrintableLine, IsSpaces, BeginsWithNonBlank, IsCutEvery, blank_lines, ShowsPre}
-use Rattle.tbr_model.proofs.words.Items.{back_has}
+use Rattle.tbr_model.specs.Rule.{Event, run_of, Progress, flush_word, step, newline, finished, Space, pending_width, space_text}
+use Rattle.tbr_model.specs.Hard.{HasMode, entry_letters, is_newline, glyphs_of, letters_of, IsPrintableEntry, IsPrintableLine, IsSpaces, BeginsWithNonBlank, IsCutEvery, blank_lines, ShowsPre}
 use Rattle.tbr_model.proofs.rule.HardLineStart.{BeginsHardLine}
-use Rattle.tbr_model.proofs.rule.LaidText.{joined-end_line}
+use Rattle.tbr_model.proofs.rule.LaidText.{kept_of, kept-append, none_kept, joined-end_line}
+use Rattle.tbr_model.proofs.rule.Content.{LooksAtKept, StandsFor, by_entry, found_from}
+use Rattle.std.proofs.lemmas.Bool.{true_from_ne_false}
+use Rattle.tbr_model.specs.Laid.{Laid, end_line, end_if_character}
+use Rattle.tbr_model.proofs.words.Items.{back_has}
 use Rattle.tbr_model.proofs.rule.BlankLines.{blank_line_of}
 use Rattle.tbr_model.proofs.prewrap.OneWay.{begins_not_spaces}
-use Rattle.tbr_model.proofs.pre.KeptCharacters.{pre_kept}
 use Rattle.tbr_model.proofs.pre.WaitingWord.{HasNothingLaid, waiting, waiting_length, WaitsWith, line_waits, fresh_plain, fresh_waiting}
 use Rattle.tbr_model.proofs.pre.CutWord.{IsCutOn, cut_laid}
 use Rattle.tbr_model.proofs.pre.Tags.{IsTagged, tagged_main, tagged_continuation, pre_tags}
+
+abbrev IsPre : WhiteSpace → Type 0
+IsPre mode = mode ≡ Pre
+
+looks_at_kept : {A : Type 0} (columns : ℕ → Option ℕ) → LooksAtKept {A = A} columns (HasMode Pre) IsPre (kept_of columns)
+looks_at_kept columns = record { modes = λ c a b m h. h; append = kept-append columns; nothing = refl; lost = λ c a h. rw h refl; white = λ m c a h. cc }
+
+-- the kept ones among items that stand for entries
+kept_alike : {A : Type 0} (columns : ℕ → Option ℕ) (is : List (Item A)) (es : List (Entry A)) → AllZip (StandsFor IsPre) is es → kept_of columns is ≡ filter (is_kept columns) (entry_letters es)
+kept_alike columns =
+    by_entry IsPre (λ is es. kept_of columns is ≡ filter (is_kept columns) (entry_letters es)) refl
+    (λ c x a b m is es either rest. ap (λ cs. if is_kept columns c then c ∷ cs else cs) rest) (λ name is es rest. rest)
+
+-- the kept characters of a hard line's own lines are its own, before a newline and at the end
+pub pre_kept : {A : Type 0} (columns : ℕ → Option ℕ) (width : ℕ) (p : Progress A) (es : List (Event A)) → BeginsHardLine p → Each (HasMode Pre) (run_of es) →
+    let q = fold (step columns width) p es in
+    let ks = filter (is_kept columns) (entry_letters (run_of es)) in
+    (kept_of columns (joined (newline (flush_word columns width q)).laid.done) ≡ ks) × (kept_of columns (joined (finished columns width q).done) ≡ ks)
+pre_kept columns width p es f pre =
+    let (ended, finished) = found_from (looks_at_kept columns) (none_kept columns) width p es f (λ _. refl) pre in
+    (ended.are ∙ kept_alike columns ended.items (run_of es) ended.stand, finished.are ∙ kept_alike columns finished.items (run_of es) finished.stand)
 
 -- ---- one line
 

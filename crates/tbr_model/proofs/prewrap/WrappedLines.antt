@@ -11,12 +11,11 @@ use Rattle.tbr_model.specs.Rule.{Event, call, entry, run_of, Progress, Space, pe
 use Rattle.tbr_model.specs.Hard.{HasMode, letters_of, entry_letters, IsPrintableLine, IsSpaces, EndsWithNonBlank, IsWrapped}
 use Rattle.tbr_model.proofs.rule.BlankLines.{not_broken}
 use Rattle.tbr_model.proofs.words.Items.{letters_of-append, some_letters, has_letters, no_letters, no_character_no_width, WaitsIn, pending_width-of}
-use Rattle.tbr_model.proofs.tabs.FittingText.{laid_letters}
-use Rattle.tbr_model.proofs.prewrap.WordUnderWay.{IsVisibleOrMarker, plain_width, plain_leading, IsReadyForWord, waits, join_ready, again_ready, fresh_ready}
+use Rattle.tbr_model.proofs.tabs.HardLine.{laid_letters}
 use Rattle.tbr_model.proofs.rule.Printable.{visible_of, preserved_space, entered_visible}
 use Rattle.tbr_model.proofs.rule.HardLineStart.{BeginsHardLine}
 use Rattle.tbr_model.proofs.prewrap.WrappedText.{GoesOnFrom, GoesOn, IsOpen, ends_nonblank, ends_append, goes_on_some, ended, begun, on_line, from_some, from_none, begins_after, first_begins, spaces_alone, one_more_space}
-use Rattle.tbr_model.proofs.prewrap.PutText.{trailing_whole, nonblanks, PutsText, ReachesFrom, put_text}
+use Rattle.tbr_model.proofs.prewrap.PutText.{trailing_whole, nonblanks, PutsText, ReachesFrom, put_text, IsVisibleOrMarker, plain_width, plain_leading, IsReadyForWord, waits, join_ready, again_ready, fresh_ready}
 
 module _ {A : Type 0} (columns : ℕ → Option ℕ) (width : ℕ) (some : 0 < width) where
   -- ---- a word

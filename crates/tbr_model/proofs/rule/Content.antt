@@ -1,6 +1,6 @@
 -- What is found in a run's items, for any way to look at them that passes over characters that aren't kept. The rule
 -- keeps it, in order.
-use Rattle.std.proofs.Common.{◌≡◌, ℕ, ◌⊎◌, inl, true, false, List, Option, [], ◌∷◌, ◌++◌, fold, refl, ap, sym, ◌∙◌, append_assoc, append-nil}
+use Rattle.std.proofs.Common.{◌≡◌, ℕ, ◌⊎◌, inl, true, false, List, Option, [], ◌∷◌, ◌++◌, fold, refl, ap, sym, ◌∙◌, append_assoc, append-nil, Bool, filter}
 use Rattle.std.specs.Char.{is_whitespace}
 use Rattle.std.specs.List.{AllZip, AllByRecursion as Each}
 use Rattle.std.proofs.lemmas.Bool.{eqb-true}
@@ -15,6 +15,7 @@ use Rattle.tbr_model.proofs.rule.HardLineStart.{BeginsHardLine}
 use Rattle.tbr_model.proofs.rule.HardLines.{no_character_after_end, flush_flushes}
 use Rattle.tbr_model.proofs.rule.Walk.{KeptByRule, word_flushed, line_ended, run_ended, walked, run_walked}
 use Rattle.tbr_model.proofs.words.Items.{break_lost}
+use Rattle.std.proofs.lemmas.List.Elements.{filter-append}
 
 -- ---- ways to look at items
 
@@ -176,3 +177,30 @@ module _ {A X : Type 0} {columns : ℕ → Option ℕ} {Comes : Entry A → Type
           lines_alone (run_of es) (newline r).laid r.word refl (flush_flushes columns width q) (line_ended (finds width) (run_of es) r (word_flushed (finds width) (run_of es) q s)).laid,
           lines_alone (run_of es) (finished columns width q) r.word (no_character_after_end r.laid) (flush_flushes columns width q) (run_ended (finds width) (run_of es) q s),
         )
+
+-- a marker, or a character that passes the test
+abbrev pub item_passes : {A : Type 0} → (ℕ → Bool) → Item A → Bool
+item_passes test (glyph c a) = test c
+item_passes test (marker name) = true
+
+abbrev pub passing : {A : Type 0} → (ℕ → Bool) → List (Item A) → List (Item A)
+passing test is = filter (item_passes test) is
+
+pub passing-append : {A : Type 0} (test : ℕ → Bool) (is js : List (Item A)) → passing test (is ++ js) ≡ passing test is ++ passing test js
+passing-append test is js = filter-append (item_passes test) is js
+
+pub looks_at_passing : {A : Type 0} (columns : ℕ → Option ℕ) (Comes : Entry A → Type 0) (Modes : WhiteSpace → Type 0) (test : ℕ → Bool) → ((c : ℕ) (a b : A) (m : WhiteSpace) → Comes (character c a b m) → Modes m) →
+    ((c : ℕ) → is_kept columns c ≡ false → test c ≡ false) → (Modes PreWrap → (c : ℕ) → is_whitespace c ≡ true → test c ≡ false) → LooksAtKept columns Comes Modes (passing test)
+looks_at_passing columns Comes Modes test modes lost white = record {
+  modes = modes;
+  append = passing-append test;
+  nothing = refl;
+  lost = λ c a h. rw (lost c h) refl;
+  white = λ m c a h. rw (white m c h) refl;
+}
+
+-- items that have no character all pass
+pub markers_pass : {A : Type 0} (test : ℕ → Bool) (is : List (Item A)) → has_character is ≡ false → passing test is ≡ is
+markers_pass test [] h = refl
+markers_pass test (glyph c a ∷ is) h = cc
+markers_pass test (marker name ∷ is) h = ap (λ js. marker name ∷ js) (markers_pass test is h)

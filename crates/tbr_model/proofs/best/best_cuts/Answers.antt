@@ -2,9 +2,8 @@ use Rattle.std.proofs.Common.{◌≡◌, ◌+◌, ◌-◌, length, take, drop, l
 use Rattle.std.proofs.lemmas.List.{length-map}
 use Rattle.tbr_model.specs.Longest.{TellsRests}
 use Rattle.tbr_model.specs.Slot.{slot_value, slot_values}
-use Rattle.tbr_model.proofs.layouts.LongestLines.{tells_later}
+use Rattle.tbr_model.proofs.layouts.LongestLines.{tells_later, last_cut}
 use Rattle.tbr_model.proofs.layouts.StoredSlots.{slot_values_rest}
-use Rattle.tbr_model.proofs.layouts.BestCuts.{last_cut}
 use Rattle.tbr_model.proofs.best.best_cuts.Goals as goal
 
 pub longest_line-requires : goal.longest_line-requires
