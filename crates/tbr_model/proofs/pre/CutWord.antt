@@ -9,7 +9,7 @@ use Rattle.tbr_model.specs.Rule.{Progress, pending_width, wrap_space, lay_fresh,
 use Rattle.tbr_model.specs.Hard.{letters_of, IsCutEvery}
 use Rattle.tbr_model.proofs.words.Items.{letters_of-append, some_letters, has_letters}
 use Rattle.tbr_model.proofs.rule.LaidText.{text, text-put_items}
-use Rattle.tbr_model.proofs.pre.WaitingWord.{IsUnit, units_width, HasNothingLaid}
+use Rattle.tbr_model.proofs.pre.WaitingWord.{IsUnit, units_width, Waits}
 
 -- ---- items of one column for each character, one by one
 
@@ -84,13 +84,13 @@ pub record IsCutOn {A : Type 0} (width : ℕ) (is : List (Item A)) (l : Laid A) 
   pub last : has_character l.line ≡ true
   pub whole : text l ≡ is
 
-pub cut_laid : {A : Type 0} (columns : ℕ → Option ℕ) (width : ℕ) (q : Progress A) → 0 < width → HasNothingLaid columns q → q.space ≡ None → has_character q.word ≡ true → IsCutOn width q.word (flush_word columns width q).laid
-cut_laid {A} columns width q wide h none some =
+pub cut_laid : {A : Type 0} (columns : ℕ → Option ℕ) (width : ℕ) (x : List ℕ) (q : Progress A) → 0 < width → Waits columns x q → q.space ≡ None → has_character q.word ≡ true → IsCutOn width q.word (flush_word columns width q).laid
+cut_laid {A} columns width x q wide h none some =
     rw some
     (cond_both (nat_le (q.laid.width + (pending_width q.space + items_width columns q.word)) width) _ _ (λ (r : Progress A). IsCutOn width q.word r.laid)
     (λ e.
     let length_fits : length (letters_of q.word) ≤ width = omega (arith, leb-true _ _ e, units_width columns q.word h.units) in
-    rw (h.done, h.line, none) (record { cut = (refl, some_letters q.word some, length_fits); last = some; whole = refl }))
+    rw (h.text.done, h.line, none) (record { cut = (refl, some_letters q.word some, length_fits); last = some; whole = refl }))
     (λ _. subst (λ (m : Laid A). IsCutOn width q.word m) (sym laid) over))
   where
     laid : (lay_fresh columns width (wrap_space columns width q q.space)).laid ≡ put_items columns width q.laid q.word
@@ -100,11 +100,11 @@ cut_laid {A} columns width q wide h none some =
     over =
         let before : letters_of q.laid.line ≡ [] = ap letters_of h.line in
         let all : letters_of q.laid.line ++ letters_of q.word ≡ letters_of q.word = ap (λ cs. cs ++ letters_of q.word) before in
-        let k = put_cut columns width q.word q.laid wide h.units (h.width ∙ sym (ap length before)) (omega (arith, h.width)) (rw all (some_letters q.word some)) in
+        let k = put_cut columns width q.word q.laid wide h.units h.text.width (omega (arith, h.text.width, ap length before)) (rw all (some_letters q.word some)) in
         let r = put_items columns width q.laid q.word in
-        let done : r.done ≡ k.lines = k.done ∙ ap (λ ls. ls ++ k.lines) h.done in
+        let done : r.done ≡ k.lines = k.done ∙ ap (λ ls. ls ++ k.lines) h.text.done in
         record {
           cut = rw done (subst (λ (cs : List ℕ). IsCutEvery width cs (map letters_of (k.lines ++ r.line ∷ []))) all k.cut);
           last = has_letters r.line k.some;
-          whole = text-put_items columns width q.word q.laid ∙ rw (h.done, h.line) refl;
+          whole = text-put_items columns width q.word q.laid ∙ rw (h.text.done, h.line) refl;
         }

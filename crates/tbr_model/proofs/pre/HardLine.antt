@@ -1,6 +1,7 @@
 -- What a block shows of one hard line of Pre.
-use Rattle.std.proofs.Common.{◌≡◌, ℕ, if◌then◌else◌, Option, List, ◌∷◌, filter, fold, refl, ap, ◌∙◌, suc, ◌+◌, ◌<◌, ◌≤◌, nat_le, Bool, true, false, Some, None, [], ◌++◌, map, length, sym, arith, subst, le-leb}
+use Rattle.std.proofs.Common.{◌≡◌, ℕ, if◌then◌else◌, Option, List, ◌∷◌, filter, fold, refl, ap, ◌∙◌, suc, ◌+◌, ◌<◌, ◌≤◌, nat_le, Bool, true, false, Some, None, [], ◌++◌, map, length, sym, arith, subst, le-leb, replicate}
 use Rattle.std.specs.List.{AllZip, AllByRecursion as Each}
+use Rattle.tbr_model.proofs.tabs.HardLine.{IsLine, end_reads}
 use Rattle.tbr_model.specs.declared.white_space.WhiteSpace.{WhiteSpace}
 use Rattle.tbr_model.specs.declared.white_space.WhiteSpace.TheVariants.{Pre}
 use Rattle.tbr_model.specs.Run.{Entry, Item, is_kept, character, marker_entry, items_width, has_character}
@@ -15,7 +16,7 @@ use Rattle.tbr_model.specs.Laid.{Laid, end_line, end_if_character}
 use Rattle.tbr_model.proofs.words.Items.{back_has}
 use Rattle.tbr_model.proofs.rule.BlankLines.{blank_line_of}
 use Rattle.tbr_model.proofs.prewrap.OneWay.{begins_not_spaces}
-use Rattle.tbr_model.proofs.pre.WaitingWord.{HasNothingLaid, waiting, waiting_length, WaitsWith, line_waits, fresh_plain, fresh_waiting}
+use Rattle.tbr_model.proofs.pre.WaitingWord.{Waits, line_waits, fresh_waits}
 use Rattle.tbr_model.proofs.pre.CutWord.{IsCutOn, cut_laid}
 use Rattle.tbr_model.proofs.pre.Tags.{IsTagged, tagged_main, tagged_continuation, pre_tags}
 
@@ -40,19 +41,6 @@ pre_kept columns width p es f pre =
     let (ended, finished) = found_from (looks_at_kept columns) (none_kept columns) width p es f (λ _. refl) pre in
     (ended.are ∙ kept_alike columns ended.items (run_of es) ended.stand, finished.are ∙ kept_alike columns finished.items (run_of es) finished.stand)
 
--- ---- one line
-
--- these lines are those before a newline, and the open line has a character
-record IsShownBy {A : Type 0} (ls : List (List ℕ)) (l : Laid A) : Type 0 where
-  same : map letters_of (end_line l).done ≡ ls
-  last : has_character l.line ≡ true
-
--- what waits is on one line, where it fits
-fitting : {A : Type 0} (columns : ℕ → Option ℕ) (width : ℕ) (q : Progress A) → HasNothingLaid columns q → has_character q.word ≡ true → length (waiting q) ≤ width → IsShownBy (waiting q ∷ []) (flush_word columns width q).laid
-fitting columns width q h some fits =
-    let test : nat_le (q.laid.width + (pending_width q.space + items_width columns q.word)) width ≡ true = le-leb _ _ (omega (arith, fits, h.width, waiting_length columns q h)) in
-    rw (some, test, h.done, h.line) (record { same = refl; last = back_has (space_text q.space) q.word some })
-
 printable_length : {A : Type 0} (columns : ℕ → Option ℕ) (h : List (Entry A)) → Each (IsPrintableEntry columns) h → length (entry_letters h) ≡ length h
 printable_length columns [] printable = refl
 printable_length columns (character c a b m ∷ h) printable = ap suc (printable_length columns h printable.1)
@@ -71,24 +59,19 @@ module _ {A : Type 0} (columns : ℕ → Option ℕ) (width : ℕ) (p : Progress
   abbrev laid : Laid A
   laid = (flush_word columns width q).laid
 
-  waits : IsPrintableLine columns (run_of es) → WaitsWith columns p q (entry_letters (run_of es))
-  waits printable = line_waits columns width es p one_space (fresh_plain columns p f) pre printable
-
-  all_waiting : IsPrintableLine columns (run_of es) → waiting q ≡ entry_letters (run_of es)
-  all_waiting printable = (waits printable).waiting ∙ ap (λ cs. cs ++ entry_letters (run_of es)) (fresh_waiting p f)
+  waits : IsPrintableLine columns (run_of es) → Waits columns (entry_letters (run_of es)) q
+  waits = line_waits columns width one_space es [] p (fresh_waits columns width one_space p f) pre
 
   some_waits : IsPrintableLine columns (run_of es) → ¬ (IsSpaces (entry_letters (run_of es))) → has_character q.word ≡ true
-  some_waits printable other = true_from_ne_false (has_character q.word) (λ e. other ((waits printable).spaces e).1)
+  some_waits printable other = true_from_ne_false (has_character q.word) (λ e. other ((waits printable).spaces e))
 
-  line_fits : IsPrintableLine columns (run_of es) → ¬ (IsSpaces (entry_letters (run_of es))) → length (run_of es) ≤ width → IsShownBy (entry_letters (run_of es) ∷ []) laid
+  line_fits : IsPrintableLine columns (run_of es) → ¬ (IsSpaces (entry_letters (run_of es))) → length (run_of es) ≤ width → IsLine (entry_letters (run_of es)) laid
   line_fits printable other fits =
-      let all = all_waiting printable in
-      subst (λ (cs : List ℕ). IsShownBy (cs ∷ []) (flush_word columns width q).laid) all
-      (fitting columns width q (waits printable).plain (some_waits printable other) (omega (arith, fits, ap length all, printable_length columns (run_of es) printable)))
+      end_reads columns width (entry_letters (run_of es)) q (waits printable).text (omega (arith, fits, printable_length columns (run_of es) printable)) (some_waits printable other)
 
   line_cut : 0 < width → IsPrintableLine columns (run_of es) → BeginsWithNonBlank (entry_letters (run_of es)) → q.space ≡ None → IsCutOn width q.word laid
   line_cut wide printable begins none =
-      cut_laid columns width q wide (waits printable).plain none (some_waits printable (begins_not_spaces (entry_letters (run_of es)) begins))
+      cut_laid columns width (entry_letters (run_of es)) q wide (waits printable) none (some_waits printable (begins_not_spaces (entry_letters (run_of es)) begins))
 
   module _ (Same : A → A → Type 0) (wide : 0 < width) (reflexive : (x : A) → Same x x) where
     tags : IsPrintableLine columns (run_of es) → BeginsWithNonBlank (entry_letters (run_of es)) → IsTagged Same width 0 (glyphs_of q.word) (run_of es) × (q.space ≡ None)
@@ -96,14 +79,15 @@ module _ {A : Type 0} (columns : ℕ → Option ℕ) (width : ℕ) (p : Progress
 
     -- the lines before a newline, or others that are the same where the last one has a character
     shows : (more : Bool) (ls : List (List (Item A))) → filter (is_kept columns) (letters_of (joined ls)) ≡ filter (is_kept columns) (entry_letters (run_of es)) →
-        (IsSpaces (entry_letters (run_of es)) → ls ≡ blank_lines more) → (has_character laid.line ≡ true → (end_line laid).done ≡ ls) → ShowsPre columns Same width more (run_of es) ls
-    shows more ls kept blank alike = record {
+        (IsSpaces (entry_letters (run_of es)) → ls ≡ blank_lines more) → (has_character laid.line ≡ true → (end_line laid).done ≡ ls) → (IsLine (entry_letters (run_of es)) laid → map letters_of ls ≡ entry_letters (run_of es) ∷ []) → ShowsPre columns Same width more (run_of es) ls
+    shows more ls kept blank alike is_line = record {
       kept = kept;
-      fits = λ printable other fits. (let k = line_fits printable other fits in ap (map letters_of) (sym (alike k.last)) ∙ k.same);
+      fits = λ printable other fits. is_line (line_fits printable other fits);
       cut = λ printable begins.
           (let none = (tags printable begins).1 in
           let k = line_cut wide printable begins none in
-          let word : letters_of q.word ≡ entry_letters (run_of es) = ap (λ (o : Option (Space A)). letters_of (space_text o ++ q.word)) (sym none) ∙ all_waiting printable in
+          let word : letters_of q.word ≡ entry_letters (run_of es) =           ap (λ (o : Option (Space A)). replicate (pending_width o) 32 ++ letters_of q.word) (sym none)
+          ∙ ap (λ (is : List (Item A)). letters_of is ++ (replicate (pending_width q.space) 32 ++ letters_of q.word)) (sym (waits printable).line) ∙ (waits printable).text.text in
           subst (λ (ms : List (List (Item A))). IsCutEvery width (entry_letters (run_of es)) (map letters_of ms)) (alike k.last) (subst (λ (cs : List ℕ). IsCutEvery width cs (map letters_of (end_line laid).done)) word k.cut));
       blank = blank;
       main = λ printable begins. rw (glyphs printable begins) (tagged_main Same width 0 width (glyphs_of q.word) (run_of es) (omega arith) (tags printable begins).0);
@@ -124,6 +108,6 @@ pre_line columns Same width one_space wide reflexive p es f pre more =
     let q = fold (step columns width) p es in
     let kept = pre_kept columns width p es f pre in
     let blank = λ (spaces : IsSpaces (entry_letters (run_of es))). blank_line_of columns width Pre (λ e. cc) p es f pre spaces in (
-      shows columns width p es one_space f pre Same wide reflexive true (newline (flush_word columns width q)).laid.done kept.0 (λ spaces. (blank spaces).0) (λ _. refl),
-      shows columns width p es one_space f pre Same wide reflexive false (finished columns width q).done kept.1 (λ spaces. (blank spaces).1) (ended_alike (flush_word columns width q).laid),
+      shows columns width p es one_space f pre Same wide reflexive true (newline (flush_word columns width q)).laid.done kept.0 (λ spaces. (blank spaces).0) (λ _. refl) (λ k. k.0),
+      shows columns width p es one_space f pre Same wide reflexive false (finished columns width q).done kept.1 (λ spaces. (blank spaces).1) (ended_alike (flush_word columns width q).laid) (λ k. k.1),
     )
