@@ -153,55 +153,33 @@ module _ {A : Type 0} (columns : ℕ → Option ℕ) (width : ℕ) where
 
   goes_break : (r : Reading A) (c : ℕ) (a b : A) → is_break c ≡ true → Lined r.words → (0 < items_width columns r.items → IsNarrow columns width r.items) →
       Goes r (character c a b Normal) (read columns r (character c a b Normal))
-  goes_break r c a b breaks h narrow =
-      let e : Entry A = character c a b Normal in
-      let works_if : works columns r e ≡ nat_lt 0 (items_width columns r.items) = ap (λ x. x && nat_lt 0 (items_width columns r.items)) breaks in
-      let entered : enter columns width (state_of r) e ≡ collapse c a (break_word columns width (state_of r)) = rw breaks refl in
-      let both = go (nat_lt 0 (items_width columns r.items)) refl in
-      subst (Goes r e) (sym (ap (after r e) works_if)) (entered ∙ both.0, both.1)
-    where
-      go : (w : Bool) → nat_lt 0 (items_width columns r.items) ≡ w →
-          (collapse c a (if w then lay columns width (state_of r) else state_of r) ≡ state_of (after r (character c a b Normal) w)) × Lined (after r (character c a b Normal) w).words
-      go true wide =
-          let words : List (Word A) = r.words ++ word_of r ∷ [] in
-          let some : 0 < items_width columns r.items = ltb-true _ _ wide in
-          let lined : Lined words = lined_push r.words (word_of r) h (narrow some) some in (
-            ap (collapse c a) (lay_reading r h (wide_items columns r.items some) (narrow some) ∙ ap (λ (o : Option A). normal_at (text_of (wrapped columns width words)) o []) (sym (none_after (wrapped columns width words).last)))
-                ∙ collapse_standing (wrapped columns width words) None [] c a (lined_positive words lined),
-            lined,
-          )
-      go false wide =
-          let left : r.items ++ items_of columns (character c a b Normal) ≡ r.items = ap (λ (is : List (Item A)). r.items ++ is) (break_left columns (character c a b Normal) breaks) ∙ append-nil r.items in (
-            collapse_standing (wrapped columns width r.words) r.gap r.items c a (lined_positive r.words h)
-                ∙ ap (λ (is : List (Item A)). standing (wrapped columns width r.words) (first_of r.gap (blank_of (character c a b Normal))) is) (sym left),
-            h,
-          )
+  goes_break r c a b breaks h narrow = elim (cases_Bool (nat_lt 0 (items_width columns r.items))) [
+    | inl wide ↦
+        let words : List (Word A) = r.words ++ word_of r ∷ [] in
+        let some : 0 < items_width columns r.items = ltb-true _ _ wide in
+        let lined : Lined words = lined_push r.words (word_of r) h (narrow some) some in
+        rw (breaks, wide) (
+          ap (collapse c a) (lay_reading r h (wide_items columns r.items some) (narrow some) ∙ ap (λ (o : Option A). normal_at (text_of (wrapped columns width words)) o []) (sym (none_after (wrapped columns width words).last)))
+              ∙ collapse_standing (wrapped columns width words) None [] c a (lined_positive words lined),
+          lined,
+        )
+    | inr none ↦
+        let left : r.items ++ items_of columns (character c a b Normal) ≡ r.items = ap (λ (is : List (Item A)). r.items ++ is) (break_left columns (character c a b Normal) breaks) ∙ append-nil r.items in
+        rw (breaks, none) (
+          collapse_standing (wrapped columns width r.words) r.gap r.items c a (lined_positive r.words h)
+              ∙ ap (λ (is : List (Item A)). standing (wrapped columns width r.words) (first_of r.gap (blank_of (character c a b Normal))) is) (rw breaks at (sym left)),
+          h,
+        )
+  ]
 
   goes_other : (r : Reading A) (c : ℕ) (a b : A) → is_break c ≡ false → Lined r.words → Goes r (character c a b Normal) (read columns r (character c a b Normal))
   goes_other r c a b breaks h =
-      let e : Entry A = character c a b Normal in
-      let works_not : works columns r e ≡ false = ap (λ x. x && nat_lt 0 (items_width columns r.items)) breaks in
       let blank : is_blank c ≡ false = (or_parts (c == 8203) (is_blank c) breaks).1 in
-      let gap : first_of r.gap (blank_of e) ≡ r.gap = ap (λ x. first_of r.gap (if x then Some a else None)) blank ∙ first_of_none r.gap in
-      let entered : enter columns width (state_of r) e ≡ (if is_some (columns c) then join c a Normal (state_of r) else state_of r) = rw breaks refl in
-      let items : items_of columns e ≡ (if is_some (columns c) then glyph c a ∷ [] else []) = ap (λ x. if is_some (columns c) && not x then glyph c a ∷ [] else []) breaks ∙ kept (is_some (columns c)) in
-      subst (Goes r e) (sym (ap (after r e) works_not)) (
-        entered ∙ go (is_some (columns c)) ∙ ap (λ (is : List (Item A)). standing (wrapped columns width r.words) r.gap (r.items ++ is)) (sym items)
-            ∙ ap (λ (o : Option A). standing (wrapped columns width r.words) o (r.items ++ items_of columns e)) (sym gap),
-        h,
-      )
-    where
-      kept : (x : Bool) → (if x && true then glyph c a ∷ [] else []) ≡ (if x then glyph c a ∷ [] else [])
-      kept true = refl
-      kept false = refl
-
-      same_mode : (x : Bool) → (if x then Normal else Normal) ≡ Normal
-      same_mode true = refl
-      same_mode false = refl
-
-      go : (x : Bool) → (if x then join c a Normal (state_of r) else state_of r) ≡ standing (wrapped columns width r.words) r.gap (r.items ++ (if x then glyph c a ∷ [] else []))
-      go true = ap (λ (m : WhiteSpace). let p : Progress A = record (standing (wrapped columns width r.words) r.gap (r.items ++ glyph c a ∷ [])) { mode = m } in p) (same_mode (has_character r.items))
-      go false = ap (standing (wrapped columns width r.words) r.gap) (sym (append-nil r.items))
+      let mode = cond_both (has_character r.items) Normal Normal (λ (m : WhiteSpace). m ≡ Normal) (λ _. refl) (λ _. refl) in
+      elim (cases_Bool (is_some (columns c))) [
+        | inl some ↦ rw (breaks, blank, some, first_of_none r.gap) (ap (λ (m : WhiteSpace). let p : Progress A = record (standing (wrapped columns width r.words) r.gap (r.items ++ glyph c a ∷ [])) { mode = m } in p) mode, h)
+        | inr none ↦ rw (breaks, blank, none, first_of_none r.gap, append-nil) (refl, h)
+      ]
 
   -- a word that a break point ends is narrow where all that is laid is
   enter_narrow : (r : Reading A) (e : Entry A) → HasMode Normal e → is_break_entry e ≡ true → AllLaid (IsNarrowItem columns width) (enter columns width (state_of r) e).laid →

@@ -21,10 +21,10 @@ all_preserve mode kept [] h = tt
 all_preserve mode kept (e ∷ run) h = (mode_preserves mode kept e h.0, all_preserve mode kept run h.1)
 
 -- Nothing is laid, and no character is in the word.
-record IsBlankSoFar {A : Type 0} (p : Progress A) : Type 0 where
-  done : p.laid.done ≡ []
-  line : p.laid.line ≡ []
-  word : has_character p.word ≡ false
+pub record IsBlankSoFar {A : Type 0} (p : Progress A) : Type 0 where
+  pub done : p.laid.done ≡ []
+  pub line : p.laid.line ≡ []
+  pub word : has_character p.word ≡ false
 
 module _ {A : Type 0} (columns : ℕ → Option ℕ) (width : ℕ) where
   pub not_broken : (p : Progress A) → has_character p.word ≡ false → break_word columns width p ≡ p
@@ -40,7 +40,7 @@ module _ {A : Type 0} (columns : ℕ → Option ℕ) (width : ℕ) where
   space_blank a b PreWrap p preserving k =
       subst (λ (q : Progress A). IsBlankSoFar (keep_space 32 (tag_of q a b) PreWrap (columns 32) q)) (sym (not_broken p k.word)) (space_waits (tag_of p a b) PreWrap (columns 32) p k)
 
-  fold_blank : (es : List (Event A)) (p : Progress A) → Each Preserves (run_of es) → IsSpaces (entry_letters (run_of es)) → IsBlankSoFar p → IsBlankSoFar (fold (step columns width) p es)
+  pub fold_blank : (es : List (Event A)) (p : Progress A) → Each Preserves (run_of es) → IsSpaces (entry_letters (run_of es)) → IsBlankSoFar p → IsBlankSoFar (fold (step columns width) p es)
   fold_blank [] p modes spaces k = k
   fold_blank (call ∷ es) p modes spaces k = fold_blank es (record p { in_continuation = p.continuation_flag }) modes spaces (record { done = k.done; line = k.line; word = k.word })
   fold_blank (entry (marker_entry name) ∷ es) p modes spaces k =
