@@ -5,7 +5,7 @@ use Rattle.std.proofs.lemmas.List.Folds.{drop_split}
 use Rattle.std.specs.List.{AllByRecursion as Each}
 use Rattle.std.specs.List.Sorted.{IsNonDecreasing, IsStrictlyIncreasing}
 use Rattle.std.proofs.lemmas.Option.{slice_get_within}
-use Rattle.std.proofs.lemmas.Bool.{cases_lt}
+use Rattle.std.proofs.lemmas.Bool.{cases_lt, not_from_false, false_from_ne_true, both_ways, not-true}
 use Rattle.tbr_model.specs.Layout.{Slot, joined, placed, line_width, line_text, MayBegin, MayFollow, FirstMayBegin, OthersMayFollow, IsLegalLine, IsLegal, HasNoEmptyLine, IsAhead, IsBest}
 use Rattle.tbr_model.specs.Cuts.{IsLayout, lines_after, lines_between, ends_of, cuts_of, placed_by_cuts, BeginsWider, IsLegalLayout, IsBestLayout, with_gap}
 use Rattle.tbr_model.proofs.layouts.Ahead.{joined_begins}
@@ -162,14 +162,6 @@ others_follow : {A : Type 0} (l : List (Slot A)) → ((k : ℕ) (s : Slot A) →
 others_follow [] h = tt
 others_follow (t ∷ l) h = each_by_place MayFollow l h
 
-not_both : (b : Bool) → IsTrue b → IsTrue (not b) → ⊥
-not_both true h k = cc
-not_both false h k = cc
-
-not_if : (b : Bool) → (IsTrue b → ⊥) → IsTrue (not b)
-not_if true h = absurd (h refl)
-not_if false h = refl
-
 -- a slot of a line, by its place among all
 slot_of_line : {X : Type 0} (xs : List X) (c d k : ℕ) → c ≤ d → d ≤ length xs → k < d - c → slice_get (slice_range xs c d) k ≡ slice_get xs (c + k)
 slot_of_line {X} xs c d k p q h =
@@ -194,7 +186,7 @@ lines_legal {A} width slots c (d ∷ ds) h fits begins wider = (
   record {
     fits = fits.0;
     first = first_begins line (λ s e. begins c s (0, omega arith, refl) (ap (slice_get slots) (let i : c ≡ c + 0 = omega arith in i) ∙ place 0 s e));
-    others = others_follow line (λ k s e. not_if _ (λ b. inside k s e b));
+    others = others_follow line (λ k s e. not_from_false _ (false_from_ne_true _ (inside k s e)));
   },
   lines_legal width slots d ds h.1 fits.1 (λ cut s k e. begins cut s (suc k.0, omega (arith, k.1), k.2) e)
       (λ p s q e b. contains_later d ds p q (wider p s (omega (arith, h.0)) e b)),
@@ -231,7 +223,7 @@ wider_at_cuts width slots c [] h legal place s p e b = absurd (omega (arith, h, 
 wider_at_cuts {A} width slots c (d ∷ ds) h legal place s p e b =
     elim (cases_lt c place) [
       | inl after ↦ elim (cases_lt place d) [
-        | inl before ↦ absurd (not_both _ b (inside (place - suc c) (omega arith) before))
+        | inl before ↦ absurd (both_ways _ (not-true _ (inside (place - suc c) (omega arith) before)) b)
         | inr further ↦ later (wider_at_cuts width slots d ds h.1 legal.1 place s further e b)
       ]
       | inr same ↦ (0, omega arith, omega arith)

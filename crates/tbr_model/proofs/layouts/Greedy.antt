@@ -1,7 +1,7 @@
 -- The layout that places each word where it fits, and why it is best.
 use Rattle.std.proofs.Common.{◌≡◌, ℕ, ◌<◌, ◌≤◌, Bool, true, false, not, ◌&&◌, ◌||◌, nat_le, IsTrue, IsFalse, List, [], ◌∷◌, ◌++◌, length, refl, ap, sym, ◌∙◌, inl, inr, arith, length-append, append_assoc, append-nil, subst, leb-true, leb-false}
 use Rattle.std.specs.List.{AllByRecursion as Each}
-use Rattle.std.proofs.lemmas.Bool.{or_right, cond_both}
+use Rattle.std.proofs.lemmas.Bool.{or_right, cond_both, both_ways, not-true}
 use Rattle.tbr_model.specs.Layout.{Slot, joined, line_width, MayFollow, FirstMayBegin, OthersMayFollow, IsLegalLine, IsLongest, IsGreedy, HasNoEmptyLine}
 use Rattle.tbr_model.specs.Greedy.{close, Lines, fill}
 use Rattle.tbr_model.proofs.lists.Joined.{cut_twice, joined-append}
@@ -90,11 +90,7 @@ stays_by_wider width (s ∷ l) t v some wide r [] others e p starts legal = absu
 stays_by_wider width (s ∷ l) t v some wide r (m ∷ more) others e p starts legal =
     let same : m ≡ t = cc in
     let follows : MayFollow m = (each_back MayFollow l (m ∷ more) legal.others).0 in
-    absurd (let b : (m.begins && m.wider) ≡ true = rw same wide in let n : not (m.begins && m.wider) ≡ true = follows in bad _ b n)
-  where
-    bad : (b : Bool) → b ≡ true → not b ≡ true → ⊥
-    bad true e f = cc
-    bad false e f = cc
+    absurd (let b : (m.begins && m.wider) ≡ true = rw same wide in let n : not (m.begins && m.wider) ≡ true = follows in both_ways _ (not-true _ n) b)
 
 -- ---- placing
 

@@ -93,7 +93,7 @@ module _ {A : Type 0} (columns : ℕ → Option ℕ) where
   pub columns_show : (width : ℕ) (es : List (Event A)) → run_shows_columns columns (run_of es) ≡ true → HasColumns columns (progress columns width es)
   columns_show width es h = elim (or_cases (some_shown (joined p.laid.done)) (some_shown (p.laid.line ++ p.word)) (sym (some_shown-append (joined p.laid.done) (p.laid.line ++ p.word)) ∙ shown_where width es ∙ h)) [
     | inl done ↦ inl (some_line p.laid.done done)
-    | inr other ↦ after (or_cases (some_shown p.laid.line) (some_shown p.word) (sym (some_shown-append p.laid.line p.word) ∙ other))
+    | inr other ↦ elim (or_cases (some_shown p.laid.line) (some_shown p.word) (sym (some_shown-append p.laid.line p.word) ∙ other)) [ inl some ↦ inr (inl (on_line some)) | inr some ↦ inr (inr (in_word some)) ]
   ]
     where
       p : Progress A
@@ -108,6 +108,3 @@ module _ {A : Type 0} (columns : ℕ → Option ℕ) where
       in_word : some_shown p.word ≡ true → 0 < items_width columns p.word
       in_word some = elim (cases_lt 0 (items_width columns p.word)) [ inl more ↦ more | inr none ↦ absurd (let hides : some_shown p.word ≡ false = none_shown p.word (omega (arith, none)) in cc) ]
 
-      after : (some_shown p.laid.line ≡ true) ⊎ (some_shown p.word ≡ true) → HasColumns columns p
-      after (inl some) = inr (inl (on_line some))
-      after (inr some) = inr (inr (in_word some))

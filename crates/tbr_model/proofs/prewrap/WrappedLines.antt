@@ -1,7 +1,7 @@
 -- A hard line of `PreWrap` is wrapped: spaces are dropped, and a line ends, only where the next stretch doesn't fit.
 use Rattle.std.proofs.Common.{◌≡◌, ℕ, ◌+◌, ◌<◌, ◌≤◌, ◌⊎◌, inl, inr, Bool, true, false, nat_le, if◌then◌else◌, Option, Some, None, List, [], ◌∷◌, ◌++◌, map, fold, replicate, length, refl, ap, sym, ◌∙◌, arith, append_assoc, append-nil, length-append, subst, leb-true, leb-false, lt-ltb}
 use Rattle.std.specs.List.{AllByRecursion as Each}
-use Rattle.std.proofs.lemmas.Bool.{cond_both}
+use Rattle.std.proofs.lemmas.Bool.{cond_both, cases_Bool}
 use Rattle.std.proofs.lemmas.Bool.Decides.{eqb_tells}
 use Rattle.std.proofs.lemmas.List.{map-append, length-replicate}
 use Rattle.tbr_model.specs.declared.white_space.WhiteSpace.TheVariants.{PreWrap}
@@ -273,24 +273,23 @@ module _ {A : Type 0} (columns : ℕ → Option ℕ) (width : ℕ) (some : 0 < w
   space_read : (es : List (Event A)) (p : Progress A) (a b : A) → IsReadyForWord columns p → IsOpen width (letters_of p.laid.line) →
       ((n : Progress A) → IsReadyForWord columns n → IsOpen width (letters_of n.laid.line) → WrapsText n (text_ahead n (entry_letters (run_of es))) (end_laid_from n es)) →
       ReadsSpace es p a b (break_word columns width p)
-  space_read es p a b h line later = go (has_character p.word) refl
+  space_read es p a b h line later = elim (cases_Bool (has_character p.word)) [
+    | inl e ↦
+        let q : Progress A = lay columns width p in
+        let k = lay_text p h line e in
+        let n : Progress A = spaced q (tag_of q a b) in
+        let plain : Each (IsVisibleOrMarker columns) q.word = subst (Each (IsVisibleOrMarker columns)) (sym k.word) tt in
+        let rest = later n (waits columns q (tag_of q a b) plain k.columns_are) (inr k.line) in
+        subst (ReadsSpace es p a b) (sym (break_some p (omega (arith, plain_width columns p.word h.plain, some_letters p.word e))))
+        (kept q (ap has_character k.word) (space_laid p (tag_of q a b) (entry_letters (run_of es)) (end_laid_from n es) k rest))
+    | inr e ↦
+        let n : Progress A = spaced p (tag_of p a b) in
+        let rest = later n (waits columns p (tag_of p a b) h.plain h.measured) line in
+        subst (ReadsSpace es p a b) (sym (not_broken columns width p e)) (kept p e (space_more p (tag_of p a b) (entry_letters (run_of es)) (end_laid_from n es) e rest))
+  ]
     where
       kept : (q : Progress A) → has_character q.word ≡ false → WrapsText p (text_ahead p (32 ∷ entry_letters (run_of es))) (end_laid_from (spaced q (tag_of q a b)) es) → ReadsSpace es p a b q
       kept q none k = subst (λ (r : Progress A). WrapsText p (text_ahead p (32 ∷ entry_letters (run_of es))) (end_laid_from r es)) (sym (keeps q (tag_of q a b) none)) k
-
-      go : (x : Bool) → has_character p.word ≡ x → ReadsSpace es p a b (break_word columns width p)
-      go true e =
-          let q : Progress A = lay columns width p in
-          let k = lay_text p h line e in
-          let n : Progress A = spaced q (tag_of q a b) in
-          let plain : Each (IsVisibleOrMarker columns) q.word = subst (Each (IsVisibleOrMarker columns)) (sym k.word) tt in
-          let rest = later n (waits columns q (tag_of q a b) plain k.columns_are) (inr k.line) in
-          subst (ReadsSpace es p a b) (sym (break_some p (omega (arith, plain_width columns p.word h.plain, some_letters p.word e))))
-          (kept q (ap has_character k.word) (space_laid p (tag_of q a b) (entry_letters (run_of es)) (end_laid_from n es) k rest))
-      go false e =
-          let n : Progress A = spaced p (tag_of p a b) in
-          let rest = later n (waits columns p (tag_of p a b) h.plain h.measured) line in
-          subst (ReadsSpace es p a b) (sym (not_broken columns width p e)) (kept p e (space_more p (tag_of p a b) (entry_letters (run_of es)) (end_laid_from n es) e rest))
 
   wraps_read : (es : List (Event A)) (p : Progress A) → columns 32 ≡ Some 1 → Each (HasMode PreWrap) (run_of es) → IsPrintableLine columns (run_of es) → IsReadyForWord columns p → IsOpen width (letters_of p.laid.line) →
       WrapsText p (text_ahead p (entry_letters (run_of es))) (flush_word columns width (fold (step columns width) p es)).laid

@@ -3,6 +3,7 @@ use Rattle.std.proofs.Common.{◌≡◌, ℕ, zero, suc, ◌+◌, ◌<◌, ◌�
 use Rattle.std.specs.List.{AllByRecursion as Each}
 use Rattle.std.proofs.lemmas.Bool.Decides.{eqb_tells}
 use Rattle.std.proofs.lemmas.List.{replicate-append-replicate}
+use Rattle.std.proofs.lemmas.Bool.{cases_lt}
 use Rattle.tbr_model.specs.Hard.{IsSpaces, BeginsWithNonBlank, EndsWithNonBlank, first_stretch, BeginsAfter, IsWrapped}
 
 -- characters that are neither spaces nor before them
@@ -128,13 +129,9 @@ pub begins_after : (width : ℕ) → 0 < width → (before : List ℕ) (gap : �
     ((k : ℕ) → k ≤ width → k ≤ length w → k ≤ length (first_stretch more)) → BeginsAfter width before gap more
 begins_after width some before gap w more long over apart reach = inr (
   begins_nonblank more (reach 1 some long),
-  go (nat_le (length w) width) refl,
+  elim (cases_lt width (length w)) [ inl wide ↦ omega (arith, apart, reach width (omega arith) (omega (arith, wide))) | inr short ↦ omega (arith, over, reach (length w) short (omega arith)) ],
   λ none. absurd (omega (arith, none, apart)),
 )
-  where
-    go : (b : Bool) → nat_le (length w) width ≡ b → width < length before + (gap + length (first_stretch more))
-    go true e = let all : length w ≤ length (first_stretch more) = reach (length w) (leb-true _ _ e) (omega arith) in omega (arith, over, all)
-    go false e = let all : width ≤ length (first_stretch more) = reach width (omega arith) (omega (arith, leb-false _ _ e)) in omega (arith, apart, all)
 
 pub first_begins : (width : ℕ) → 0 < width → (gap : ℕ) (w more : List ℕ) → 0 < length w → width < gap + length w →
     ((k : ℕ) → k ≤ width → k ≤ length w → k ≤ length (first_stretch more)) → BeginsAfter width [] gap more

@@ -1,7 +1,7 @@
 -- What holds of one hard line at a time holds of a run of them.
-use Rattle.std.proofs.Common.{◌≡◌, ℕ, ◌+◌, nat_le, nat_lt, Bool, true, false, Option, List, [], ◌∷◌, ◌++◌, fold, refl, ap, sym, ◌∙◌, subst, append_assoc, append-nil, ltb-true}
+use Rattle.std.proofs.Common.{◌≡◌, ℕ, ◌+◌, nat_le, nat_lt, Bool, true, false, Option, List, [], ◌∷◌, ◌++◌, fold, refl, ap, sym, ◌∙◌, subst, append_assoc, append-nil, ltb-true, inl, inr}
 use Rattle.std.specs.List.{AllByRecursion as Each}
-use Rattle.std.proofs.lemmas.Bool.{cond_both, eqb-true}
+use Rattle.std.proofs.lemmas.Bool.{cond_both, eqb-true, cases_Bool}
 use Rattle.std.proofs.lemmas.List.Sums.{fold-append}
 use Rattle.tbr_model.specs.declared.white_space.WhiteSpace.TheVariants.{Normal, Pre, PreWrap}
 use Rattle.tbr_model.specs.Run.{Entry, character, marker_entry, Item, items_width, has_character}
@@ -155,11 +155,7 @@ module _ {A : Type 0} (columns : ℕ → Option ℕ) (width : ℕ) (R : Bool →
   go_on : (es : List (Event A)) → Each M (run_of es) → GoOn es
   go_on [] h = go_on_end
   go_on (call ∷ es) h = go_on_call es (go_on es h)
-  go_on (entry e ∷ es) h = go_on_either e es h.0 (is_newline e) refl (go_on es h.1)
-    where
-      go_on_either : (e : Entry A) (es : List (Event A)) → M e → (b : Bool) → is_newline e ≡ b → GoOn es → GoOn (entry e ∷ es)
-      go_on_either e es m true k rest = go_on_newline e es m k rest
-      go_on_either e es m false k rest = go_on_entry e es m k rest
+  go_on (entry e ∷ es) h = elim (cases_Bool (is_newline e)) [ inl k ↦ go_on_newline e es h.0 k (go_on es h.1) | inr k ↦ go_on_entry e es h.0 k (go_on es h.1) ]
 
   -- what holds of each hard line, begun afresh, holds of the hard lines of a run
   pub hard_lines_parted : (es : List (Event A)) → Each M (run_of es) → Parted R (hard_lines (run_of es)) (lines_of columns width es)

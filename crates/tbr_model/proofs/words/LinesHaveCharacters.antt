@@ -33,12 +33,10 @@ pub line_width-one : {A : Type 0} (l : List (Slot A)) (s : Slot A) → s.gap ≡
 line_width-one [] s e = omega arith
 line_width-one (t ∷ l) s e = omega (arith, rest_width-append l (s ∷ []), ap gap_width e)
 
-wide_has : {A : Type 0} (columns : ℕ → Option ℕ) (s : Slot A) → s.width ≡ item_width columns s.item → 0 < s.width → HasGlyph (s ∷ [])
-wide_has {A} columns s e wide = go s.item refl
-  where
-    go : (i : Item A) → s.item ≡ i → has_character (i ∷ []) ≡ true
-    go (glyph c a) is = refl
-    go (marker m) is = absurd (omega (arith, wide, e, ap (item_width columns) is))
+pub wide_items : {A : Type 0} (columns : ℕ → Option ℕ) (is : List (Item A)) → 0 < items_width columns is → has_character is ≡ true
+wide_items columns [] h = absurd (omega arith)
+wide_items columns (glyph c a ∷ is) h = refl
+wide_items columns (marker m ∷ is) h = wide_items columns is (omega arith)
 
 one_width : {A : Type 0} (columns : ℕ → Option ℕ) (s : Slot A) → s.width ≡ item_width columns s.item → line_has_character (s ∷ []) ≡ false → s.width ≡ 0
 one_width {A} columns s e none = omega (arith, e, no_character_no_width columns (s.item ∷ []) none)
@@ -53,7 +51,7 @@ fill_characters {A} columns width done last (s ∷ ss) h inner fits empty some =
     let wide : width < line_width last + s.width = omega (arith, leb-false _ _ e, line_width-one last s inner.0.0) in
     fill_characters columns width (done ++ last ∷ []) (s ∷ []) ss (each_append HasGlyph done (last ∷ []) h (ended (line_has_character last) refl wide, tt)) inner.1
     (omega (arith, inner.0.2)) (λ none. omega (arith, one_width columns s inner.0.1 none))
-    (line-append (s ∷ []) ss ∙ ap (λ x. x || line_has_character ss) (wide_has columns s inner.0.1 (omega (arith, wide, fits)))))
+    (line-append (s ∷ []) ss ∙ ap (λ x. x || line_has_character ss) (wide_items columns (s.item ∷ []) (omega (arith, wide, fits, inner.0.1)))))
   where
     longer : line_has_character (last ++ s ∷ []) ≡ false → line_width (last ++ s ∷ []) ≡ 0
     longer none =
@@ -133,11 +131,6 @@ fold_characters columns width (w ∷ words) lines h k some narrow =
 
 abbrev WordHas : {A : Type 0} → Word A → Type 0
 WordHas w = has_character w.items ≡ true
-
-pub wide_items : {A : Type 0} (columns : ℕ → Option ℕ) (is : List (Item A)) → 0 < items_width columns is → has_character is ≡ true
-wide_items columns [] h = absurd (omega arith)
-wide_items columns (glyph c a ∷ is) h = refl
-wide_items columns (marker m ∷ is) h = wide_items columns is (omega arith)
 
 ended_words : {A : Type 0} (columns : ℕ → Option ℕ) (run : List (Entry A)) (r : Reading A) → Each WordHas r.words → Each WordHas (fold (read columns) r run).words
 ended_words columns [] r h = h
