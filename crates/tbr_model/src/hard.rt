@@ -22,7 +22,7 @@ pub fn hard_lines_are_shown<T>()
 /// spaces alone, is one line where it fits. If it begins with a non-blank, it is cut after every `width` characters,
 /// and those after the first cut have the continuation annotation. Spaces alone leave an empty line before a newline,
 /// and no line at the end of the run.
-#[tactic(auto, using(crate::proofs::rule::PreservingModes::pre_shown))]
+#[tactic(auto, using(crate::proofs::pre::HardLine::pre_shown))]
 pub fn pre_lines_are_shown<T>()
     ensures { (columns : ℕ → Option ℕ) (eq : T → T → Bool) (width : ℕ) →
         columns space_character ≡ Some 1 → 0 < width → ((x : T) → eq x x ≡ true) →
@@ -34,7 +34,7 @@ pub fn pre_lines_are_shown<T>()
 /// without the spaces at its end. These are dropped. In any case its stretches of non-blanks are in order, and a
 /// stretch is cut only if it is wider than a line. Spaces are dropped, and a line ends, only where the next stretch
 /// doesn't fit. Spaces alone leave an empty line before a newline, and no line at the end of the run.
-#[tactic(auto, using(crate::proofs::rule::PreservingModes::prewrap_shown))]
+#[tactic(auto, using(crate::proofs::prewrap::HardLine::prewrap_shown))]
 pub fn prewrap_lines_are_shown<T>()
     ensures { (columns : ℕ → Option ℕ) (width : ℕ) → columns space_character ≡ Some 1 → 0 < width →
         (es : List (Event T)) → AllHaveMode PreWrap (run_of es) →

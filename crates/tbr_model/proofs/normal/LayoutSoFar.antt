@@ -3,12 +3,13 @@ use Rattle.std.proofs.Common.{◌≡◌, ℕ, ◌+◌, ◌<◌, ◌≤◌, ◌�
 use Rattle.std.specs.List.{AllByRecursion as Each}
 use Rattle.std.proofs.lemmas.Bool.{cond_both, or_parts, cases_Bool}
 use Rattle.std.proofs.lemmas.List.Sums.{fold-append}
+use Rattle.tbr_model.proofs.rule.LaidText.{text-extended, text-put_items}
 use Rattle.tbr_model.specs.declared.white_space.WhiteSpace.{WhiteSpace}
 use Rattle.tbr_model.specs.declared.white_space.WhiteSpace.TheVariants.{Normal, Pre, PreWrap}
 use Rattle.tbr_model.specs.Run.{Entry, character, marker_entry, Item, glyph, marker, items_width, items_of, kept_items, is_break, is_break_entry, is_blank, blank_of, first_of, has_character, Word, word_of, Reading, start, works, read, reading}
 use Rattle.tbr_model.specs.Layout.{Slot, line_text, line_width, gap_text, gap_width}
 use Rattle.tbr_model.specs.Greedy.{Lines, place_word, no_lines, wrapped, IsNarrow}
-use Rattle.tbr_model.specs.Laid.{Laid, end_if_character}
+use Rattle.tbr_model.specs.Laid.{Laid, end_if_character, extended, put_items}
 use Rattle.tbr_model.specs.Rule.{Event, call, entry, run_of, Progress, lay, break_word, join, collapse, enter, step, progress}
 use Rattle.tbr_model.specs.Hard.{HasMode}
 use Rattle.tbr_model.proofs.words.Items.{WaitsIn}
@@ -18,7 +19,7 @@ use Rattle.tbr_model.proofs.words.KeptItems.{break_left}
 use Rattle.tbr_model.proofs.words.LinesHaveCharacters.{HasGlyph, LastHas, place_characters, wide_items}
 use Rattle.tbr_model.proofs.words.Regions.{first_of_none}
 use Rattle.tbr_model.proofs.normal.LaidWords.{gap_after, text_of, normal_space, normal_at, laid_word, word_laid, place_wide, lay_normal}
-use Rattle.tbr_model.proofs.normal.StaysLaid.{AllLaid, IsNarrowItem, laid_extended, laid_items, collapse_laid, laid_next}
+use Rattle.tbr_model.proofs.normal.StaysLaid.{AllLaid, IsNarrowItem, laid_after, collapse_laid, laid_next}
 
 -- What is laid is the text of lines, the space that waits is that of the gap after them, and the word holds the items.
 -- The open line takes columns unless there are no lines at all, and no line is without a character.
@@ -119,8 +120,8 @@ module _ {A : Type 0} (columns : ℕ → Option ℕ) (width : ℕ) where
   word_kept : (P : Item A → Type 0) (l : Laid A) (gap : Option A) (items : List (Item A)) → AllLaid P (laid_word columns width l gap items) → Each P items
   word_kept P l gap items h =
       cond_both (nat_le (l.width + (gap_width gap + items_width columns items)) width) _ _ (λ (k : Laid A). AllLaid P k → Each P items)
-      (λ _ k. each_back P (gap_text gap) items (laid_extended P l (gap_text gap ++ items) (gap_width gap + items_width columns items) k).1)
-      (λ _ k. (laid_items P columns width items (end_if_character l) k).1) h
+      (λ _ k. each_back P (gap_text gap) items (laid_after P l (extended l (gap_text gap ++ items) (gap_width gap + items_width columns items)) (gap_text gap ++ items) (text-extended l (gap_text gap ++ items) (gap_width gap + items_width columns items)) k).1)
+      (λ _ k. (laid_after P (end_if_character l) (put_items columns width (end_if_character l) items) items (text-put_items columns width items (end_if_character l)) k).1) h
 
   laid_at : (r : Reading A) → has_character r.items ≡ true →
       lay columns width (state_of r) ≡ normal_at (laid_word columns width (text_of (wrapped columns width r.words)) (gap_after (wrapped columns width r.words).last r.gap) r.items) None []

@@ -1,20 +1,21 @@
 -- What a block shows of one hard line of Pre.
 use Rattle.std.proofs.Common.{◌≡◌, ℕ, if◌then◌else◌, Option, List, ◌∷◌, filter, fold, refl, ap, ◌∙◌, suc, ◌+◌, ◌<◌, ◌≤◌, nat_le, Bool, true, false, Some, None, [], ◌++◌, map, length, sym, arith, subst, le-leb, replicate}
 use Rattle.std.specs.List.{AllZip, AllByRecursion as Each}
+use Rattle.tbr_model.proofs.rule.HardLines.{ShowsOne, hard_lines_parted}
 use Rattle.tbr_model.proofs.tabs.HardLine.{IsLine, end_reads}
 use Rattle.tbr_model.specs.declared.white_space.WhiteSpace.{WhiteSpace}
 use Rattle.tbr_model.specs.declared.white_space.WhiteSpace.TheVariants.{Pre}
 use Rattle.tbr_model.specs.Run.{Entry, Item, is_kept, character, marker_entry, items_width, has_character}
 use Rattle.tbr_model.specs.Layout.{joined}
-use Rattle.tbr_model.specs.Rule.{Event, run_of, Progress, flush_word, step, newline, finished, Space, pending_width, space_text}
-use Rattle.tbr_model.specs.Hard.{HasMode, entry_letters, is_newline, glyphs_of, letters_of, IsPrintableEntry, IsPrintableLine, IsSpaces, BeginsWithNonBlank, IsCutEvery, blank_lines, ShowsPre}
+use Rattle.tbr_model.specs.Rule.{Event, run_of, Progress, flush_word, step, newline, finished, Space, pending_width, space_text, lines_of}
+use Rattle.tbr_model.specs.Hard.{HasMode, entry_letters, is_newline, glyphs_of, letters_of, IsPrintableEntry, IsPrintableLine, IsSpaces, BeginsWithNonBlank, IsCutEvery, blank_lines, ShowsPre, hard_lines, Parted}
 use Rattle.tbr_model.proofs.rule.HardLineStart.{BeginsHardLine}
 use Rattle.tbr_model.proofs.rule.LaidText.{kept_of, kept-append, none_kept, joined-end_line}
 use Rattle.tbr_model.proofs.rule.Content.{LooksAtKept, StandsFor, by_entry, found_from}
 use Rattle.std.proofs.lemmas.Bool.{true_from_ne_false}
 use Rattle.tbr_model.specs.Laid.{Laid, end_line, end_if_character}
 use Rattle.tbr_model.proofs.words.Items.{back_has}
-use Rattle.tbr_model.proofs.rule.BlankLines.{blank_line_of}
+use Rattle.tbr_model.proofs.rule.BlankLines.{blank_line_of, mode_preserves}
 use Rattle.tbr_model.proofs.prewrap.OneWay.{begins_not_spaces}
 use Rattle.tbr_model.proofs.pre.WaitingWord.{Waits, line_waits, fresh_waits}
 use Rattle.tbr_model.proofs.pre.CutWord.{IsCutOn, cut_laid}
@@ -100,10 +101,7 @@ module _ {A : Type 0} (columns : ℕ → Option ℕ) (width : ℕ) (p : Progress
             ap (λ (ms : List (List (Item A))). glyphs_of (joined ms)) (sym (alike k.last)) ∙ ap glyphs_of (joined-end_line laid ∙ k.whole)
 
 -- one hard line of a run of Pre, before a newline and at the end of the run
-pub pre_line : {A : Type 0} (columns : ℕ → Option ℕ) (Same : A → A → Type 0) (width : ℕ) → columns 32 ≡ Some 1 → 0 < width → ((x : A) → Same x x) → (p : Progress A) (es : List (Event A)) → BeginsHardLine p →
-    Each (HasMode Pre) (run_of es) → Each (λ e. is_newline e ≡ false) (run_of es) →
-    ShowsPre columns Same width true (run_of es) (newline (flush_word columns width (fold (step columns width) p es))).laid.done
-    × ShowsPre columns Same width false (run_of es) (finished columns width (fold (step columns width) p es)).done
+pre_line : {A : Type 0} (columns : ℕ → Option ℕ) (Same : A → A → Type 0) (width : ℕ) → columns 32 ≡ Some 1 → 0 < width → ((x : A) → Same x x) → ShowsOne columns width (ShowsPre columns Same width) (HasMode Pre)
 pre_line columns Same width one_space wide reflexive p es f pre more =
     let q = fold (step columns width) p es in
     let kept = pre_kept columns width p es f pre in
@@ -111,3 +109,9 @@ pre_line columns Same width one_space wide reflexive p es f pre more =
       shows columns width p es one_space f pre Same wide reflexive true (newline (flush_word columns width q)).laid.done kept.0 (λ spaces. (blank spaces).0) (λ _. refl) (λ k. k.0),
       shows columns width p es one_space f pre Same wide reflexive false (finished columns width q).done kept.1 (λ spaces. (blank spaces).1) (ended_alike (flush_word columns width q).laid) (λ k. k.1),
     )
+
+-- each hard line of a run of `Pre` alone
+pub pre_shown : {A : Type 0} (columns : ℕ → Option ℕ) (Same : A → A → Type 0) (width : ℕ) → columns 32 ≡ Some 1 → 0 < width → ((x : A) → Same x x) → (es : List (Event A)) →
+    Each (HasMode Pre) (run_of es) → Parted (ShowsPre columns Same width) (hard_lines (run_of es)) (lines_of columns width es)
+pre_shown columns Same width one some same =
+    hard_lines_parted columns width (ShowsPre columns Same width) (HasMode Pre) (mode_preserves Pre (λ e. cc)) (pre_line columns Same width one some same)

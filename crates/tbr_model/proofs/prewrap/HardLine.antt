@@ -2,12 +2,13 @@
 use Rattle.std.proofs.Common.{◌≡◌, ◌≢◌, ℕ, ◌<◌, ◌≤◌, ◌⊎◌, inl, inr, ◌==◌, Bool, true, false, Option, Some, List, [], ◌∷◌, ◌++◌, map, flat_map, fold, length, refl, ap, sym, ◌∙◌, arith, subst}
 use Rattle.std.specs.List.{AllByRecursion as Each}
 use Rattle.std.proofs.lemmas.Bool.Decides.{eqb_tells}
+use Rattle.tbr_model.proofs.rule.HardLines.{ShowsOne, hard_lines_parted}
 use Rattle.tbr_model.specs.declared.white_space.WhiteSpace.TheVariants.{PreWrap}
 use Rattle.tbr_model.specs.Run.{Entry, character, marker_entry, Item}
-use Rattle.tbr_model.specs.Rule.{Event, run_of, Progress, flush_word, newline, step, finished}
-use Rattle.tbr_model.specs.Hard.{HasMode, is_newline, letters_of, entry_letters, IsPrintableLine, IsSpaces, EndsWithNonBlank, without_last_spaces, stretches, IsCutOf, IsWrapped, blank_lines, ShowsPreWrap}
+use Rattle.tbr_model.specs.Rule.{Event, run_of, Progress, flush_word, newline, step, finished, lines_of}
+use Rattle.tbr_model.specs.Hard.{HasMode, is_newline, letters_of, entry_letters, IsPrintableLine, IsSpaces, EndsWithNonBlank, without_last_spaces, stretches, IsCutOf, IsWrapped, blank_lines, ShowsPreWrap, hard_lines, Parted}
 use Rattle.tbr_model.proofs.rule.HardLineStart.{BeginsHardLine}
-use Rattle.tbr_model.proofs.rule.BlankLines.{blank_line_of}
+use Rattle.tbr_model.proofs.rule.BlankLines.{blank_line_of, mode_preserves}
 use Rattle.tbr_model.proofs.prewrap.OneWay.{wrapped_in_one_way}
 use Rattle.tbr_model.proofs.prewrap.Stretches.{stretches_spaces, cut_if_wrapped}
 use Rattle.tbr_model.proofs.prewrap.WrappedLines.{wrapped_line}
@@ -45,11 +46,8 @@ one_line width cs printable other fits =
     (0, rest, whole, elim ends [ inl none ↦ absurd (other (subst IsSpaces (sym (whole ∙ ap (λ ds. ds ++ rest) none)) spaces)) | inr some ↦ some ], fits, inl (refl, refl), spaces)
 
 -- What is shown of a hard line in a run of `PreWrap` alone.
-pub prewrap_line : {A : Type 0} (columns : ℕ → Option ℕ) (width : ℕ) → columns 32 ≡ Some 1 → 0 < width → (p : Progress A) (es : List (Event A)) →
-    BeginsHardLine p → Each (λ e. is_newline e ≡ false) (run_of es) → Each (HasMode PreWrap) (run_of es) →
-    ShowsPreWrap columns width true (run_of es) (newline (flush_word columns width (fold (step columns width) p es))).laid.done
-    × ShowsPreWrap columns width false (run_of es) (finished columns width (fold (step columns width) p es)).done
-prewrap_line {A} columns width one some p es f no_newline modes = (
+prewrap_line : {A : Type 0} (columns : ℕ → Option ℕ) (width : ℕ) → columns 32 ≡ Some 1 → 0 < width → ShowsOne columns width (ShowsPreWrap {A = A} columns width) (HasMode PreWrap)
+prewrap_line {A} columns width one some p es f modes no_newline = (
   shows true (newline (flush_word columns width (fold (step columns width) p es))).laid.done (λ printable other. (wraps printable other).0) (λ spaces. (blank_line_of columns width PreWrap (λ e. cc) p es f modes spaces).0),
   shows false (finished columns width (fold (step columns width) p es)).done (λ printable other. (wraps printable other).1) (λ spaces. (blank_line_of columns width PreWrap (λ e. cc) p es f modes spaces).1),
 )
@@ -79,3 +77,9 @@ prewrap_line {A} columns width one some p es f no_newline modes = (
       wrapped = wrapped;
       blank = blank;
     }
+
+-- each hard line of a run of `PreWrap` alone
+pub prewrap_shown : {A : Type 0} (columns : ℕ → Option ℕ) (width : ℕ) → columns 32 ≡ Some 1 → 0 < width → (es : List (Event A)) →
+    Each (HasMode PreWrap) (run_of es) → Parted (ShowsPreWrap columns width) (hard_lines (run_of es)) (lines_of columns width es)
+prewrap_shown columns width one some =
+    hard_lines_parted columns width (ShowsPreWrap columns width) (HasMode PreWrap) (mode_preserves PreWrap (λ e. cc)) (prewrap_line columns width one some)

@@ -104,9 +104,14 @@ parted_front {A} {Y} R x es front back first others =
     let (h, hs, is) = some_hard_line es in
     subst (λ (r : List (List (Entry A))). Parted R (x ∷ r) (front ++ back)) (sym is) (front, back, refl, first, subst (λ (r : List (List (Entry A))). Parted R r back) is others)
 
+-- each hard line whose entries have a property is shown so, before a newline and at the end of the run
+abbrev pub ShowsOne : {A : Type 0} → (ℕ → Option ℕ) → ℕ → (Bool → List (Entry A) → List (List (Item A)) → Type 0) → (Entry A → Type 0) → Type 0
+ShowsOne {A} columns width R M =
+    (p : Progress A) (es : List (Event A)) → BeginsHardLine p → Each M (run_of es) → NoNewline (run_of es) →
+    R true (run_of es) (newline (flush_word columns width (fold (step columns width) p es))).laid.done × R false (run_of es) (finished columns width (fold (step columns width) p es)).done
+
 module _ {A : Type 0} (columns : ℕ → Option ℕ) (width : ℕ) (R : Bool → List (Entry A) → List (List (Item A)) → Type 0) (M : Entry A → Type 0) (preserves : (e : Entry A) → M e → Preserves e)
-    (one : (p : Progress A) (es : List (Event A)) → BeginsHardLine p → Each M (run_of es) → NoNewline (run_of es) →
-    R true (run_of es) (newline (flush_word columns width (fold (step columns width) p es))).laid.done × R false (run_of es) (finished columns width (fold (step columns width) p es)).done) where
+    (one : ShowsOne columns width R M) where
   -- entries that come, after a hard line's entries so far
   abbrev pub GoOn : List (Event A) → Type 0
   GoOn es = (p : Progress A) (so_far : List (Event A)) → BeginsHardLine p → Each M (run_of so_far) → NoNewline (run_of so_far) →

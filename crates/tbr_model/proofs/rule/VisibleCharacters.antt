@@ -14,7 +14,7 @@ use Rattle.tbr_model.proofs.words.Items.{glyphs_of-append}
 use Rattle.tbr_model.proofs.rule.Content.{LooksAtKept, AnyEntry, AnyMode, StandsFor, by_entry, found_from}
 use Rattle.tbr_model.proofs.rule.Walk.{any_entries}
 use Rattle.tbr_model.proofs.rule.BlankLines.{blank_line}
-use Rattle.tbr_model.proofs.rule.HardLines.{NoNewline, start_fresh, hard_lines_parted}
+use Rattle.tbr_model.proofs.rule.HardLines.{NoNewline, start_fresh, hard_lines_parted, ShowsOne}
 
 visible-append : {A : Type 0} (columns : ℕ → Option ℕ) (is js : List (Item A)) → visible_glyphs columns (is ++ js) ≡ visible_glyphs columns is ++ visible_glyphs columns js
 visible-append {A} columns is js = ap (filter (λ g. is_visible columns g.0)) (glyphs_of-append is js) ∙ filter-append (λ (g : ℕ × A). is_visible columns g.0) (glyphs_of is) (glyphs_of js)
@@ -73,9 +73,7 @@ module _ {A : Type 0} (columns : ℕ → Option ℕ) (width : ℕ) (Same : A →
 
   -- ---- hard lines
 
-  one_hard_line : (p : Progress A) (es : List (Event A)) → BeginsHardLine p → Each Preserves (run_of es) → NoNewline (run_of es) →
-      ShowsHardLine columns Same true (run_of es) (newline (flush_word columns width (fold (step columns width) p es))).laid.done
-      × ShowsHardLine columns Same false (run_of es) (finished columns width (fold (step columns width) p es)).done
+  one_hard_line : ShowsOne columns width (ShowsHardLine columns Same) Preserves
   one_hard_line p es f m n = (
     record { line = λ _. (let q = flush_word columns width (fold (step columns width) p es) in omega (arith, length-append q.laid.done (q.laid.line ∷ []))); visible = visible_ended p es f; blank = λ spaces. (blank_line columns width p es f m spaces).0 },
     record { line = λ h. cc; visible = visible_from p es f; blank = λ spaces. (blank_line columns width p es f m spaces).1 },

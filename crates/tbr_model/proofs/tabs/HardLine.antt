@@ -2,18 +2,19 @@
 use Rattle.std.proofs.Common.{◌≡◌, ℕ, ◌+◌, ◌-◌, ◌%◌, ◌≤◌, Bool, true, false, ◌&&◌, nat_lt, nat_le, Option, Some, List, [], ◌∷◌, ◌++◌, replicate, length, refl, ap, sym, ◌∙◌, arith, append_assoc, append-nil, length-append, le-leb, lt-ltb, subst, ◌≢◌, suc, ◌<◌, ◌⊎◌, inl, inr, ◌==◌, if◌then◌else◌, map, fold, ne_eqb}
 use Rattle.std.proofs.lemmas.Bool.{cond_both, both_ways}
 use Rattle.std.proofs.lemmas.List.{length-replicate, replicate-append-replicate}
+use Rattle.tbr_model.proofs.rule.HardLines.{ShowsOne, hard_lines_parted}
 use Rattle.tbr_model.specs.declared.white_space.WhiteSpace.{WhiteSpace}
 use Rattle.tbr_model.specs.declared.white_space.WhiteSpace.TheVariants.{Normal, Pre, PreWrap}
 use Rattle.tbr_model.specs.Run.{glyph, items_width, has_character, is_break, character, marker_entry}
 use Rattle.tbr_model.specs.Laid.{Laid, extended, end_line, end_if_character}
-use Rattle.tbr_model.specs.Rule.{Progress, spaces, pending_width, space_text, space_of, is_pre, lay_here, lay, flush_word, break_word, join, tab, tag_of, keep_space, passes, keep_character, Event, call, entry, run_of, newline, enter, step, finished}
-use Rattle.tbr_model.specs.Hard.{letters_of, HasMode, Preserves, is_newline, entry_letters, IsPrintable, IsTabbedLine, EndsWithNonBlank, tabs_filled, ShowsTabs}
+use Rattle.tbr_model.specs.Rule.{Progress, spaces, pending_width, space_text, space_of, is_pre, lay_here, lay, flush_word, break_word, join, tab, tag_of, keep_space, passes, keep_character, Event, call, entry, run_of, newline, enter, step, finished, lines_of}
+use Rattle.tbr_model.specs.Hard.{letters_of, HasMode, Preserves, is_newline, entry_letters, IsPrintable, IsTabbedLine, EndsWithNonBlank, tabs_filled, ShowsTabs, hard_lines, Parted}
 use Rattle.tbr_model.proofs.words.Items.{back_has, letters_of-append, items_width-append, no_character_no_width, no_letters, letters_of-spaces, letters_of-space_text, pending_width-of}
 use Rattle.tbr_model.proofs.rule.Printable.{prepared, IsVisible, entered, preserved_space, entered_visible, visible_of}
 use Rattle.std.specs.List.{AllByRecursion as Each}
 use Rattle.std.proofs.lemmas.Bool.Decides.{eqb_tells}
 use Rattle.tbr_model.proofs.lists.Each.{if_same}
-use Rattle.tbr_model.proofs.rule.BlankLines.{all_preserve}
+use Rattle.tbr_model.proofs.rule.BlankLines.{all_preserve, mode_preserves}
 use Rattle.tbr_model.proofs.rule.HardLineStart.{BeginsHardLine}
 
 -- a text is on the open line, in the pending space and in the word, and no line is ended
@@ -272,11 +273,8 @@ some_end [] h = absurd h
 some_end (c ∷ cs) h = h
 
 -- Tabs of a hard line in a run of one preserving mode.
-pub tab_line : {A : Type 0} (columns : ℕ → Option ℕ) (width : ℕ) → columns 32 ≡ Some 1 → 0 < width → (mode : WhiteSpace) → mode ≢ Normal → (p : Progress A) (es : List (Event A)) →
-    BeginsHardLine p → Each (λ e. is_newline e ≡ false) (run_of es) → Each (HasMode mode) (run_of es) →
-    ShowsTabs columns width true (run_of es) (newline (flush_word columns width (fold (step columns width) p es))).laid.done
-    × ShowsTabs columns width false (run_of es) (finished columns width (fold (step columns width) p es)).done
-tab_line {A} columns width one some mode kept p es h no_newline modes = (record { tabs = λ tabbed ends fits. (line tabbed ends fits).0 }, record { tabs = λ tabbed ends fits. (line tabbed ends fits).1 })
+tab_line : {A : Type 0} (columns : ℕ → Option ℕ) (width : ℕ) → columns 32 ≡ Some 1 → 0 < width → (mode : WhiteSpace) → mode ≢ Normal → ShowsOne columns width (ShowsTabs {A = A} columns width) (HasMode mode)
+tab_line {A} columns width one some mode kept p es h modes no_newline = (record { tabs = λ tabbed ends fits. (line tabbed ends fits).0 }, record { tabs = λ tabbed ends fits. (line tabbed ends fits).1 })
   where
     line : IsTabbedLine columns (run_of es) → EndsWithNonBlank (entry_letters (run_of es)) → length (tabs_filled 0 (entry_letters (run_of es))) ≤ width →
         IsLine (tabs_filled 0 (entry_letters (run_of es))) (flush_word columns width (fold (step columns width) p es)).laid
@@ -284,3 +282,9 @@ tab_line {A} columns width one some mode kept p es h no_newline modes = (record 
         let starts : Ends (has_character p.word) (entry_letters (run_of es)) = rw (h.word) (some_end (entry_letters (run_of es)) ends) in
         let both = tabs_read columns width es [] (tabs_filled 0 (entry_letters (run_of es))) p one (all_preserve mode kept (run_of es) modes) tabbed starts refl fits (fresh_reads columns p h) in
         end_reads columns width (tabs_filled 0 (entry_letters (run_of es))) (fold (step columns width) p es) both.0 fits both.1
+
+-- each hard line's tabs, in a run of one preserving mode
+pub tabs_shown : {A : Type 0} (columns : ℕ → Option ℕ) (width : ℕ) → columns 32 ≡ Some 1 → 0 < width → (mode : WhiteSpace) → mode ≢ Normal → (es : List (Event A)) →
+    Each (HasMode mode) (run_of es) → Parted (ShowsTabs columns width) (hard_lines (run_of es)) (lines_of columns width es)
+tabs_shown columns width one some mode kept =
+    hard_lines_parted columns width (ShowsTabs columns width) (HasMode mode) (mode_preserves mode kept) (tab_line columns width one some mode kept)

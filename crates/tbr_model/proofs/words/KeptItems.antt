@@ -85,17 +85,14 @@ narrow_words columns width (w ∷ words) h = (
 pub narrow_markers : {A : Type 0} (columns : ℕ → Option ℕ) (width : ℕ) (is : List (Item A)) → has_character is ≡ false → IsNarrow columns width is
 narrow_markers columns width = each_marker (λ i. item_width columns i ≤ width) (λ name. omega arith)
 
-narrow_trailing : {A : Type 0} (columns : ℕ → Option ℕ) (width : ℕ) (run : List (Entry A)) → IsNarrow columns width (trailing columns run)
-narrow_trailing {A} columns width run =
-    cond_both (has_character (reading columns run).items) _ _ (IsNarrow columns width) (λ _. tt) (narrow_markers columns width (reading columns run).items)
-
 pub narrow_if_legal : {A : Type 0} (columns : ℕ → Option ℕ) (width : ℕ) (run : List (Entry A)) (lines : List (List (Slot A))) →
     IsLegal width (slots_of columns width run) lines → IsNarrow columns width (kept_items columns run)
 narrow_if_legal {A} columns width run lines h =
     let P : Item A → Type 0 = λ i. item_width columns i ≤ width in
     let words : Each (λ w. Each P w.items) (words_of columns run) = narrow_words columns width (words_of columns run) (subst (Each (Fits width)) h.whole (narrow_lines width lines h.each)) in
     subst (Each P) (words_hold columns run)
-    (each_append P (flat_map (λ w. w.items) (words_of columns run)) (trailing columns run) (flat_map_each P (λ w. w.items) (words_of columns run) words) (narrow_trailing columns width run))
+    (each_append P (flat_map (λ w. w.items) (words_of columns run)) (trailing columns run) (flat_map_each P (λ w. w.items) (words_of columns run) words)
+    (cond_both (has_character (reading columns run).items) _ _ (IsNarrow columns width) (λ _. tt) (narrow_markers columns width (reading columns run).items)))
 
 pub each_words_narrow : {A : Type 0} (columns : ℕ → Option ℕ) (width : ℕ) (run : List (Entry A)) → IsNarrow columns width (kept_items columns run) → Each (λ w. IsNarrow columns width w.items) (words_of columns run)
 each_words_narrow {A} columns width run h =
