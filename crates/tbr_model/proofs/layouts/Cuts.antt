@@ -6,6 +6,7 @@ use Rattle.std.specs.List.{AllByRecursion as Each}
 use Rattle.std.specs.List.Sorted.{IsNonDecreasing, IsStrictlyIncreasing}
 use Rattle.std.proofs.lemmas.Option.{slice_get_within}
 use Rattle.std.proofs.lemmas.Bool.{cases_lt, not_from_false, false_from_ne_true, both_ways, not-true}
+use Rattle.tbr_model.proofs.lists.Each.{each_weaker}
 use Rattle.tbr_model.specs.Layout.{Slot, joined, placed, line_width, line_text, MayBegin, MayFollow, FirstMayBegin, OthersMayFollow, IsLegalLine, IsLegal, HasNoEmptyLine, IsAhead, IsBest}
 use Rattle.tbr_model.specs.Cuts.{IsLayout, lines_after, lines_between, ends_of, cuts_of, placed_by_cuts, BeginsWider, IsLegalLayout, IsBestLayout, with_gap}
 use Rattle.tbr_model.proofs.layouts.Ahead.{joined_begins}
@@ -237,10 +238,6 @@ wider_at_cuts {A} width slots c (d ∷ ds) h legal place s p e b =
     later : Contains (d ∷ ds) place → Contains (c ∷ d ∷ ds) place
     later k = (suc k.0, omega (arith, k.1), k.2)
 
-each_fits : {A : Type 0} (width : ℕ) (ls : List (List (Slot A))) → Each (IsLegalLine width) ls → Each (λ line. line_width line ≤ width) ls
-each_fits width [] h = tt
-each_fits width (l ∷ ls) h = (h.0.fits, each_fits width ls h.1)
-
 legal_lines : {A : Type 0} (width : ℕ) (slots : List (Slot A)) (ds : List ℕ) → IsLegalLayout width slots (0 ∷ ds) → IsLegal width slots (lines_after slots 0 ds)
 legal_lines width slots ds h =
     let rises = rises_layout (length slots) ds h.layout in
@@ -252,7 +249,7 @@ legal_lines width slots ds h =
 legal_cuts : {A : Type 0} (width : ℕ) (slots : List (Slot A)) (ds : List ℕ) → RisesTo 0 ds (length slots) → IsLegal width slots (lines_after slots 0 ds) → IsLegalLayout width slots (0 ∷ ds)
 legal_cuts width slots ds rises h = record {
   layout = layout_rises (length slots) ds rises;
-  fits = each_fits width (lines_after slots 0 ds) h.each;
+  fits = each_weaker (IsLegalLine width) (λ line. line_width line ≤ width) (λ line k. k.fits) (lines_after slots 0 ds) h.each;
   between_words = λ cut s k e. begins_at_cuts width slots 0 ds rises h.each k.0 cut s k.1 k.2 e;
   wider_at_cut = λ place s e b. wider_at_cuts width slots 0 ds rises h.each place s (omega arith) e b;
 }

@@ -6,7 +6,7 @@ use Rattle.tbr_model.specs.Layout.{Slot, joined, line_width, MayFollow, FirstMay
 use Rattle.tbr_model.specs.Greedy.{close, Lines, fill}
 use Rattle.tbr_model.proofs.lists.Joined.{cut_twice, joined-append}
 use Rattle.tbr_model.proofs.lists.Each.{each_back, each_append}
-use Rattle.tbr_model.proofs.layouts.Ahead.{rest_width-append}
+use Rattle.tbr_model.proofs.layouts.Ahead.{rest_width-append, first_front}
 
 -- ---- what no later item can change
 
@@ -106,10 +106,6 @@ pub record HoldsSlots {A : Type 0} (width : ℕ) (slots : List (Slot A)) (lines 
 abbrev pub InWider : {A : Type 0} → ℕ → Slot A → Type 0
 InWider width s = (s.begins ≡ false) × (s.wider ≡ true) × (s.width ≤ width)
 
-first_line : {A : Type 0} (last : List (Slot A)) (t : Slot A) (v : List (Slot A)) → 0 < length last → FirstMayBegin last → FirstMayBegin (last ++ (t ∷ v))
-first_line [] t v some h = absurd (omega arith)
-first_line (s ∷ last) t v some h = h
-
 others_line : {A : Type 0} (last v : List (Slot A)) → 0 < length last → OthersMayFollow last → Each MayFollow v → OthersMayFollow (last ++ v)
 others_line [] v some h k = absurd (omega arith)
 others_line (s ∷ last) v some h k = each_append MayFollow last v h k
@@ -120,7 +116,7 @@ pub longer : {A : Type 0} (width : ℕ) (last v : List (Slot A)) → 0 < length 
 longer width last [] some legal fits follow = rw append-nil legal
 longer width last (t ∷ v) some legal fits follow = record {
   fits = fits;
-  first = first_line last t v some legal.first;
+  first = first_front last (t ∷ v) some legal.first;
   others = others_line last (t ∷ v) some legal.others follow;
 }
 

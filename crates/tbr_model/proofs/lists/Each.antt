@@ -14,6 +14,10 @@ pub each_append : {X : Type 0} (P : X → Type 0) (a b : List X) → Each P a �
 each_append P [] b h k = k
 each_append P (x ∷ a) b h k = (h.0, each_append P a b h.1 k)
 
+pub each_weaker : {X : Type 0} (P Q : X → Type 0) → ((x : X) → P x → Q x) → (xs : List X) → Each P xs → Each Q xs
+each_weaker P Q f [] h = tt
+each_weaker P Q f (x ∷ xs) h = (f x h.0, each_weaker P Q f xs h.1)
+
 -- a function goes into both cases
 pub if_same : {X Y : Type 0} (f : X → Y) (b : Bool) (x y : X) (z w : Y) → z ≡ f x → w ≡ f y → (if b then z else w) ≡ f (if b then x else y)
 if_same f true x y z w p q = p

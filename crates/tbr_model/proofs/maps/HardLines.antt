@@ -57,9 +57,6 @@ module _ {A B : Type 0} (f : A → B) where
   line_letters-map [] = refl
   line_letters-map (l ∷ ls) = let first = letters_of-map l in let rest = line_letters-map ls in cc
 
-  joined_letters-map : (ls : List (List (Item A))) → letters_of (joined (map_lines f ls)) ≡ letters_of (joined ls)
-  joined_letters-map ls = ap letters_of (joined-map (map_item f) ls) ∙ letters_of-map (joined ls)
-
   pub joined_glyphs-map : (ls : List (List (Item A))) → glyphs_of (joined (map_lines f ls)) ≡ map (map_glyph f) (glyphs_of (joined ls))
   joined_glyphs-map ls = ap glyphs_of (joined-map (map_item f) ls) ∙ glyphs_of-map (joined ls)
 
@@ -127,7 +124,7 @@ module _ {A B : Type 0} (f : A → B) where
 
     pub pre-map : (width : ℕ) (more : Bool) (h : List (Entry A)) (ls : List (List (Item A))) → ShowsPre columns Same width more h ls → ShowsPre columns Other width more (map_run f h) (map_lines f ls)
     pre-map width more h ls s = record {
-      kept = rw (joined_letters-map ls, entry_letters-map h) s.kept;
+      kept = rw (joined-map (map_item f) ls, letters_of-map (joined ls), entry_letters-map h) s.kept;
       fits = rw (line_letters-map ls, entry_letters-map h, length-map h (map_entry f)) (λ printable some fits. s.fits (printable_unmap columns h printable) some fits);
       cut = rw (line_letters-map ls, entry_letters-map h) (λ printable begins. s.cut (printable_unmap columns h printable) begins);
       blank = blank-map more h ls s.blank;

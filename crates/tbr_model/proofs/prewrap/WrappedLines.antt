@@ -166,11 +166,11 @@ module _ {A : Type 0} (columns : ℕ → Option ℕ) (width : ℕ) (some : 0 < w
 
   -- The lines at the end are those that are done, and then lines on which the text goes on from the open line. The last
   -- line has a character, or there is none and the text is spaces alone.
-  record WrapsText (p : Progress A) (text : List ℕ) (l : Laid A) : Type 0 where
+  record WrapsText (before : Laid A) (text : List ℕ) (l : Laid A) : Type 0 where
     lines : List (List ℕ)
-    are : map letters_of (end_if_character l).done ≡ map letters_of p.laid.done ++ lines
-    goes : GoesOn width (letters_of p.laid.line) text lines
-    last : (IsSpaces text × (letters_of p.laid.line ≡ [])) ⊎ (has_character l.line ≡ true)
+    are : map letters_of (end_if_character l).done ≡ map letters_of before.done ++ lines
+    goes : GoesOn width (letters_of before.line) text lines
+    last : (IsSpaces text × (letters_of before.line ≡ [])) ⊎ (has_character l.line ≡ true)
 
   -- the text of a state, with what follows
   abbrev text_ahead : Progress A → List ℕ → List ℕ
@@ -182,7 +182,7 @@ module _ {A : Type 0} (columns : ℕ → Option ℕ) (width : ℕ) (some : 0 < w
   bare_done : (l : Laid A) → has_character l.line ≡ false → (end_if_character l).done ≡ l.done
   bare_done l h = rw h refl
 
-  end_laid : (p : Progress A) → IsReadyForWord columns p → IsOpen width (letters_of p.laid.line) → has_character p.word ≡ true → WrapsText p (text_ahead p []) (lay columns width p).laid
+  end_laid : (p : Progress A) → IsReadyForWord columns p → IsOpen width (letters_of p.laid.line) → has_character p.word ≡ true → WrapsText p.laid (text_ahead p []) (lay columns width p).laid
   end_laid p h line has =
       let q : Progress A = lay columns width p in
       let k = lay_text p h line has in
@@ -195,7 +195,7 @@ module _ {A : Type 0} (columns : ℕ → Option ℕ) (width : ℕ) (some : 0 < w
         last = inr last;
       }
 
-  end_bare : (p : Progress A) → IsOpen width (letters_of p.laid.line) → has_character p.word ≡ false → WrapsText p (text_ahead p []) p.laid
+  end_bare : (p : Progress A) → IsOpen width (letters_of p.laid.line) → has_character p.word ≡ false → WrapsText p.laid (text_ahead p []) p.laid
   end_bare p line none = go (has_character p.laid.line) refl
     where
       text : List ℕ
@@ -204,7 +204,7 @@ module _ {A : Type 0} (columns : ℕ → Option ℕ) (width : ℕ) (some : 0 < w
       spaces : IsSpaces text
       spaces = subst (λ (w : List ℕ). IsSpaces (replicate (pending_width p.space) 32 ++ (w ++ []))) (sym (no_letters p.word none)) (spaces_alone (pending_width p.space))
 
-      go : (b : Bool) → has_character p.laid.line ≡ b → WrapsText p text p.laid
+      go : (b : Bool) → has_character p.laid.line ≡ b → WrapsText p.laid text p.laid
       go true e = elim line [
         | inl bare ↦ absurd (omega (arith, some_letters p.laid.line e, ap length bare))
         | inr ends ↦ record {
@@ -225,7 +225,7 @@ module _ {A : Type 0} (columns : ℕ → Option ℕ) (width : ℕ) (some : 0 < w
 
   -- a space after a word that is laid
   space_laid : (p : Progress A) (a : A) (cs : List ℕ) (l : Laid A) → LaysText p (lay columns width p) →
-      (let n : Progress A = record (lay columns width p) { space = space_of (pending_width (lay columns width p).space + 1) a PreWrap } in WrapsText n (text_ahead n cs) l) → WrapsText p (text_ahead p (32 ∷ cs)) l
+      (let n : Progress A = record (lay columns width p) { space = space_of (pending_width (lay columns width p).space + 1) a PreWrap } in WrapsText n.laid (text_ahead n cs) l) → WrapsText p.laid (text_ahead p (32 ∷ cs)) l
   space_laid p a cs l k rest =
       let q : Progress A = lay columns width p in
       let n : Progress A = record q { space = space_of (pending_width q.space + 1) a PreWrap } in
@@ -242,7 +242,7 @@ module _ {A : Type 0} (columns : ℕ → Option ℕ) (width : ℕ) (some : 0 < w
 
   -- a space after others
   space_more : (p : Progress A) (a : A) (cs : List ℕ) (l : Laid A) → has_character p.word ≡ false →
-      (let n : Progress A = record p { space = space_of (pending_width p.space + 1) a PreWrap } in WrapsText n (text_ahead n cs) l) → WrapsText p (text_ahead p (32 ∷ cs)) l
+      (let n : Progress A = record p { space = space_of (pending_width p.space + 1) a PreWrap } in WrapsText n.laid (text_ahead n cs) l) → WrapsText p.laid (text_ahead p (32 ∷ cs)) l
   space_more p a cs l none rest =
       let n : Progress A = record p { space = space_of (pending_width p.space + 1) a PreWrap } in
       let bare : letters_of p.word ≡ [] = no_letters p.word none in
@@ -251,7 +251,7 @@ module _ {A : Type 0} (columns : ℕ → Option ℕ) (width : ℕ) (some : 0 < w
       ∙ ap (λ (w : List ℕ). replicate (pending_width p.space + 1) 32 ++ (w ++ cs)) bare
       ∙ one_more_space (pending_width p.space) cs
       ∙ ap (λ (w : List ℕ). replicate (pending_width p.space) 32 ++ (w ++ 32 ∷ cs)) (sym bare) in
-      subst (λ (ds : List ℕ). WrapsText p ds l) ahead (record { lines = rest.lines; are = rest.are; goes = rest.goes; last = rest.last })
+      subst (λ (ds : List ℕ). WrapsText p.laid ds l) ahead rest
 
   abbrev end_laid_from : Progress A → List (Event A) → Laid A
   end_laid_from p es = (flush_word columns width (fold (step columns width) p es)).laid
@@ -265,13 +265,13 @@ module _ {A : Type 0} (columns : ℕ → Option ℕ) (width : ℕ) (some : 0 < w
 
   -- what a space that comes to the second leaves of the first
   abbrev ReadsSpace : List (Event A) → Progress A → A → A → Progress A → Type 0
-  ReadsSpace es p a b q = WrapsText p (text_ahead p (32 ∷ entry_letters (run_of es))) (end_laid_from (keep_space 32 (tag_of q a b) PreWrap (Some 1) q) es)
+  ReadsSpace es p a b q = WrapsText p.laid (text_ahead p (32 ∷ entry_letters (run_of es))) (end_laid_from (keep_space 32 (tag_of q a b) PreWrap (Some 1) q) es)
 
   break_some : (p : Progress A) → 0 < items_width columns p.word → break_word columns width p ≡ lay columns width p
   break_some p takes = rw (lt-ltb _ _ takes) refl
 
   space_read : (es : List (Event A)) (p : Progress A) (a b : A) → IsReadyForWord columns p → IsOpen width (letters_of p.laid.line) →
-      ((n : Progress A) → IsReadyForWord columns n → IsOpen width (letters_of n.laid.line) → WrapsText n (text_ahead n (entry_letters (run_of es))) (end_laid_from n es)) →
+      ((n : Progress A) → IsReadyForWord columns n → IsOpen width (letters_of n.laid.line) → WrapsText n.laid (text_ahead n (entry_letters (run_of es))) (end_laid_from n es)) →
       ReadsSpace es p a b (break_word columns width p)
   space_read es p a b h line later = elim (cases_Bool (has_character p.word)) [
     | inl e ↦
@@ -288,21 +288,20 @@ module _ {A : Type 0} (columns : ℕ → Option ℕ) (width : ℕ) (some : 0 < w
         subst (ReadsSpace es p a b) (sym (not_broken columns width p e)) (kept p e (space_more p (tag_of p a b) (entry_letters (run_of es)) (end_laid_from n es) e rest))
   ]
     where
-      kept : (q : Progress A) → has_character q.word ≡ false → WrapsText p (text_ahead p (32 ∷ entry_letters (run_of es))) (end_laid_from (spaced q (tag_of q a b)) es) → ReadsSpace es p a b q
-      kept q none k = subst (λ (r : Progress A). WrapsText p (text_ahead p (32 ∷ entry_letters (run_of es))) (end_laid_from r es)) (sym (keeps q (tag_of q a b) none)) k
+      kept : (q : Progress A) → has_character q.word ≡ false → WrapsText p.laid (text_ahead p (32 ∷ entry_letters (run_of es))) (end_laid_from (spaced q (tag_of q a b)) es) → ReadsSpace es p a b q
+      kept q none k = subst (λ (r : Progress A). WrapsText p.laid (text_ahead p (32 ∷ entry_letters (run_of es))) (end_laid_from r es)) (sym (keeps q (tag_of q a b) none)) k
 
   wraps_read : (es : List (Event A)) (p : Progress A) → columns 32 ≡ Some 1 → Each (HasMode PreWrap) (run_of es) → IsPrintableLine columns (run_of es) → IsReadyForWord columns p → IsOpen width (letters_of p.laid.line) →
-      WrapsText p (text_ahead p (entry_letters (run_of es))) (flush_word columns width (fold (step columns width) p es)).laid
-  wraps_read [] p one modes printable h line = cond_both (has_character p.word) _ _ (λ (q : Progress A). WrapsText p (text_ahead p []) q.laid) (λ has. end_laid p h line has) (λ none. end_bare p line none)
+      WrapsText p.laid (text_ahead p (entry_letters (run_of es))) (flush_word columns width (fold (step columns width) p es)).laid
+  wraps_read [] p one modes printable h line = cond_both (has_character p.word) _ _ (λ (q : Progress A). WrapsText p.laid (text_ahead p []) q.laid) (λ has. end_laid p h line has) (λ none. end_bare p line none)
   wraps_read (call ∷ es) p one modes printable h line =
-      let k = wraps_read es (record p { in_continuation = p.continuation_flag }) one modes printable (again_ready columns p p.continuation_flag h) line in
-      record { lines = k.lines; are = k.are; goes = k.goes; last = k.last }
+      wraps_read es (record p { in_continuation = p.continuation_flag }) one modes printable (again_ready columns p p.continuation_flag h) line
   wraps_read (entry (marker_entry name) ∷ es) p one modes printable h line = absurd printable.0
   wraps_read (entry (character c a b mode) ∷ es) p one modes printable h line =
       rw (modes.0) (elim (eqb_tells c 32) [
         | inl w ↦
-            subst (λ d. WrapsText p (text_ahead p (d ∷ entry_letters (run_of es))) (flush_word columns width (fold (step columns width) (enter columns width p (character d a b PreWrap)) es)).laid) (sym w.1)
-            (subst (λ (r : Progress A). WrapsText p (text_ahead p (32 ∷ entry_letters (run_of es))) (flush_word columns width (fold (step columns width) r es)).laid)
+            subst (λ d. WrapsText p.laid (text_ahead p (d ∷ entry_letters (run_of es))) (flush_word columns width (fold (step columns width) (enter columns width p (character d a b PreWrap)) es)).laid) (sym w.1)
+            (subst (λ (r : Progress A). WrapsText p.laid (text_ahead p (32 ∷ entry_letters (run_of es))) (flush_word columns width (fold (step columns width) r es)).laid)
             (sym (preserved_space columns width a b PreWrap (break_word columns width p) one)) (space_read es p a b h line (λ n ready open_line. wraps_read es n one modes.1 printable.1 ready open_line)))
         | inr w ↦
             let v = visible_of columns c printable.0 w.1 in
@@ -310,9 +309,8 @@ module _ {A : Type 0} (columns : ℕ → Option ℕ) (width : ℕ) (some : 0 < w
             let k = wraps_read es n one modes.1 printable.1 (join_ready columns p c (tag_of p a b) v h) line in
             let text : letters_of n.word ++ entry_letters (run_of es) ≡ letters_of p.word ++ (c ∷ entry_letters (run_of es)) =
             ap (λ cs. cs ++ entry_letters (run_of es)) (letters_of-append p.word (glyph c (tag_of p a b) ∷ [])) ∙ append_assoc (letters_of p.word) (c ∷ []) (entry_letters (run_of es)) in
-            subst (λ (r : Progress A). WrapsText p (text_ahead p (c ∷ entry_letters (run_of es))) (flush_word columns width (fold (step columns width) r es)).laid) (sym (entered_visible columns width c a b PreWrap p (λ e. cc) v))
-            (subst (λ (t : List ℕ). WrapsText p (replicate (pending_width p.space) 32 ++ t) (flush_word columns width (fold (step columns width) n es)).laid) text
-            (record { lines = k.lines; are = k.are; goes = k.goes; last = k.last }))
+            subst (λ (r : Progress A). WrapsText p.laid (text_ahead p (c ∷ entry_letters (run_of es))) (flush_word columns width (fold (step columns width) r es)).laid) (sym (entered_visible columns width c a b PreWrap p (λ e. cc) v))
+            (subst (λ (t : List ℕ). WrapsText p.laid (replicate (pending_width p.space) 32 ++ t) (flush_word columns width (fold (step columns width) n es)).laid) text k)
       ])
 
 -- the lines of a hard line, before a newline and at the end of the run
@@ -336,8 +334,8 @@ wrapped_line {A} columns width some one p es f modes printable other = (
         ap (λ (o : Option (Space A)). replicate (pending_width o) 32 ++ (letters_of p.word ++ entry_letters (run_of es))) f.space
         ∙ ap (λ (w : List ℕ). w ++ entry_letters (run_of es)) (no_letters p.word f.word)
 
-    k : WrapsText columns width some p (entry_letters (run_of es)) l
-    k = subst (λ (cs : List ℕ). WrapsText columns width some p cs l) ahead (wraps_read columns width some es p one modes printable (fresh_ready columns p f) (inl bare))
+    k : WrapsText columns width some p.laid (entry_letters (run_of es)) l
+    k = subst (λ (cs : List ℕ). WrapsText columns width some p.laid cs l) ahead (wraps_read columns width some es p one modes printable (fresh_ready columns p f) (inl bare))
 
     last : has_character l.line ≡ true
     last = elim k.last [ inl spaces ↦ absurd (other spaces.0) | inr has ↦ has ]

@@ -1,6 +1,7 @@
 -- A hard line of spaces alone leaves an empty line before a newline, and none at the end of a run.
 use Rattle.std.proofs.Common.{◌≡◌, ◌≢◌, ℕ, true, false, Option, None, Some, List, [], ◌∷◌, fold, refl, ap, sym, ◌∙◌, subst}
 use Rattle.std.specs.List.{AllByRecursion as Each}
+use Rattle.tbr_model.proofs.lists.Each.{each_weaker}
 use Rattle.tbr_model.specs.declared.white_space.WhiteSpace.{WhiteSpace}
 use Rattle.tbr_model.specs.declared.white_space.WhiteSpace.TheVariants.{Normal, Pre, PreWrap}
 use Rattle.tbr_model.specs.Run.{Entry, character, marker_entry, marker, items_width, has_character}
@@ -15,10 +16,6 @@ use Rattle.tbr_model.proofs.rule.HardLines.{not_flushed}
 pub mode_preserves : {A : Type 0} (mode : WhiteSpace) → mode ≢ Normal → (e : Entry A) → HasMode mode e → Preserves e
 mode_preserves mode kept (character c a b m) h = λ e. kept (sym h ∙ e)
 mode_preserves mode kept (marker_entry name) h = tt
-
-pub all_preserve : {A : Type 0} (mode : WhiteSpace) → mode ≢ Normal → (run : List (Entry A)) → Each (HasMode mode) run → Each Preserves run
-all_preserve mode kept [] h = tt
-all_preserve mode kept (e ∷ run) h = (mode_preserves mode kept e h.0, all_preserve mode kept run h.1)
 
 -- Nothing is laid, and no character is in the word.
 pub record IsBlankSoFar {A : Type 0} (p : Progress A) : Type 0 where
@@ -68,4 +65,4 @@ module _ {A : Type 0} (columns : ℕ → Option ℕ) (width : ℕ) where
   -- in a run of one preserving mode
   pub blank_line_of : (mode : WhiteSpace) → mode ≢ Normal → (p : Progress A) (es : List (Event A)) → BeginsHardLine p → Each (HasMode mode) (run_of es) → IsSpaces (entry_letters (run_of es)) →
       ((newline (flush_word columns width (fold (step columns width) p es))).laid.done ≡ blank_lines true) × ((finished columns width (fold (step columns width) p es)).done ≡ blank_lines false)
-  blank_line_of mode kept p es f modes = blank_line p es f (all_preserve mode kept (run_of es) modes)
+  blank_line_of mode kept p es f modes = blank_line p es f (each_weaker (HasMode mode) Preserves (mode_preserves mode kept) (run_of es) modes)

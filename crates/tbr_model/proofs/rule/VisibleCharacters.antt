@@ -46,6 +46,10 @@ visible_zip {A} columns Modes S each =
     (λ c x a b m is es either rest. elim (cases_Bool (is_visible columns c)) [ inl e ↦ rw e (each c x a b m either, rest) | inr e ↦ rw e rest ]) (λ name is es rest. rest)
 
 module _ {A : Type 0} (columns : ℕ → Option ℕ) (width : ℕ) (Same : A → A → Type 0) (same : (x : A) → Same x x) where
+  pub under : (x a b : A) → (x ≡ a) ⊎ ((x ≡ b) × Unit {0}) → Same x a ⊎ Same x b
+  under x a b (inl e) = inl (rw (← e) (same x))
+  under x a b (inr e) = inr (rw (← e.0) (same x))
+
   -- the visible characters of a run from where a hard line begins, before a newline and at the end of the run
   visible_lines : (p : Progress A) (es : List (Event A)) → BeginsHardLine p →
       let q = fold (step columns width) p es in
@@ -54,12 +58,9 @@ module _ {A : Type 0} (columns : ℕ → Option ℕ) (width : ℕ) (Same : A →
       let (ended, finished) = found_from (looks_at_characters columns AnyEntry AnyMode (λ c a b m h. tt)) (none_visible columns) width p es f (λ _. tt) (any_entries (run_of es)) in
       (rw (ended.are) (shown ended.items (run_of es) ended.stand), rw (finished.are) (shown finished.items (run_of es) finished.stand))
     where
-      under : (c : ℕ) (x a b : A) (m : WhiteSpace) → (x ≡ a) ⊎ ((x ≡ b) × Unit {0}) → IsShown Same (c, x) (character c a b m)
-      under c x a b m (inl e) = (refl, inl (rw (← e) (same x)))
-      under c x a b m (inr e) = (refl, inr (rw (← e.0) (same x)))
 
       shown : (is : List (Item A)) (fs : List (Entry A)) → AllZip (StandsFor AnyMode) is fs → AllZip (IsShown Same) (visible_glyphs columns is) (visible_entries columns fs)
-      shown = visible_zip columns AnyMode (IsShown Same) under
+      shown = visible_zip columns AnyMode (IsShown Same) (λ c x a b m either. (refl, under x a b either))
 
   pub visible_from : (p : Progress A) (es : List (Event A)) → BeginsHardLine p → ShowsVisible columns Same (run_of es) (finished columns width (fold (step columns width) p es)).done
   visible_from p es f = (visible_lines p es f).1

@@ -13,8 +13,8 @@ use Rattle.tbr_model.proofs.words.Items.{back_has, letters_of-append, items_widt
 use Rattle.tbr_model.proofs.rule.Printable.{prepared, IsVisible, entered, preserved_space, entered_visible, visible_of}
 use Rattle.std.specs.List.{AllByRecursion as Each}
 use Rattle.std.proofs.lemmas.Bool.Decides.{eqb_tells}
-use Rattle.tbr_model.proofs.lists.Each.{if_same}
-use Rattle.tbr_model.proofs.rule.BlankLines.{all_preserve, mode_preserves}
+use Rattle.tbr_model.proofs.lists.Each.{if_same, each_weaker}
+use Rattle.tbr_model.proofs.rule.BlankLines.{mode_preserves}
 use Rattle.tbr_model.proofs.rule.HardLineStart.{BeginsHardLine}
 
 -- a text is on the open line, in the pending space and in the word, and no line is ended
@@ -280,7 +280,7 @@ tab_line {A} columns width one some mode kept p es h modes no_newline = (record 
         IsLine (tabs_filled 0 (entry_letters (run_of es))) (flush_word columns width (fold (step columns width) p es)).laid
     line tabbed ends fits =
         let starts : Ends (has_character p.word) (entry_letters (run_of es)) = rw (h.word) (some_end (entry_letters (run_of es)) ends) in
-        let both = tabs_read columns width es [] (tabs_filled 0 (entry_letters (run_of es))) p one (all_preserve mode kept (run_of es) modes) tabbed starts refl fits (fresh_reads columns p h) in
+        let both = tabs_read columns width es [] (tabs_filled 0 (entry_letters (run_of es))) p one (each_weaker (HasMode mode) Preserves (mode_preserves mode kept) (run_of es) modes) tabbed starts refl fits (fresh_reads columns p h) in
         end_reads columns width (tabs_filled 0 (entry_letters (run_of es))) (fold (step columns width) p es) both.0 fits both.1
 
 -- each hard line's tabs, in a run of one preserving mode

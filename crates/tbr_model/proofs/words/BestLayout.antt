@@ -5,7 +5,7 @@ use Rattle.std.proofs.lemmas.Bool.{cond_both}
 use Rattle.tbr_model.specs.Run.{Item, item_width, items_width, Word}
 use Rattle.tbr_model.specs.Layout.{Slot, slot_of, word_slots, joined, line_width, rest_width, MayFollow, FirstMayBegin, IsLegalLine, IsBest}
 use Rattle.tbr_model.proofs.lists.Joined.{joined-append}
-use Rattle.tbr_model.proofs.lists.Each.{each_append}
+use Rattle.tbr_model.proofs.lists.Each.{each_append, each_weaker, each_map}
 use Rattle.tbr_model.proofs.layouts.Ahead.{line_width_back, greedy_best}
 use Rattle.tbr_model.specs.Greedy.{close, Lines, fill, place, place_word, no_lines, wrapped, IsNarrow}
 use Rattle.tbr_model.proofs.layouts.Greedy.{stays_by_unit, stays_by_wider, MayNotBegin, HoldsSlots, InWider, longer, longer_holds_slots, next_holds_slots, fill_holds_slots, greedy_close}
@@ -17,16 +17,11 @@ InWord width wider s = (s.begins ≡ false) × (s.wider ≡ wider) × (s.width �
 
 each_in_word : {A : Type 0} (columns : ℕ → Option ℕ) (width : ℕ) (wider : Bool) (is : List (Item A)) → Each (λ i. item_width columns i ≤ width) is →
     Each (InWord width wider) (map (slot_of columns wider None false) is)
-each_in_word columns width wider [] h = tt
-each_in_word columns width wider (i ∷ is) h = ((refl, refl, h.0), each_in_word columns width wider is h.1)
+each_in_word columns width wider = each_map (slot_of columns wider None false) (λ i. item_width columns i ≤ width) (InWord width wider) (λ i h. (refl, refl, h))
 
 pub rest_width_within : {A : Type 0} (columns : ℕ → Option ℕ) (wider : Bool) (is : List (Item A)) → rest_width (map (slot_of columns wider None false) is) ≡ items_width columns is
 rest_width_within columns wider [] = refl
 rest_width_within columns wider (i ∷ is) = omega (arith, rest_width_within columns wider is)
-
-each_weaker : {X : Type 0} (P Q : X → Type 0) → ((x : X) → P x → Q x) → (xs : List X) → Each P xs → Each Q xs
-each_weaker P Q f [] h = tt
-each_weaker P Q f (x ∷ xs) h = (f x h.0, each_weaker P Q f xs h.1)
 
 -- ---- placing a word keeps what holds
 

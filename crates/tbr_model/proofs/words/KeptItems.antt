@@ -5,7 +5,7 @@ use Rattle.std.proofs.lemmas.Bool.{cond_both, and_parts, cases_Bool}
 use Rattle.std.proofs.lemmas.List.Concat.{flat_map-append}
 use Rattle.tbr_model.specs.Run.{Entry, character, marker_entry, Item, item_width, items_width, items_of, kept_items, is_kept, is_break_entry, has_character, Word, Reading, start, works, read, reading, words_of, trailing}
 use Rattle.tbr_model.specs.Layout.{Slot, slot_of, word_slots, slots_of, joined, line_width, rest_width, IsLegalLine, IsLegal, IsBest}
-use Rattle.tbr_model.proofs.lists.Each.{each_front, each_back, each_append}
+use Rattle.tbr_model.proofs.lists.Each.{each_front, each_back, each_append, each_unmap}
 use Rattle.tbr_model.specs.Greedy.{close, wrapped, IsNarrow}
 use Rattle.tbr_model.proofs.words.Items.{each_marker, break_lost}
 use Rattle.tbr_model.proofs.words.BestLayout.{wrapped_holds, holds_best}
@@ -65,8 +65,7 @@ narrow_lines width (l ∷ ls) h = each_append (Fits width) l (joined ls) (narrow
 
 narrow_within : {A : Type 0} (columns : ℕ → Option ℕ) (width : ℕ) (wider : Bool) (is : List (Item A)) →
     Each (Fits width) (map (slot_of columns wider None false) is) → IsNarrow columns width is
-narrow_within columns width wider [] h = tt
-narrow_within columns width wider (i ∷ is) h = (h.0, narrow_within columns width wider is h.1)
+narrow_within columns width wider = each_unmap (slot_of columns wider None false) (λ i. item_width columns i ≤ width) (Fits width) (λ i h. h)
 
 narrow_word : {A : Type 0} (columns : ℕ → Option ℕ) (width : ℕ) (gap : Option A) (is : List (Item A)) →
     Each (Fits width) (word_slots columns width (record { gap = gap; items = is })) → IsNarrow columns width is

@@ -7,7 +7,7 @@ use Rattle.tbr_model.specs.Run.{Entry, Item, glyph, marker, item_width, items_wi
 use Rattle.tbr_model.specs.Layout.{Slot, slot_of, slots_of, line_width, gap_width, line_has_character, IsBest}
 use Rattle.tbr_model.specs.Greedy.{close, Lines, fill, place_word, no_lines, wrapped, IsNarrow}
 use Rattle.tbr_model.proofs.words.Items.{has_character-append, no_character_no_width}
-use Rattle.tbr_model.proofs.lists.Each.{each_append}
+use Rattle.tbr_model.proofs.lists.Each.{each_append, each_map}
 use Rattle.tbr_model.proofs.layouts.Ahead.{rest_width-append, unique}
 use Rattle.tbr_model.proofs.words.BestLayout.{rest_width_within}
 use Rattle.tbr_model.proofs.words.KeptItems.{narrow_if_legal, best_lines, best_if_narrow, each_words_narrow}
@@ -77,8 +77,7 @@ each_close done [] h k = h
 each_close done (s ∷ l) h k = each_append HasGlyph done ((s ∷ l) ∷ []) h (k, tt)
 
 pub inner_slots : {A : Type 0} (columns : ℕ → Option ℕ) (width : ℕ) (wider : Bool) (is : List (Item A)) → IsNarrow columns width is → Each (Inner columns width) (map (slot_of columns wider None false) is)
-inner_slots columns width wider [] h = tt
-inner_slots columns width wider (i ∷ is) h = ((refl, refl, h.0), inner_slots columns width wider is h.1)
+inner_slots columns width wider = each_map (slot_of columns wider None false) (λ i. item_width columns i ≤ width) (Inner columns width) (λ i h. (refl, refl, h))
 
 pub items_within : {A : Type 0} (columns : ℕ → Option ℕ) (wider : Bool) (is : List (Item A)) → map (λ s. s.item) (map (slot_of columns wider None false) is) ≡ is
 items_within columns wider [] = refl
