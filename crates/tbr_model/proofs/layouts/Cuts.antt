@@ -274,15 +274,10 @@ increases_after xs c [] h full k p = absurd (omega arith)
 increases_after xs c (d ∷ ds) h full zero p = omega (arith, full.0, length-line xs c d h.0 (rises_below d (length xs) ds h.1))
 increases_after xs c (d ∷ ds) h full (suc k) p = increases_after xs d ds h.1 full.1 k (omega arith)
 
-full_if_increasing : {X : Type 0} (xs : List X) (cuts : List ℕ) → IsLayout (length xs) cuts → IsStrictlyIncreasing cuts → HasNoEmptyLine (lines_between xs cuts)
-full_if_increasing xs cuts =
-    by_rising (length xs) cuts (λ cs. IsStrictlyIncreasing cs → HasNoEmptyLine (lines_between xs cs))
-    (λ ds rises h. full_after xs 0 ds rises (λ k p. rw add-one at (h k (omega arith))))
-
-increasing_if_full : {X : Type 0} (xs : List X) (cuts : List ℕ) → IsLayout (length xs) cuts → HasNoEmptyLine (lines_between xs cuts) → IsStrictlyIncreasing cuts
-increasing_if_full xs cuts =
-    by_rising (length xs) cuts (λ cs. HasNoEmptyLine (lines_between xs cs) → IsStrictlyIncreasing cs)
-    (λ ds rises h k p. rw add-one (increases_after xs 0 ds rises h k (omega arith)))
+full_alike : {X : Type 0} (xs : List X) (cuts : List ℕ) → IsLayout (length xs) cuts → IsStrictlyIncreasing cuts ↔ HasNoEmptyLine (lines_between xs cuts)
+full_alike xs cuts =
+    by_rising (length xs) cuts (λ cs. IsStrictlyIncreasing cs ↔ HasNoEmptyLine (lines_between xs cs))
+    (λ ds rises. (λ h. full_after xs 0 ds rises (λ k p. rw add-one at (h k (omega arith))), λ h k p. rw add-one (increases_after xs 0 ds rises h k (omega arith))))
 
 -- the cuts of legal lines
 pub others_cuts : {A : Type 0} (width : ℕ) (slots : List (Slot A)) (others : List (List (Slot A))) → IsLegal width slots others →
@@ -307,13 +302,13 @@ best_alike {A} width slots cuts = (
     h.legal.layout,
     record {
       legal = ((legal_alike width slots cuts).0 h.legal).1;
-      full = full_if_increasing slots cuts h.legal.layout h.no_empty_line;
+      full = (full_alike slots cuts h.legal.layout).0 h.no_empty_line;
       ahead = ahead_of_lines width slots cuts h;
     },
   ),
   λ h. record {
     legal = (legal_alike width slots cuts).1 (h.0, h.1.legal);
-    no_empty_line = increasing_if_full slots cuts h.0 h.1.full;
+    no_empty_line = (full_alike slots cuts h.0).1 h.1.full;
     ahead = λ others other n.
         let lines = ((legal_alike width slots others).0 other).1 in
         omega (arith, h.1.ahead (lines_between slots others) lines n, placed_alike slots others n other.layout, placed_alike slots cuts n h.0);

@@ -7,7 +7,7 @@ use Rattle.tbr_model.proofs.lists.Each.{if_same}
 use Rattle.tbr_model.specs.declared.white_space.WhiteSpace.TheVariants.{Normal}
 use Rattle.tbr_model.specs.Run.{Item, glyph, marker, item_width, items_width, has_character}
 use Rattle.tbr_model.specs.Layout.{Slot, slot_of, slots_within, line_text, rest_text, gap_text, line_width, rest_width, gap_width, line_has_character}
-use Rattle.tbr_model.proofs.words.SpacedGaps.{rest_text-append}
+use Rattle.tbr_model.proofs.words.SpacedGaps.{rest_text-append, inner_text}
 use Rattle.tbr_model.specs.Greedy.{Lines, close, fill, place_word, IsNarrow}
 use Rattle.tbr_model.specs.Laid.{Laid, extended, end_if_character, put_item, put_items}
 use Rattle.tbr_model.specs.Rule.{Progress, Space, lay}
@@ -43,24 +43,16 @@ laid_word columns width l gap items =
 
 -- ---- texts of slots
 
-no_gaps_text : {A : Type 0} (ss : List (Slot A)) → Each (λ t. t.gap ≡ None) ss → rest_text ss ≡ map (λ t. t.item) ss
-no_gaps_text [] h = refl
-no_gaps_text (s ∷ ss) h = rw (h.0) (ap (λ is. s.item ∷ is) (no_gaps_text ss h.1))
-
 -- slots of a word after those of a line
-word_text : {A : Type 0} (l : List (Slot A)) (s : Slot A) (ss : List (Slot A)) → Each (λ t. t.gap ≡ None) ss →
-    line_text (l ++ (s ∷ ss)) ≡ line_text l ++ (gap_text (gap_after l s.gap) ++ map (λ t. t.item) (s ∷ ss))
-word_text [] s ss h = ap (λ is. s.item ∷ is) (no_gaps_text ss h)
-word_text (t ∷ l) s ss h =
-    ap (λ is. t.item ∷ is) (rest_text-append l (s ∷ ss) ∙ ap (λ is. rest_text l ++ is) (append_assoc (gap_text s.gap) (s.item ∷ []) (rest_text ss) ∙ ap (λ is. gap_text s.gap ++ (s.item ∷ is)) (no_gaps_text ss h)))
+word_text : {A : Type 0} (columns : ℕ → Option ℕ) (wider : Bool) (l : List (Slot A)) (s : Slot A) (is : List (Item A)) →
+    line_text (l ++ (s ∷ map (slot_of columns wider None false) is)) ≡ line_text l ++ (gap_text (gap_after l s.gap) ++ (s.item ∷ is))
+word_text columns wider [] s is = ap (λ js. s.item ∷ js) (inner_text columns wider is)
+word_text columns wider (t ∷ l) s is =
+    ap (λ js. t.item ∷ js) (rest_text-append l (s ∷ map (slot_of columns wider None false) is) ∙ ap (λ js. rest_text l ++ js) (append_assoc (gap_text s.gap) (s.item ∷ []) (rest_text (map (slot_of columns wider None false) is)) ∙ ap (λ js. gap_text s.gap ++ (s.item ∷ js)) (inner_text columns wider is)))
 
 word_width : {A : Type 0} (l : List (Slot A)) (s : Slot A) (ss : List (Slot A)) → line_width (l ++ (s ∷ ss)) ≡ line_width l + (gap_width (gap_after l s.gap) + line_width (s ∷ ss))
 word_width [] s ss = omega arith
 word_width (t ∷ l) s ss = omega (arith, rest_width-append l (s ∷ ss))
-
-no_gaps : {A : Type 0} (columns : ℕ → Option ℕ) (wider : Bool) (is : List (Item A)) → Each (λ (t : Slot A). t.gap ≡ None) (map (slot_of columns wider None false) is)
-no_gaps columns wider [] = tt
-no_gaps columns wider (i ∷ is) = (refl, no_gaps columns wider is)
 
 slots_width : {A : Type 0} (columns : ℕ → Option ℕ) (wider : Bool) (gap : Option A) (i : Item A) (is : List (Item A)) → line_width (slots_within columns wider gap (i ∷ is)) ≡ items_width columns (i ∷ is)
 slots_width columns wider gap i is = ap (λ n. item_width columns i + n) (rest_width_within columns wider is)
@@ -122,7 +114,7 @@ module _ {A : Type 0} (columns : ℕ → Option ℕ) (width : ℕ) where
       hidden (t ∷ l) = h.0.0
 
       text : line_text (last ++ s ∷ []) ≡ line_text last ++ s.item ∷ []
-      text = word_text last s [] tt ∙ ap (λ o. line_text last ++ (gap_text o ++ s.item ∷ [])) (hidden last)
+      text = word_text columns false last s [] ∙ ap (λ o. line_text last ++ (gap_text o ++ s.item ∷ [])) (hidden last)
 
   -- slots that fit the line
   fill_whole : (done : List (List (Slot A))) (last ss : List (Slot A)) → line_width (last ++ ss) ≤ width → fill width done last ss ≡ record { done = done; last = last ++ ss }
@@ -183,7 +175,7 @@ module _ {A : Type 0} (columns : ℕ → Option ℕ) (width : ℕ) where
       whole = omega (arith, word_width lines.last (slot_of columns wider gap true i) rest, slots_width columns wider gap i is)
 
       text : line_text (lines.last ++ slots) ≡ line_text lines.last ++ (gap_text (gap_after lines.last gap) ++ (i ∷ is))
-      text = word_text lines.last (slot_of columns wider gap true i) rest (no_gaps columns wider is) ∙ ap (λ js. line_text lines.last ++ (gap_text (gap_after lines.last gap) ++ (i ∷ js))) (items_within columns wider is)
+      text = word_text columns wider lines.last (slot_of columns wider gap true i) is
 
       put : put_items columns width (end_if_character (text_of lines)) (i ∷ is) ≡ text_of (fill width (close lines.done lines.last) [] slots)
       put = ap (λ (l : Laid A). put_items columns width l (i ∷ is)) (end_if_character_text lines has) ∙ put_slots (close lines.done lines.last) wider gap (i ∷ is) narrow

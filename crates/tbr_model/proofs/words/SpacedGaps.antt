@@ -11,7 +11,7 @@ module _ {A : Type 0} where
   rest_text-append (s ∷ ss) ts =
       ap (λ is. (gap_text s.gap ++ s.item ∷ []) ++ is) (rest_text-append ss ts) ∙ sym (append_assoc (gap_text s.gap ++ s.item ∷ []) (rest_text ss) (rest_text ts))
 
-  inner_text : (columns : ℕ → Option ℕ) (wider : Bool) (is : List (Item A)) → rest_text (map (slot_of columns wider None false) is) ≡ is
+  pub inner_text : (columns : ℕ → Option ℕ) (wider : Bool) (is : List (Item A)) → rest_text (map (slot_of columns wider None false) is) ≡ is
   inner_text columns wider [] = refl
   inner_text columns wider (i ∷ is) = ap (λ js. i ∷ js) (inner_text columns wider is)
 
