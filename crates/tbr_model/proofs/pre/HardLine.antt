@@ -47,10 +47,6 @@ printable_length columns [] printable = refl
 printable_length columns (character c a b m ∷ h) printable = ap suc (printable_length columns h printable.1)
 printable_length columns (marker_entry name ∷ h) printable = absurd printable.0
 
--- a line that has a character is ended in either way
-ended_alike : {A : Type 0} (l : Laid A) → has_character l.line ≡ true → (end_line l).done ≡ (end_if_character l).done
-ended_alike l h = rw h refl
-
 -- ---- a hard line
 
 module _ {A : Type 0} (columns : ℕ → Option ℕ) (width : ℕ) (p : Progress A) (es : List (Event A)) (one_space : columns 32 ≡ Some 1) (f : BeginsHardLine p) (pre : Each (HasMode Pre) (run_of es)) where
@@ -107,7 +103,7 @@ pre_line columns Same width one_space wide reflexive p es f pre more =
     let kept = pre_kept columns width p es f pre in
     let blank = λ (spaces : IsSpaces (entry_letters (run_of es))). blank_line_of columns width Pre (λ e. cc) p es f pre spaces in (
       shows columns width p es one_space f pre Same wide reflexive true (newline (flush_word columns width q)).laid.done kept.0 (λ spaces. (blank spaces).0) (λ _. refl) (λ k. k.0),
-      shows columns width p es one_space f pre Same wide reflexive false (finished columns width q).done kept.1 (λ spaces. (blank spaces).1) (ended_alike (flush_word columns width q).laid) (λ k. k.1),
+      shows columns width p es one_space f pre Same wide reflexive false (finished columns width q).done kept.1 (λ spaces. (blank spaces).1) (λ has. rw has refl) (λ k. k.1),
     )
 
 -- each hard line of a run of `Pre` alone

@@ -63,25 +63,6 @@ fresh_ready columns p h = record {
   wraps = subst (WaitsIn PreWrap) (sym h.space) tt;
 }
 
--- ---- items one by one
-
-module _ {A : Type 0} (columns : ℕ → Option ℕ) (width : ℕ) (some : 0 < width) where
-  pub put_marker : (l : Laid A) (name : List ℕ) → l.width ≤ width → put_item columns width l (marker name) ≡ extended l (marker name ∷ []) 0
-  put_marker l name fits =
-      let e : nat_le (l.width + 0) width ≡ true = le-leb _ _ (omega (arith, fits)) in
-      rw e refl
-
-  pub put_here : (l : Laid A) (c : ℕ) (a : A) → columns c ≡ Some 1 → l.width + 1 ≤ width → put_item columns width l (glyph c a) ≡ extended l (glyph c a ∷ []) 1
-  put_here l c a one fits =
-      let e : nat_le (l.width + 1) width ≡ true = le-leb _ _ fits in
-      rw (one, e) refl
-
-  pub put_next : (l : Laid A) (c : ℕ) (a : A) → columns c ≡ Some 1 → width < l.width + 1 → put_item columns width l (glyph c a) ≡ extended (end_line l) (glyph c a ∷ []) 1
-  put_next l c a one wide =
-      let e : nat_le (l.width + 1) width ≡ false = lt-leb _ _ wide in
-      let f : nat_le 1 width ≡ true = le-leb _ _ (omega (arith, some)) in
-      rw (one, e, f) refl
-
 -- an open line whose text is no spaces at its end has none there
 pub trailing_whole : {A : Type 0} (is : List (Item A)) → (letters_of is ≡ []) ⊎ EndsWithNonBlank (letters_of is) → without_trailing is ≡ is
 trailing_whole [] h = refl
@@ -169,16 +150,16 @@ module _ {A : Type 0} (columns : ℕ → Option ℕ) (width : ℕ) (some : 0 < w
       PutsText l y (letters_of is) (put_items columns width l is)
   put_text [] l y plain letters nonblank measured fits = put_none l y letters nonblank measured (omega (arith, measured, fits))
   put_text (marker name ∷ is) l y plain letters nonblank measured fits =
-      rw (put_marker columns width some l name fits)
+      rw (le-leb (l.width + 0) width (omega (arith, fits)))
       (let k = put_text is (extended l (marker name ∷ []) 0) y plain.1 (letters_of-append l.line (marker name ∷ []) ∙ append-nil (letters_of l.line) ∙ letters) nonblank
       (omega (arith, measured)) (omega (arith, fits)) in
       record { nonblank = k.nonblank; fits = k.fits; columns_are = k.columns_are; measured = k.measured; goes = λ text ls h. (let g = k.goes text ls h in record { all = g.all; are = g.are; goes = g.goes; reach = g.reach }) })
   put_text (glyph c a ∷ is) l y plain letters nonblank measured fits =
       elim (cases_Bool (nat_le (l.width + 1) width)) [
-        | inl e ↦ rw (put_here columns width some l c a plain.0.one (leb-true _ _ e)) (put_one_here l c a y (letters_of is) _
+        | inl e ↦ rw (plain.0.one, e) (put_one_here l c a y (letters_of is) _
             (put_text is (extended l (glyph c a ∷ []) 1) (y ++ c ∷ []) plain.1 (letters_of-append l.line (glyph c a ∷ []) ∙ ap (λ cs. cs ++ c ∷ []) letters)
             (each_append (λ d. 33 ≤ d) y (c ∷ []) nonblank (plain.0.from, tt)) (omega (arith, measured, length-append y (c ∷ []))) (leb-true _ _ e)))
-        | inr e ↦ rw (put_next columns width some l c a plain.0.one (leb-false _ _ e))
+        | inr e ↦ rw (plain.0.one, e, le-leb 1 width (omega (arith, some)))
             (put_one_next l c a y (letters_of is) _ letters nonblank (omega (arith, leb-false _ _ e, measured, fits)) plain.0.from
             (put_text is (extended (end_line l) (glyph c a ∷ []) 1) (c ∷ []) plain.1 refl (plain.0.from, tt) refl (omega (arith, some))))
       ]
