@@ -1,7 +1,7 @@
 -- A word of Pre that doesn't fit is cut after every `width` characters.
-use Rattle.std.proofs.Common.{◌≡◌, ℕ, ◌+◌, ◌<◌, ◌≤◌, nat_le, true, Option, None, List, [], ◌∷◌, ◌++◌, map, length, take, drop, refl, ap, sym, ◌∙◌, arith, append_assoc, append-nil, length-append, subst, leb-true, leb-false}
+use Rattle.std.proofs.Common.{◌≡◌, ℕ, ◌+◌, ◌<◌, ◌≤◌, nat_le, true, Option, None, List, [], ◌∷◌, ◌++◌, map, length, take, drop, refl, ap, sym, ◌∙◌, arith, append_assoc, append-nil, length-append, subst, leb-true, leb-false, inl, inr, le-leb}
 use Rattle.std.specs.List.{AllByRecursion as Each}
-use Rattle.std.proofs.lemmas.Bool.{cond_both}
+use Rattle.std.proofs.lemmas.Bool.{cond_both, cases_Bool}
 use Rattle.std.proofs.Math.Seq.{take-append_seam, drop-append_seam}
 use Rattle.tbr_model.specs.Run.{Item, glyph, marker, item_width, items_width, has_character}
 use Rattle.tbr_model.specs.Laid.{Laid, extended, end_line, put_items}
@@ -39,42 +39,35 @@ put_cut columns width [] l wide units same fits some =
       cut = (sym whole, subst (λ (cs : List ℕ). 0 < length cs) whole some, omega arith);
     }
 put_cut {A} columns width (marker name ∷ is) l wide units same fits some =
-    cond_both (nat_le (l.width + 0) width) _ _ (λ (m : Laid A). IsCutFrom width l (letters_of l.line ++ letters_of is) (put_items columns width m is))
-    (λ _.
     let line : letters_of (l.line ++ marker name ∷ []) ≡ letters_of l.line = letters_of-append l.line (marker name ∷ []) ∙ append-nil (letters_of l.line) in
-    let c = put_cut columns width is (extended l (marker name ∷ []) 0) wide units.1 (omega (arith, same, ap length line)) (omega arith) (rw line some) in
-    record { lines = c.lines; done = c.done; some = c.some; cut = subst (λ (cs : List ℕ). IsCutEvery width (cs ++ letters_of is) (map letters_of (c.lines ++ (put_items columns width (extended l (marker name ∷ []) 0) is).line ∷ []))) line c.cut })
-    (λ e. absurd (omega (arith, leb-false _ _ e)))
-put_cut {A} columns width (glyph c a ∷ is) l wide units same fits some =
-    cond_both (nat_le (l.width + item_width columns (glyph c a)) width) _ _ Holds
-    (λ e.
-    let line : letters_of (l.line ++ glyph c a ∷ []) ≡ letters_of l.line ++ c ∷ [] = letters_of-append l.line (glyph c a ∷ []) in
-    let whole : letters_of (l.line ++ glyph c a ∷ []) ++ letters_of is ≡ letters_of l.line ++ c ∷ letters_of is = ap (λ cs. cs ++ letters_of is) line ∙ append_assoc (letters_of l.line) (c ∷ []) (letters_of is) in
-    let k = put_cut columns width is (extended l (glyph c a ∷ []) (item_width columns (glyph c a))) wide units.1
-    (omega (arith, same, one, ap length line, length-append (letters_of l.line) (c ∷ []))) (leb-true _ _ e) (rw whole some) in
-    record {
+    let k = put_cut columns width is (extended l (marker name ∷ []) 0) wide units.1 (omega (arith, same, ap length line)) (omega arith) (rw line some) in
+    rw (le-leb (l.width + 0) width (omega arith)) (record {
       lines = k.lines;
       done = k.done;
       some = k.some;
-      cut = subst (λ (cs : List ℕ). IsCutEvery width cs (map letters_of (k.lines ++ (put_items columns width (extended l (glyph c a ∷ []) (item_width columns (glyph c a))) is).line ∷ []))) whole k.cut;
+      cut = subst (λ (cs : List ℕ). IsCutEvery width (cs ++ letters_of is) (map letters_of (k.lines ++ (put_items columns width (extended l (marker name ∷ []) 0) is).line ∷ []))) line k.cut;
     })
-    (λ e. cond_both (nat_le (item_width columns (glyph c a)) width) _ _ Holds
-    (λ _.
-    let k = put_cut columns width is (extended (end_line l) (glyph c a ∷ []) (item_width columns (glyph c a))) wide units.1 (omega (arith, one)) (omega (arith, one, wide)) (omega arith) in
-    record {
-      lines = l.line ∷ k.lines;
-      done = k.done ∙ append_assoc l.done (l.line ∷ []) k.lines;
-      some = k.some;
-      cut = full_first width (letters_of l.line) (c ∷ letters_of is) (map letters_of (k.lines ++ (put_items columns width (extended (end_line l) (glyph c a ∷ []) (item_width columns (glyph c a))) is).line ∷ []))
-          (omega (arith, same, fits, one, leb-false _ _ e)) k.cut;
-    })
-    (λ f. absurd (omega (arith, one, wide, leb-false _ _ f))))
-  where
-    one : item_width columns (glyph c a) ≡ 1
-    one = rw (units.0) refl
-
-    Holds : Laid A → Type 0
-    Holds m = IsCutFrom width l (letters_of l.line ++ c ∷ letters_of is) (put_items columns width m is)
+put_cut {A} columns width (glyph c a ∷ is) l wide units same fits some = elim (cases_Bool (nat_le (l.width + 1) width)) [
+  | inl e ↦
+      let line : letters_of (l.line ++ glyph c a ∷ []) ≡ letters_of l.line ++ c ∷ [] = letters_of-append l.line (glyph c a ∷ []) in
+      let whole : letters_of (l.line ++ glyph c a ∷ []) ++ letters_of is ≡ letters_of l.line ++ c ∷ letters_of is = ap (λ cs. cs ++ letters_of is) line ∙ append_assoc (letters_of l.line) (c ∷ []) (letters_of is) in
+      let k = put_cut columns width is (extended l (glyph c a ∷ []) 1) wide units.1 (omega (arith, same, ap length line, length-append (letters_of l.line) (c ∷ []))) (leb-true _ _ e) (rw whole some) in
+      rw (units.0, e) (record {
+        lines = k.lines;
+        done = k.done;
+        some = k.some;
+        cut = subst (λ (cs : List ℕ). IsCutEvery width cs (map letters_of (k.lines ++ (put_items columns width (extended l (glyph c a ∷ []) 1) is).line ∷ []))) whole k.cut;
+      })
+  | inr e ↦
+      let r = put_items columns width (extended (end_line l) (glyph c a ∷ []) 1) is in
+      let k = put_cut columns width is (extended (end_line l) (glyph c a ∷ []) 1) wide units.1 refl (omega (arith, wide)) (omega arith) in
+      rw (units.0, e, le-leb 1 width (omega (arith, wide))) (record {
+        lines = l.line ∷ k.lines;
+        done = k.done ∙ append_assoc l.done (l.line ∷ []) k.lines;
+        some = k.some;
+        cut = full_first width (letters_of l.line) (c ∷ letters_of is) (map letters_of (k.lines ++ r.line ∷ [])) (omega (arith, same, fits, leb-false _ _ e)) k.cut;
+      })
+]
 
 -- ---- the word
 
