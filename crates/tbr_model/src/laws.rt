@@ -75,7 +75,7 @@ pub fn words_stand_between_working_breaks<T>()
 
 /// Between neighbouring words of a line is one space where the gap between them is spaced, and else nothing. It is
 /// spaced exactly where a blank is there.
-#[tactic(auto, using(crate::proofs::words::SpacedGaps::words_text, crate::proofs::words::SpacedGaps::no_blank_found, crate::proofs::words::SpacedGaps::none_blank))]
+#[tactic(auto, using(crate::proofs::words::SpacedGaps::gap_laws))]
 pub fn gaps_are_one_space<T>()
     ensures line { (columns : ℕ → Option ℕ) (width : ℕ) (w : Word T) (ws : List (Word T)) →
         Each (λ v. 0 < length v.items) (w ∷ ws) →
@@ -86,7 +86,7 @@ pub fn gaps_are_one_space<T>()
 {}
 
 /// Layouts as cuts are layouts as lines.
-#[tactic(auto, using(crate::proofs::layouts::Cuts::lines_joined, crate::proofs::layouts::Cuts::line_of, crate::proofs::layouts::Cuts::cuts_again, crate::proofs::layouts::Cuts::placed_alike))]
+#[tactic(auto, using(crate::proofs::layouts::Cuts::cut_laws))]
 pub fn layouts_are_cuts<T>()
     ensures lines { (items : List T) (cuts : List ℕ) → IsLayout (length items) cuts →
         joined (lines_between items cuts) ≡ items }

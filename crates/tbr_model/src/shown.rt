@@ -76,7 +76,7 @@ pub fn characters_come_with_the_run<T>()
 {}
 
 /// A run without a character ends no line, and all its markers wait.
-#[tactic(auto, using(crate::proofs::lines::MarkersAlone::no_line_done, crate::proofs::lines::MarkersAlone::no_line_ends, crate::proofs::lines::MarkersAlone::all_wait))]
+#[tactic(auto, using(crate::proofs::lines::MarkersAlone::line_laws))]
 pub fn markers_alone_end_no_line<T>()
     ensures under_way { (columns : ℕ → Option ℕ) (width : ℕ) (es : List (Event T)) →
         entry_letters (run_of es) ≡ [] → (progress columns width es).laid.done ≡ [] }
@@ -87,7 +87,7 @@ pub fn markers_alone_end_no_line<T>()
 {}
 
 /// A run of markers alone counts as `Normal`, all its markers are trailing, and without them it is empty.
-#[tactic(auto, using(crate::proofs::lines::MarkersAlone::normal_markers, crate::proofs::lines::MarkersAlone::trailing_markers, crate::proofs::lines::MarkersAlone::names_of_markers, crate::proofs::lines::MarkersAlone::all_taken_out))]
+#[tactic(auto, using(crate::proofs::lines::MarkersAlone::name_laws))]
 pub fn markers_alone_are_trailing<T>()
     ensures normal { (names : List (List ℕ)) → AllHaveMode {A = T} Normal (marker_run names) }
     ensures trailing { (columns : ℕ → Option ℕ) (names : List (List ℕ)) →
@@ -108,7 +108,7 @@ pub fn columns_are_shown<T>()
 /// that waits and a word that fit a line together. Then a newline ends one line, a tab none if its next stop is on the
 /// line, any other entry none, and the end of the run at most one. A word that begins a line is cut only where the next
 /// item that takes columns doesn't fit.
-#[tactic(auto, using(crate::proofs::lines::LineEnds::entry_ends_none, crate::proofs::lines::LineEnds::tab_ends_none, crate::proofs::lines::LineEnds::newline_ends_one, crate::proofs::lines::LineEnds::end_ends_one, crate::proofs::lines::CutWords::word_ends_full))]
+#[tactic(auto, using(crate::proofs::lines::LineEnds::end_laws, crate::proofs::lines::CutWords::word_ends_full))]
 pub fn lines_end_where_full<T>()
     ensures entry { (columns : ℕ → Option ℕ) (width : ℕ) (p : Progress T) (e : Entry T) →
         columns_so_far columns p ≤ width → is_newline_or_tab e ≡ false →

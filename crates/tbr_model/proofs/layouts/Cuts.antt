@@ -359,3 +359,5 @@ first_gap {A} width s gap ss cuts h =
     let theirs = others_cuts width (with_gap s gap ∷ ss) w.0 (record { whole = w.1; each = w.2 }) in
     let same : cuts_of w.0 ≡ cuts = ap (λ (es : List ℕ). 0 ∷ es) w.4 ∙ cuts_again (s ∷ ss) cuts both.0 in
     (subst (IsLegalLayout width (with_gap s gap ∷ ss)) same theirs.0, ap (λ (cs : List ℕ). map line_text (lines_between (with_gap s gap ∷ ss) cs)) (sym same) ∙ (ap (map line_text) theirs.1 ∙ w.3))
+
+pub ruleset cut_laws = (lines_joined, line_of, cuts_again, placed_alike)

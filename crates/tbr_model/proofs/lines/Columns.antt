@@ -107,4 +107,3 @@ module _ {A : Type 0} (columns : ℕ → Option ℕ) where
 
       in_word : some_shown p.word ≡ true → 0 < items_width columns p.word
       in_word some = elim (cases_lt 0 (items_width columns p.word)) [ inl more ↦ more | inr none ↦ absurd (let hides : some_shown p.word ≡ false = none_shown p.word (omega (arith, none)) in cc) ]
-

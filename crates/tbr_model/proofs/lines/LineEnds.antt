@@ -110,3 +110,5 @@ module _ {A : Type 0} (columns : ℕ → Option ℕ) (width : ℕ) where
       let r = flush_rests p fits in
       cond_both (has_character q.laid.line) _ _ (λ (l : Laid A). (l.done ≡ p.laid.done) ⊎ HasOneMore p.laid.done l.done)
       (λ _. inr (q.laid.line, ap (λ (ls : List (List (Item A))). ls ++ q.laid.line ∷ []) r.done)) (λ _. inl r.done)
+
+pub ruleset end_laws = (entry_ends_none, tab_ends_none, newline_ends_one, end_ends_one)

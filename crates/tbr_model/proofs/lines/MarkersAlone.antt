@@ -68,3 +68,6 @@ no_character A (name ∷ names) = no_character A names
 
 pub trailing_markers : (A : Type 0) (columns : ℕ → Option ℕ) (names : List (List ℕ)) → trailing {A = A} columns (marker_run names) ≡ marker_items names
 trailing_markers A columns names = rw (read_markers {A = A} columns names [], no_character A names) refl
+
+pub ruleset line_laws = (no_line_done, no_line_ends, all_wait)
+pub ruleset name_laws = (normal_markers, trailing_markers, names_of_markers, all_taken_out)

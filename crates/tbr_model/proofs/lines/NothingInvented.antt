@@ -13,7 +13,6 @@ use Rattle.tbr_model.proofs.rule.Walk.{MayJoin}
 use Rattle.tbr_model.proofs.lines.EachItem.{Brings, each_on_lines}
 
 module _ {A : Type 0} (columns : ℕ → Option ℕ) (Same : A → A → Type 0) (same : (x : A) → Same x x) (run : List (Entry A)) where
-
   joins_from : (c : ℕ) (mode : WhiteSpace) (x : A) → HasAnnotation Same run x → MayJoin columns mode c → ComesFrom columns Same run (glyph c x)
   joins_from c mode x h (inl kept) = elim (cases_Bool (is_whitespace c)) [ inl e ↦ inr (e, h) | inr e ↦ inl (rw (kept, e) refl) ]
   joins_from c mode x h (inr blank) = inr ((and_parts (is_whitespace c) (not (c == 160)) blank.0).0, h)

@@ -83,7 +83,7 @@ module _ {A : Type 0} (columns : ℕ → Option ℕ) (width : ℕ) (p : Progress
       cut = λ printable begins.
           (let none = (tags printable begins).1 in
           let k = line_cut wide printable begins none in
-          let word : letters_of q.word ≡ entry_letters (run_of es) =           ap (λ (o : Option (Space A)). replicate (pending_width o) 32 ++ letters_of q.word) (sym none)
+          let word : letters_of q.word ≡ entry_letters (run_of es) = ap (λ (o : Option (Space A)). replicate (pending_width o) 32 ++ letters_of q.word) (sym none)
           ∙ ap (λ (is : List (Item A)). letters_of is ++ (replicate (pending_width q.space) 32 ++ letters_of q.word)) (sym (waits printable).line) ∙ (waits printable).text.text in
           subst (λ (ms : List (List (Item A))). IsCutEvery width (entry_letters (run_of es)) (map letters_of ms)) (alike k.last) (subst (λ (cs : List ℕ). IsCutEvery width cs (map letters_of (end_line laid).done)) word k.cut));
       blank = blank;

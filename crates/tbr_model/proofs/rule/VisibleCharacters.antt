@@ -58,7 +58,6 @@ module _ {A : Type 0} (columns : ℕ → Option ℕ) (width : ℕ) (Same : A →
       let (ended, finished) = found_from (looks_at_characters columns AnyEntry AnyMode (λ c a b m h. tt)) (none_visible columns) width p es f (λ _. tt) (any_entries (run_of es)) in
       (rw (ended.are) (shown ended.items (run_of es) ended.stand), rw (finished.are) (shown finished.items (run_of es) finished.stand))
     where
-
       shown : (is : List (Item A)) (fs : List (Entry A)) → AllZip (StandsFor AnyMode) is fs → AllZip (IsShown Same) (visible_glyphs columns is) (visible_entries columns fs)
       shown = visible_zip columns AnyMode (IsShown Same) (λ c x a b m either. (refl, under x a b either))
 

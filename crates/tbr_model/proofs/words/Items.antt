@@ -84,4 +84,3 @@ letters_of-space_text (Some s) = letters_of-spaces s.width s.tag
 pub pending_width-of : {A : Type 0} (n : ℕ) (a : A) (mode : WhiteSpace) → pending_width (space_of n a mode) ≡ n
 pending_width-of zero a mode = refl
 pending_width-of (suc n) a mode = refl
-

@@ -51,3 +51,5 @@ module _ {A : Type 0} where
   pub no_blank_found : (es : List (Entry A)) → Each (λ e. blank_of e ≡ None) es → first_blank es ≡ None
   no_blank_found [] h = refl
   no_blank_found (x ∷ es) h = ap (λ o. first_of o (first_blank es)) h.0 ∙ no_blank_found es h.1
+
+pub ruleset gap_laws = (words_text, no_blank_found, none_blank)
