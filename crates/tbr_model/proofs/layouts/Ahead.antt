@@ -21,7 +21,7 @@ others_back [] b h = h
 others_back (s ∷ a) [] h = tt
 others_back (s ∷ a) (t ∷ b) h = (each_back MayFollow a (t ∷ b) h).1
 
-pub first_front : {A : Type 0} (a b : List (Slot A)) → 0 < length a → FirstMayBegin a → FirstMayBegin (a ++ b)
+first_front : {A : Type 0} (a b : List (Slot A)) → 0 < length a → FirstMayBegin a → FirstMayBegin (a ++ b)
 first_front [] b p h = absurd (omega arith)
 first_front (s ∷ a) b p h = h
 

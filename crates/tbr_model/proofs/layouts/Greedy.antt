@@ -6,7 +6,7 @@ use Rattle.tbr_model.specs.Layout.{Slot, joined, line_width, MayFollow, FirstMay
 use Rattle.tbr_model.specs.Greedy.{close, Lines, fill}
 use Rattle.tbr_model.proofs.lists.Joined.{cut_twice, joined-append}
 use Rattle.tbr_model.proofs.lists.Each.{each_back, each_append}
-use Rattle.tbr_model.proofs.layouts.Ahead.{rest_width-append, first_front}
+use Rattle.tbr_model.proofs.layouts.Ahead.{rest_width-append}
 
 -- ---- what no later item can change
 
@@ -106,19 +106,11 @@ pub record HoldsSlots {A : Type 0} (width : ℕ) (slots : List (Slot A)) (lines 
 abbrev pub InWider : {A : Type 0} → ℕ → Slot A → Type 0
 InWider width s = (s.begins ≡ false) × (s.wider ≡ true) × (s.width ≤ width)
 
-others_line : {A : Type 0} (last v : List (Slot A)) → 0 < length last → OthersMayFollow last → Each MayFollow v → OthersMayFollow (last ++ v)
-others_line [] v some h k = absurd (omega arith)
-others_line (s ∷ last) v some h k = each_append MayFollow last v h k
-
 -- the open line, longer
 pub longer : {A : Type 0} (width : ℕ) (last v : List (Slot A)) → 0 < length last → IsLegalLine width last → line_width (last ++ v) ≤ width → Each MayFollow v →
     IsLegalLine width (last ++ v)
-longer width last [] some legal fits follow = rw append-nil legal
-longer width last (t ∷ v) some legal fits follow = record {
-  fits = fits;
-  first = first_front last (t ∷ v) some legal.first;
-  others = others_line last (t ∷ v) some legal.others follow;
-}
+longer width [] v some legal fits follow = absurd (omega arith)
+longer width (s ∷ last) v some legal fits follow = record { fits = fits; first = legal.first; others = each_append MayFollow last v legal.others follow }
 
 pub longer_holds_slots : {A : Type 0} (width : ℕ) (slots : List (Slot A)) (done : List (List (Slot A))) (last v : List (Slot A)) →
     HoldsSlots width slots (record { done = done; last = last }) → IsLegalLine width (last ++ v) → HoldsSlots width (slots ++ v) (record { done = done; last = last ++ v })

@@ -63,8 +63,6 @@ module _ {A B : Type 0} (f : A → B) where
   -- ---- visible characters
 
   module _ (columns : ℕ → Option ℕ) where
-    pub visible_glyphs-map : (gs : List (ℕ × A)) → filter (λ g. is_visible columns g.0) (map (map_glyph f) gs) ≡ map (map_glyph f) (filter (λ g. is_visible columns g.0) gs)
-    visible_glyphs-map = filter-map (map_glyph f) (λ g. is_visible columns g.0) (λ g. is_visible columns g.0) (λ g. refl)
 
     pub visible_entries-map : (es : List (Entry A)) → visible_entries columns (map_run f es) ≡ map_run f (visible_entries columns es)
     visible_entries-map = filter-map (map_entry f) (is_visible_entry columns) (is_visible_entry columns) same
@@ -104,7 +102,7 @@ module _ {A B : Type 0} (f : A → B) where
 
     pub visible-map : (run : List (Entry A)) (ls : List (List (Item A))) → ShowsVisible columns Same run ls → ShowsVisible columns Other (map_run f run) (map_lines f ls)
     visible-map run ls h =
-        let glyphs = ap (filter (λ (g : ℕ × B). is_visible columns g.0)) (joined_glyphs-map ls) ∙ visible_glyphs-map columns (glyphs_of (joined ls)) in
+        let glyphs = ap (filter (λ (g : ℕ × B). is_visible columns g.0)) (joined_glyphs-map ls) ∙ filter-map (map_glyph f) (λ (g : ℕ × A). is_visible columns g.0) (λ (g : ℕ × B). is_visible columns g.0) (λ g. refl) (glyphs_of (joined ls)) in
         rw (glyphs, visible_entries-map columns run) (shown-map (visible_glyphs columns (joined ls)) (visible_entries columns run) h)
 
     stand-map : (Has : Entry A → A → Type 0) (HasNow : Entry B → B → Type 0) → ((e : Entry A) (x : A) → Has e x → HasNow (map_entry f e) (f x)) →

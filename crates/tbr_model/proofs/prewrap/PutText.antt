@@ -52,9 +52,6 @@ waits {A} columns p a plain measured = record { plain = plain; measured = measur
 pub join_ready : {A : Type 0} (columns : ℕ → Option ℕ) (p : Progress A) (c : ℕ) (a : A) → IsVisible columns c → IsReadyForWord columns p → IsReadyForWord columns (join c a PreWrap p)
 join_ready columns p c a v h = record { plain = each_append (IsVisibleOrMarker columns) p.word (glyph c a ∷ []) h.plain (v, tt); measured = h.measured; apart = h.apart; wraps = h.wraps }
 
-pub again_ready : {A : Type 0} (columns : ℕ → Option ℕ) (p : Progress A) (in_continuation : Bool) → IsReadyForWord columns p → IsReadyForWord columns (record p { in_continuation = in_continuation })
-again_ready columns p in_continuation h = record { plain = h.plain; measured = h.measured; apart = h.apart; wraps = h.wraps }
-
 pub fresh_ready : {A : Type 0} (columns : ℕ → Option ℕ) (p : Progress A) → BeginsHardLine p → IsReadyForWord columns p
 fresh_ready columns p h = record {
   plain = each_marker (IsVisibleOrMarker columns) (λ name. tt) p.word h.word;

@@ -15,7 +15,7 @@ use Rattle.tbr_model.proofs.tabs.HardLine.{laid_letters}
 use Rattle.tbr_model.proofs.rule.Printable.{visible_of, preserved_space, entered_visible}
 use Rattle.tbr_model.proofs.rule.HardLineStart.{BeginsHardLine}
 use Rattle.tbr_model.proofs.prewrap.WrappedText.{GoesOnFrom, GoesOn, IsOpen, ends_nonblank, ends_append, goes_on_some, ended, begun, on_line, from_some, from_none, begins_after, first_begins, spaces_alone, one_more_space}
-use Rattle.tbr_model.proofs.prewrap.PutText.{trailing_whole, nonblanks, PutsText, ReachesFrom, put_text, IsVisibleOrMarker, plain_width, plain_leading, IsReadyForWord, waits, join_ready, again_ready, fresh_ready}
+use Rattle.tbr_model.proofs.prewrap.PutText.{trailing_whole, nonblanks, PutsText, ReachesFrom, put_text, IsVisibleOrMarker, plain_width, plain_leading, IsReadyForWord, waits, join_ready, fresh_ready}
 
 module _ {A : Type 0} (columns : ℕ → Option ℕ) (width : ℕ) (some : 0 < width) where
   -- ---- a word
@@ -179,9 +179,6 @@ module _ {A : Type 0} (columns : ℕ → Option ℕ) (width : ℕ) (some : 0 < w
   ended_done : (l : Laid A) → has_character l.line ≡ true → (end_if_character l).done ≡ l.done ++ l.line ∷ []
   ended_done l h = rw h refl
 
-  bare_done : (l : Laid A) → has_character l.line ≡ false → (end_if_character l).done ≡ l.done
-  bare_done l h = rw h refl
-
   end_laid : (p : Progress A) → IsReadyForWord columns p → IsOpen width (letters_of p.laid.line) → has_character p.word ≡ true → WrapsText p.laid (text_ahead p []) (lay columns width p).laid
   end_laid p h line has =
       let q : Progress A = lay columns width p in
@@ -218,7 +215,7 @@ module _ {A : Type 0} (columns : ℕ → Option ℕ) (width : ℕ) (some : 0 < w
           let bare : letters_of p.laid.line ≡ [] = no_letters p.laid.line e in
           record {
             lines = [];
-            are = ap (map letters_of) (bare_done p.laid e) ∙ sym (append-nil (map letters_of p.laid.done));
+            are = rw e (sym (append-nil (map letters_of p.laid.done)));
             goes = from_none width (letters_of p.laid.line) text [] bare spaces;
             last = inl (spaces, bare);
           }
@@ -295,7 +292,7 @@ module _ {A : Type 0} (columns : ℕ → Option ℕ) (width : ℕ) (some : 0 < w
       WrapsText p.laid (text_ahead p (entry_letters (run_of es))) (flush_word columns width (fold (step columns width) p es)).laid
   wraps_read [] p one modes printable h line = cond_both (has_character p.word) _ _ (λ (q : Progress A). WrapsText p.laid (text_ahead p []) q.laid) (λ has. end_laid p h line has) (λ none. end_bare p line none)
   wraps_read (call ∷ es) p one modes printable h line =
-      wraps_read es (record p { in_continuation = p.continuation_flag }) one modes printable (again_ready columns p p.continuation_flag h) line
+      wraps_read es (record p { in_continuation = p.continuation_flag }) one modes printable (record { plain = h.plain; measured = h.measured; apart = h.apart; wraps = h.wraps }) line
   wraps_read (entry (marker_entry name) ∷ es) p one modes printable h line = absurd printable.0
   wraps_read (entry (character c a b mode) ∷ es) p one modes printable h line =
       rw (modes.0) (elim (eqb_tells c 32) [

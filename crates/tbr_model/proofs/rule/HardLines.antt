@@ -19,14 +19,11 @@ use Rattle.tbr_model.proofs.rule.DoneLines.{after, fold_after, finished_after}
 pub no_character_after_end : {A : Type 0} (l : Laid A) → has_character (end_if_character l).line ≡ false
 no_character_after_end {A} l = cond_both (has_character l.line) _ _ (λ (m : Laid A). has_character m.line ≡ false) (λ _. refl) (λ h. h)
 
-lay_fresh_flushes : {A : Type 0} (columns : ℕ → Option ℕ) (width : ℕ) (p : Progress A) → has_character (lay_fresh columns width p).word ≡ false
-lay_fresh_flushes {A} columns width p = cond_both (has_character p.word) _ _ (λ (q : Progress A). has_character q.word ≡ false) (λ _. refl) (λ e. e)
-
 -- no character is left in a word that is laid
 pub lay_flushes : {A : Type 0} (columns : ℕ → Option ℕ) (width : ℕ) (p : Progress A) → has_character (lay columns width p).word ≡ false
 lay_flushes {A} columns width p =
     cond_both (nat_le (p.laid.width + (pending_width p.space + items_width columns p.word)) width) _ _ (λ (q : Progress A). has_character q.word ≡ false)
-    (λ _. refl) (λ _. lay_fresh_flushes columns width (wrap_space columns width p p.space))
+    (λ _. refl) (λ _. cond_both (has_character (wrap_space columns width p p.space).word) _ _ (λ (q : Progress A). has_character q.word ≡ false) (λ _. refl) (λ e. e))
 
 pub flush_flushes : {A : Type 0} (columns : ℕ → Option ℕ) (width : ℕ) (p : Progress A) → has_character (flush_word columns width p).word ≡ false
 flush_flushes {A} columns width p =
