@@ -119,11 +119,13 @@ module _ {A : Type 0} (columns : ℕ → Option ℕ) (width : ℕ) (R : Bool →
       let alone : hard_lines (run_of so_far ++ []) ≡ run_of so_far ∷ [] = ap hard_lines (append-nil (run_of so_far)) ∙ hard_line_alone (run_of so_far) plain in
       subst (λ (hs : List (List (Entry A))). Parted R hs (finished columns width (fold (step columns width) p so_far)).done) (sym alone) (one p so_far is_fresh modes plain).1
 
-  go_on_call : (es : List (Event A)) → GoOn es → GoOn (call ∷ es)
-  go_on_call es rest p so_far is_fresh modes plain =
-      let same : run_of (so_far ++ call ∷ []) ≡ run_of so_far = run_of-append so_far (call ∷ []) ∙ append-nil (run_of so_far) in
-      let later = rest p (so_far ++ call ∷ []) is_fresh (subst (Each M) (sym same) modes) (subst NoNewline (sym same) plain) in
-      rw (same, fold-append (step columns width) p so_far (call ∷ [])) at later
+  -- by an event that is no newline
+  go_on_more : (x : Event A) (es : List (Event A)) → Each M (run_of (x ∷ [])) → NoNewline (run_of (x ∷ [])) → GoOn es → GoOn (x ∷ es)
+  go_on_more x es m k rest p so_far is_fresh modes plain =
+      let same : run_of (so_far ++ x ∷ []) ≡ run_of so_far ++ run_of (x ∷ []) = run_of-append so_far (x ∷ []) in
+      let later = rest p (so_far ++ x ∷ []) is_fresh (subst (Each M) (sym same) (each_append M (run_of so_far) (run_of (x ∷ [])) modes m))
+      (subst NoNewline (sym same) (each_append (λ d. is_newline d ≡ false) (run_of so_far) (run_of (x ∷ [])) plain k)) in
+      rw (same, fold-append (step columns width) p so_far (x ∷ []), append_assoc (run_of so_far) (run_of (x ∷ [])) (run_of es), ← run_of-append (x ∷ []) es) at later
 
   go_on_newline : (e : Entry A) (es : List (Event A)) → M e → is_newline e ≡ true → GoOn es → GoOn (entry e ∷ es)
   go_on_newline e es m k rest p so_far is_fresh modes plain = rw (hard_line_first (run_of so_far) e (run_of es) plain k, lines) all
@@ -147,17 +149,10 @@ module _ {A : Type 0} (columns : ℕ → Option ℕ) (width : ℕ) (R : Bool →
           ∙ ap (λ r. (finished columns width r).done) (fold_after columns width ended_line.laid.done (restart ended_line) es)
           ∙ ap (λ l. l.done) (finished_after columns width ended_line.laid.done (fold (step columns width) (restart ended_line) es))
 
-  go_on_entry : (e : Entry A) (es : List (Event A)) → M e → is_newline e ≡ false → GoOn es → GoOn (entry e ∷ es)
-  go_on_entry e es m k rest p so_far is_fresh modes plain =
-      let same : run_of (so_far ++ entry e ∷ []) ≡ run_of so_far ++ e ∷ [] = run_of-append so_far (entry e ∷ []) in
-      let later = rest p (so_far ++ entry e ∷ []) is_fresh (subst (Each M) (sym same) (each_append M (run_of so_far) (e ∷ []) modes (m, tt)))
-      (subst NoNewline (sym same) (each_append (λ d. is_newline d ≡ false) (run_of so_far) (e ∷ []) plain (k, tt))) in
-      rw (same, fold-append (step columns width) p so_far (entry e ∷ []), append_assoc (run_of so_far) (e ∷ []) (run_of es)) at later
-
   go_on : (es : List (Event A)) → Each M (run_of es) → GoOn es
   go_on [] h = go_on_end
-  go_on (call ∷ es) h = go_on_call es (go_on es h)
-  go_on (entry e ∷ es) h = elim (cases_Bool (is_newline e)) [ inl k ↦ go_on_newline e es h.0 k (go_on es h.1) | inr k ↦ go_on_entry e es h.0 k (go_on es h.1) ]
+  go_on (call ∷ es) h = go_on_more call es tt tt (go_on es h)
+  go_on (entry e ∷ es) h = elim (cases_Bool (is_newline e)) [ inl k ↦ go_on_newline e es h.0 k (go_on es h.1) | inr k ↦ go_on_more (entry e) es (h.0, tt) (k, tt) (go_on es h.1) ]
 
   -- what holds of each hard line, begun afresh, holds of the hard lines of a run
   pub hard_lines_parted : (es : List (Event A)) → Each M (run_of es) → Parted R (hard_lines (run_of es)) (lines_of columns width es)
