@@ -20,6 +20,12 @@ use Rattle.tbr_model.proofs.prewrap.PutText.{trailing_whole, nonblanks, PutsText
 module _ {A : Type 0} (columns : ℕ → Option ℕ) (width : ℕ) (some : 0 < width) where
   -- ---- a word
 
+  -- these lines, after those that are then done, are lines on which the first's text goes on with more
+  abbrev LaysOn : Progress A → Laid A → List ℕ → List (List ℕ) → Type 0
+  LaysOn p r text ls =
+      (all : List (List ℕ)) × (map letters_of r.done ++ ls ≡ map letters_of p.laid.done ++ all)
+      × GoesOn width (letters_of p.laid.line) (replicate (pending_width p.space) 32 ++ (letters_of p.word ++ text)) all
+
   -- A word that is laid makes the open line hold something, and lines that go on from there go on from the line before.
   record LaysText (p q : Progress A) : Type 0 where
     line : EndsWithNonBlank (letters_of q.laid.line) × (length (letters_of q.laid.line) ≤ width)
@@ -27,9 +33,7 @@ module _ {A : Type 0} (columns : ℕ → Option ℕ) (width : ℕ) (some : 0 < w
     columns_are : q.laid.width ≡ length (letters_of q.laid.line)
     space : q.space ≡ None
     word : q.word ≡ []
-    goes : (text : List ℕ) (ls : List (List ℕ)) → GoesOnFrom width (letters_of q.laid.line) text ls →
-        (all : List (List ℕ)) × (map letters_of q.laid.done ++ ls ≡ map letters_of p.laid.done ++ all)
-        × GoesOn width (letters_of p.laid.line) (replicate (pending_width p.space) 32 ++ (letters_of p.word ++ text)) all
+    goes : (text : List ℕ) (ls : List (List ℕ)) → GoesOnFrom width (letters_of q.laid.line) text ls → LaysOn p q.laid text ls
 
   here_text : (p : Progress A) → IsReadyForWord columns p → has_character p.word ≡ true → p.laid.width + (pending_width p.space + items_width columns p.word) ≤ width → LaysText p (lay_here columns p)
   here_text p h has fits =
@@ -99,9 +103,7 @@ module _ {A : Type 0} (columns : ℕ → Option ℕ) (width : ℕ) (some : 0 < w
       columns_over = omega (arith, over, h.measured, plain_width columns p.word h.plain)
 
       lays : (l : Laid A) → PutsText columns width some l [] w (put_items columns width l p.word) →
-          ((text : List ℕ) (ls : List (List ℕ)) → ReachesFrom columns width some l [] w (put_items columns width l p.word) text ls →
-          (all : List (List ℕ)) × (map letters_of (put_items columns width l p.word).done ++ ls ≡ map letters_of p.laid.done ++ all)
-          × GoesOn width (letters_of p.laid.line) (replicate n 32 ++ (w ++ text)) all) →
+          ((text : List ℕ) (ls : List (List ℕ)) → ReachesFrom columns width some l [] w (put_items columns width l p.word) text ls → LaysOn p (put_items columns width l p.word) text ls) →
           LaysText p (let r : Progress A = record q { laid = put_items columns width l p.word; space = None; word = []; continuation_flag = is_pre q.mode } in r)
       lays l k on = record {
         line = (ends_nonblank (letters_of (put_items columns width l p.word).line) k.nonblank (k.measured (omega (arith, long))), k.fits);
@@ -123,8 +125,7 @@ module _ {A : Type 0} (columns : ℕ → Option ℕ) (width : ℕ) (some : 0 < w
           apart = elim h.apart [ inl none ↦ absurd (omega (arith, full, ap length none)) | inr gap ↦ gap ]
 
           ended_first : (text : List ℕ) (ls : List (List ℕ)) → ReachesFrom columns width some (end_line q.laid) [] w (put_items columns width (end_line q.laid) p.word) text ls →
-              (all : List (List ℕ)) × (map letters_of (put_items columns width (end_line q.laid) p.word).done ++ ls ≡ map letters_of p.laid.done ++ all)
-              × GoesOn width (letters_of p.laid.line) (replicate n 32 ++ (w ++ text)) all
+              LaysOn p (put_items columns width (end_line q.laid) p.word) text ls
           ended_first text ls g = elim line [
             | inl none ↦ absurd (omega (arith, full, ap length none))
             | inr ends ↦ (
@@ -146,9 +147,7 @@ module _ {A : Type 0} (columns : ℕ → Option ℕ) (width : ℕ) (some : 0 < w
           none : letters_of p.laid.line ≡ []
           none = sym d.line ∙ no_letters q.laid.line e
 
-          first : (text : List ℕ) (ls : List (List ℕ)) → ReachesFrom columns width some q.laid [] w (put_items columns width q.laid p.word) text ls →
-              (all : List (List ℕ)) × (map letters_of (put_items columns width q.laid p.word).done ++ ls ≡ map letters_of p.laid.done ++ all)
-              × GoesOn width (letters_of p.laid.line) (replicate n 32 ++ (w ++ text)) all
+          first : (text : List ℕ) (ls : List (List ℕ)) → ReachesFrom columns width some q.laid [] w (put_items columns width q.laid p.word) text ls → LaysOn p (put_items columns width q.laid p.word) text ls
           first text ls g = (
             g.all,
             g.are ∙ ap (λ (ds : List (List (Item A))). map letters_of ds ++ g.all) d.done,
