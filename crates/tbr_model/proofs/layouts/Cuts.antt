@@ -1,5 +1,5 @@
 -- Layouts as cuts are layouts as lines.
-use Rattle.std.proofs.Common.{◌≡◌, ℕ, zero, suc, ◌+◌, ◌-◌, ◌<◌, ◌≤◌, Bool, true, false, not, IsTrue, Option, List, [], ◌∷◌, ◌++◌, map, length, take, drop, get_or, Some, Contains, slice_get, slice_range, refl, ap, sym, ◌∙◌, inl, inr, arith, length-append, length-take, length-drop, subst, drop-drop, take_at, drop_of_length-le, add-one, ◌↔◌}
+use Rattle.std.proofs.Common.{◌≡◌, ℕ, zero, suc, ◌+◌, ◌-◌, ◌<◌, ◌≤◌, Option, List, [], ◌∷◌, ◌++◌, map, length, take, drop, get_or, Some, Contains, slice_get, slice_range, refl, ap, sym, ◌∙◌, inl, inr, arith, length-append, length-take, length-drop, subst, drop-drop, take_at, drop_of_length-le, add-one, ◌↔◌}
 use Rattle.std.proofs.lemmas.List.{drop_at}
 use Rattle.std.proofs.lemmas.List.Folds.{drop_split}
 use Rattle.std.specs.List.{AllByRecursion as Each}

@@ -3,11 +3,9 @@ use Rattle.std.proofs.Common.{◌≡◌, ℕ, ◌≤◌, nat_lt, true, false, Op
 use Rattle.tbr_model.specs.declared.white_space.WhiteSpace.TheVariants.{Normal}
 use Rattle.tbr_model.specs.Run.{Entry, character, marker_entry, Item, marker, has_character, Reading, read, trailing}
 use Rattle.tbr_model.specs.Layout.{joined}
-use Rattle.tbr_model.specs.Laid.{Laid, nothing_laid, end_if_character}
-use Rattle.tbr_model.specs.Rule.{Event, call, entry, run_of, Progress, at_start, enter, step, progress, waiting, lines_of}
+use Rattle.tbr_model.specs.Rule.{Event, run_of, at_start, progress, waiting, lines_of}
 use Rattle.tbr_model.specs.Markers.{names_in_items, names_in_run, marker_items, marker_run, without_last_markers}
 use Rattle.tbr_model.specs.Hard.{AllHaveMode, Preserves, entry_letters, IsSpaces}
-use Rattle.tbr_model.proofs.words.Items.{has_character-append}
 use Rattle.tbr_model.proofs.rule.HardLines.{start_fresh}
 use Rattle.tbr_model.proofs.rule.BlankLines.{fold_blank, blank_line}
 use Rattle.std.specs.List.{AllByRecursion as Each}
@@ -70,4 +68,5 @@ pub trailing_markers : (A : Type 0) (columns : ℕ → Option ℕ) (names : List
 trailing_markers A columns names = rw (read_markers {A = A} columns names [], no_character A names) refl
 
 pub ruleset line_laws = (no_line_done, no_line_ends, all_wait)
+
 pub ruleset name_laws = (normal_markers, trailing_markers, names_of_markers, all_taken_out)

@@ -1,12 +1,12 @@
 -- What is on the lines of a run comes from it.
-use Rattle.std.proofs.Common.{◌≡◌, ℕ, inl, inr, ◌==◌, true, not, Option, List, refl}
+use Rattle.std.proofs.Common.{ℕ, inl, inr, ◌==◌, not, Option, List, refl}
 use Rattle.std.specs.List.{Contains}
 use Rattle.std.specs.Prelude.{slice_index_or}
 use Rattle.std.specs.Char.{is_whitespace}
 use Rattle.std.proofs.lemmas.Bool.{and_parts, cases_Bool}
 use Rattle.std.proofs.lemmas.List.Elements.{All-contains_itself, recursion_from_All}
 use Rattle.tbr_model.specs.declared.white_space.WhiteSpace.{WhiteSpace}
-use Rattle.tbr_model.specs.Run.{Entry, character, marker_entry, glyph, is_kept}
+use Rattle.tbr_model.specs.Run.{Entry, character, marker_entry, glyph}
 use Rattle.tbr_model.specs.Rule.{Event, run_of, lines_of}
 use Rattle.tbr_model.specs.Shown.{HasAnnotation, ComesFrom, InventsNothing}
 use Rattle.tbr_model.proofs.rule.Walk.{MayJoin}

@@ -63,7 +63,6 @@ module _ {A B : Type 0} (f : A → B) where
   -- ---- visible characters
 
   module _ (columns : ℕ → Option ℕ) where
-
     pub visible_entries-map : (es : List (Entry A)) → visible_entries columns (map_run f es) ≡ map_run f (visible_entries columns es)
     visible_entries-map = filter-map (map_entry f) (is_visible_entry columns) (is_visible_entry columns) same
       where

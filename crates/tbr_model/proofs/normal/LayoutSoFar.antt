@@ -1,5 +1,5 @@
 -- A run of Normal mode is, by the rule, at the texts of the layout of its words so far.
-use Rattle.std.proofs.Common.{◌≡◌, ℕ, ◌+◌, ◌<◌, ◌≤◌, ◌⊎◌, inl, inr, Bool, true, false, nat_lt, nat_le, ◌&&◌, not, ◌==◌, if◌then◌else◌, is_some, Option, None, Some, List, [], ◌∷◌, ◌++◌, map, fold, refl, ap, sym, ◌∙◌, subst, append_assoc, append-nil, ltb-true, lt-ltb}
+use Rattle.std.proofs.Common.{◌≡◌, ℕ, ◌+◌, ◌<◌, ◌≤◌, ◌⊎◌, inl, inr, Bool, true, false, nat_lt, nat_le, ◌==◌, if◌then◌else◌, is_some, Option, None, Some, List, [], ◌∷◌, ◌++◌, map, fold, refl, ap, sym, ◌∙◌, subst, append_assoc, append-nil, ltb-true, lt-ltb}
 use Rattle.std.specs.List.{AllByRecursion as Each}
 use Rattle.std.proofs.lemmas.Bool.{cond_both, or_parts, cases_Bool}
 use Rattle.std.proofs.lemmas.List.Sums.{fold-append}
@@ -10,7 +10,7 @@ use Rattle.tbr_model.specs.Run.{Entry, character, marker_entry, Item, glyph, mar
 use Rattle.tbr_model.specs.Layout.{Slot, line_text, line_width, gap_text, gap_width}
 use Rattle.tbr_model.specs.Greedy.{Lines, place_word, no_lines, wrapped, IsNarrow}
 use Rattle.tbr_model.specs.Laid.{Laid, end_if_character, extended, put_items}
-use Rattle.tbr_model.specs.Rule.{Event, call, entry, run_of, Progress, lay, break_word, join, collapse, enter, step, progress}
+use Rattle.tbr_model.specs.Rule.{Event, call, entry, run_of, Progress, lay, collapse, enter, step, progress}
 use Rattle.tbr_model.specs.Hard.{HasMode}
 use Rattle.tbr_model.proofs.words.Items.{WaitsIn}
 use Rattle.tbr_model.proofs.lists.Each.{each_append, each_front, each_back}

@@ -5,12 +5,12 @@ use Rattle.std.proofs.lemmas.Bool.{cond_both}
 use Rattle.tbr_model.specs.declared.white_space.WhiteSpace.TheVariants.{Normal, PreWrap}
 use Rattle.tbr_model.specs.Run.{Entry, Item, glyph, item_width, is_blank}
 use Rattle.tbr_model.specs.Layout.{joined}
-use Rattle.tbr_model.specs.Laid.{Laid, extended, end_if_character, put_items}
+use Rattle.tbr_model.specs.Laid.{Laid, extended, end_if_character}
 use Rattle.tbr_model.specs.Rule.{Event, run_of, Progress, Space, collapse, enter, step, progress, finished}
 use Rattle.tbr_model.specs.Hard.{HasMode}
 use Rattle.tbr_model.proofs.words.Items.{WaitsIn}
 use Rattle.tbr_model.proofs.lists.Each.{each_front, each_back, each_append}
-use Rattle.tbr_model.proofs.rule.LaidText.{text, text-extended, text-end_line, text-end_if_character, text-put_items}
+use Rattle.tbr_model.proofs.rule.LaidText.{text, text-extended, text-end_line, text-end_if_character}
 use Rattle.tbr_model.proofs.rule.Walk.{KeptByRule, Waits, Stands, one_entered, run_ended, walked, run_walked}
 
 -- all items that are laid have the property

@@ -3,7 +3,7 @@ use Rattle.std.proofs.Common.{◌≡◌, ℕ, ◌+◌, ◌<◌, ◌≤◌, nat_l
 use Rattle.std.specs.List.{AllByRecursion as Each}
 use Rattle.std.proofs.lemmas.Bool.{cond_both, cases_Bool}
 use Rattle.std.proofs.Math.Seq.{take-append_seam, drop-append_seam}
-use Rattle.tbr_model.specs.Run.{Item, glyph, marker, item_width, items_width, has_character}
+use Rattle.tbr_model.specs.Run.{Item, glyph, marker, items_width, has_character}
 use Rattle.tbr_model.specs.Laid.{Laid, extended, end_line, put_items}
 use Rattle.tbr_model.specs.Rule.{Progress, pending_width, wrap_space, lay_fresh, flush_word}
 use Rattle.tbr_model.specs.Hard.{letters_of, IsCutEvery}

@@ -1,20 +1,19 @@
 -- What a block shows of one hard line of Pre.
-use Rattle.std.proofs.Common.{◌≡◌, ℕ, if◌then◌else◌, Option, List, ◌∷◌, filter, fold, refl, ap, ◌∙◌, suc, ◌+◌, ◌<◌, ◌≤◌, nat_le, Bool, true, false, Some, None, [], ◌++◌, map, length, sym, arith, subst, le-leb, replicate}
+use Rattle.std.proofs.Common.{◌≡◌, ℕ, if◌then◌else◌, Option, List, ◌∷◌, filter, fold, refl, ap, ◌∙◌, suc, ◌<◌, ◌≤◌, Bool, true, false, Some, None, [], ◌++◌, map, length, sym, arith, subst, replicate}
 use Rattle.std.specs.List.{AllZip, AllByRecursion as Each}
 use Rattle.tbr_model.proofs.rule.HardLines.{ShowsOne, hard_lines_parted}
 use Rattle.tbr_model.proofs.tabs.HardLine.{IsLine, end_reads}
 use Rattle.tbr_model.specs.declared.white_space.WhiteSpace.{WhiteSpace}
 use Rattle.tbr_model.specs.declared.white_space.WhiteSpace.TheVariants.{Pre}
-use Rattle.tbr_model.specs.Run.{Entry, Item, is_kept, character, marker_entry, items_width, has_character}
+use Rattle.tbr_model.specs.Run.{Entry, Item, is_kept, character, marker_entry, has_character}
 use Rattle.tbr_model.specs.Layout.{joined}
-use Rattle.tbr_model.specs.Rule.{Event, run_of, Progress, flush_word, step, newline, finished, Space, pending_width, space_text, lines_of}
-use Rattle.tbr_model.specs.Hard.{HasMode, entry_letters, is_newline, glyphs_of, letters_of, IsPrintableEntry, IsPrintableLine, IsSpaces, BeginsWithNonBlank, IsCutEvery, blank_lines, ShowsPre, hard_lines, Parted}
+use Rattle.tbr_model.specs.Rule.{Event, run_of, Progress, flush_word, step, newline, finished, Space, pending_width, lines_of}
+use Rattle.tbr_model.specs.Hard.{HasMode, entry_letters, glyphs_of, letters_of, IsPrintableEntry, IsPrintableLine, IsSpaces, BeginsWithNonBlank, IsCutEvery, blank_lines, ShowsPre, hard_lines, Parted}
 use Rattle.tbr_model.proofs.rule.HardLineStart.{BeginsHardLine}
 use Rattle.tbr_model.proofs.rule.LaidText.{kept_of, kept-append, none_kept, joined-end_line}
 use Rattle.tbr_model.proofs.rule.Content.{LooksAtKept, StandsFor, by_entry, found_from}
 use Rattle.std.proofs.lemmas.Bool.{true_from_ne_false}
-use Rattle.tbr_model.specs.Laid.{Laid, end_line, end_if_character}
-use Rattle.tbr_model.proofs.words.Items.{back_has}
+use Rattle.tbr_model.specs.Laid.{Laid, end_line}
 use Rattle.tbr_model.proofs.rule.BlankLines.{blank_line_of, mode_preserves}
 use Rattle.tbr_model.proofs.prewrap.OneWay.{begins_not_spaces}
 use Rattle.tbr_model.proofs.pre.WaitingWord.{Waits, line_waits, fresh_waits}

@@ -1,5 +1,5 @@
 -- A hard line of printable characters waits as one word after its first spaces.
-use Rattle.std.proofs.Common.{◌≡◌, ℕ, false, true, Option, Some, List, [], ◌∷◌, ◌++◌, fold, length, refl, sym, arith, append_assoc, append-nil, subst, inl, inr}
+use Rattle.std.proofs.Common.{◌≡◌, ℕ, false, Option, Some, List, [], ◌∷◌, ◌++◌, fold, length, refl, sym, arith, append_assoc, append-nil, subst, inl, inr}
 use Rattle.std.specs.List.{AllByRecursion as Each}
 use Rattle.std.proofs.lemmas.Bool.{cond_both, both_ways}
 use Rattle.std.proofs.lemmas.Bool.Decides.{eqb_tells}

@@ -5,9 +5,8 @@ use Rattle.std.proofs.lemmas.Bool.Decides.{eqb_tells}
 use Rattle.tbr_model.proofs.rule.HardLines.{ShowsOne, hard_lines_parted}
 use Rattle.tbr_model.specs.declared.white_space.WhiteSpace.TheVariants.{PreWrap}
 use Rattle.tbr_model.specs.Run.{Entry, character, marker_entry, Item}
-use Rattle.tbr_model.specs.Rule.{Event, run_of, Progress, flush_word, newline, step, finished, lines_of}
-use Rattle.tbr_model.specs.Hard.{HasMode, is_newline, letters_of, entry_letters, IsPrintableLine, IsSpaces, EndsWithNonBlank, without_last_spaces, stretches, IsCutOf, IsWrapped, blank_lines, ShowsPreWrap, hard_lines, Parted}
-use Rattle.tbr_model.proofs.rule.HardLineStart.{BeginsHardLine}
+use Rattle.tbr_model.specs.Rule.{Event, run_of, flush_word, newline, step, finished, lines_of}
+use Rattle.tbr_model.specs.Hard.{HasMode, letters_of, entry_letters, IsPrintableLine, IsSpaces, EndsWithNonBlank, without_last_spaces, stretches, IsCutOf, IsWrapped, blank_lines, ShowsPreWrap, hard_lines, Parted}
 use Rattle.tbr_model.proofs.rule.BlankLines.{blank_line_of, mode_preserves}
 use Rattle.tbr_model.proofs.prewrap.OneWay.{wrapped_in_one_way}
 use Rattle.tbr_model.proofs.prewrap.Stretches.{stretches_spaces, cut_if_wrapped}

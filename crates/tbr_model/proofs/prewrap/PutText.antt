@@ -1,10 +1,10 @@
 -- What holds before each entry of a hard line of `PreWrap`, and the items of a word, put one by one: on which lines they are.
-use Rattle.std.proofs.Common.{◌≡◌, ℕ, zero, suc, ◌+◌, ◌<◌, ◌≤◌, ◌⊎◌, inl, inr, Bool, true, false, nat_le, Option, Some, List, [], ◌∷◌, length, refl, ap, sym, ◌∙◌, arith, subst, le-leb, ◌++◌, map, append_assoc, append-nil, length-append, leb-true, leb-false, ne_eqb}
+use Rattle.std.proofs.Common.{◌≡◌, ℕ, zero, suc, ◌+◌, ◌<◌, ◌≤◌, ◌⊎◌, inl, inr, nat_le, Option, List, [], ◌∷◌, length, refl, ap, sym, ◌∙◌, arith, subst, le-leb, ◌++◌, map, append_assoc, append-nil, length-append, leb-true, leb-false, ne_eqb}
 use Rattle.std.specs.List.{AllByRecursion as Each}
-use Rattle.std.proofs.lemmas.Bool.{lt-leb, cases_Bool}
+use Rattle.std.proofs.lemmas.Bool.{cases_Bool}
 use Rattle.tbr_model.specs.declared.white_space.WhiteSpace.TheVariants.{PreWrap}
 use Rattle.tbr_model.specs.Run.{Item, glyph, marker, items_width}
-use Rattle.tbr_model.specs.Laid.{Laid, extended, end_line, put_item, put_items}
+use Rattle.tbr_model.specs.Laid.{Laid, extended, end_line, put_items}
 use Rattle.tbr_model.specs.Rule.{Progress, pending_width, space_of, without_leading, join, without_trailing}
 use Rattle.tbr_model.specs.Hard.{letters_of, EndsWithNonBlank, first_stretch, BeginsAfter}
 use Rattle.tbr_model.proofs.words.Items.{each_marker, WaitsIn, pending_width-of, letters_of-append}

@@ -1,5 +1,5 @@
 -- Lines on which a text of stretches and spaces goes on from an open line.
-use Rattle.std.proofs.Common.{◌≡◌, ℕ, zero, suc, ◌+◌, ◌<◌, ◌≤◌, ◌⊎◌, inl, inr, ◌==◌, Bool, true, false, nat_le, List, [], ◌∷◌, ◌++◌, replicate, length, refl, ap, sym, ◌∙◌, arith, append_assoc, append-nil, subst, leb-true, leb-false, ne_eqb}
+use Rattle.std.proofs.Common.{◌≡◌, ℕ, zero, suc, ◌+◌, ◌<◌, ◌≤◌, ◌⊎◌, inl, inr, ◌==◌, false, List, [], ◌∷◌, ◌++◌, replicate, length, refl, ap, sym, ◌∙◌, arith, append_assoc, append-nil, subst, ne_eqb}
 use Rattle.std.specs.List.{AllByRecursion as Each}
 use Rattle.std.proofs.lemmas.Bool.Decides.{eqb_tells}
 use Rattle.std.proofs.lemmas.List.{replicate-append-replicate}

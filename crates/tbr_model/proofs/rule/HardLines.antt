@@ -6,7 +6,7 @@ use Rattle.std.proofs.lemmas.List.Sums.{fold-append}
 use Rattle.tbr_model.specs.declared.white_space.WhiteSpace.TheVariants.{Normal, Pre, PreWrap}
 use Rattle.tbr_model.specs.Run.{Entry, character, marker_entry, Item, items_width, has_character}
 use Rattle.tbr_model.specs.Laid.{Laid, end_if_character}
-use Rattle.tbr_model.specs.Rule.{Event, call, entry, run_of, Progress, at_start, wrap_space, pending_width, lay_fresh, lay, flush_word, break_word, newline, enter, step, finished, lines_of}
+use Rattle.tbr_model.specs.Rule.{Event, call, entry, run_of, Progress, at_start, wrap_space, pending_width, lay, flush_word, break_word, newline, enter, step, finished, lines_of}
 use Rattle.tbr_model.specs.Hard.{Preserves, is_newline, onto_first, hard_lines, Parted}
 use Rattle.tbr_model.proofs.lists.Each.{each_append}
 use Rattle.tbr_model.proofs.words.LinesHaveCharacters.{wide_items}

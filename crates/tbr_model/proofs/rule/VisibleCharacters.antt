@@ -14,7 +14,7 @@ use Rattle.tbr_model.proofs.words.Items.{glyphs_of-append}
 use Rattle.tbr_model.proofs.rule.Content.{LooksAtKept, AnyEntry, AnyMode, StandsFor, by_entry, found_from}
 use Rattle.tbr_model.proofs.rule.Walk.{any_entries}
 use Rattle.tbr_model.proofs.rule.BlankLines.{blank_line}
-use Rattle.tbr_model.proofs.rule.HardLines.{NoNewline, start_fresh, hard_lines_parted, ShowsOne}
+use Rattle.tbr_model.proofs.rule.HardLines.{start_fresh, hard_lines_parted, ShowsOne}
 
 visible-append : {A : Type 0} (columns : ℕ → Option ℕ) (is js : List (Item A)) → visible_glyphs columns (is ++ js) ≡ visible_glyphs columns is ++ visible_glyphs columns js
 visible-append {A} columns is js = ap (filter (λ g. is_visible columns g.0)) (glyphs_of-append is js) ∙ filter-append (λ (g : ℕ × A). is_visible columns g.0) (glyphs_of is) (glyphs_of js)

@@ -7,8 +7,8 @@ use Rattle.tbr_model.specs.declared.white_space.WhiteSpace.{WhiteSpace}
 use Rattle.tbr_model.specs.declared.white_space.WhiteSpace.TheVariants.{Normal, Pre, PreWrap}
 use Rattle.tbr_model.specs.Run.{glyph, items_width, has_character, is_break, character, marker_entry}
 use Rattle.tbr_model.specs.Laid.{Laid, extended, end_line, end_if_character}
-use Rattle.tbr_model.specs.Rule.{Progress, spaces, pending_width, space_text, space_of, is_pre, lay_here, lay, flush_word, break_word, join, tab, tag_of, keep_space, passes, keep_character, Event, call, entry, run_of, newline, enter, step, finished, lines_of}
-use Rattle.tbr_model.specs.Hard.{letters_of, HasMode, Preserves, is_newline, entry_letters, IsPrintable, IsTabbedLine, EndsWithNonBlank, tabs_filled, ShowsTabs, hard_lines, Parted}
+use Rattle.tbr_model.specs.Rule.{Progress, spaces, pending_width, space_text, space_of, is_pre, lay_here, lay, flush_word, break_word, join, tab, tag_of, keep_space, passes, keep_character, Event, call, entry, run_of, enter, step, lines_of}
+use Rattle.tbr_model.specs.Hard.{letters_of, HasMode, Preserves, entry_letters, IsPrintable, IsTabbedLine, EndsWithNonBlank, tabs_filled, ShowsTabs, hard_lines, Parted}
 use Rattle.tbr_model.proofs.words.Items.{back_has, letters_of-append, items_width-append, no_character_no_width, no_letters, letters_of-spaces, letters_of-space_text, pending_width-of}
 use Rattle.tbr_model.proofs.rule.Printable.{prepared, IsVisible, entered, preserved_space, entered_visible, visible_of}
 use Rattle.std.specs.List.{AllByRecursion as Each}

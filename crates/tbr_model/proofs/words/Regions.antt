@@ -4,7 +4,7 @@ use Rattle.std.specs.List.{AllByRecursion as Each, list_any}
 use Rattle.std.proofs.lemmas.List.Concat.{flat_map-append}
 use Rattle.std.proofs.lemmas.List.Sums.{fold-append}
 use Rattle.std.proofs.lemmas.Bool.{and_from, and_parts, false_from_ne_true, cases_Bool, both_ways}
-use Rattle.tbr_model.specs.Run.{Entry, character, marker_entry, Item, glyph, items_width, items_of, kept_items, is_kept, is_break, is_break_entry, blank_of, first_of, has_character, Word, word_of, Reading, works, read, words_of, trailing}
+use Rattle.tbr_model.specs.Run.{Entry, character, marker_entry, Item, items_width, items_of, kept_items, is_kept, is_break, is_break_entry, blank_of, first_of, has_character, Word, word_of, Reading, works, read, words_of, trailing}
 use Rattle.tbr_model.specs.Regions.{takes_columns, HasColumns, NoBreakWorks, Region, region_entries, EndsAtWorkingBreak, IsParted, first_blank, word_after, words_after, words_between, markers_left}
 use Rattle.tbr_model.proofs.words.Items.{items_width-append}
 use Rattle.tbr_model.proofs.lists.Joined.{cut_twice}

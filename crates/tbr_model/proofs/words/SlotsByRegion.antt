@@ -1,5 +1,5 @@
 -- The slots of a run, read region by region.
-use Rattle.std.proofs.Common.{◌≡◌, ℕ, zero, suc, ◌+◌, ◌-◌, ◌≤◌, Bool, true, false, if◌then◌else◌, Option, Some, List, [], ◌∷◌, ◌++◌, fold, flat_map, take, drop, slice_get, slice_range, ap, sym, ◌∙◌, arith, append_assoc, append-nil, take-append-drop, drop-drop, add-one}
+use Rattle.std.proofs.Common.{◌≡◌, ℕ, zero, suc, ◌+◌, ◌-◌, ◌≤◌, Bool, if◌then◌else◌, Option, Some, List, [], ◌∷◌, ◌++◌, fold, flat_map, take, drop, slice_get, slice_range, ap, sym, ◌∙◌, arith, append_assoc, append-nil, take-append-drop, drop-drop, add-one}
 use Rattle.std.proofs.Math.Seq.{take-add}
 use Rattle.std.proofs.lemmas.List.Concat.{flat_map-append}
 use Rattle.tbr_model.proofs.lists.Each.{if_same}
