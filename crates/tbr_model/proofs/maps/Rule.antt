@@ -174,7 +174,7 @@ module _ {A B : Type 0} (d : List (List (Item B))) (f : A → B) (columns : ℕ 
   collapse-map : (c : ℕ) (a : A) (p : Progress A) → collapse c (f a) (moved d f p) ≡ moved d f (collapse c a p)
   collapse-map c a p = rw (no_space-map p.space) (if_same (moved d f) (is_blank c && (nat_lt 0 p.laid.width && is_none p.space)) _ _ _ _ refl refl)
 
-  newline-map : (p : Progress A) → newline (moved d f p) ≡ moved d f (newline p)
+  pub newline-map : (p : Progress A) → newline (moved d f p) ≡ moved d f (newline p)
   newline-map p = ap (λ (l : Laid B). record (moved d f p) { laid = l; space = None; continuation_flag = false; in_continuation = false }) (end_line-map p.laid)
 
   pub tab-map : (a : A) (p : Progress A) → tab width (f a) (moved d f p) ≡ moved d f (tab width a p)

@@ -1,5 +1,5 @@
 -- Lines that are done have no influence on how a block goes on: this is the rule where each annotation stays as it is.
-use Rattle.std.proofs.Common.{◌≡◌, ℕ, ◌&&◌, nat_lt, is_none, Option, Some, None, List, [], ◌∷◌, ◌++◌, fold, refl, ap, sym, ◌∙◌, false, append-nil, append_assoc}
+use Rattle.std.proofs.Common.{◌≡◌, ℕ, ◌&&◌, nat_lt, is_none, Option, Some, None, List, [], ◌++◌, fold, refl, ap, sym, ◌∙◌, append-nil}
 use Rattle.std.specs.Option.{option_map}
 use Rattle.tbr_model.specs.declared.white_space.WhiteSpace.{WhiteSpace}
 use Rattle.tbr_model.specs.Run.{character, marker_entry, Item, glyph, marker, is_blank}
@@ -8,7 +8,7 @@ use Rattle.tbr_model.specs.Rule.{Event, call, entry, Space, Progress, collapse, 
 use Rattle.tbr_model.specs.Mapped.{map_item, map_items, map_event, map_space}
 pub use Rattle.tbr_model.proofs.lists.Each.{if_same}
 use Rattle.tbr_model.proofs.lists.Each.{map_same}
-use Rattle.tbr_model.proofs.maps.Rule.{moved_laid, moved, put_items-map, tab-map, preserve-map, step-map, steps-map, finished_moved}
+use Rattle.tbr_model.proofs.maps.Rule.{moved_laid, moved, put_items-map, tab-map, preserve-map, step-map, steps-map, finished_moved, newline-map}
 
 -- after lines that are done
 abbrev pub under : {A : Type 0} → List (List (Item A)) → Laid A → Laid A
@@ -55,8 +55,7 @@ pub collapse_after : {A : Type 0} (c : ℕ) (a : A) (d : List (List (Item A))) (
 collapse_after c a d p = if_same (after d) (is_blank c && (nat_lt 0 p.laid.width && is_none p.space)) _ _ _ _ refl refl
 
 pub newline_after : {A : Type 0} (d : List (List (Item A))) (p : Progress A) → newline (after d p) ≡ after d (newline p)
-newline_after {A} d p =
-    ap (λ ls. let l : Laid A = record { done = ls; line = []; width = 0 } in record p { laid = l; space = None; continuation_flag = false; in_continuation = false }) (append_assoc d p.laid.done (p.laid.line ∷ []))
+newline_after d = by_move d newline (newline-map d (λ x. x) (λ c. None) 0)
 
 pub tab_after : {A : Type 0} (width : ℕ) (a : A) (d : List (List (Item A))) (p : Progress A) → tab width a (after d p) ≡ after d (tab width a p)
 tab_after width a d = by_move d (tab width a) (tab-map d (λ x. x) (λ c. None) width a)
