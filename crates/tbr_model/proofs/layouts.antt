@@ -3,5 +3,4 @@ pub mod Ahead
 pub mod Greedy
 pub mod Cuts
 pub mod LongestLines
-pub mod BestCuts
 pub mod StoredSlots

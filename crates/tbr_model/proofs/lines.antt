@@ -1,6 +1,5 @@
 -- What the lines of a run show, in every mode, and what waits after them.
 pub mod EachItem
-pub mod Passing
 pub mod WaitingMarkers
 pub mod NothingInvented
 pub mod NormalItems

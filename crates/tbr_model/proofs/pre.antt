@@ -1,5 +1,4 @@
 -- Runs of `Pre` mode.
-pub mod KeptCharacters
 pub mod WaitingWord
 pub mod CutWord
 pub mod Tags

@@ -1,7 +1,5 @@
 -- Runs of `PreWrap` mode.
-pub mod Entry
 pub mod Stretches
-pub mod WordUnderWay
 pub mod WrappedText
 pub mod PutText
 pub mod WrappedLines

@@ -1,3 +1,2 @@
 -- Tabs in preserving modes.
-pub mod FittingText
 pub mod HardLine

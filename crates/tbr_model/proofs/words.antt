@@ -5,6 +5,5 @@ pub mod LinesHaveCharacters
 pub mod Regions
 pub mod SlotsByRegion
 pub mod StoredEntries
-pub mod RestSlots
 pub mod Items
 pub mod SpacedGaps

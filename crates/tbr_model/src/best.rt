@@ -48,6 +48,7 @@ fn solved_rests<T>(
 }
 
 /// The cuts of the best layout of the slots, or `None` where they have no legal layout.
+#[tactic(auto, using(crate::proofs::layouts::LongestLines::next_cut, crate::proofs::layouts::StoredSlots::slot_values_rest))]
 fn best_cuts<T>(
     alloc: Global,
     width: usize,

@@ -11,6 +11,7 @@ ghost use Rattle.tbr_model.specs.Hard.{AllHaveMode, Preserves, hard_lines, Parte
 /// In a run of preserving modes each hard line has lines of its own. Its visible characters are there once, in order,
 /// each under an annotation of its call. A newline ends a line, even an empty one. Spaces alone leave an empty line
 /// before a newline, and no line at the end of the run.
+#[tactic(auto, using(crate::proofs::rule::VisibleCharacters::hard_lines_shown))]
 pub fn hard_lines_are_shown<T>()
     ensures { (columns : ℕ → Option ℕ) (width : ℕ) (eq : T → T → Bool) → ((x : T) → eq x x ≡ true) →
         (es : List (Event T)) → Each Preserves (run_of es) →
@@ -21,6 +22,7 @@ pub fn hard_lines_are_shown<T>()
 /// spaces alone, is one line where it fits. If it begins with a non-blank, it is cut after every `width` characters,
 /// and those after the first cut have the continuation annotation. Spaces alone leave an empty line before a newline,
 /// and no line at the end of the run.
+#[tactic(auto, using(crate::proofs::pre::HardLine::pre_shown))]
 pub fn pre_lines_are_shown<T>()
     ensures { (columns : ℕ → Option ℕ) (eq : T → T → Bool) (width : ℕ) →
         columns space_character ≡ Some 1 → 0 < width → ((x : T) → eq x x ≡ true) →
@@ -32,7 +34,7 @@ pub fn pre_lines_are_shown<T>()
 /// without the spaces at its end. These are dropped. In any case its stretches of non-blanks are in order, and a
 /// stretch is cut only if it is wider than a line. Spaces are dropped, and a line ends, only where the next stretch
 /// doesn't fit. Spaces alone leave an empty line before a newline, and no line at the end of the run.
-#[tactic(auto, using(crate::proofs::rule::PreservingModes::prewrap_shown))]
+#[tactic(auto, using(crate::proofs::prewrap::HardLine::prewrap_shown))]
 pub fn prewrap_lines_are_shown<T>()
     ensures { (columns : ℕ → Option ℕ) (width : ℕ) → columns space_character ≡ Some 1 → 0 < width →
         (es : List (Event T)) → AllHaveMode PreWrap (run_of es) →
@@ -58,6 +60,7 @@ pub fn rule_is_best<T>()
 {}
 
 /// There is only one way to cut a text after every `width` characters, and only one way to wrap it.
+#[tactic(auto, using(crate::proofs::pre::OneCut::cut_in_one_way, crate::proofs::prewrap::OneWay::wrapped_in_one_way))]
 pub fn texts_wrap_in_one_way()
     ensures cut { (width : ℕ) (text : List ℕ) (lines others : List (List ℕ)) →
         IsCutEvery width text lines → IsCutEvery width text others → others ≡ lines }

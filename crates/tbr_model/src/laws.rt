@@ -55,6 +55,7 @@ pub fn best_lines_have_characters<T>()
 
 /// The working break points part every run into regions, in one way only, and the run's words and trailing markers are
 /// those read off region by region.
+#[tactic(auto, using(crate::proofs::words::Regions::words_parted, crate::proofs::words::Regions::parting, crate::proofs::words::Regions::parted_alike))]
 pub fn words_stand_between_working_breaks<T>()
     ensures parted { (columns : ℕ → Option ℕ) (run : List (Entry T)) →
         (regions : List (Region T)) × (rest : List (Entry T)) × IsParted columns run regions rest }
@@ -74,6 +75,7 @@ pub fn words_stand_between_working_breaks<T>()
 
 /// Between neighbouring words of a line is one space where the gap between them is spaced, and else nothing. It is
 /// spaced exactly where a blank is there.
+#[tactic(auto, using(crate::proofs::words::SpacedGaps::gap_laws))]
 pub fn gaps_are_one_space<T>()
     ensures line { (columns : ℕ → Option ℕ) (width : ℕ) (w : Word T) (ws : List (Word T)) →
         Each (λ v. 0 < length v.items) (w ∷ ws) →
@@ -84,6 +86,7 @@ pub fn gaps_are_one_space<T>()
 {}
 
 /// Layouts as cuts are layouts as lines.
+#[tactic(auto, using(crate::proofs::layouts::Cuts::cut_laws))]
 pub fn layouts_are_cuts<T>()
     ensures lines { (items : List T) (cuts : List ℕ) → IsLayout (length items) cuts →
         joined (lines_between items cuts) ≡ items }

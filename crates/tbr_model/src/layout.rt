@@ -9,6 +9,7 @@ ghost use Rattle.tbr_model.specs.Slot.{slot_values};
 use crate::slot::Slot;
 
 /// The columns of a line, or `None` where they pass `usize`.
+#[tactic(auto, using(crate::proofs::layouts::StoredSlots::line_widths))]
 pub fn line_width<T>(line: &[Slot<'_, T>]) -> Option<usize>
     ensures { let width = layout.line_width (slot_values line.now) in SomeIff result (width < 2 ^ 64) width }
 {

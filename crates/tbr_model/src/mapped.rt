@@ -7,6 +7,7 @@ ghost use Rattle.tbr_model.specs.Hard.{hard_lines, Parted, ShowsVisible, ShowsHa
 ghost use Rattle.tbr_model.specs.Mapped.{map_items, map_run, map_word, map_slots, map_layout, map_lines, map_events, map_laid, map_progress, KeepsEqual};
 
 /// Which annotations a run has doesn't change how it is laid out.
+#[tactic(auto, using(crate::proofs::maps::Layouts::layout_maps))]
 pub fn annotations_change_no_layout<A, B>()
     ensures words { (f : A → B) (columns : ℕ → Option ℕ) (run : List (Entry A)) →
         words_of columns (map_run f run) ≡ map (map_word f) (words_of columns run) }
@@ -21,6 +22,7 @@ pub fn annotations_change_no_layout<A, B>()
 {}
 
 /// Where a block is in a run, and what that leaves, is the same under other annotations, each as the function makes it.
+#[tactic(auto, using(crate::proofs::maps::Rule::rule_maps))]
 pub fn annotations_change_no_progress<A, B>()
     ensures progress { (f : A → B) (columns : ℕ → Option ℕ) (width : ℕ) (es : List (Event A)) →
         progress columns width (map_events f es) ≡ map_progress f (progress columns width es) }

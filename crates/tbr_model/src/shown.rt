@@ -14,6 +14,7 @@ ghost use Rattle.tbr_model.specs.Shown.{without_spaces, names_waiting, InventsNo
 
 /// The visible characters of a run are on its lines once, in order, each under an annotation of its call. Its
 /// markers are there once, in order, or wait.
+#[tactic(auto, using(crate::proofs::rule::VisibleCharacters::visible_shown, crate::proofs::rule::Markers::markers_at_end))]
 pub fn visible_characters_are_shown<T>()
     ensures characters { (columns : ℕ → Option ℕ) (width : ℕ) (eq : T → T → Bool) → ((x : T) → eq x x ≡ true) →
         (es : List (Event T)) → ShowsVisible columns (λ a b. eq a b ≡ true) (run_of es) (lines_of columns width es) }
@@ -32,6 +33,7 @@ pub fn order_is_kept<T>()
 
 /// Where no character of a run has the mode `Pre`, its visible characters are on its lines once, in order, each under
 /// its own annotation.
+#[tactic(auto, using(crate::proofs::lines::OwnAnnotations::own_shown))]
 pub fn only_pre_is_continued<T>()
     ensures { (columns : ℕ → Option ℕ) (width : ℕ) (eq : T → T → Bool) → ((x : T) → eq x x ≡ true) →
         (es : List (Event T)) → Each IsNotPre (run_of es) →
@@ -40,6 +42,7 @@ pub fn only_pre_is_continued<T>()
 
 /// The markers that wait where a run ends come after its last visible character, and in a run of `Normal` alone after
 /// its last kept one.
+#[tactic(auto, using(crate::proofs::lines::WaitingMarkers::waits_after_visible, crate::proofs::lines::WaitingMarkers::waits_after_kept))]
 pub fn waiting_markers_end_a_run<T>()
     ensures visible { (columns : ℕ → Option ℕ) (width : ℕ) (es : List (Event T)) →
         (front : List (List ℕ))
@@ -73,6 +76,7 @@ pub fn characters_come_with_the_run<T>()
 {}
 
 /// A run without a character ends no line, and all its markers wait.
+#[tactic(auto, using(crate::proofs::lines::MarkersAlone::line_laws))]
 pub fn markers_alone_end_no_line<T>()
     ensures under_way { (columns : ℕ → Option ℕ) (width : ℕ) (es : List (Event T)) →
         entry_letters (run_of es) ≡ [] → (progress columns width es).laid.done ≡ [] }
@@ -83,6 +87,7 @@ pub fn markers_alone_end_no_line<T>()
 {}
 
 /// A run of markers alone counts as `Normal`, all its markers are trailing, and without them it is empty.
+#[tactic(auto, using(crate::proofs::lines::MarkersAlone::name_laws))]
 pub fn markers_alone_are_trailing<T>()
     ensures normal { (names : List (List ℕ)) → AllHaveMode {A = T} Normal (marker_run names) }
     ensures trailing { (columns : ℕ → Option ℕ) (names : List (List ℕ)) →
@@ -103,6 +108,7 @@ pub fn columns_are_shown<T>()
 /// that waits and a word that fit a line together. Then a newline ends one line, a tab none if its next stop is on the
 /// line, any other entry none, and the end of the run at most one. A word that begins a line is cut only where the next
 /// item that takes columns doesn't fit.
+#[tactic(auto, using(crate::proofs::lines::LineEnds::end_laws, crate::proofs::lines::CutWords::word_ends_full))]
 pub fn lines_end_where_full<T>()
     ensures entry { (columns : ℕ → Option ℕ) (width : ℕ) (p : Progress T) (e : Entry T) →
         columns_so_far columns p ≤ width → is_newline_or_tab e ≡ false →

@@ -14,6 +14,7 @@ use crate::width::CharWidth;
 use std::alloc::{AllocError, Global};
 
 /// How many entries come before the first break point that works.
+#[tactic(auto, using(crate::proofs::words::StoredEntries::value_at, crate::proofs::words::StoredEntries::values_front))]
 fn working_break<T, W: CharWidth>(entries: &[Entry<T>]) -> Option<usize>
     ensures { MatchOption result (NoBreakWorks W.columns (entry_values entries.now))
         (IsFirstWorkingBreak W.columns (entry_values entries.now)) }

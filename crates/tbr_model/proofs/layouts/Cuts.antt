@@ -1,11 +1,12 @@
 -- Layouts as cuts are layouts as lines.
-use Rattle.std.proofs.Common.{◌≡◌, ℕ, zero, suc, ◌+◌, ◌-◌, ◌<◌, ◌≤◌, Bool, true, false, not, IsTrue, Option, List, [], ◌∷◌, ◌++◌, map, length, take, drop, get_or, Some, Contains, slice_get, slice_range, refl, ap, sym, ◌∙◌, inl, inr, arith, length-append, length-take, length-drop, subst, drop-drop, take_at, drop_of_length-le, add-one, ◌↔◌}
+use Rattle.std.proofs.Common.{◌≡◌, ℕ, zero, suc, ◌+◌, ◌-◌, ◌<◌, ◌≤◌, Option, List, [], ◌∷◌, ◌++◌, map, length, take, drop, get_or, Some, Contains, slice_get, slice_range, refl, ap, sym, ◌∙◌, inl, inr, arith, length-append, length-take, length-drop, subst, drop-drop, take_at, drop_of_length-le, add-one, ◌↔◌}
 use Rattle.std.proofs.lemmas.List.{drop_at}
 use Rattle.std.proofs.lemmas.List.Folds.{drop_split}
 use Rattle.std.specs.List.{AllByRecursion as Each}
 use Rattle.std.specs.List.Sorted.{IsNonDecreasing, IsStrictlyIncreasing}
 use Rattle.std.proofs.lemmas.Option.{slice_get_within}
-use Rattle.std.proofs.lemmas.Bool.{cases_lt}
+use Rattle.std.proofs.lemmas.Bool.{cases_lt, not_from_false, false_from_ne_true, both_ways, not-true}
+use Rattle.tbr_model.proofs.lists.Each.{each_weaker}
 use Rattle.tbr_model.specs.Layout.{Slot, joined, placed, line_width, line_text, MayBegin, MayFollow, FirstMayBegin, OthersMayFollow, IsLegalLine, IsLegal, HasNoEmptyLine, IsAhead, IsBest}
 use Rattle.tbr_model.specs.Cuts.{IsLayout, lines_after, lines_between, ends_of, cuts_of, placed_by_cuts, BeginsWider, IsLegalLayout, IsBestLayout, with_gap}
 use Rattle.tbr_model.proofs.layouts.Ahead.{joined_begins}
@@ -162,14 +163,6 @@ others_follow : {A : Type 0} (l : List (Slot A)) → ((k : ℕ) (s : Slot A) →
 others_follow [] h = tt
 others_follow (t ∷ l) h = each_by_place MayFollow l h
 
-not_both : (b : Bool) → IsTrue b → IsTrue (not b) → ⊥
-not_both true h k = cc
-not_both false h k = cc
-
-not_if : (b : Bool) → (IsTrue b → ⊥) → IsTrue (not b)
-not_if true h = absurd (h refl)
-not_if false h = refl
-
 -- a slot of a line, by its place among all
 slot_of_line : {X : Type 0} (xs : List X) (c d k : ℕ) → c ≤ d → d ≤ length xs → k < d - c → slice_get (slice_range xs c d) k ≡ slice_get xs (c + k)
 slot_of_line {X} xs c d k p q h =
@@ -194,7 +187,7 @@ lines_legal {A} width slots c (d ∷ ds) h fits begins wider = (
   record {
     fits = fits.0;
     first = first_begins line (λ s e. begins c s (0, omega arith, refl) (ap (slice_get slots) (let i : c ≡ c + 0 = omega arith in i) ∙ place 0 s e));
-    others = others_follow line (λ k s e. not_if _ (λ b. inside k s e b));
+    others = others_follow line (λ k s e. not_from_false _ (false_from_ne_true _ (inside k s e)));
   },
   lines_legal width slots d ds h.1 fits.1 (λ cut s k e. begins cut s (suc k.0, omega (arith, k.1), k.2) e)
       (λ p s q e b. contains_later d ds p q (wider p s (omega (arith, h.0)) e b)),
@@ -231,7 +224,7 @@ wider_at_cuts width slots c [] h legal place s p e b = absurd (omega (arith, h, 
 wider_at_cuts {A} width slots c (d ∷ ds) h legal place s p e b =
     elim (cases_lt c place) [
       | inl after ↦ elim (cases_lt place d) [
-        | inl before ↦ absurd (not_both _ b (inside (place - suc c) (omega arith) before))
+        | inl before ↦ absurd (both_ways _ (not-true _ (inside (place - suc c) (omega arith) before)) b)
         | inr further ↦ later (wider_at_cuts width slots d ds h.1 legal.1 place s further e b)
       ]
       | inr same ↦ (0, omega arith, omega arith)
@@ -245,10 +238,6 @@ wider_at_cuts {A} width slots c (d ∷ ds) h legal place s p e b =
     later : Contains (d ∷ ds) place → Contains (c ∷ d ∷ ds) place
     later k = (suc k.0, omega (arith, k.1), k.2)
 
-each_fits : {A : Type 0} (width : ℕ) (ls : List (List (Slot A))) → Each (IsLegalLine width) ls → Each (λ line. line_width line ≤ width) ls
-each_fits width [] h = tt
-each_fits width (l ∷ ls) h = (h.0.fits, each_fits width ls h.1)
-
 legal_lines : {A : Type 0} (width : ℕ) (slots : List (Slot A)) (ds : List ℕ) → IsLegalLayout width slots (0 ∷ ds) → IsLegal width slots (lines_after slots 0 ds)
 legal_lines width slots ds h =
     let rises = rises_layout (length slots) ds h.layout in
@@ -260,7 +249,7 @@ legal_lines width slots ds h =
 legal_cuts : {A : Type 0} (width : ℕ) (slots : List (Slot A)) (ds : List ℕ) → RisesTo 0 ds (length slots) → IsLegal width slots (lines_after slots 0 ds) → IsLegalLayout width slots (0 ∷ ds)
 legal_cuts width slots ds rises h = record {
   layout = layout_rises (length slots) ds rises;
-  fits = each_fits width (lines_after slots 0 ds) h.each;
+  fits = each_weaker (IsLegalLine width) (λ line. line_width line ≤ width) (λ line k. k.fits) (lines_after slots 0 ds) h.each;
   between_words = λ cut s k e. begins_at_cuts width slots 0 ds rises h.each k.0 cut s k.1 k.2 e;
   wider_at_cut = λ place s e b. wider_at_cuts width slots 0 ds rises h.each place s (omega arith) e b;
 }
@@ -285,15 +274,10 @@ increases_after xs c [] h full k p = absurd (omega arith)
 increases_after xs c (d ∷ ds) h full zero p = omega (arith, full.0, length-line xs c d h.0 (rises_below d (length xs) ds h.1))
 increases_after xs c (d ∷ ds) h full (suc k) p = increases_after xs d ds h.1 full.1 k (omega arith)
 
-full_if_increasing : {X : Type 0} (xs : List X) (cuts : List ℕ) → IsLayout (length xs) cuts → IsStrictlyIncreasing cuts → HasNoEmptyLine (lines_between xs cuts)
-full_if_increasing xs cuts =
-    by_rising (length xs) cuts (λ cs. IsStrictlyIncreasing cs → HasNoEmptyLine (lines_between xs cs))
-    (λ ds rises h. full_after xs 0 ds rises (λ k p. rw add-one at (h k (omega arith))))
-
-increasing_if_full : {X : Type 0} (xs : List X) (cuts : List ℕ) → IsLayout (length xs) cuts → HasNoEmptyLine (lines_between xs cuts) → IsStrictlyIncreasing cuts
-increasing_if_full xs cuts =
-    by_rising (length xs) cuts (λ cs. HasNoEmptyLine (lines_between xs cs) → IsStrictlyIncreasing cs)
-    (λ ds rises h k p. rw add-one (increases_after xs 0 ds rises h k (omega arith)))
+full_alike : {X : Type 0} (xs : List X) (cuts : List ℕ) → IsLayout (length xs) cuts → IsStrictlyIncreasing cuts ↔ HasNoEmptyLine (lines_between xs cuts)
+full_alike xs cuts =
+    by_rising (length xs) cuts (λ cs. IsStrictlyIncreasing cs ↔ HasNoEmptyLine (lines_between xs cs))
+    (λ ds rises. (λ h. full_after xs 0 ds rises (λ k p. rw add-one at (h k (omega arith))), λ h k p. rw add-one (increases_after xs 0 ds rises h k (omega arith))))
 
 -- the cuts of legal lines
 pub others_cuts : {A : Type 0} (width : ℕ) (slots : List (Slot A)) (others : List (List (Slot A))) → IsLegal width slots others →
@@ -318,13 +302,13 @@ best_alike {A} width slots cuts = (
     h.legal.layout,
     record {
       legal = ((legal_alike width slots cuts).0 h.legal).1;
-      full = full_if_increasing slots cuts h.legal.layout h.no_empty_line;
+      full = (full_alike slots cuts h.legal.layout).0 h.no_empty_line;
       ahead = ahead_of_lines width slots cuts h;
     },
   ),
   λ h. record {
     legal = (legal_alike width slots cuts).1 (h.0, h.1.legal);
-    no_empty_line = increasing_if_full slots cuts h.0 h.1.full;
+    no_empty_line = (full_alike slots cuts h.0).1 h.1.full;
     ahead = λ others other n.
         let lines = ((legal_alike width slots others).0 other).1 in
         omega (arith, h.1.ahead (lines_between slots others) lines n, placed_alike slots others n other.layout, placed_alike slots cuts n h.0);
@@ -375,3 +359,5 @@ first_gap {A} width s gap ss cuts h =
     let theirs = others_cuts width (with_gap s gap ∷ ss) w.0 (record { whole = w.1; each = w.2 }) in
     let same : cuts_of w.0 ≡ cuts = ap (λ (es : List ℕ). 0 ∷ es) w.4 ∙ cuts_again (s ∷ ss) cuts both.0 in
     (subst (IsLegalLayout width (with_gap s gap ∷ ss)) same theirs.0, ap (λ (cs : List ℕ). map line_text (lines_between (with_gap s gap ∷ ss) cs)) (sym same) ∙ (ap (map line_text) theirs.1 ∙ w.3))
+
+pub ruleset cut_laws = (lines_joined, line_of, cuts_again, placed_alike)

@@ -1,8 +1,8 @@
 -- The layout that places each word where it fits, and why it is best.
-use Rattle.std.proofs.Common.{◌≡◌, ℕ, ◌<◌, ◌≤◌, Bool, true, false, not, ◌&&◌, ◌||◌, nat_le, if◌then◌else◌, IsTrue, IsFalse, List, [], ◌∷◌, ◌++◌, length, refl, ap, sym, ◌∙◌, inl, inr, arith, length-append, append_assoc, append-nil, subst, leb-true, leb-false}
+use Rattle.std.proofs.Common.{◌≡◌, ℕ, ◌<◌, ◌≤◌, true, false, not, ◌&&◌, ◌||◌, nat_le, IsTrue, IsFalse, List, [], ◌∷◌, ◌++◌, length, refl, ap, sym, ◌∙◌, inl, inr, arith, length-append, append_assoc, append-nil, subst, leb-true, leb-false}
 use Rattle.std.specs.List.{AllByRecursion as Each}
-use Rattle.std.proofs.lemmas.Bool.{or_right}
-use Rattle.tbr_model.specs.Layout.{Slot, joined, line_width, MayFollow, FirstMayBegin, OthersMayFollow, IsLegalLine, IsLongest, IsGreedy, HasNoEmptyLine}
+use Rattle.std.proofs.lemmas.Bool.{or_right, cond_both, both_ways, not-true}
+use Rattle.tbr_model.specs.Layout.{Slot, joined, line_width, MayFollow, FirstMayBegin, IsLegalLine, IsLongest, IsGreedy, HasNoEmptyLine}
 use Rattle.tbr_model.specs.Greedy.{close, Lines, fill}
 use Rattle.tbr_model.proofs.lists.Joined.{cut_twice, joined-append}
 use Rattle.tbr_model.proofs.lists.Each.{each_back, each_append}
@@ -90,11 +90,7 @@ stays_by_wider width (s ∷ l) t v some wide r [] others e p starts legal = absu
 stays_by_wider width (s ∷ l) t v some wide r (m ∷ more) others e p starts legal =
     let same : m ≡ t = cc in
     let follows : MayFollow m = (each_back MayFollow l (m ∷ more) legal.others).0 in
-    absurd (let b : (m.begins && m.wider) ≡ true = rw same wide in let n : not (m.begins && m.wider) ≡ true = follows in bad _ b n)
-  where
-    bad : (b : Bool) → b ≡ true → not b ≡ true → ⊥
-    bad true e f = cc
-    bad false e f = cc
+    absurd (let b : (m.begins && m.wider) ≡ true = rw same wide in let n : not (m.begins && m.wider) ≡ true = follows in both_ways _ (not-true _ n) b)
 
 -- ---- placing
 
@@ -110,23 +106,11 @@ pub record HoldsSlots {A : Type 0} (width : ℕ) (slots : List (Slot A)) (lines 
 abbrev pub InWider : {A : Type 0} → ℕ → Slot A → Type 0
 InWider width s = (s.begins ≡ false) × (s.wider ≡ true) × (s.width ≤ width)
 
-first_line : {A : Type 0} (last : List (Slot A)) (t : Slot A) (v : List (Slot A)) → 0 < length last → FirstMayBegin last → FirstMayBegin (last ++ (t ∷ v))
-first_line [] t v some h = absurd (omega arith)
-first_line (s ∷ last) t v some h = h
-
-others_line : {A : Type 0} (last v : List (Slot A)) → 0 < length last → OthersMayFollow last → Each MayFollow v → OthersMayFollow (last ++ v)
-others_line [] v some h k = absurd (omega arith)
-others_line (s ∷ last) v some h k = each_append MayFollow last v h k
-
 -- the open line, longer
 pub longer : {A : Type 0} (width : ℕ) (last v : List (Slot A)) → 0 < length last → IsLegalLine width last → line_width (last ++ v) ≤ width → Each MayFollow v →
     IsLegalLine width (last ++ v)
-longer width last [] some legal fits follow = rw append-nil legal
-longer width last (t ∷ v) some legal fits follow = record {
-  fits = fits;
-  first = first_line last t v some legal.first;
-  others = others_line last (t ∷ v) some legal.others follow;
-}
+longer width [] v some legal fits follow = absurd (omega arith)
+longer width (s ∷ last) v some legal fits follow = record { fits = fits; first = legal.first; others = each_append MayFollow last v legal.others follow }
 
 pub longer_holds_slots : {A : Type 0} (width : ℕ) (slots : List (Slot A)) (done : List (List (Slot A))) (last v : List (Slot A)) →
     HoldsSlots width slots (record { done = done; last = last }) → IsLegalLine width (last ++ v) → HoldsSlots width (slots ++ v) (record { done = done; last = last ++ v })
@@ -152,21 +136,10 @@ next_holds_slots width slots done last v some h stays legal = record {
 pub fill_holds_slots : {A : Type 0} (width : ℕ) (slots : List (Slot A)) (done : List (List (Slot A))) (last v : List (Slot A)) → 0 < length last →
     HoldsSlots width slots (record { done = done; last = last }) → Each (InWider width) v → HoldsSlots width (slots ++ v) (fill width done last v)
 fill_holds_slots width slots done last [] some h inside = rw append-nil h
-fill_holds_slots {A} width slots done last (s ∷ v) some h inside = go (nat_le (line_width (last ++ s ∷ [])) width) refl (
-    λ fits. fill_holds_slots width (slots ++ s ∷ []) done (last ++ s ∷ []) v (omega (arith, length-append last (s ∷ [])))
-    (longer_holds_slots width slots done last (s ∷ []) h (longer width last (s ∷ []) some h.legal fits (rw inside.0.0 refl, tt))) inside.1
-    ) (
-    λ not_fits. fill_holds_slots width (slots ++ s ∷ []) (done ++ last ∷ []) (s ∷ []) v (omega arith)
-    (next_holds_slots width slots done last (s ∷ []) some h (stays_by_unit width last s [] not_fits tt)
-    (record { fits = omega (arith, inside.0.2); first = or_right s.begins s.wider inside.0.1; others = tt })) inside.1
-    )
-  where
-    Goal : Lines A → Type 0
-    Goal lines = HoldsSlots width (slots ++ (s ∷ v)) lines
-
-    go : (b : Bool) → nat_le (line_width (last ++ s ∷ [])) width ≡ b →
-        (line_width (last ++ s ∷ []) ≤ width → HoldsSlots width ((slots ++ s ∷ []) ++ v) (fill width done (last ++ s ∷ []) v)) →
-        (width < line_width (last ++ s ∷ []) → HoldsSlots width ((slots ++ s ∷ []) ++ v) (fill width (done ++ last ∷ []) (s ∷ []) v)) →
-        HoldsSlots width (slots ++ (s ∷ v)) (if b then fill width done (last ++ s ∷ []) v else fill width (done ++ last ∷ []) (s ∷ []) v)
-    go true e short long = rw append_assoc at (short (leb-true _ _ e))
-    go false e short long = rw append_assoc at (long (leb-false _ _ e))
+fill_holds_slots {A} width slots done last (s ∷ v) some h inside =
+    cond_both (nat_le (line_width (last ++ s ∷ [])) width) _ _ (HoldsSlots width (slots ++ (s ∷ v)))
+    (λ fits. rw append_assoc at (fill_holds_slots width (slots ++ s ∷ []) done (last ++ s ∷ []) v (omega (arith, length-append last (s ∷ [])))
+    (longer_holds_slots width slots done last (s ∷ []) h (longer width last (s ∷ []) some h.legal (leb-true _ _ fits) (rw inside.0.0 refl, tt))) inside.1))
+    (λ over. rw append_assoc at (fill_holds_slots width (slots ++ s ∷ []) (done ++ last ∷ []) (s ∷ []) v (omega arith)
+    (next_holds_slots width slots done last (s ∷ []) some h (stays_by_unit width last s [] (leb-false _ _ over) tt)
+    (record { fits = omega (arith, inside.0.2); first = or_right s.begins s.wider inside.0.1; others = tt })) inside.1))

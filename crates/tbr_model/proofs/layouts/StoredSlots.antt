@@ -54,3 +54,5 @@ slot_values_part xs a b = sym (ap (take (b - a)) (drop-map slot_value a xs) ∙ 
 
 pub slot_values_rest : {A : Type 0} (xs : List (StoredSlot A)) (i : ℕ) → slot_values (take (length xs - i) (drop i xs)) ≡ drop i (slot_values xs)
 slot_values_rest xs i = ap slot_values (take_rest xs i) ∙ sym (drop-map slot_value i xs)
+
+pub ruleset line_widths = (rest_width_more, rest_width_front, gap_byte, line_width_whole)

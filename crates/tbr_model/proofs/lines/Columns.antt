@@ -1,8 +1,8 @@
 -- Where a visible character that takes columns came, a line has ended, or the open line or the word takes columns.
-use Rattle.std.proofs.Common.{◌≡◌, ℕ, ◌<◌, ◌⊎◌, inl, inr, ◌||◌, nat_lt, unwrap_or, if◌then◌else◌, append_assoc, Bool, true, false, not, Option, List, [], ◌∷◌, ◌++◌, length, refl, ap, sym, ◌∙◌, arith}
+use Rattle.std.proofs.Common.{◌≡◌, ℕ, ◌<◌, inl, inr, ◌||◌, nat_lt, unwrap_or, append_assoc, Bool, true, false, not, Option, List, [], ◌∷◌, ◌++◌, length, refl, ap, sym, ◌∙◌, arith}
 use Rattle.std.specs.List.{list_any, AllZip}
 use Rattle.std.specs.Char.{is_whitespace}
-use Rattle.std.proofs.lemmas.Bool.{cases_lt}
+use Rattle.std.proofs.lemmas.Bool.{cases_lt, cases_Bool}
 use Rattle.std.proofs.lemmas.Bool.{and_left, and_right, not_from_true, or_cases, or_from, le-ltb}
 use Rattle.std.proofs.lemmas.List.Folds.{list_any-append}
 use Rattle.tbr_model.specs.Run.{Entry, Item, glyph, marker, item_width, items_width, is_kept}
@@ -12,10 +12,9 @@ use Rattle.tbr_model.specs.Rule.{Event, run_of, Progress, without_trailing, prog
 use Rattle.tbr_model.specs.Hard.{is_visible, letters_of}
 use Rattle.tbr_model.specs.Shown.{shows_columns, run_shows_columns, HasColumns}
 use Rattle.tbr_model.proofs.words.Items.{letters_of-append}
-use Rattle.tbr_model.proofs.rule.Content.{LooksAtKept, AnyEntry, AnyMode, StandsFor, by_entry, found_under_way}
+use Rattle.tbr_model.proofs.rule.Content.{LooksAtKept, AnyEntry, AnyMode, StandsFor, by_entry, found_under_way, passing, passing-append, looks_at_passing}
 use Rattle.tbr_model.proofs.rule.LaidText.{text}
 use Rattle.tbr_model.proofs.rule.Walk.{KeptByRule, any_entries, run_walked}
-use Rattle.tbr_model.proofs.lines.Passing.{passing, passing-append, looks_at_passing}
 
 module _ {A : Type 0} (columns : ℕ → Option ℕ) where
   -- the visible characters of items that take columns, and the markers
@@ -72,11 +71,7 @@ module _ {A : Type 0} (columns : ℕ → Option ℕ) where
   some_passing : (is : List (Item A)) → some_shown (shown is) ≡ some_shown is
   some_passing [] = refl
   some_passing (marker name ∷ is) = some_passing is
-  some_passing (glyph c a ∷ is) = go (shows_columns columns c) refl (some_passing is)
-    where
-      go : (b : Bool) → shows_columns columns c ≡ b → some_shown (shown is) ≡ some_shown is → some_shown (if b then glyph c a ∷ shown is else shown is) ≡ b || some_shown is
-      go true e rest = rw e refl
-      go false e rest = rest
+  some_passing (glyph c a ∷ is) = elim (cases_Bool (shows_columns columns c)) [ inl e ↦ rw (e, e) refl | inr e ↦ rw e (some_passing is) ]
 
   some_alike : (is : List (Item A)) (es : List (Entry A)) → AllZip (StandsFor AnyMode) is es → some_shown is ≡ run_shows_columns columns es
   some_alike =
@@ -98,7 +93,7 @@ module _ {A : Type 0} (columns : ℕ → Option ℕ) where
   pub columns_show : (width : ℕ) (es : List (Event A)) → run_shows_columns columns (run_of es) ≡ true → HasColumns columns (progress columns width es)
   columns_show width es h = elim (or_cases (some_shown (joined p.laid.done)) (some_shown (p.laid.line ++ p.word)) (sym (some_shown-append (joined p.laid.done) (p.laid.line ++ p.word)) ∙ shown_where width es ∙ h)) [
     | inl done ↦ inl (some_line p.laid.done done)
-    | inr other ↦ after (or_cases (some_shown p.laid.line) (some_shown p.word) (sym (some_shown-append p.laid.line p.word) ∙ other))
+    | inr other ↦ elim (or_cases (some_shown p.laid.line) (some_shown p.word) (sym (some_shown-append p.laid.line p.word) ∙ other)) [ inl some ↦ inr (inl (on_line some)) | inr some ↦ inr (inr (in_word some)) ]
   ]
     where
       p : Progress A
@@ -112,7 +107,3 @@ module _ {A : Type 0} (columns : ℕ → Option ℕ) where
 
       in_word : some_shown p.word ≡ true → 0 < items_width columns p.word
       in_word some = elim (cases_lt 0 (items_width columns p.word)) [ inl more ↦ more | inr none ↦ absurd (let hides : some_shown p.word ≡ false = none_shown p.word (omega (arith, none)) in cc) ]
-
-      after : (some_shown p.laid.line ≡ true) ⊎ (some_shown p.word ≡ true) → HasColumns columns p
-      after (inl some) = inr (inl (on_line some))
-      after (inr some) = inr (inr (in_word some))

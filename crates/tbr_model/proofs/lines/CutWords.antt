@@ -19,7 +19,7 @@ module _ {A : Type 0} (columns : ℕ → Option ℕ) (width : ℕ) where
       cond_both (item_width columns i == 0) _ _ (λ (n : ℕ). item_width columns i ≤ n) (λ e. let none : item_width columns i ≡ 0 = eqb-true _ 0 e in omega arith) (λ _. omega arith)
 
   -- the same from a line that is ended after items
-  goes_on : (l : Laid A) (is : List (Item A)) (n : ℕ) (r : Laid A) → IsCutWhereFull (extended l is n) r → IsCutWhereFull l r
+  abbrev goes_on : (l : Laid A) (is : List (Item A)) (n : ℕ) (r : Laid A) → IsCutWhereFull (extended l is n) r → IsCutWhereFull l r
   goes_on l is n r k =
       let line : (l.line ++ is) ++ k.front ≡ l.line ++ (is ++ k.front) = append_assoc l.line is k.front in
       record {
@@ -30,29 +30,19 @@ module _ {A : Type 0} (columns : ℕ → Option ℕ) (width : ℕ) where
       }
 
   -- a line that is full, with the lines from the next on
-  ends_full : (l r : Laid A) → ((front : List (Item A)) → width < items_width columns l.line + first_columns columns front) → IsCutWhereFull (end_line l) r → IsCutWhereFull l r
-  ends_full l r over k =
+  ends_full : (l r : Laid A) (k : IsCutWhereFull (end_line l) r) → width < items_width columns l.line + first_columns columns k.front → IsCutWhereFull l r
+  ends_full l r k over =
       let line : l.line ++ [] ≡ l.line = append-nil l.line in
       record {
         front = [];
         others = k.front ∷ k.others;
         done = k.done ∙ append_assoc l.done (l.line ∷ []) (k.front ∷ k.others) ∙ ap (λ (m : List (Item A)). l.done ++ (m ∷ k.front ∷ k.others)) (sym line);
-        full = (subst (λ (m : List (Item A)). width < items_width columns m + first_columns columns k.front) (sym line) (over k.front), k.full);
+        full = (subst (λ (m : List (Item A)). width < items_width columns m + first_columns columns k.front) (sym line) over, k.full);
       }
 
   -- the same where the next line begins with an item
   ends_before : (l r : Laid A) (i : Item A) (n : ℕ) → width < items_width columns l.line + item_width columns i → IsCutWhereFull (extended (end_line l) (i ∷ []) n) r → IsCutWhereFull l r
-  ends_before l r i n over k =
-      let line : l.line ++ [] ≡ l.line = append-nil l.line in
-      record {
-        front = [];
-        others = (i ∷ k.front) ∷ k.others;
-        done = k.done ∙ append_assoc l.done (l.line ∷ []) ((i ∷ k.front) ∷ k.others) ∙ ap (λ (m : List (Item A)). l.done ++ (m ∷ (i ∷ k.front) ∷ k.others)) (sym line);
-        full = (
-          subst (λ (m : List (Item A)). width < items_width columns m + first_columns columns (i ∷ k.front)) (sym line) (let more = first_item i k.front in omega (arith, over, more)),
-          k.full,
-        );
-      }
+  ends_before l r i n over k = ends_full l r (goes_on (end_line l) (i ∷ []) n r k) (let more = first_item i k.front in omega (arith, over, more))
 
   one_width : (l : Laid A) (i : Item A) → l.width ≡ items_width columns l.line → l.width + item_width columns i ≡ items_width columns (l.line ++ i ∷ [])
   one_width l i same = omega (arith, same, items_width-append columns l.line (i ∷ []))
@@ -75,10 +65,10 @@ module _ {A : Type 0} (columns : ℕ → Option ℕ) (width : ℕ) where
       (λ _. ends_before l (put_items columns width (extended (end_line l) (i ∷ []) n) is) i n (omega (arith, same, leb-false _ _ over)) (put_full is (extended (end_line l) (i ∷ []) n) (omega arith)))
       (λ wide. cond_both (l.width == 0) _ _ (λ (m : Laid A). IsCutWhereFull l (put_items columns width (end_line (extended m (i ∷ []) n)) is))
       (λ _. let m : Laid A = extended l (i ∷ []) n in
-      goes_on l (i ∷ []) n (put_items columns width (end_line m) is) (ends_full m (put_items columns width (end_line m) is) (too_wide l i wide) (put_full is (end_line m) refl)))
+      goes_on l (i ∷ []) n (put_items columns width (end_line m) is) (let k = put_full is (end_line m) refl in ends_full m (put_items columns width (end_line m) is) k (too_wide l i wide k.front)))
       (λ _. let m : Laid A = extended (end_line l) (i ∷ []) n in
       ends_before l (put_items columns width (end_line m) is) i n (omega (arith, same, leb-false _ _ over))
-      (ends_full m (put_items columns width (end_line m) is) (too_wide (end_line l) i wide) (put_full is (end_line m) refl)))))
+      (let k = put_full is (end_line m) refl in ends_full m (put_items columns width (end_line m) is) k (too_wide (end_line l) i wide k.front)))))
     where
       n : ℕ
       n = item_width columns i

@@ -1,14 +1,14 @@
 -- What holds of each item that the rule lays holds of each item on the lines of a run.
-use Rattle.std.proofs.Common.{◌≡◌, ℕ, inl, inr, Bool, true, false, if◌then◌else◌, Option, List, [], ◌∷◌, fold, refl, sym, subst}
+use Rattle.std.proofs.Common.{ℕ, inl, inr, Option, List, [], ◌∷◌, fold, sym, subst}
 use Rattle.std.specs.List.{AllByRecursion as Each}
 use Rattle.tbr_model.specs.Run.{Entry, character, marker_entry, Item, glyph, marker, item_width}
 use Rattle.tbr_model.specs.Layout.{joined}
 use Rattle.tbr_model.specs.Laid.{Laid, extended, end_line}
-use Rattle.tbr_model.specs.Rule.{Event, run_of, Progress, flush_word, newline, step, is_space_item, without_trailing, progress, finished, lines_of}
+use Rattle.tbr_model.specs.Rule.{Event, run_of, Progress, flush_word, newline, step, without_trailing, progress, finished, lines_of}
 use Rattle.tbr_model.proofs.lists.Each.{each_append, each_front, each_back}
 use Rattle.tbr_model.proofs.words.Items.{each_marker}
 use Rattle.tbr_model.proofs.rule.HardLineStart.{BeginsHardLine}
-use Rattle.tbr_model.proofs.rule.LaidText.{text, text-extended, text-end_line}
+use Rattle.tbr_model.proofs.rule.LaidText.{text, text-extended, text-end_line, trailing_cases}
 use Rattle.tbr_model.proofs.rule.Walk.{MayJoin, KeptByRule, word_flushed, line_ended, run_ended, walked, run_walked}
 
 -- an entry's annotations, and what it leaves in a word, have the properties
@@ -17,16 +17,7 @@ Brings {A} columns P Of (character c a b mode) = Of a × Of b × ((x : A) → Of
 Brings columns P Of (marker_entry name) = P (marker name)
 
 each_trailing : {A : Type 0} (P : Item A → Type 0) (is : List (Item A)) → Each P is → Each P (without_trailing is)
-each_trailing P [] h = tt
-each_trailing {A} P (i ∷ is) h = go (without_trailing is) refl (each_trailing P is h.1)
-  where
-    one : (b : Bool) → Each P (let js : List (Item A) = if b then [] else i ∷ [] in js)
-    one true = tt
-    one false = (h.0, tt)
-
-    go : (js : List (Item A)) → without_trailing is ≡ js → Each P js → Each P (without_trailing (i ∷ is))
-    go [] e k = rw e (one (is_space_item i))
-    go (j ∷ js) e k = rw e (h.0, k)
+each_trailing P = trailing_cases (λ is js. Each P is → Each P js) (λ h. h) (λ i is js rest h. (h.0, rest h.1)) (λ i is s rest h. tt)
 
 module _ {A : Type 0} (columns : ℕ → Option ℕ) (P : Item A → Type 0) (Of : A → Type 0) (space : (a : A) → Of a → P (glyph 32 a)) where
   abbrev AllLaid : Laid A → Type 0

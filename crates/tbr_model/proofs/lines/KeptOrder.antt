@@ -1,8 +1,8 @@
 -- The visible characters and the markers of a run keep their order.
-use Rattle.std.proofs.Common.{◌≡◌, ℕ, ◌⊎◌, inl, inr, Bool, true, false, not, Option, List, [], ◌∷◌, ◌++◌, filter, refl, ap, sym, ◌∙◌, subst}
+use Rattle.std.proofs.Common.{◌≡◌, ℕ, ◌⊎◌, inl, inr, false, not, Option, List, [], ◌∷◌, ◌++◌, filter, refl, ap, sym, ◌∙◌, subst}
 use Rattle.std.specs.Char.{is_whitespace}
 use Rattle.std.specs.List.{AllZip}
-use Rattle.std.proofs.lemmas.Bool.{and_left}
+use Rattle.std.proofs.lemmas.Bool.{and_left, cases_Bool}
 use Rattle.std.proofs.lemmas.List.Elements.{filter-append}
 use Rattle.tbr_model.specs.declared.white_space.WhiteSpace.{WhiteSpace}
 use Rattle.tbr_model.specs.Run.{Entry, character, Item, glyph, marker, is_kept}
@@ -14,18 +14,15 @@ use Rattle.tbr_model.specs.Shown.{names_waiting, is_visible_or_marker, is_entry_
 use Rattle.tbr_model.proofs.rule.Content.{LooksAtKept, AnyEntry, AnyMode, by_entry, found_at_end}
 use Rattle.tbr_model.proofs.rule.Walk.{any_entries}
 use Rattle.tbr_model.proofs.rule.Markers.{waiting_none, marker_items_alone}
-use Rattle.tbr_model.proofs.rule.VisibleCharacters.{white_not_visible}
-
-hidden_one : {A : Type 0} (columns : ℕ → Option ℕ) (c : ℕ) (a : A) → is_visible columns c ≡ false → filter (is_visible_or_marker columns) (glyph c a ∷ []) ≡ []
-hidden_one columns c a h = rw h refl
+use Rattle.tbr_model.proofs.rule.VisibleCharacters.{white_not_visible, under}
 
 looks_in_order : {A : Type 0} (columns : ℕ → Option ℕ) → LooksAtKept {A = A} columns AnyEntry AnyMode (filter (is_visible_or_marker columns))
 looks_in_order columns = record {
   modes = λ c a b m h. tt;
   append = filter-append (is_visible_or_marker columns);
   nothing = refl;
-  lost = λ c a h. hidden_one columns c a (and_left (is_kept columns c) (not (is_whitespace c)) h);
-  white = λ m c a h. hidden_one columns c a (white_not_visible columns c h);
+  lost = λ c a h. (let hides : is_visible columns c ≡ false = and_left (is_kept columns c) (not (is_whitespace c)) h in rw hides refl);
+  white = λ m c a h. rw (white_not_visible columns c h) refl;
 }
 
 markers_all : {A : Type 0} (columns : ℕ → Option ℕ) (names : List (List ℕ)) → filter (is_visible_or_marker {A = A} columns) (marker_items names) ≡ marker_items names
@@ -36,16 +33,8 @@ module _ {A : Type 0} (columns : ℕ → Option ℕ) (width : ℕ) (Same : A →
   abbrev InOrder : List (Item A) → List (Entry A) → Type 0
   InOrder is es = AllZip (ShowsEntry Same) (filter (is_visible_or_marker columns) is) (filter (is_entry_to_show columns) es)
 
-  under : (x a b : A) → (x ≡ a) ⊎ ((x ≡ b) × Unit {0}) → Same x a ⊎ Same x b
-  under x a b (inl e) = inl (rw (← e) (same x))
-  under x a b (inr e) = inr (rw (← e.0) (same x))
-
   one_in_order : (c : ℕ) (x a b : A) (m : WhiteSpace) (is : List (Item A)) (es : List (Entry A)) → (x ≡ a) ⊎ ((x ≡ b) × Unit {0}) → InOrder is es → InOrder (glyph c x ∷ is) (character c a b m ∷ es)
-  one_in_order c x a b m is es either rest = go (is_visible columns c) refl
-    where
-      go : (v : Bool) → is_visible columns c ≡ v → InOrder (glyph c x ∷ is) (character c a b m ∷ es)
-      go true e = rw e ((refl, under x a b either), rest)
-      go false e = rw e rest
+  one_in_order c x a b m is es either rest = elim (cases_Bool (is_visible columns c)) [ inl e ↦ rw e ((refl, under columns width Same same x a b either), rest) | inr e ↦ rw e rest ]
 
   -- The visible characters and the markers of a run are on its lines and then wait, in their order.
   pub shown_in_order : (es : List (Event A)) → ShowsInOrder columns Same (run_of es) (lines_of columns width es) (names_waiting columns width es)

@@ -1,5 +1,5 @@
 -- A line ends only at a newline, or where what comes next doesn't fit.
-use Rattle.std.proofs.Common.{◌≡◌, ◌≢◌, ℕ, ◌+◌, ◌-◌, ◌%◌, ◌≤◌, ◌⊎◌, inl, inr, ◌==◌, ◌&&◌, ◌||◌, nat_le, nat_lt, Bool, true, false, if◌then◌else◌, is_some, Option, Some, None, List, [], ◌∷◌, ◌++◌, refl, ap, sym, ◌∙◌, subst, arith, le-leb, lt-ltb}
+use Rattle.std.proofs.Common.{◌≡◌, ◌≢◌, ℕ, ◌+◌, ◌-◌, ◌%◌, ◌≤◌, ◌⊎◌, inl, inr, ◌==◌, ◌&&◌, ◌||◌, nat_le, nat_lt, true, false, if◌then◌else◌, is_some, Option, Some, None, List, [], ◌∷◌, ◌++◌, refl, ap, sym, ◌∙◌, subst, arith, le-leb, lt-ltb}
 use Rattle.std.proofs.lemmas.Bool.{cond_both, or_parts}
 use Rattle.tbr_model.specs.declared.white_space.WhiteSpace.{WhiteSpace}
 use Rattle.tbr_model.specs.declared.white_space.WhiteSpace.TheVariants.{Normal, Pre, PreWrap}
@@ -31,10 +31,6 @@ module _ {A : Type 0} (columns : ℕ → Option ℕ) (width : ℕ) where
   break_rests : (p : Progress A) → columns_so_far columns p ≤ width → Rests p (break_word columns width p)
   break_rests p fits = cond_both (nat_lt 0 (items_width columns p.word)) _ _ (Rests p) (λ _. lay_rests p fits) (λ _. unchanged p)
 
-  break_if_rests : (b : Bool) (p : Progress A) → columns_so_far columns p ≤ width → Rests p (if b then break_word columns width p else p)
-  break_if_rests true p fits = break_rests p fits
-  break_if_rests false p fits = unchanged p
-
   -- ---- entries that end no line
 
   abbrev Ends : Progress A → Progress A → Type 0
@@ -64,7 +60,7 @@ module _ {A : Type 0} (columns : ℕ → Option ℕ) (width : ℕ) where
   entry_ends_none p (character c a b Pre) fits other = preserve_done c a b Pre p other
   entry_ends_none p (character c a b PreWrap) fits other =
       let q : Progress A = if is_break c then break_word columns width p else p in
-      preserve_done c a b PreWrap q other ∙ (break_if_rests (is_break c) p fits).done
+      preserve_done c a b PreWrap q other ∙ cond_both (is_break c) _ _ (Ends p) (λ _. (break_rests p fits).done) (λ _. refl)
 
   -- ---- a newline and a tab
 
@@ -114,3 +110,5 @@ module _ {A : Type 0} (columns : ℕ → Option ℕ) (width : ℕ) where
       let r = flush_rests p fits in
       cond_both (has_character q.laid.line) _ _ (λ (l : Laid A). (l.done ≡ p.laid.done) ⊎ HasOneMore p.laid.done l.done)
       (λ _. inr (q.laid.line, ap (λ (ls : List (List (Item A))). ls ++ q.laid.line ∷ []) r.done)) (λ _. inl r.done)
+
+pub ruleset end_laws = (entry_ends_none, tab_ends_none, newline_ends_one, end_ends_one)

@@ -1,41 +1,29 @@
 -- A run of markers alone ends no line, and its markers wait, or are trailing.
-use Rattle.std.proofs.Common.{◌≡◌, ℕ, ◌≤◌, nat_lt, true, false, Option, None, List, [], ◌∷◌, ◌++◌, fold, length, refl, ap, sym, ◌∙◌, arith, append_assoc, append-nil, lt-ltb}
+use Rattle.std.proofs.Common.{◌≡◌, ℕ, ◌≤◌, nat_lt, true, false, Option, None, List, [], ◌∷◌, ◌++◌, fold, length, refl, ap, sym, ◌∙◌, arith, subst, append_assoc, append-nil, lt-ltb}
 use Rattle.tbr_model.specs.declared.white_space.WhiteSpace.TheVariants.{Normal}
-use Rattle.tbr_model.specs.Run.{character, marker_entry, Item, marker, has_character, Reading, read, trailing}
+use Rattle.tbr_model.specs.Run.{Entry, character, marker_entry, Item, marker, has_character, Reading, read, trailing}
 use Rattle.tbr_model.specs.Layout.{joined}
-use Rattle.tbr_model.specs.Laid.{Laid, nothing_laid, end_if_character}
-use Rattle.tbr_model.specs.Rule.{Event, call, entry, run_of, Progress, at_start, enter, step, progress, waiting, lines_of}
+use Rattle.tbr_model.specs.Rule.{Event, run_of, at_start, progress, waiting, lines_of}
 use Rattle.tbr_model.specs.Markers.{names_in_items, names_in_run, marker_items, marker_run, without_last_markers}
-use Rattle.tbr_model.specs.Hard.{AllHaveMode, entry_letters}
-use Rattle.tbr_model.proofs.words.Items.{has_character-append}
-use Rattle.tbr_model.proofs.rule.HardLines.{not_flushed}
+use Rattle.tbr_model.specs.Hard.{AllHaveMode, Preserves, entry_letters, IsSpaces}
+use Rattle.tbr_model.proofs.rule.HardLines.{start_fresh}
+use Rattle.tbr_model.proofs.rule.BlankLines.{fold_blank, blank_line}
+use Rattle.std.specs.List.{AllByRecursion as Each}
 use Rattle.tbr_model.proofs.rule.Markers.{markers_at_end}
 
--- Nothing is laid, and no character is in the word.
-pub record HoldsMarkers {A : Type 0} (p : Progress A) : Type 0 where
-  pub laid : p.laid ≡ nothing_laid
-  pub word : has_character p.word ≡ false
+-- markers alone are in any mode
+markers_preserve : {A : Type 0} (es : List (Entry A)) → entry_letters es ≡ [] → Each Preserves es
+markers_preserve [] h = tt
+markers_preserve (character c a b mode ∷ es) h = cc
+markers_preserve (marker_entry name ∷ es) h = (tt, markers_preserve es h)
 
 module _ {A : Type 0} (columns : ℕ → Option ℕ) (width : ℕ) where
-  fold_markers_alone : (es : List (Event A)) (p : Progress A) → entry_letters (run_of es) ≡ [] → HoldsMarkers p → HoldsMarkers (fold (step columns width) p es)
-  fold_markers_alone [] p h k = k
-  fold_markers_alone (call ∷ es) p h k = fold_markers_alone es (record p { in_continuation = p.continuation_flag }) h (record { laid = k.laid; word = k.word })
-  fold_markers_alone (entry (character c a b mode) ∷ es) p h k = cc
-  fold_markers_alone (entry (marker_entry name) ∷ es) p h k =
-      fold_markers_alone es (enter columns width p (marker_entry name)) h (record { laid = k.laid; word = has_character-append p.word (marker name ∷ []) ∙ rw (k.word) refl })
-
-  -- under way nothing is laid
-  pub markers_alone : (es : List (Event A)) → entry_letters (run_of es) ≡ [] → HoldsMarkers (progress columns width es)
-  markers_alone es h = fold_markers_alone es at_start h (record { laid = refl; word = refl })
-
   -- no line has ended
   pub no_line_done : (es : List (Event A)) → entry_letters (run_of es) ≡ [] → (progress columns width es).laid.done ≡ []
-  no_line_done es h = ap (λ (l : Laid A). l.done) (markers_alone es h).laid
+  no_line_done es h = (fold_blank columns width es at_start (markers_preserve (run_of es) h) (subst IsSpaces (sym h) tt) (record { done = refl; line = refl; word = refl })).done
 
   pub no_line_ends : (es : List (Event A)) → entry_letters (run_of es) ≡ [] → lines_of columns width es ≡ []
-  no_line_ends es h =
-      let k = markers_alone es h in
-      ap (λ (p : Progress A). (end_if_character p.laid).done) (not_flushed columns width (progress columns width es) k.word) ∙ ap (λ (l : Laid A). (end_if_character l).done) k.laid
+  no_line_ends es h = (blank_line columns width at_start es start_fresh (markers_preserve (run_of es) h) (subst IsSpaces (sym h) tt)).1
 
   -- all markers wait
   pub all_wait : (es : List (Event A)) → entry_letters (run_of es) ≡ [] → names_in_items (waiting columns width (progress columns width es)) ≡ names_in_run (run_of es)
@@ -78,3 +66,7 @@ no_character A (name ∷ names) = no_character A names
 
 pub trailing_markers : (A : Type 0) (columns : ℕ → Option ℕ) (names : List (List ℕ)) → trailing {A = A} columns (marker_run names) ≡ marker_items names
 trailing_markers A columns names = rw (read_markers {A = A} columns names [], no_character A names) refl
+
+pub ruleset line_laws = (no_line_done, no_line_ends, all_wait)
+
+pub ruleset name_laws = (normal_markers, trailing_markers, names_of_markers, all_taken_out)

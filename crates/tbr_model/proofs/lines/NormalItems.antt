@@ -1,7 +1,7 @@
 -- A run of `Normal` keeps its kept characters and its markers, each character under its own annotation.
-use Rattle.std.proofs.Common.{◌≡◌, ℕ, ◌⊎◌, inl, inr, ◌==◌, Bool, true, false, not, if◌then◌else◌, Option, List, [], ◌∷◌, ◌++◌, refl, ap, sym, ◌∙◌}
+use Rattle.std.proofs.Common.{◌≡◌, ℕ, ◌⊎◌, inl, inr, ◌==◌, false, not, if◌then◌else◌, Option, List, [], ◌∷◌, ◌++◌, refl, ap, sym, ◌∙◌}
 use Rattle.std.specs.List.{AllZip, AllByRecursion as Each}
-use Rattle.std.proofs.lemmas.Bool.{eqb-true, not_from_false}
+use Rattle.std.proofs.lemmas.Bool.{eqb-true, not_from_false, cases_Bool}
 use Rattle.tbr_model.specs.declared.white_space.WhiteSpace.{WhiteSpace}
 use Rattle.tbr_model.specs.declared.white_space.WhiteSpace.TheVariants.{Normal, Pre, PreWrap}
 use Rattle.tbr_model.specs.Run.{Entry, character, marker_entry, Item, glyph, marker, is_kept, kept_items}
@@ -10,10 +10,9 @@ use Rattle.tbr_model.specs.Rule.{Event, run_of, is_space_item, progress, waiting
 use Rattle.tbr_model.specs.Hard.{HasMode}
 use Rattle.tbr_model.specs.Shown.{without_spaces}
 use Rattle.tbr_model.proofs.words.Items.{break_lost}
-use Rattle.tbr_model.proofs.rule.Content.{StandsFor, by_entry, found_at_end}
+use Rattle.tbr_model.proofs.rule.Content.{StandsFor, by_entry, found_at_end, item_passes, passing, passing-append, markers_pass}
 use Rattle.tbr_model.proofs.rule.Walk.{MayJoin}
 use Rattle.tbr_model.proofs.rule.Markers.{waiting_none}
-use Rattle.tbr_model.proofs.lines.Passing.{item_passes, passing, passing-append, markers_pass}
 use Rattle.tbr_model.proofs.lines.WaitingMarkers.{IsNormalMode, looks_at_kept}
 use Rattle.tbr_model.proofs.lines.EachItem.{Brings, each_on_lines}
 
@@ -24,11 +23,7 @@ module _ {A : Type 0} (columns : ℕ → Option ℕ) (width : ℕ) where
   -- the kept ones among items that stand for entries
   one_kept : (c : ℕ) (x a b : A) (m : WhiteSpace) (is : List (Item A)) (es : List (Entry A)) → (x ≡ a) ⊎ ((x ≡ b) × IsNormalMode Pre) → kept is ≡ kept_items columns es → kept (glyph c x ∷ is) ≡ kept_items columns (character c a b m ∷ es)
   one_kept c x a b m is es (inr e) rest = absurd (let never : Pre ≡ Normal = e.1 in cc)
-  one_kept c x a b m is es (inl e) rest = rw e (go (is_kept columns c) refl)
-    where
-      go : (v : Bool) → is_kept columns c ≡ v → kept (glyph c a ∷ is) ≡ kept_items columns (character c a b m ∷ es)
-      go true v = rw v (ap (λ (js : List (Item A)). glyph c a ∷ js) rest)
-      go false v = rw v rest
+  one_kept c x a b m is es (inl e) rest = rw e (elim (cases_Bool (is_kept columns c)) [ inl v ↦ rw v (ap (λ (js : List (Item A)). glyph c a ∷ js) rest) | inr v ↦ rw v rest ])
 
   kept_alike : (is : List (Item A)) (es : List (Entry A)) → AllZip (StandsFor IsNormalMode) is es → kept is ≡ kept_items columns es
   kept_alike = by_entry IsNormalMode (λ is es. kept is ≡ kept_items columns es) refl one_kept (λ name is es rest. ap (λ (js : List (Item A)). marker name ∷ js) rest)
@@ -51,11 +46,10 @@ module _ {A : Type 0} (columns : ℕ → Option ℕ) (width : ℕ) where
 
   joins_so : (c : ℕ) (x : A) → MayJoin columns Normal c → SpaceOrKept (glyph c x)
   joins_so c x (inr blank) = absurd (blank.1 refl)
-  joins_so c x (inl keeps) = go (c == 32) refl
-    where
-      go : (b : Bool) → c == 32 ≡ b → SpaceOrKept (glyph c x)
-      go true e = absurd (let lost : is_kept columns c ≡ false = ap (is_kept columns) (eqb-true c 32 e) ∙ break_lost columns 32 refl in cc)
-      go false e = not_from_false (c == 32) e ∙ sym keeps
+  joins_so c x (inl keeps) = elim (cases_Bool (c == 32)) [
+    | inl e ↦ absurd (let lost : is_kept columns c ≡ false = ap (is_kept columns) (eqb-true c 32 e) ∙ break_lost columns 32 refl in cc)
+    | inr e ↦ not_from_false (c == 32) e ∙ sym keeps
+  ]
 
   all_so : (run : List (Entry A)) → Each (HasMode Normal) run → Each (Brings columns SpaceOrKept (λ a. Unit {0})) run
   all_so [] h = tt

@@ -1,27 +1,20 @@
 -- What is on the lines of a run comes from it.
-use Rattle.std.proofs.Common.{◌≡◌, ℕ, inl, inr, ◌==◌, Bool, true, false, not, Option, List, refl}
+use Rattle.std.proofs.Common.{ℕ, inl, inr, ◌==◌, not, Option, List, refl}
 use Rattle.std.specs.List.{Contains}
 use Rattle.std.specs.Prelude.{slice_index_or}
 use Rattle.std.specs.Char.{is_whitespace}
-use Rattle.std.proofs.lemmas.Bool.{and_parts}
+use Rattle.std.proofs.lemmas.Bool.{and_parts, cases_Bool}
 use Rattle.std.proofs.lemmas.List.Elements.{All-contains_itself, recursion_from_All}
 use Rattle.tbr_model.specs.declared.white_space.WhiteSpace.{WhiteSpace}
-use Rattle.tbr_model.specs.Run.{Entry, character, marker_entry, glyph, is_kept}
+use Rattle.tbr_model.specs.Run.{Entry, character, marker_entry, glyph}
 use Rattle.tbr_model.specs.Rule.{Event, run_of, lines_of}
 use Rattle.tbr_model.specs.Shown.{HasAnnotation, ComesFrom, InventsNothing}
 use Rattle.tbr_model.proofs.rule.Walk.{MayJoin}
 use Rattle.tbr_model.proofs.lines.EachItem.{Brings, each_on_lines}
 
 module _ {A : Type 0} (columns : ℕ → Option ℕ) (Same : A → A → Type 0) (same : (x : A) → Same x x) (run : List (Entry A)) where
-  kept_or_white : (c : ℕ) (x : A) → HasAnnotation Same run x → is_kept columns c ≡ true → ComesFrom columns Same run (glyph c x)
-  kept_or_white c x h kept = go (is_whitespace c) refl
-    where
-      go : (b : Bool) → is_whitespace c ≡ b → ComesFrom columns Same run (glyph c x)
-      go true e = inr (e, h)
-      go false e = inl (rw (kept, e) refl)
-
   joins_from : (c : ℕ) (mode : WhiteSpace) (x : A) → HasAnnotation Same run x → MayJoin columns mode c → ComesFrom columns Same run (glyph c x)
-  joins_from c mode x h (inl kept) = kept_or_white c x h kept
+  joins_from c mode x h (inl kept) = elim (cases_Bool (is_whitespace c)) [ inl e ↦ inr (e, h) | inr e ↦ inl (rw (kept, e) refl) ]
   joins_from c mode x h (inr blank) = inr ((and_parts (is_whitespace c) (not (c == 160)) blank.0).0, h)
 
   brings : (e : Entry A) → Contains run e → Brings columns (ComesFrom columns Same run) (HasAnnotation Same run) e

@@ -1,8 +1,8 @@
 -- The markers that wait where a run ends come after its last visible character.
-use Rattle.std.proofs.Common.{◌≡◌, ℕ, Bool, true, false, not, if◌then◌else◌, Option, List, [], ◌∷◌, ◌++◌, fold, refl, ap, sym, ◌∙◌, append_assoc, append-nil}
+use Rattle.std.proofs.Common.{◌≡◌, ℕ, Bool, false, not, if◌then◌else◌, Option, List, [], ◌∷◌, ◌++◌, fold, refl, ap, sym, ◌∙◌, append_assoc, append-nil, inl, inr}
 use Rattle.std.specs.List.{AllZip, AllByRecursion as Each}
 use Rattle.std.specs.Char.{is_whitespace}
-use Rattle.std.proofs.lemmas.Bool.{and_left}
+use Rattle.std.proofs.lemmas.Bool.{and_left, cases_Bool}
 use Rattle.std.proofs.lemmas.List.Sums.{fold-append}
 use Rattle.tbr_model.specs.declared.white_space.WhiteSpace.{WhiteSpace}
 use Rattle.tbr_model.specs.declared.white_space.WhiteSpace.TheVariants.{Normal}
@@ -11,11 +11,10 @@ use Rattle.tbr_model.specs.Layout.{joined}
 use Rattle.tbr_model.specs.Rule.{Event, run_of, progress, waiting, lines_of}
 use Rattle.tbr_model.specs.Markers.{names_in_items, marked_after, names_after}
 use Rattle.tbr_model.specs.Hard.{HasMode, is_visible}
-use Rattle.tbr_model.proofs.rule.Content.{LooksAtKept, AnyEntry, AnyMode, StandsFor, by_entry, found_at_end}
+use Rattle.tbr_model.proofs.rule.Content.{LooksAtKept, AnyEntry, AnyMode, StandsFor, by_entry, found_at_end, passing, looks_at_passing}
 use Rattle.tbr_model.proofs.rule.Walk.{any_entries}
 use Rattle.tbr_model.proofs.rule.VisibleCharacters.{white_not_visible}
 use Rattle.tbr_model.proofs.rule.Markers.{waiting_none}
-use Rattle.tbr_model.proofs.lines.Passing.{passing, looks_at_passing}
 
 -- ---- tests
 
@@ -46,12 +45,7 @@ module _ {A : Type 0} (test : ℕ → Bool) where
   after_passing : (names : List (List ℕ)) (is : List (Item A)) → fold item_after names (passing test is) ≡ fold item_after names is
   after_passing names [] = refl
   after_passing names (marker name ∷ is) = after_passing (names ++ name ∷ []) is
-  after_passing names (glyph c a ∷ is) = go (λ ns. after_passing ns is) (test c) refl
-    where
-      go : ((ns : List (List ℕ)) → fold item_after ns (passing test is) ≡ fold item_after ns is) → (b : Bool) → test c ≡ b →
-          fold item_after names (if b then glyph c a ∷ passing test is else passing test is) ≡ fold item_after (if b then [] else names) is
-      go rest true e = ap (λ (b : Bool). fold item_after (if b then [] else names) (passing test is)) e ∙ rest []
-      go rest false e = rest names
+  after_passing names (glyph c a ∷ is) = elim (cases_Bool (test c)) [ inl e ↦ rw e (ap (λ (b : Bool). fold item_after (if b then [] else names) (passing test is)) e ∙ after_passing [] is) | inr e ↦ rw e (after_passing names is) ]
 
   -- markers alone are all after
   after_markers : (names : List (List ℕ)) (is : List (Item A)) → has_character is ≡ false → fold item_after names is ≡ names ++ names_in_items is

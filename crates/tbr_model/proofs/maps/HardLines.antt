@@ -7,8 +7,7 @@ use Rattle.tbr_model.specs.Run.{Entry, character, marker_entry, Item, glyph, mar
 use Rattle.tbr_model.specs.Layout.{joined}
 use Rattle.tbr_model.specs.Hard.{onto_first, hard_lines, Parted, glyphs_of, letters_of, entry_letters, is_visible, is_visible_entry, visible_glyphs, visible_entries, IsShown, ShowsVisible, IsPrintableLine, IsTabbedLine, IsSpaces, blank_lines, StandUnder, HasMain, HasContinuation, ShowsHardLine, ShowsPre, ShowsPreWrap, ShowsTabs}
 use Rattle.tbr_model.specs.Mapped.{map_item, map_items, map_entry, map_run, map_lines}
-use Rattle.tbr_model.proofs.lists.Each.{filter-map, zip-map}
-use Rattle.tbr_model.proofs.rule.DoneLines.{if_same}
+use Rattle.tbr_model.proofs.lists.Each.{if_same, filter-map, zip-map}
 use Rattle.tbr_model.proofs.maps.Layouts.{joined-map}
 
 -- ---- hard lines
@@ -58,18 +57,12 @@ module _ {A B : Type 0} (f : A → B) where
   line_letters-map [] = refl
   line_letters-map (l ∷ ls) = let first = letters_of-map l in let rest = line_letters-map ls in cc
 
-  joined_letters-map : (ls : List (List (Item A))) → letters_of (joined (map_lines f ls)) ≡ letters_of (joined ls)
-  joined_letters-map ls = ap letters_of (joined-map (map_item f) ls) ∙ letters_of-map (joined ls)
-
   pub joined_glyphs-map : (ls : List (List (Item A))) → glyphs_of (joined (map_lines f ls)) ≡ map (map_glyph f) (glyphs_of (joined ls))
   joined_glyphs-map ls = ap glyphs_of (joined-map (map_item f) ls) ∙ glyphs_of-map (joined ls)
 
   -- ---- visible characters
 
   module _ (columns : ℕ → Option ℕ) where
-    pub visible_glyphs-map : (gs : List (ℕ × A)) → filter (λ g. is_visible columns g.0) (map (map_glyph f) gs) ≡ map (map_glyph f) (filter (λ g. is_visible columns g.0) gs)
-    visible_glyphs-map = filter-map (map_glyph f) (λ g. is_visible columns g.0) (λ g. is_visible columns g.0) (λ g. refl)
-
     pub visible_entries-map : (es : List (Entry A)) → visible_entries columns (map_run f es) ≡ map_run f (visible_entries columns es)
     visible_entries-map = filter-map (map_entry f) (is_visible_entry columns) (is_visible_entry columns) same
       where
@@ -108,7 +101,7 @@ module _ {A B : Type 0} (f : A → B) where
 
     pub visible-map : (run : List (Entry A)) (ls : List (List (Item A))) → ShowsVisible columns Same run ls → ShowsVisible columns Other (map_run f run) (map_lines f ls)
     visible-map run ls h =
-        let glyphs = ap (filter (λ (g : ℕ × B). is_visible columns g.0)) (joined_glyphs-map ls) ∙ visible_glyphs-map columns (glyphs_of (joined ls)) in
+        let glyphs = ap (filter (λ (g : ℕ × B). is_visible columns g.0)) (joined_glyphs-map ls) ∙ filter-map (map_glyph f) (λ (g : ℕ × A). is_visible columns g.0) (λ (g : ℕ × B). is_visible columns g.0) (λ g. refl) (glyphs_of (joined ls)) in
         rw (glyphs, visible_entries-map columns run) (shown-map (visible_glyphs columns (joined ls)) (visible_entries columns run) h)
 
     stand-map : (Has : Entry A → A → Type 0) (HasNow : Entry B → B → Type 0) → ((e : Entry A) (x : A) → Has e x → HasNow (map_entry f e) (f x)) →
@@ -128,7 +121,7 @@ module _ {A B : Type 0} (f : A → B) where
 
     pub pre-map : (width : ℕ) (more : Bool) (h : List (Entry A)) (ls : List (List (Item A))) → ShowsPre columns Same width more h ls → ShowsPre columns Other width more (map_run f h) (map_lines f ls)
     pre-map width more h ls s = record {
-      kept = rw (joined_letters-map ls, entry_letters-map h) s.kept;
+      kept = rw (joined-map (map_item f) ls, letters_of-map (joined ls), entry_letters-map h) s.kept;
       fits = rw (line_letters-map ls, entry_letters-map h, length-map h (map_entry f)) (λ printable some fits. s.fits (printable_unmap columns h printable) some fits);
       cut = rw (line_letters-map ls, entry_letters-map h) (λ printable begins. s.cut (printable_unmap columns h printable) begins);
       blank = blank-map more h ls s.blank;

@@ -106,3 +106,5 @@ best-map {A} {B} f width slots lines best = record {
       let after = best.ahead w.0 (record { whole = w.2; each = each }) n in
       omega (arith, after, ap (placed n) w.1, placed-map (map_slot f) n w.0, placed-map (map_slot f) n lines);
 }
+
+pub ruleset layout_maps = (words_of-map, slots_of-map, line_text-map)

@@ -1,5 +1,5 @@
--- The rule under other annotations.
-use Rattle.std.proofs.Common.{◌≡◌, ℕ, zero, suc, ◌+◌, ◌-◌, ◌%◌, ◌==◌, ◌&&◌, nat_le, nat_lt, true, false, if◌then◌else◌, is_some, is_none, Option, Some, None, List, [], ◌∷◌, ◌++◌, fold, refl, ap, sym, ◌∙◌}
+-- The rule under other annotations, and after lines that are done, which have no influence on it.
+use Rattle.std.proofs.Common.{◌≡◌, ℕ, zero, suc, ◌+◌, ◌-◌, ◌%◌, ◌==◌, ◌&&◌, nat_le, nat_lt, true, false, if◌then◌else◌, is_some, is_none, Option, Some, None, List, [], ◌∷◌, ◌++◌, fold, refl, ap, sym, ◌∙◌, append_assoc}
 use Rattle.std.specs.Option.{option_map}
 use Rattle.std.proofs.lemmas.List.{map-append}
 use Rattle.tbr_model.specs.declared.white_space.WhiteSpace.{WhiteSpace}
@@ -9,34 +9,43 @@ use Rattle.tbr_model.specs.Laid.{Laid, extended, end_line, end_if_character, end
 use Rattle.tbr_model.specs.Rule.{Event, call, entry, Space, Progress, at_start, spaces, space_text, pending_width, is_space_item, is_white_item, without_leading, without_trailing, trimmed, space_of, wrap_space_by, wrap_space, put_space, put_spaces, put_pending, is_pre, lay_here, lay_fresh, lay, flush_word, break_word, join, collapse, newline, put_tab, tab, keep_space, passes, tag_of, keep_character, preserve, enter, step, progress, finished, waiting}
 use Rattle.tbr_model.specs.Mapped.{map_item, map_items, map_entry, map_lines, map_event, map_events, map_laid, map_space, map_progress}
 use Rattle.tbr_model.proofs.maps.Words.{item_width-map, items_width-map, has_character-map}
-use Rattle.tbr_model.proofs.rule.DoneLines.{if_same}
+use Rattle.tbr_model.proofs.lists.Each.{if_same}
 
-module _ {A B : Type 0} (f : A → B) (columns : ℕ → Option ℕ) (width : ℕ) where
+-- what is laid, and where a block is, under other annotations and after lines that are done
+abbrev pub moved_laid : {A B : Type 0} → List (List (Item B)) → (A → B) → Laid A → Laid B
+moved_laid d f l = record (map_laid f l) { done = d ++ map_lines f l.done }
+
+abbrev pub moved : {A B : Type 0} → List (List (Item B)) → (A → B) → Progress A → Progress B
+moved d f p = record (map_progress f p) { laid = moved_laid d f p.laid }
+
+module _ {A B : Type 0} (d : List (List (Item B))) (f : A → B) (columns : ℕ → Option ℕ) (width : ℕ) where
   -- ---- what is laid
 
-  extended-map : (l : Laid A) (is : List (Item A)) (js : List (Item B)) (n : ℕ) → js ≡ map_items f is → extended (map_laid f l) js n ≡ map_laid f (extended l is n)
+  extended-map : (l : Laid A) (is : List (Item A)) (js : List (Item B)) (n : ℕ) → js ≡ map_items f is → extended (moved_laid d f l) js n ≡ moved_laid d f (extended l is n)
   extended-map l is js n e =
-      ap (λ (ks : List (Item B)). record { done = map_lines f l.done; line = ks; width = l.width + n })
+      ap (λ (ks : List (Item B)). record { done = d ++ map_lines f l.done; line = ks; width = l.width + n })
       (ap (λ ks. map_items f l.line ++ ks) e ∙ sym (map-append (map_item f) l.line is))
 
-  end_line-map : (l : Laid A) → end_line (map_laid f l) ≡ map_laid f (end_line l)
-  end_line-map l = ap (λ (ls : List (List (Item B))). record { done = ls; line = []; width = 0 }) (sym (map-append (map_items f) l.done (l.line ∷ [])))
+  end_line-map : (l : Laid A) → end_line (moved_laid d f l) ≡ moved_laid d f (end_line l)
+  end_line-map l =
+      ap (λ (ls : List (List (Item B))). record { done = ls; line = []; width = 0 })
+      (append_assoc d (map_lines f l.done) (map_items f l.line ∷ []) ∙ ap (λ (ls : List (List (Item B))). d ++ ls) (sym (map-append (map_items f) l.done (l.line ∷ []))))
 
-  end_if_character-map : (l : Laid A) → end_if_character (map_laid f l) ≡ map_laid f (end_if_character l)
-  end_if_character-map l = rw (has_character-map f columns l.line) (if_same (map_laid f) (has_character l.line) (end_line l) l _ _ (end_line-map l) refl)
+  end_if_character-map : (l : Laid A) → end_if_character (moved_laid d f l) ≡ moved_laid d f (end_if_character l)
+  end_if_character-map l = rw (has_character-map f columns l.line) (if_same (moved_laid d f) (has_character l.line) (end_line l) l _ _ (end_line-map l) refl)
 
-  end_if_columns-map : (l : Laid A) → end_if_columns (map_laid f l) ≡ map_laid f (end_if_columns l)
-  end_if_columns-map l = if_same (map_laid f) (l.width == 0) l (end_line l) _ _ refl (end_line-map l)
+  end_if_columns-map : (l : Laid A) → end_if_columns (moved_laid d f l) ≡ moved_laid d f (end_if_columns l)
+  end_if_columns-map l = if_same (moved_laid d f) (l.width == 0) l (end_line l) _ _ refl (end_line-map l)
 
-  put_item-map : (l : Laid A) (i : Item A) → put_item columns width (map_laid f l) (map_item f i) ≡ map_laid f (put_item columns width l i)
+  put_item-map : (l : Laid A) (i : Item A) → put_item columns width (moved_laid d f l) (map_item f i) ≡ moved_laid d f (put_item columns width l i)
   put_item-map l i = rw (item_width-map f columns i)
-      (if_same (map_laid f) (nat_le (l.width + item_width columns i) width) _ _ _ _ (extended-map l (i ∷ []) (map_item f i ∷ []) (item_width columns i) refl)
-      (if_same (map_laid f) (nat_le (item_width columns i) width) _ _ _ _
+      (if_same (moved_laid d f) (nat_le (l.width + item_width columns i) width) _ _ _ _ (extended-map l (i ∷ []) (map_item f i ∷ []) (item_width columns i) refl)
+      (if_same (moved_laid d f) (nat_le (item_width columns i) width) _ _ _ _
       (ap (λ (m : Laid B). extended m (map_item f i ∷ []) (item_width columns i)) (end_line-map l) ∙ extended-map (end_line l) (i ∷ []) (map_item f i ∷ []) (item_width columns i) refl)
       (ap (λ (m : Laid B). end_line (extended m (map_item f i ∷ []) (item_width columns i))) (end_if_columns-map l)
       ∙ ap end_line (extended-map (end_if_columns l) (i ∷ []) (map_item f i ∷ []) (item_width columns i) refl) ∙ end_line-map (extended (end_if_columns l) (i ∷ []) (item_width columns i)))))
 
-  put_items-map : (is : List (Item A)) (l : Laid A) → put_items columns width (map_laid f l) (map_items f is) ≡ map_laid f (put_items columns width l is)
+  pub put_items-map : (is : List (Item A)) (l : Laid A) → put_items columns width (moved_laid d f l) (map_items f is) ≡ moved_laid d f (put_items columns width l is)
   put_items-map [] l = refl
   put_items-map (i ∷ is) l = ap (λ (m : Laid B). put_items columns width m (map_items f is)) (put_item-map l i) ∙ put_items-map is (put_item columns width l i)
 
@@ -44,24 +53,24 @@ module _ {A B : Type 0} (f : A → B) (columns : ℕ → Option ℕ) (width : �
   spaces-map zero a = refl
   spaces-map (suc n) a = ap (λ (is : List (Item B)). glyph 32 (f a) ∷ is) (spaces-map n a)
 
-  put_space-map : (a : A) (l : Laid A) → put_space width (f a) (map_laid f l) ≡ map_laid f (put_space width a l)
+  put_space-map : (a : A) (l : Laid A) → put_space width (f a) (moved_laid d f l) ≡ moved_laid d f (put_space width a l)
   put_space-map a l =
       let m : Laid A = extended l (glyph 32 a ∷ []) 1 in
-      let same : extended (map_laid f l) (glyph 32 (f a) ∷ []) 1 ≡ map_laid f m = extended-map l (glyph 32 a ∷ []) (glyph 32 (f a) ∷ []) 1 refl in
-      if_same (map_laid f) (l.width + 1 == width) _ _ _ _ (ap end_line same ∙ end_line-map m) same
+      let same : extended (moved_laid d f l) (glyph 32 (f a) ∷ []) 1 ≡ moved_laid d f m = extended-map l (glyph 32 a ∷ []) (glyph 32 (f a) ∷ []) 1 refl in
+      if_same (moved_laid d f) (l.width + 1 == width) _ _ _ _ (ap end_line same ∙ end_line-map m) same
 
-  put_spaces-map : (n : ℕ) (a : A) (l : Laid A) → put_spaces width (f a) n (map_laid f l) ≡ map_laid f (put_spaces width a n l)
+  put_spaces-map : (n : ℕ) (a : A) (l : Laid A) → put_spaces width (f a) n (moved_laid d f l) ≡ moved_laid d f (put_spaces width a n l)
   put_spaces-map zero a l = refl
   put_spaces-map (suc n) a l = ap (put_spaces width (f a) n) (put_space-map a l) ∙ put_spaces-map n a (put_space width a l)
 
-  put_pending-map : (o : Option (Space A)) (l : Laid A) → put_pending width (option_map (map_space f) o) (map_laid f l) ≡ map_laid f (put_pending width o l)
+  put_pending-map : (o : Option (Space A)) (l : Laid A) → put_pending width (option_map (map_space f) o) (moved_laid d f l) ≡ moved_laid d f (put_pending width o l)
   put_pending-map None l = refl
   put_pending-map (Some s) l = put_spaces-map s.width s.tag l
 
-  put_tab-map : (column : ℕ) (a : A) (l : Laid A) → put_tab width column (f a) (map_laid f l) ≡ map_laid f (put_tab width column a l)
+  put_tab-map : (column : ℕ) (a : A) (l : Laid A) → put_tab width column (f a) (moved_laid d f l) ≡ moved_laid d f (put_tab width column a l)
   put_tab-map column a l =
       let n : ℕ = 8 - column % 8 in
-      if_same (map_laid f) (nat_le n (width - column)) _ _ _ _ (extended-map l (spaces n a) (spaces n (f a)) n (spaces-map n a))
+      if_same (moved_laid d f) (nat_le n (width - column)) _ _ _ _ (extended-map l (spaces n a) (spaces n (f a)) n (spaces-map n a))
       (ap end_line (extended-map l (spaces (width - column) a) (spaces (width - column) (f a)) (width - column) (spaces-map (width - column) a))
       ∙ end_line-map (extended l (spaces (width - column) a) (width - column)))
 
@@ -82,10 +91,10 @@ module _ {A B : Type 0} (f : A → B) (columns : ℕ → Option ℕ) (width : �
       go (glyph c a) (j ∷ js) e h = rw (h, e) refl
       go (marker name) (j ∷ js) e h = rw (h, e) refl
 
-  trimmed-map : (l : Laid A) → trimmed columns (map_laid f l) ≡ map_laid f (trimmed columns l)
+  trimmed-map : (l : Laid A) → trimmed columns (moved_laid d f l) ≡ moved_laid d f (trimmed columns l)
   trimmed-map l =
-      ap (λ (is : List (Item B)). record { done = map_lines f l.done; line = is; width = items_width columns is }) (without_trailing-map l.line)
-      ∙ ap (λ n. record { done = map_lines f l.done; line = map_items f (without_trailing l.line); width = n }) (items_width-map f columns (without_trailing l.line))
+      ap (λ (is : List (Item B)). record { done = d ++ map_lines f l.done; line = is; width = items_width columns is }) (without_trailing-map l.line)
+      ∙ ap (λ n. record { done = d ++ map_lines f l.done; line = map_items f (without_trailing l.line); width = n }) (items_width-map f columns (without_trailing l.line))
 
   space_of-map : (n : ℕ) (a : A) (m : WhiteSpace) → space_of n (f a) m ≡ option_map (map_space f) (space_of n a m)
   space_of-map zero a m = refl
@@ -99,62 +108,62 @@ module _ {A B : Type 0} (f : A → B) (columns : ℕ → Option ℕ) (width : �
   pending_width-map None = refl
   pending_width-map (Some s) = refl
 
-  wrap_space_by-map : (p : Progress A) (s : Space A) (m : WhiteSpace) → wrap_space_by columns width (map_progress f p) (map_space f s) m ≡ map_progress f (wrap_space_by columns width p s m)
+  wrap_space_by-map : (p : Progress A) (s : Space A) (m : WhiteSpace) → wrap_space_by columns width (moved d f p) (map_space f s) m ≡ moved d f (wrap_space_by columns width p s m)
   wrap_space_by-map p s Normal = refl
   wrap_space_by-map p s Pre =
-      if_same (map_progress f) (nat_le (width - p.laid.width) s.width) _ _ _ _
-      (ap (λ o. record (map_progress f p) { space = o }) (space_of-map (s.width - (width - p.laid.width)) s.tag Pre))
-      (ap (λ (l : Laid B). record (map_progress f p) { laid = l; space = None }) (extended-map p.laid (spaces s.width s.tag) (spaces s.width (f s.tag)) s.width (spaces-map s.width s.tag)))
+      if_same (moved d f) (nat_le (width - p.laid.width) s.width) _ _ _ _
+      (ap (λ o. record (moved d f p) { space = o }) (space_of-map (s.width - (width - p.laid.width)) s.tag Pre))
+      (ap (λ (l : Laid B). record (moved d f p) { laid = l; space = None }) (extended-map p.laid (spaces s.width s.tag) (spaces s.width (f s.tag)) s.width (spaces-map s.width s.tag)))
   wrap_space_by-map p s PreWrap =
-      ap (λ (l : Laid B). record (map_progress f p) { laid = l; space = None; word = without_leading (map_items f p.word) }) (trimmed-map p.laid)
-      ∙ ap (λ is. record (map_progress f p) { laid = map_laid f (trimmed columns p.laid); space = None; word = is }) (without_leading-map p.word)
+      ap (λ (l : Laid B). record (moved d f p) { laid = l; space = None; word = without_leading (map_items f p.word) }) (trimmed-map p.laid)
+      ∙ ap (λ is. record (moved d f p) { laid = moved_laid d f (trimmed columns p.laid); space = None; word = is }) (without_leading-map p.word)
 
-  wrap_space-map : (p : Progress A) (o : Option (Space A)) → wrap_space columns width (map_progress f p) (option_map (map_space f) o) ≡ map_progress f (wrap_space columns width p o)
+  wrap_space-map : (p : Progress A) (o : Option (Space A)) → wrap_space columns width (moved d f p) (option_map (map_space f) o) ≡ moved d f (wrap_space columns width p o)
   wrap_space-map p None = refl
   wrap_space-map p (Some s) = wrap_space_by-map p s s.mode
 
   -- ---- a word
 
-  lay_here-map : (p : Progress A) → lay_here columns (map_progress f p) ≡ map_progress f (lay_here columns p)
+  lay_here-map : (p : Progress A) → lay_here columns (moved d f p) ≡ moved d f (lay_here columns p)
   lay_here-map p =
       let text = ap (λ is. is ++ map_items f p.word) (space_text-map p.space) ∙ sym (map-append (map_item f) (space_text p.space) p.word) in
       rw (pending_width-map p.space, items_width-map f columns p.word)
-      (ap (λ (l : Laid B). record (map_progress f p) { laid = l; space = None; word = []; continuation_flag = false })
+      (ap (λ (l : Laid B). record (moved d f p) { laid = l; space = None; word = []; continuation_flag = false })
       (extended-map p.laid (space_text p.space ++ p.word) (space_text (option_map (map_space f) p.space) ++ map_items f p.word) (pending_width p.space + items_width columns p.word) text))
 
-  lay_fresh-map : (p : Progress A) → lay_fresh columns width (map_progress f p) ≡ map_progress f (lay_fresh columns width p)
+  lay_fresh-map : (p : Progress A) → lay_fresh columns width (moved d f p) ≡ moved d f (lay_fresh columns width p)
   lay_fresh-map p =
       rw (has_character-map f columns p.word)
-      (if_same (map_progress f) (has_character p.word) _ _ _ _
-      (ap (λ (l : Laid B). record (map_progress f p) { laid = l; space = None; word = []; continuation_flag = is_pre p.mode })
+      (if_same (moved d f) (has_character p.word) _ _ _ _
+      (ap (λ (l : Laid B). record (moved d f p) { laid = l; space = None; word = []; continuation_flag = is_pre p.mode })
       (ap (λ (l : Laid B). put_items columns width l (map_items f p.word)) same ∙ put_items-map p.word (put_pending width p.space (end_if_character p.laid))))
-      (ap (λ (l : Laid B). record (map_progress f p) { laid = l; space = None; continuation_flag = is_pre p.mode }) same))
+      (ap (λ (l : Laid B). record (moved d f p) { laid = l; space = None; continuation_flag = is_pre p.mode }) same))
     where
-      same : put_pending width (option_map (map_space f) p.space) (end_if_character (map_laid f p.laid)) ≡ map_laid f (put_pending width p.space (end_if_character p.laid))
+      same : put_pending width (option_map (map_space f) p.space) (end_if_character (moved_laid d f p.laid)) ≡ moved_laid d f (put_pending width p.space (end_if_character p.laid))
       same = ap (put_pending width (option_map (map_space f) p.space)) (end_if_character-map p.laid) ∙ put_pending-map p.space (end_if_character p.laid)
 
-  lay-map : (p : Progress A) → lay columns width (map_progress f p) ≡ map_progress f (lay columns width p)
+  lay-map : (p : Progress A) → lay columns width (moved d f p) ≡ moved d f (lay columns width p)
   lay-map p =
-      let q : Progress B = map_progress f p in
+      let q : Progress B = moved d f p in
       let text = ap (λ n. n + items_width columns (map_items f p.word)) (pending_width-map p.space) ∙ ap (λ n. pending_width p.space + n) (items_width-map f columns p.word) in
       ap (λ n. if nat_le (p.laid.width + n) width then lay_here columns q else lay_fresh columns width (wrap_space columns width q q.space)) text
-      ∙ if_same (map_progress f) (nat_le (p.laid.width + (pending_width p.space + items_width columns p.word)) width) (lay_here columns p) (lay_fresh columns width (wrap_space columns width p p.space)) _ _ (lay_here-map p)
+      ∙ if_same (moved d f) (nat_le (p.laid.width + (pending_width p.space + items_width columns p.word)) width) (lay_here columns p) (lay_fresh columns width (wrap_space columns width p p.space)) _ _ (lay_here-map p)
       (ap (lay_fresh columns width) (wrap_space-map p p.space) ∙ lay_fresh-map (wrap_space columns width p p.space))
 
-  flush_word-map : (p : Progress A) → flush_word columns width (map_progress f p) ≡ map_progress f (flush_word columns width p)
+  flush_word-map : (p : Progress A) → flush_word columns width (moved d f p) ≡ moved d f (flush_word columns width p)
   flush_word-map p =
-      ap (λ b. if b then lay columns width (map_progress f p) else map_progress f p) (has_character-map f columns p.word)
-      ∙ if_same (map_progress f) (has_character p.word) (lay columns width p) p _ _ (lay-map p) refl
+      ap (λ b. if b then lay columns width (moved d f p) else moved d f p) (has_character-map f columns p.word)
+      ∙ if_same (moved d f) (has_character p.word) (lay columns width p) p _ _ (lay-map p) refl
 
-  break_word-map : (p : Progress A) → break_word columns width (map_progress f p) ≡ map_progress f (break_word columns width p)
+  break_word-map : (p : Progress A) → break_word columns width (moved d f p) ≡ moved d f (break_word columns width p)
   break_word-map p =
-      ap (λ n. if nat_lt 0 n then lay columns width (map_progress f p) else map_progress f p) (items_width-map f columns p.word)
-      ∙ if_same (map_progress f) (nat_lt 0 (items_width columns p.word)) (lay columns width p) p _ _ (lay-map p) refl
+      ap (λ n. if nat_lt 0 n then lay columns width (moved d f p) else moved d f p) (items_width-map f columns p.word)
+      ∙ if_same (moved d f) (nat_lt 0 (items_width columns p.word)) (lay columns width p) p _ _ (lay-map p) refl
 
-  join-map : (c : ℕ) (a : A) (m : WhiteSpace) (p : Progress A) → join c (f a) m (map_progress f p) ≡ map_progress f (join c a m p)
+  join-map : (c : ℕ) (a : A) (m : WhiteSpace) (p : Progress A) → join c (f a) m (moved d f p) ≡ moved d f (join c a m p)
   join-map c a m p =
       rw (has_character-map f columns p.word)
-      (ap (λ is. record (map_progress f p) { word = is; mode = (if has_character p.word then p.mode else m) }) (sym (map-append (map_item f) p.word (glyph c a ∷ []))))
+      (ap (λ is. record (moved d f p) { word = is; mode = (if has_character p.word then p.mode else m) }) (sym (map-append (map_item f) p.word (glyph c a ∷ []))))
 
   -- ---- the modes
 
@@ -162,84 +171,91 @@ module _ {A B : Type 0} (f : A → B) (columns : ℕ → Option ℕ) (width : �
   no_space-map None = refl
   no_space-map (Some s) = refl
 
-  collapse-map : (c : ℕ) (a : A) (p : Progress A) → collapse c (f a) (map_progress f p) ≡ map_progress f (collapse c a p)
-  collapse-map c a p = rw (no_space-map p.space) (if_same (map_progress f) (is_blank c && (nat_lt 0 p.laid.width && is_none p.space)) _ _ _ _ refl refl)
+  collapse-map : (c : ℕ) (a : A) (p : Progress A) → collapse c (f a) (moved d f p) ≡ moved d f (collapse c a p)
+  collapse-map c a p = rw (no_space-map p.space) (if_same (moved d f) (is_blank c && (nat_lt 0 p.laid.width && is_none p.space)) _ _ _ _ refl refl)
 
-  newline-map : (p : Progress A) → newline (map_progress f p) ≡ map_progress f (newline p)
-  newline-map p = ap (λ (l : Laid B). record (map_progress f p) { laid = l; space = None; continuation_flag = false; in_continuation = false }) (end_line-map p.laid)
+  pub newline-map : (p : Progress A) → newline (moved d f p) ≡ moved d f (newline p)
+  newline-map p = ap (λ (l : Laid B). record (moved d f p) { laid = l; space = None; continuation_flag = false; in_continuation = false }) (end_line-map p.laid)
 
-  tab-map : (a : A) (p : Progress A) → tab width (f a) (map_progress f p) ≡ map_progress f (tab width a p)
+  pub tab-map : (a : A) (p : Progress A) → tab width (f a) (moved d f p) ≡ moved d f (tab width a p)
   tab-map a p =
       let column : ℕ = p.laid.width + pending_width p.space in
       rw (pending_width-map p.space)
-      (ap (λ (l : Laid B). record (map_progress f p) { laid = l })
-      (if_same (map_laid f) (nat_lt column width) _ _ _ _ (put_tab-map column a p.laid)
+      (ap (λ (l : Laid B). record (moved d f p) { laid = l })
+      (if_same (moved_laid d f) (nat_lt column width) _ _ _ _ (put_tab-map column a p.laid)
       (ap (put_tab width 0 (f a)) (end_if_character-map p.laid) ∙ put_tab-map 0 a (end_if_character p.laid))))
 
-  tag_of-map : (p : Progress A) (a b : A) → tag_of (map_progress f p) (f a) (f b) ≡ f (tag_of p a b)
+  tag_of-map : (p : Progress A) (a b : A) → tag_of (moved d f p) (f a) (f b) ≡ f (tag_of p a b)
   tag_of-map p a b = if_same f p.in_continuation b a (f b) (f a) refl refl
 
-  keep_space-map : (c : ℕ) (a : A) (m : WhiteSpace) (o : Option ℕ) (p : Progress A) → keep_space c (f a) m o (map_progress f p) ≡ map_progress f (keep_space c a m o p)
+  keep_space-map : (c : ℕ) (a : A) (m : WhiteSpace) (o : Option ℕ) (p : Progress A) → keep_space c (f a) m o (moved d f p) ≡ moved d f (keep_space c a m o p)
   keep_space-map c a m None p = refl
   keep_space-map c a m (Some n) p =
-      let waits : Progress B = record (map_progress f p) { space = space_of (pending_width (option_map (map_space f) p.space) + n) (f a) m } in
-      ap (λ b. if b then join c (f a) m (map_progress f p) else waits) (has_character-map f columns p.word)
-      ∙ if_same (map_progress f) (has_character p.word) _ _ _ _ (join-map c a m p)
-      (ap (λ k. record (map_progress f p) { space = space_of (k + n) (f a) m }) (pending_width-map p.space) ∙ ap (λ o. record (map_progress f p) { space = o }) (space_of-map (pending_width p.space + n) a m))
+      let waits : Progress B = record (moved d f p) { space = space_of (pending_width (option_map (map_space f) p.space) + n) (f a) m } in
+      ap (λ b. if b then join c (f a) m (moved d f p) else waits) (has_character-map f columns p.word)
+      ∙ if_same (moved d f) (has_character p.word) _ _ _ _ (join-map c a m p)
+      (ap (λ k. record (moved d f p) { space = space_of (k + n) (f a) m }) (pending_width-map p.space) ∙ ap (λ o. record (moved d f p) { space = o }) (space_of-map (pending_width p.space + n) a m))
 
-  passes-map : (n : ℕ) (p : Progress A) → passes columns width n (map_progress f p) ≡ passes columns width n p
+  passes-map : (n : ℕ) (p : Progress A) → passes columns width n (moved d f p) ≡ passes columns width n p
   passes-map n p = rw (pending_width-map p.space, items_width-map f columns p.word) refl
 
-  keep_character-map : (c : ℕ) (a b : A) (m : WhiteSpace) (o : Option ℕ) (p : Progress A) → keep_character columns width c (f a) (f b) m o (map_progress f p) ≡ map_progress f (keep_character columns width c a b m o p)
+  keep_character-map : (c : ℕ) (a b : A) (m : WhiteSpace) (o : Option ℕ) (p : Progress A) → keep_character columns width c (f a) (f b) m o (moved d f p) ≡ moved d f (keep_character columns width c a b m o p)
   keep_character-map c a b m None p = refl
   keep_character-map c a b m (Some n) p =
       rw (passes-map n p)
-      (if_same (map_progress f) (is_pre m && passes columns width n p) _ _ _ _ (join-map c b m (record p { continuation_flag = true; in_continuation = true }))
-      (ap (λ x. join c x m (map_progress f p)) (tag_of-map p a b) ∙ join-map c (tag_of p a b) m p))
+      (if_same (moved d f) (is_pre m && passes columns width n p) _ _ _ _ (join-map c b m (record p { continuation_flag = true; in_continuation = true }))
+      (ap (λ x. join c x m (moved d f p)) (tag_of-map p a b) ∙ join-map c (tag_of p a b) m p))
 
-  preserve-map : (c : ℕ) (a b : A) (m : WhiteSpace) (p : Progress A) → preserve columns width c (f a) (f b) m (map_progress f p) ≡ map_progress f (preserve columns width c a b m p)
+  pub preserve-map : (c : ℕ) (a b : A) (m : WhiteSpace) (p : Progress A) → preserve columns width c (f a) (f b) m (moved d f p) ≡ moved d f (preserve columns width c a b m p)
   preserve-map c a b m p =
-      if_same (map_progress f) (c == 8203) _ _ _ _ refl
-      (if_same (map_progress f) (c == 10) _ _ _ _ (ap newline (flush_word-map p) ∙ newline-map (flush_word columns width p))
-      (if_same (map_progress f) (c == 9) _ _ _ _ (ap (λ x. tab width x (flush_word columns width (map_progress f p))) tagged ∙ ap (tab width (f (tag_of p a b))) (flush_word-map p) ∙ tab-map (tag_of p a b) (flush_word columns width p))
-      (if_same (map_progress f) (is_blank c) _ _ _ _ (ap (λ x. keep_space c x m (columns c) (map_progress f p)) tagged ∙ keep_space-map c (tag_of p a b) m (columns c) p) (keep_character-map c a b m (columns c) p))))
+      if_same (moved d f) (c == 8203) _ _ _ _ refl
+      (if_same (moved d f) (c == 10) _ _ _ _ (ap newline (flush_word-map p) ∙ newline-map (flush_word columns width p))
+      (if_same (moved d f) (c == 9) _ _ _ _ (ap (λ x. tab width x (flush_word columns width (moved d f p))) tagged ∙ ap (tab width (f (tag_of p a b))) (flush_word-map p) ∙ tab-map (tag_of p a b) (flush_word columns width p))
+      (if_same (moved d f) (is_blank c) _ _ _ _ (ap (λ x. keep_space c x m (columns c) (moved d f p)) tagged ∙ keep_space-map c (tag_of p a b) m (columns c) p) (keep_character-map c a b m (columns c) p))))
     where
-      tagged : tag_of (map_progress f p) (f a) (f b) ≡ f (tag_of p a b)
+      tagged : tag_of (moved d f p) (f a) (f b) ≡ f (tag_of p a b)
       tagged = tag_of-map p a b
 
-  enter-map : (p : Progress A) (e : Entry A) → enter columns width (map_progress f p) (map_entry f e) ≡ map_progress f (enter columns width p e)
-  enter-map p (marker_entry name) = ap (λ is. record (map_progress f p) { word = is }) (sym (map-append (map_item f) p.word (marker name ∷ [])))
+  enter-map : (p : Progress A) (e : Entry A) → enter columns width (moved d f p) (map_entry f e) ≡ moved d f (enter columns width p e)
+  enter-map p (marker_entry name) = ap (λ is. record (moved d f p) { word = is }) (sym (map-append (map_item f) p.word (marker name ∷ [])))
   enter-map p (character c a b Normal) =
       let x : A = tag_of p a b in
       ap (λ y. enter_by y) (tag_of-map p a b)
-      ∙ if_same (map_progress f) (is_break c) _ _ _ _ (ap (collapse c (f x)) (break_word-map p) ∙ collapse-map c x (break_word columns width p))
-      (if_same (map_progress f) (is_some (columns c)) _ _ _ _ (join-map c x Normal p) refl)
+      ∙ if_same (moved d f) (is_break c) _ _ _ _ (ap (collapse c (f x)) (break_word-map p) ∙ collapse-map c x (break_word columns width p))
+      (if_same (moved d f) (is_some (columns c)) _ _ _ _ (join-map c x Normal p) refl)
     where
       enter_by : B → Progress B
-      enter_by y = if is_break c then collapse c y (break_word columns width (map_progress f p)) else (if is_some (columns c) then join c y Normal (map_progress f p) else map_progress f p)
+      enter_by y = if is_break c then collapse c y (break_word columns width (moved d f p)) else (if is_some (columns c) then join c y Normal (moved d f p) else moved d f p)
   enter-map p (character c a b Pre) = preserve-map c a b Pre p
   enter-map p (character c a b PreWrap) =
-      ap (preserve columns width c (f a) (f b) PreWrap) (if_same (map_progress f) (is_break c) _ _ _ _ (break_word-map p) refl)
+      ap (preserve columns width c (f a) (f b) PreWrap) (if_same (moved d f) (is_break c) _ _ _ _ (break_word-map p) refl)
       ∙ preserve-map c a b PreWrap (if is_break c then break_word columns width p else p)
 
-  step-map : (p : Progress A) (e : Event A) → step columns width (map_progress f p) (map_event f e) ≡ map_progress f (step columns width p e)
+  pub step-map : (p : Progress A) (e : Event A) → step columns width (moved d f p) (map_event f e) ≡ moved d f (step columns width p e)
   step-map p call = refl
   step-map p (entry e) = enter-map p e
 
-  steps-map : (es : List (Event A)) (p : Progress A) → fold (step columns width) (map_progress f p) (map_events f es) ≡ map_progress f (fold (step columns width) p es)
+  pub steps-map : (es : List (Event A)) (p : Progress A) → fold (step columns width) (moved d f p) (map_events f es) ≡ moved d f (fold (step columns width) p es)
   steps-map [] p = refl
   steps-map (e ∷ es) p = ap (λ q. fold (step columns width) q (map_events f es)) (step-map p e) ∙ steps-map es (step columns width p e)
 
-  -- ---- runs
+  pub finished_moved : (p : Progress A) → finished columns width (moved d f p) ≡ moved_laid d f (finished columns width p)
+  finished_moved p = ap (λ (q : Progress B). end_if_character q.laid) (flush_word-map p) ∙ end_if_character-map (flush_word columns width p).laid
 
-  pub progress-map : (es : List (Event A)) → progress columns width (map_events f es) ≡ map_progress f (progress columns width es)
-  progress-map es = steps-map es at_start
-
-  pub finished-map : (p : Progress A) → finished columns width (map_progress f p) ≡ map_laid f (finished columns width p)
-  finished-map p = ap (λ (q : Progress B). end_if_character q.laid) (flush_word-map p) ∙ end_if_character-map (flush_word columns width p).laid
-
-  pub waiting-map : (p : Progress A) → waiting columns width (map_progress f p) ≡ map_items f (waiting columns width p)
-  waiting-map p =
+  waiting_moved : (p : Progress A) → waiting columns width (moved d f p) ≡ map_items f (waiting columns width p)
+  waiting_moved p =
       let q : Progress A = flush_word columns width p in
       ap (λ (r : Progress B). (end_if_character r.laid).line ++ r.word) (flush_word-map p)
       ∙ ap (λ (l : Laid B). l.line ++ map_items f q.word) (end_if_character-map q.laid) ∙ sym (map-append (map_item f) (end_if_character q.laid).line q.word)
+
+module _ {A B : Type 0} (f : A → B) (columns : ℕ → Option ℕ) (width : ℕ) where
+  pub progress-map : (es : List (Event A)) → progress columns width (map_events f es) ≡ map_progress f (progress columns width es)
+  progress-map es = steps-map [] f columns width es at_start
+
+  pub finished-map : (p : Progress A) → finished columns width (map_progress f p) ≡ map_laid f (finished columns width p)
+  finished-map = finished_moved [] f columns width
+
+  pub waiting-map : (p : Progress A) → waiting columns width (map_progress f p) ≡ map_items f (waiting columns width p)
+  waiting-map = waiting_moved [] f columns width
+
+pub ruleset rule_maps = (progress-map, finished-map, waiting-map)

@@ -3,7 +3,7 @@ use Rattle.std.proofs.Common.{◌≡◌, ℕ, nat_lt, ◌&&◌, Option, None, So
 use Rattle.std.specs.Option.{option_map}
 use Rattle.std.proofs.lemmas.List.{map-append}
 use Rattle.tbr_model.specs.Run.{Entry, character, marker_entry, Item, glyph, marker, item_width, items_width, items_of, is_kept, is_blank, blank_of, first_of, is_break_entry, has_character, word_of, Reading, start, works, read, reading, words_of, trailing}
-use Rattle.tbr_model.proofs.rule.DoneLines.{if_same}
+use Rattle.tbr_model.proofs.lists.Each.{if_same}
 use Rattle.tbr_model.specs.Mapped.{map_item, map_items, map_entry, map_run, map_word, map_reading}
 
 module _ {A B : Type 0} (f : A → B) (columns : ℕ → Option ℕ) where

@@ -1,12 +1,13 @@
 -- A run of Normal mode ends, by the rule, with the lines of its best layout, and where such a run shows nothing.
-use Rattle.std.proofs.Common.{◌≡◌, ℕ, ◌<◌, ◌≤◌, inl, inr, Bool, true, false, if◌then◌else◌, Option, List, [], ◌∷◌, ◌++◌, map, flat_map, refl, ap, sym, ◌∙◌, subst, arith}
+use Rattle.std.proofs.Common.{◌≡◌, ℕ, ◌<◌, ◌≤◌, inl, inr, true, false, if◌then◌else◌, Option, List, [], ◌∷◌, ◌++◌, map, flat_map, refl, ap, sym, ◌∙◌, subst, arith}
 use Rattle.std.specs.List.{AllByRecursion as Each}
+use Rattle.std.proofs.lemmas.Bool.{cases_Bool}
 use Rattle.tbr_model.specs.declared.white_space.WhiteSpace.TheVariants.{Normal}
-use Rattle.tbr_model.specs.Run.{Entry, Item, item_width, items_width, has_character, kept_items, Word, word_of, Reading, start, reading, words_of}
+use Rattle.tbr_model.specs.Run.{Entry, Item, item_width, items_width, has_character, kept_items, Word, word_of, Reading, start, reading, words_of, trailing}
 use Rattle.tbr_model.specs.Layout.{Slot, slots_of, line_text, line_width, IsBest}
 use Rattle.tbr_model.specs.Greedy.{Lines, close, no_lines, wrapped, IsNarrow}
 use Rattle.tbr_model.specs.Laid.{Laid, end_if_character}
-use Rattle.tbr_model.specs.Rule.{Event, run_of, Progress, lay, progress, finished, lines_of}
+use Rattle.tbr_model.specs.Rule.{Event, run_of, Progress, lay, progress, finished, lines_of, waiting}
 use Rattle.tbr_model.specs.Hard.{HasMode}
 use Rattle.tbr_model.proofs.words.Items.{items_width-append, no_character_no_width}
 use Rattle.tbr_model.proofs.lists.Each.{each_append}
@@ -37,61 +38,65 @@ no_text (s ∷ last) h e = absurd (let t : has_character (line_text (s ∷ last)
 module _ {A : Type 0} (columns : ℕ → Option ℕ) (width : ℕ) where
   -- ---- the end
 
-  last_push : (r : Reading A) → Lined columns width r.words → has_character r.items ≡ true → IsNarrow columns width r.items → LastHas (wrapped columns width (r.words ++ word_of r ∷ [])).last
-  last_push r h some narrow =
-      subst (λ (q : Lines A). LastHas q.last) (sym (wrapped-push columns width r.words (word_of r))) (place_characters columns width (wrapped columns width r.words) (word_of r) h.full h.last some narrow).1
+  -- Where a reading ends, its words are narrow, what has been laid is closed, and what is left waits.
+  reading_ends : (r : Reading A) → Lined columns width r.words → (has_character r.items ≡ true → IsNarrow columns width r.items) →
+      let words : List (Word A) = if has_character r.items then r.words ++ word_of r ∷ [] else r.words in
+      let lines : Lines A = wrapped columns width words in
+      Each (λ w. IsNarrow columns width w.items) words × ((finished columns width (state_of columns width r)).done ≡ map line_text (close lines.done lines.last))
+      × (waiting columns width (state_of columns width r) ≡ (if has_character r.items then [] else r.items))
+  reading_ends r h narrow = elim (cases_Bool (has_character r.items)) [
+    | inl e ↦
+        let words : List (Word A) = r.words ++ word_of r ∷ [] in
+        let placed = place_characters columns width (wrapped columns width r.words) r.gap r.items h.full h.last e (narrow e) in
+        let closed = end_if_character_text (wrapped columns width words) (subst (λ (q : Lines A). LastHas q.last) (sym (wrapped-push columns width r.words (word_of r))) placed.1) in
+        let laid = lay_reading columns width r h e (narrow e) in
+        rw e (
+          each_append (λ w. IsNarrow columns width w.items) r.words (word_of r ∷ []) h.narrow (narrow e, tt),
+          ap (λ (p : Progress A). (end_if_character p.laid).done) laid ∙ ap (λ (l : Laid A). l.done) closed,
+          ap (λ (p : Progress A). (end_if_character p.laid).line ++ p.word) laid ∙ ap (λ (l : Laid A). l.line ++ []) closed,
+        )
+    | inr e ↦ let closed = end_if_character_text (wrapped columns width r.words) h.last in rw e (h.narrow, ap (λ (l : Laid A). l.done) closed, ap (λ (l : Laid A). l.line ++ r.items) closed)
+  ]
 
-  ends : (r : Reading A) (b : Bool) → has_character r.items ≡ b → Lined columns width r.words → (b ≡ true → IsNarrow columns width r.items) →
-      (let words = (if b then r.words ++ word_of r ∷ [] else r.words) in
-      Each (λ w. IsNarrow columns width w.items) words ×
-      ((end_if_character (if b then lay columns width (state_of columns width r) else state_of columns width r).laid).done ≡ map line_text (close (wrapped columns width words).done (wrapped columns width words).last)))
-  ends r true e h narrow =
-      let words : List (Word A) = r.words ++ word_of r ∷ [] in (
-        each_append (λ w. IsNarrow columns width w.items) r.words (word_of r ∷ []) h.narrow (narrow refl, tt),
-        ap (λ (p : Progress A). (end_if_character p.laid).done) (lay_reading columns width r h e (narrow refl))
-            ∙ ap (λ (l : Laid A). l.done) (end_if_character_text (wrapped columns width words) (last_push r h e (narrow refl))),
-      )
-  ends r false e h narrow = (h.narrow, ap (λ (l : Laid A). l.done) (end_if_character_text (wrapped columns width r.words) h.last))
-
-  last_narrow : (r : Reading A) (b : Bool) → has_character r.items ≡ b → AllLaid (IsNarrowItem columns width) (end_if_character (if b then lay columns width (state_of columns width r) else state_of columns width r).laid) →
-      b ≡ true → IsNarrow columns width r.items
-  last_narrow r true e all some = lay_narrow columns width r e (laid_end_if_character (IsNarrowItem columns width) (lay columns width (state_of columns width r)).laid all)
-  last_narrow r false e all some = cc
-
-  -- a run that ends where its reading ends has the best layout's lines
-  ends_best : (es : List (Event A)) → let r : Reading A = reading columns (run_of es) in
+  -- a run that ends where its reading ends
+  ends : (es : List (Event A)) → let r : Reading A = reading columns (run_of es) in
       progress columns width es ≡ state_of columns width r → Lined columns width r.words → (has_character r.items ≡ true → IsNarrow columns width r.items) →
-      Each (λ w. IsNarrow columns width w.items) (words_of columns (run_of es)) ×
-      ((lines : List (List (Slot A))) × IsBest width (slots_of columns width (run_of es)) lines × (lines_of columns width es ≡ map line_text lines))
-  ends_best es state lined narrow =
+      let lines : Lines A = wrapped columns width (words_of columns (run_of es)) in
+      Each (λ w. IsNarrow columns width w.items) (words_of columns (run_of es)) × (lines_of columns width es ≡ map line_text (close lines.done lines.last))
+      × (waiting columns width (progress columns width es) ≡ trailing columns (run_of es))
+  ends es state h narrow =
+      let k = reading_ends (reading columns (run_of es)) h narrow in
+      (k.0, ap (λ (p : Progress A). (finished columns width p).done) state ∙ k.1, ap (waiting columns width) state ∙ k.2)
+
+  best : (es : List (Event A)) → let lines : Lines A = wrapped columns width (words_of columns (run_of es)) in
+      Each (λ w. IsNarrow columns width w.items) (words_of columns (run_of es)) → lines_of columns width es ≡ map line_text (close lines.done lines.last) →
+      (ls : List (List (Slot A))) × IsBest width (slots_of columns width (run_of es)) ls × (lines_of columns width es ≡ map line_text ls)
+  best es narrow are = (_, holds_best width (slots_of columns width (run_of es)) (wrapped columns width (words_of columns (run_of es))) (wrapped_holds columns width (words_of columns (run_of es)) narrow), are)
+
+  -- where all that is laid at its end is narrow
+  pub normal_end : (es : List (Event A)) → Each (HasMode Normal) (run_of es) → AllLaid (IsNarrowItem columns width) (finished columns width (progress columns width es)) →
+      let lines : Lines A = wrapped columns width (words_of columns (run_of es)) in
+      Each (λ w. IsNarrow columns width w.items) (words_of columns (run_of es)) × (lines_of columns width es ≡ map line_text (close lines.done lines.last))
+      × (waiting columns width (progress columns width es) ≡ trailing columns (run_of es))
+  normal_end es modes all =
+      let P : Item A → Type 0 = IsNarrowItem columns width in
       let r : Reading A = reading columns (run_of es) in
-      let both = ends r (has_character r.items) refl lined narrow in
-      let lines : Lines A = wrapped columns width (words_of columns (run_of es)) in (
-        both.0,
-        (
-          close lines.done lines.last,
-          holds_best width (slots_of columns width (run_of es)) lines (wrapped_holds columns width (words_of columns (run_of es)) both.0),
-          ap (λ (q : Progress A). (finished columns width q).done) state ∙ both.1,
-        ),
-      )
+      let state = normal_state columns width es modes (laid_before_end columns width P es modes all) in
+      let there : AllLaid P (finished columns width (state_of columns width r)) = subst (λ (q : Progress A). AllLaid P (finished columns width q)) state.0 all in
+      ends es state.0 state.1 (λ some. lay_narrow columns width r some (laid_end_if_character P (lay columns width (state_of columns width r)).laid (rw some at there)))
 
   pub normal_lines : (es : List (Event A)) → Each (HasMode Normal) (run_of es) → AllLaid (IsNarrowItem columns width) (finished columns width (progress columns width es)) →
       Each (λ w. IsNarrow columns width w.items) (words_of columns (run_of es)) ×
       ((lines : List (List (Slot A))) × IsBest width (slots_of columns width (run_of es)) lines × (lines_of columns width es ≡ map line_text lines))
-  normal_lines es modes all =
-      let P : Item A → Type 0 = IsNarrowItem columns width in
-      let p : Progress A = progress columns width es in
-      let r : Reading A = reading columns (run_of es) in
-      let before : AllLaid P p.laid = laid_before_end columns width P es modes all in
-      let state = normal_state columns width es modes before in
-      ends_best es state.0 state.1 (last_narrow r (has_character r.items) refl (subst (λ (q : Progress A). AllLaid P (finished columns width q)) state.0 all))
+  normal_lines es modes all = let k = normal_end es modes all in (k.0, best es k.0 k.1)
 
   -- if no item of the run is wider than a line
   pub normal_best : (es : List (Event A)) → Each (HasMode Normal) (run_of es) → Each (λ i. item_width columns i ≤ width) (kept_items columns (run_of es)) →
       (lines : List (List (Slot A))) × IsBest width (slots_of columns width (run_of es)) lines × (lines_of columns width es ≡ map line_text lines)
   normal_best es modes narrow =
       let state = narrow_runs columns width es start modes (no_words columns width) narrow in
-      (ends_best es state.0 state.1 (λ _. state.2)).1
+      let k = ends es state.0 state.1 (λ _. state.2) in
+      best es k.0 k.1
 
   -- ---- runs that show nothing
 

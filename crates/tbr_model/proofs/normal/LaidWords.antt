@@ -1,12 +1,13 @@
 -- Laying a word of items by the rule of Normal mode is placing its slots.
-use Rattle.std.proofs.Common.{◌≡◌, ℕ, ◌+◌, ◌<◌, ◌≤◌, Bool, true, false, nat_lt, nat_le, if◌then◌else◌, Option, None, Some, List, [], ◌∷◌, ◌++◌, map, refl, ap, sym, ◌∙◌, arith, append_assoc, append-nil, leb-true, leb-false, ltb-false, le-leb}
+use Rattle.std.proofs.Common.{◌≡◌, ℕ, ◌+◌, ◌<◌, ◌≤◌, Bool, true, false, nat_lt, nat_le, if◌then◌else◌, Option, None, Some, List, [], ◌∷◌, ◌++◌, map, refl, ap, sym, ◌∙◌, arith, append_assoc, append-nil, leb-true, leb-false, ltb-false, le-leb, inl, inr}
 use Rattle.std.specs.List.{AllByRecursion as Each}
-use Rattle.std.proofs.lemmas.Bool.{cond_both}
+use Rattle.std.proofs.lemmas.Bool.{cond_both, cases_Bool}
 use Rattle.std.proofs.lemmas.List.{map-append}
+use Rattle.tbr_model.proofs.lists.Each.{if_same}
 use Rattle.tbr_model.specs.declared.white_space.WhiteSpace.TheVariants.{Normal}
 use Rattle.tbr_model.specs.Run.{Item, glyph, marker, item_width, items_width, has_character}
 use Rattle.tbr_model.specs.Layout.{Slot, slot_of, slots_within, line_text, rest_text, gap_text, line_width, rest_width, gap_width, line_has_character}
-use Rattle.tbr_model.proofs.words.SpacedGaps.{rest_text-append}
+use Rattle.tbr_model.proofs.words.SpacedGaps.{rest_text-append, inner_text}
 use Rattle.tbr_model.specs.Greedy.{Lines, close, fill, place_word, IsNarrow}
 use Rattle.tbr_model.specs.Laid.{Laid, extended, end_if_character, put_item, put_items}
 use Rattle.tbr_model.specs.Rule.{Progress, Space, lay}
@@ -42,24 +43,16 @@ laid_word columns width l gap items =
 
 -- ---- texts of slots
 
-no_gaps_text : {A : Type 0} (ss : List (Slot A)) → Each (λ t. t.gap ≡ None) ss → rest_text ss ≡ map (λ t. t.item) ss
-no_gaps_text [] h = refl
-no_gaps_text (s ∷ ss) h = rw (h.0) (ap (λ is. s.item ∷ is) (no_gaps_text ss h.1))
-
 -- slots of a word after those of a line
-word_text : {A : Type 0} (l : List (Slot A)) (s : Slot A) (ss : List (Slot A)) → Each (λ t. t.gap ≡ None) ss →
-    line_text (l ++ (s ∷ ss)) ≡ line_text l ++ (gap_text (gap_after l s.gap) ++ map (λ t. t.item) (s ∷ ss))
-word_text [] s ss h = ap (λ is. s.item ∷ is) (no_gaps_text ss h)
-word_text (t ∷ l) s ss h =
-    ap (λ is. t.item ∷ is) (rest_text-append l (s ∷ ss) ∙ ap (λ is. rest_text l ++ is) (append_assoc (gap_text s.gap) (s.item ∷ []) (rest_text ss) ∙ ap (λ is. gap_text s.gap ++ (s.item ∷ is)) (no_gaps_text ss h)))
+word_text : {A : Type 0} (columns : ℕ → Option ℕ) (wider : Bool) (l : List (Slot A)) (s : Slot A) (is : List (Item A)) →
+    line_text (l ++ (s ∷ map (slot_of columns wider None false) is)) ≡ line_text l ++ (gap_text (gap_after l s.gap) ++ (s.item ∷ is))
+word_text columns wider [] s is = ap (λ js. s.item ∷ js) (inner_text columns wider is)
+word_text columns wider (t ∷ l) s is =
+    ap (λ js. t.item ∷ js) (rest_text-append l (s ∷ map (slot_of columns wider None false) is) ∙ ap (λ js. rest_text l ++ js) (append_assoc (gap_text s.gap) (s.item ∷ []) (rest_text (map (slot_of columns wider None false) is)) ∙ ap (λ js. gap_text s.gap ++ (s.item ∷ js)) (inner_text columns wider is)))
 
 word_width : {A : Type 0} (l : List (Slot A)) (s : Slot A) (ss : List (Slot A)) → line_width (l ++ (s ∷ ss)) ≡ line_width l + (gap_width (gap_after l s.gap) + line_width (s ∷ ss))
 word_width [] s ss = omega arith
 word_width (t ∷ l) s ss = omega (arith, rest_width-append l (s ∷ ss))
-
-no_gaps : {A : Type 0} (columns : ℕ → Option ℕ) (wider : Bool) (is : List (Item A)) → Each (λ (t : Slot A). t.gap ≡ None) (map (slot_of columns wider None false) is)
-no_gaps columns wider [] = tt
-no_gaps columns wider (i ∷ is) = (refl, no_gaps columns wider is)
 
 slots_width : {A : Type 0} (columns : ℕ → Option ℕ) (wider : Bool) (gap : Option A) (i : Item A) (is : List (Item A)) → line_width (slots_within columns wider gap (i ∷ is)) ≡ items_width columns (i ∷ is)
 slots_width columns wider gap i is = ap (λ n. item_width columns i + n) (rest_width_within columns wider is)
@@ -95,44 +88,33 @@ end_if_character_text {A} lines h = go lines.last h
 module _ {A : Type 0} (columns : ℕ → Option ℕ) (width : ℕ) where
   -- ---- item by item
 
-  put_one : (done : List (List (Slot A))) (last : List (Slot A)) (s : Slot A) → Inner columns width s →
-      put_item columns width (text_of (record { done = done; last = last })) s.item ≡ text_of (fill width done last (s ∷ []))
-  put_one done last s h = go (nat_le (line_width (last ++ s ∷ [])) width) refl
-    where
-      long : line_width (last ++ s ∷ []) ≡ line_width last + item_width columns s.item
-      long = omega (arith, line_width-one last s h.0, h.1)
-
-      text : line_text (last ++ s ∷ []) ≡ line_text last ++ s.item ∷ []
-      text = word_text last s [] tt ∙ ap (λ o. line_text last ++ (gap_text o ++ s.item ∷ [])) (hidden last)
-        where
-          hidden : (l : List (Slot A)) → gap_after l s.gap ≡ None
-          hidden [] = refl
-          hidden (t ∷ l) = h.0
-
-      go : (b : Bool) → nat_le (line_width (last ++ s ∷ [])) width ≡ b → put_item columns width (text_of (record { done = done; last = last })) s.item ≡ text_of (fill width done last (s ∷ []))
-      go true e =
-          let test : nat_le (line_width last + item_width columns s.item) width ≡ true = ap (λ n. nat_le n width) (sym long) ∙ e in
-          rw (e, test) (laid_same _ _ _ _ _ _ refl (sym text) (sym long))
-      go false e =
-          let test : nat_le (line_width last + item_width columns s.item) width ≡ false = ap (λ n. nat_le n width) (sym long) ∙ e in
-          let narrow : nat_le (item_width columns s.item) width ≡ true = le-leb _ _ (omega (arith, h.1, h.2)) in
-          rw (e, test, narrow) (laid_same _ _ _ _ _ _ (sym (map-append line_text done (last ∷ []))) refl (omega (arith, h.1)))
-
-  fill-cons : (done : List (List (Slot A))) (last : List (Slot A)) (s : Slot A) (ss : List (Slot A)) →
-      fill width done last (s ∷ ss) ≡ fill width (fill width done last (s ∷ [])).done (fill width done last (s ∷ [])).last ss
-  fill-cons done last s ss = go (nat_le (line_width (last ++ s ∷ [])) width) refl
-    where
-      go : (b : Bool) → nat_le (line_width (last ++ s ∷ [])) width ≡ b → fill width done last (s ∷ ss) ≡ fill width (fill width done last (s ∷ [])).done (fill width done last (s ∷ [])).last ss
-      go true e = rw e refl
-      go false e = rw e refl
-
   put_all : (done : List (List (Slot A))) (last ss : List (Slot A)) → Each (Inner columns width) ss →
       put_items columns width (text_of (record { done = done; last = last })) (map (λ s. s.item) ss) ≡ text_of (fill width done last ss)
   put_all done last [] h = refl
-  put_all done last (s ∷ ss) h =
-      ap (λ (l : Laid A). put_items columns width l (map (λ t. t.item) ss)) (put_one done last s h.0)
-      ∙ put_all (fill width done last (s ∷ [])).done (fill width done last (s ∷ [])).last ss h.1
-      ∙ ap text_of (sym (fill-cons done last s ss))
+  put_all done last (s ∷ ss) h = elim (cases_Bool (nat_le (line_width (last ++ s ∷ [])) width)) [
+    | inl e ↦
+        let test : nat_le (line_width last + item_width columns s.item) width ≡ true = ap (λ n. nat_le n width) (sym long) ∙ e in
+        rw e (on (text_of (record { done = done; last = last ++ s ∷ [] })) (rw test (laid_same _ _ _ _ _ _ refl (sym text) (sym long))) ∙ put_all done (last ++ s ∷ []) ss h.1)
+    | inr e ↦
+        let test : nat_le (line_width last + item_width columns s.item) width ≡ false = ap (λ n. nat_le n width) (sym long) ∙ e in
+        let narrow : nat_le (item_width columns s.item) width ≡ true = le-leb _ _ (omega (arith, h.0.1, h.0.2)) in
+        rw e (on (text_of (record { done = done ++ last ∷ []; last = s ∷ [] })) (rw (test, narrow) (laid_same _ _ _ _ _ _ (sym (map-append line_text done (last ∷ []))) refl (omega (arith, h.0.1))))
+        ∙ put_all (done ++ last ∷ []) (s ∷ []) ss h.1)
+  ]
+    where
+      on : (k : Laid A) → put_item columns width (text_of (record { done = done; last = last })) s.item ≡ k →
+          put_items columns width (text_of (record { done = done; last = last })) (map (λ t. t.item) (s ∷ ss)) ≡ put_items columns width k (map (λ t. t.item) ss)
+      on k same = ap (λ (l : Laid A). put_items columns width l (map (λ t. t.item) ss)) same
+
+      long : line_width (last ++ s ∷ []) ≡ line_width last + item_width columns s.item
+      long = omega (arith, line_width-one last s h.0.0, h.0.1)
+
+      hidden : (l : List (Slot A)) → gap_after l s.gap ≡ None
+      hidden [] = refl
+      hidden (t ∷ l) = h.0.0
+
+      text : line_text (last ++ s ∷ []) ≡ line_text last ++ s.item ∷ []
+      text = word_text columns false last s [] ∙ ap (λ o. line_text last ++ (gap_text o ++ s.item ∷ [])) (hidden last)
 
   -- slots that fit the line
   fill_whole : (done : List (List (Slot A))) (last ss : List (Slot A)) → line_width (last ++ ss) ≤ width → fill width done last ss ≡ record { done = done; last = last ++ ss }
@@ -171,7 +153,14 @@ module _ {A : Type 0} (columns : ℕ → Option ℕ) (width : ℕ) where
   pub word_laid : (lines : Lines A) (gap : Option A) (items : List (Item A)) → LastHas lines.last → IsNarrow columns width items → has_character items ≡ true →
       laid_word columns width (text_of lines) (gap_after lines.last gap) items ≡ text_of (place_word columns width lines (record { gap = gap; items = items }))
   word_laid lines gap [] has narrow some = cc
-  word_laid lines gap (i ∷ is) has narrow some = go (nat_le (line_width (lines.last ++ slots)) width) refl
+  word_laid lines gap (i ∷ is) has narrow some = elim (cases_Bool (nat_le (line_width (lines.last ++ slots)) width)) [
+    | inl e ↦
+        let test : nat_le (line_width lines.last + (gap_width (gap_after lines.last gap) + items_width columns (i ∷ is))) width ≡ true = ap (λ n. nat_le n width) (sym whole) ∙ e in
+        rw (e, test) (laid_same _ _ _ _ _ _ refl (sym text) (sym whole))
+    | inr e ↦
+        let test : nat_le (line_width lines.last + (gap_width (gap_after lines.last gap) + items_width columns (i ∷ is))) width ≡ false = ap (λ n. nat_le n width) (sym whole) ∙ e in
+        rw (e, test) (put ∙ pick (leb-false _ _ e) wider refl)
+  ]
     where
       wider : Bool
       wider = nat_lt width (items_width columns (i ∷ is))
@@ -186,7 +175,7 @@ module _ {A : Type 0} (columns : ℕ → Option ℕ) (width : ℕ) where
       whole = omega (arith, word_width lines.last (slot_of columns wider gap true i) rest, slots_width columns wider gap i is)
 
       text : line_text (lines.last ++ slots) ≡ line_text lines.last ++ (gap_text (gap_after lines.last gap) ++ (i ∷ is))
-      text = word_text lines.last (slot_of columns wider gap true i) rest (no_gaps columns wider is) ∙ ap (λ js. line_text lines.last ++ (gap_text (gap_after lines.last gap) ++ (i ∷ js))) (items_within columns wider is)
+      text = word_text columns wider lines.last (slot_of columns wider gap true i) is
 
       put : put_items columns width (end_if_character (text_of lines)) (i ∷ is) ≡ text_of (fill width (close lines.done lines.last) [] slots)
       put = ap (λ (l : Laid A). put_items columns width l (i ∷ is)) (end_if_character_text lines has) ∙ put_slots (close lines.done lines.last) wider gap (i ∷ is) narrow
@@ -202,15 +191,6 @@ module _ {A : Type 0} (columns : ℕ → Option ℕ) (width : ℕ) where
       pick full false e =
           let fits : line_width slots ≤ width = omega (arith, ltb-false _ _ e, slots_width columns wider gap i is) in
           ap text_of (fill_whole (close lines.done lines.last) [] slots fits ∙ ap (λ (d : List (List (Slot A))). let q : Lines A = record { done = d; last = slots } in q) (sym (closed lines.last full fits)))
-
-      go : (b : Bool) → nat_le (line_width (lines.last ++ slots)) width ≡ b →
-          laid_word columns width (text_of lines) (gap_after lines.last gap) (i ∷ is) ≡ text_of (place_word columns width lines (record { gap = gap; items = i ∷ is }))
-      go true e =
-          let test : nat_le (line_width lines.last + (gap_width (gap_after lines.last gap) + items_width columns (i ∷ is))) width ≡ true = ap (λ n. nat_le n width) (sym whole) ∙ e in
-          rw (e, test) (laid_same _ _ _ _ _ _ refl (sym text) (sym whole))
-      go false e =
-          let test : nat_le (line_width lines.last + (gap_width (gap_after lines.last gap) + items_width columns (i ∷ is))) width ≡ false = ap (λ n. nat_le n width) (sym whole) ∙ e in
-          rw (e, test) (put ∙ pick (leb-false _ _ e) wider refl)
 
   -- a word that takes columns leaves an open line that does
   pub place_wide : (lines : Lines A) (gap : Option A) (items : List (Item A)) → line_width lines.last ≤ width → IsNarrow columns width items → 0 < items_width columns items →
@@ -232,13 +212,5 @@ module _ {A : Type 0} (columns : ℕ → Option ℕ) (width : ℕ) where
   -- ---- the rule
 
   pub lay_normal : (l : Laid A) (gap : Option A) (items : List (Item A)) → has_character items ≡ true → lay columns width (normal_at l gap items) ≡ normal_at (laid_word columns width l gap items) None []
-  lay_normal l None items some = go (nat_le (l.width + (0 + items_width columns items)) width) refl
-    where
-      go : (b : Bool) → nat_le (l.width + (0 + items_width columns items)) width ≡ b → lay columns width (normal_at l None items) ≡ normal_at (laid_word columns width l None items) None []
-      go true e = rw e refl
-      go false e = rw (e, some) refl
-  lay_normal l (Some a) items some = go (nat_le (l.width + (1 + items_width columns items)) width) refl
-    where
-      go : (b : Bool) → nat_le (l.width + (1 + items_width columns items)) width ≡ b → lay columns width (normal_at l (Some a) items) ≡ normal_at (laid_word columns width l (Some a) items) None []
-      go true e = rw e refl
-      go false e = rw (e, some) refl
+  lay_normal l None items some = if_same (λ (m : Laid A). normal_at m None []) (nat_le (l.width + (0 + items_width columns items)) width) _ _ _ _ refl (rw some refl)
+  lay_normal l (Some a) items some = if_same (λ (m : Laid A). normal_at m None []) (nat_le (l.width + (1 + items_width columns items)) width) _ _ _ _ refl (rw some refl)

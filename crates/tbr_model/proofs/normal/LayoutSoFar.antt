@@ -1,15 +1,16 @@
 -- A run of Normal mode is, by the rule, at the texts of the layout of its words so far.
-use Rattle.std.proofs.Common.{◌≡◌, ℕ, ◌+◌, ◌<◌, ◌≤◌, ◌⊎◌, inl, inr, Bool, true, false, nat_lt, nat_le, ◌&&◌, not, ◌==◌, if◌then◌else◌, is_some, Option, None, Some, List, [], ◌∷◌, ◌++◌, map, fold, refl, ap, sym, ◌∙◌, subst, append_assoc, append-nil, ltb-true, lt-ltb}
+use Rattle.std.proofs.Common.{◌≡◌, ℕ, ◌+◌, ◌<◌, ◌≤◌, ◌⊎◌, inl, inr, Bool, true, false, nat_lt, nat_le, ◌==◌, if◌then◌else◌, is_some, Option, None, Some, List, [], ◌∷◌, ◌++◌, map, fold, refl, ap, sym, ◌∙◌, subst, append_assoc, append-nil, ltb-true, lt-ltb}
 use Rattle.std.specs.List.{AllByRecursion as Each}
-use Rattle.std.proofs.lemmas.Bool.{cond_both, or_parts}
+use Rattle.std.proofs.lemmas.Bool.{cond_both, or_parts, cases_Bool}
 use Rattle.std.proofs.lemmas.List.Sums.{fold-append}
+use Rattle.tbr_model.proofs.rule.LaidText.{text-extended, text-put_items}
 use Rattle.tbr_model.specs.declared.white_space.WhiteSpace.{WhiteSpace}
 use Rattle.tbr_model.specs.declared.white_space.WhiteSpace.TheVariants.{Normal, Pre, PreWrap}
 use Rattle.tbr_model.specs.Run.{Entry, character, marker_entry, Item, glyph, marker, items_width, items_of, kept_items, is_break, is_break_entry, is_blank, blank_of, first_of, has_character, Word, word_of, Reading, start, works, read, reading}
 use Rattle.tbr_model.specs.Layout.{Slot, line_text, line_width, gap_text, gap_width}
 use Rattle.tbr_model.specs.Greedy.{Lines, place_word, no_lines, wrapped, IsNarrow}
-use Rattle.tbr_model.specs.Laid.{Laid, end_if_character}
-use Rattle.tbr_model.specs.Rule.{Event, call, entry, run_of, Progress, lay, break_word, join, collapse, enter, step, progress}
+use Rattle.tbr_model.specs.Laid.{Laid, end_if_character, extended, put_items}
+use Rattle.tbr_model.specs.Rule.{Event, call, entry, run_of, Progress, lay, collapse, enter, step, progress}
 use Rattle.tbr_model.specs.Hard.{HasMode}
 use Rattle.tbr_model.proofs.words.Items.{WaitsIn}
 use Rattle.tbr_model.proofs.lists.Each.{each_append, each_front, each_back}
@@ -18,7 +19,7 @@ use Rattle.tbr_model.proofs.words.KeptItems.{break_left}
 use Rattle.tbr_model.proofs.words.LinesHaveCharacters.{HasGlyph, LastHas, place_characters, wide_items}
 use Rattle.tbr_model.proofs.words.Regions.{first_of_none}
 use Rattle.tbr_model.proofs.normal.LaidWords.{gap_after, text_of, normal_space, normal_at, laid_word, word_laid, place_wide, lay_normal}
-use Rattle.tbr_model.proofs.normal.StaysLaid.{AllLaid, IsNarrowItem, laid_extended, laid_items, collapse_laid, laid_next}
+use Rattle.tbr_model.proofs.normal.StaysLaid.{AllLaid, IsNarrowItem, laid_after, collapse_laid, laid_next}
 
 -- What is laid is the text of lines, the space that waits is that of the gap after them, and the word holds the items.
 -- The open line takes columns unless there are no lines at all, and no line is without a character.
@@ -101,7 +102,7 @@ module _ {A : Type 0} (columns : ℕ → Option ℕ) (width : ℕ) where
   lined_push words w h narrow wide =
       let lines : Lines A = wrapped columns width words in
       let placed : wrapped columns width (words ++ w ∷ []) ≡ place_word columns width lines w = wrapped-push words w in
-      let letters = place_characters columns width lines w h.full h.last (wide_items columns w.items wide) narrow in
+      let letters = place_characters columns width lines w.gap w.items h.full h.last (wide_items columns w.items wide) narrow in
       record {
         narrow = each_append WordNarrow words (w ∷ []) h.narrow (narrow, tt);
         wide = each_append WordWide words (w ∷ []) h.wide (wide, tt);
@@ -119,8 +120,8 @@ module _ {A : Type 0} (columns : ℕ → Option ℕ) (width : ℕ) where
   word_kept : (P : Item A → Type 0) (l : Laid A) (gap : Option A) (items : List (Item A)) → AllLaid P (laid_word columns width l gap items) → Each P items
   word_kept P l gap items h =
       cond_both (nat_le (l.width + (gap_width gap + items_width columns items)) width) _ _ (λ (k : Laid A). AllLaid P k → Each P items)
-      (λ _ k. each_back P (gap_text gap) items (laid_extended P l (gap_text gap ++ items) (gap_width gap + items_width columns items) k).1)
-      (λ _ k. (laid_items P columns width items (end_if_character l) k).1) h
+      (λ _ k. each_back P (gap_text gap) items (laid_after P l (extended l (gap_text gap ++ items) (gap_width gap + items_width columns items)) (gap_text gap ++ items) (text-extended l (gap_text gap ++ items) (gap_width gap + items_width columns items)) k).1)
+      (λ _ k. (laid_after P (end_if_character l) (put_items columns width (end_if_character l) items) items (text-put_items columns width items (end_if_character l)) k).1) h
 
   laid_at : (r : Reading A) → has_character r.items ≡ true →
       lay columns width (state_of r) ≡ normal_at (laid_word columns width (text_of (wrapped columns width r.words)) (gap_after (wrapped columns width r.words).last r.gap) r.items) None []
@@ -153,55 +154,33 @@ module _ {A : Type 0} (columns : ℕ → Option ℕ) (width : ℕ) where
 
   goes_break : (r : Reading A) (c : ℕ) (a b : A) → is_break c ≡ true → Lined r.words → (0 < items_width columns r.items → IsNarrow columns width r.items) →
       Goes r (character c a b Normal) (read columns r (character c a b Normal))
-  goes_break r c a b breaks h narrow =
-      let e : Entry A = character c a b Normal in
-      let works_if : works columns r e ≡ nat_lt 0 (items_width columns r.items) = ap (λ x. x && nat_lt 0 (items_width columns r.items)) breaks in
-      let entered : enter columns width (state_of r) e ≡ collapse c a (break_word columns width (state_of r)) = rw breaks refl in
-      let both = go (nat_lt 0 (items_width columns r.items)) refl in
-      subst (Goes r e) (sym (ap (after r e) works_if)) (entered ∙ both.0, both.1)
-    where
-      go : (w : Bool) → nat_lt 0 (items_width columns r.items) ≡ w →
-          (collapse c a (if w then lay columns width (state_of r) else state_of r) ≡ state_of (after r (character c a b Normal) w)) × Lined (after r (character c a b Normal) w).words
-      go true wide =
-          let words : List (Word A) = r.words ++ word_of r ∷ [] in
-          let some : 0 < items_width columns r.items = ltb-true _ _ wide in
-          let lined : Lined words = lined_push r.words (word_of r) h (narrow some) some in (
-            ap (collapse c a) (lay_reading r h (wide_items columns r.items some) (narrow some) ∙ ap (λ (o : Option A). normal_at (text_of (wrapped columns width words)) o []) (sym (none_after (wrapped columns width words).last)))
-                ∙ collapse_standing (wrapped columns width words) None [] c a (lined_positive words lined),
-            lined,
-          )
-      go false wide =
-          let left : r.items ++ items_of columns (character c a b Normal) ≡ r.items = ap (λ (is : List (Item A)). r.items ++ is) (break_left columns (character c a b Normal) breaks) ∙ append-nil r.items in (
-            collapse_standing (wrapped columns width r.words) r.gap r.items c a (lined_positive r.words h)
-                ∙ ap (λ (is : List (Item A)). standing (wrapped columns width r.words) (first_of r.gap (blank_of (character c a b Normal))) is) (sym left),
-            h,
-          )
+  goes_break r c a b breaks h narrow = elim (cases_Bool (nat_lt 0 (items_width columns r.items))) [
+    | inl wide ↦
+        let words : List (Word A) = r.words ++ word_of r ∷ [] in
+        let some : 0 < items_width columns r.items = ltb-true _ _ wide in
+        let lined : Lined words = lined_push r.words (word_of r) h (narrow some) some in
+        rw (breaks, wide) (
+          ap (collapse c a) (lay_reading r h (wide_items columns r.items some) (narrow some) ∙ ap (λ (o : Option A). normal_at (text_of (wrapped columns width words)) o []) (sym (none_after (wrapped columns width words).last)))
+              ∙ collapse_standing (wrapped columns width words) None [] c a (lined_positive words lined),
+          lined,
+        )
+    | inr none ↦
+        let left : r.items ++ items_of columns (character c a b Normal) ≡ r.items = ap (λ (is : List (Item A)). r.items ++ is) (break_left columns (character c a b Normal) breaks) ∙ append-nil r.items in
+        rw (breaks, none) (
+          collapse_standing (wrapped columns width r.words) r.gap r.items c a (lined_positive r.words h)
+              ∙ ap (λ (is : List (Item A)). standing (wrapped columns width r.words) (first_of r.gap (blank_of (character c a b Normal))) is) (rw breaks at (sym left)),
+          h,
+        )
+  ]
 
   goes_other : (r : Reading A) (c : ℕ) (a b : A) → is_break c ≡ false → Lined r.words → Goes r (character c a b Normal) (read columns r (character c a b Normal))
   goes_other r c a b breaks h =
-      let e : Entry A = character c a b Normal in
-      let works_not : works columns r e ≡ false = ap (λ x. x && nat_lt 0 (items_width columns r.items)) breaks in
       let blank : is_blank c ≡ false = (or_parts (c == 8203) (is_blank c) breaks).1 in
-      let gap : first_of r.gap (blank_of e) ≡ r.gap = ap (λ x. first_of r.gap (if x then Some a else None)) blank ∙ first_of_none r.gap in
-      let entered : enter columns width (state_of r) e ≡ (if is_some (columns c) then join c a Normal (state_of r) else state_of r) = rw breaks refl in
-      let items : items_of columns e ≡ (if is_some (columns c) then glyph c a ∷ [] else []) = ap (λ x. if is_some (columns c) && not x then glyph c a ∷ [] else []) breaks ∙ kept (is_some (columns c)) in
-      subst (Goes r e) (sym (ap (after r e) works_not)) (
-        entered ∙ go (is_some (columns c)) ∙ ap (λ (is : List (Item A)). standing (wrapped columns width r.words) r.gap (r.items ++ is)) (sym items)
-            ∙ ap (λ (o : Option A). standing (wrapped columns width r.words) o (r.items ++ items_of columns e)) (sym gap),
-        h,
-      )
-    where
-      kept : (x : Bool) → (if x && true then glyph c a ∷ [] else []) ≡ (if x then glyph c a ∷ [] else [])
-      kept true = refl
-      kept false = refl
-
-      same_mode : (x : Bool) → (if x then Normal else Normal) ≡ Normal
-      same_mode true = refl
-      same_mode false = refl
-
-      go : (x : Bool) → (if x then join c a Normal (state_of r) else state_of r) ≡ standing (wrapped columns width r.words) r.gap (r.items ++ (if x then glyph c a ∷ [] else []))
-      go true = ap (λ (m : WhiteSpace). let p : Progress A = record (standing (wrapped columns width r.words) r.gap (r.items ++ glyph c a ∷ [])) { mode = m } in p) (same_mode (has_character r.items))
-      go false = ap (standing (wrapped columns width r.words) r.gap) (sym (append-nil r.items))
+      let mode = cond_both (has_character r.items) Normal Normal (λ (m : WhiteSpace). m ≡ Normal) (λ _. refl) (λ _. refl) in
+      elim (cases_Bool (is_some (columns c))) [
+        | inl some ↦ rw (breaks, blank, some, first_of_none r.gap) (ap (λ (m : WhiteSpace). let p : Progress A = record (standing (wrapped columns width r.words) r.gap (r.items ++ glyph c a ∷ [])) { mode = m } in p) mode, h)
+        | inr none ↦ rw (breaks, blank, none, first_of_none r.gap, append-nil) (refl, h)
+      ]
 
   -- a word that a break point ends is narrow where all that is laid is
   enter_narrow : (r : Reading A) (e : Entry A) → HasMode Normal e → is_break_entry e ≡ true → AllLaid (IsNarrowItem columns width) (enter columns width (state_of r) e).laid →
@@ -220,11 +199,7 @@ module _ {A : Type 0} (columns : ℕ → Option ℕ) (width : ℕ) where
   goes r (marker_entry name) mode h narrow = goes_marker r name h
   goes r (character c a b Pre) mode h narrow = cc
   goes r (character c a b PreWrap) mode h narrow = cc
-  goes r (character c a b Normal) mode h narrow = go (is_break c) refl
-    where
-      go : (x : Bool) → is_break c ≡ x → Goes r (character c a b Normal) (read columns r (character c a b Normal))
-      go true e = goes_break r c a b e h (narrow e)
-      go false e = goes_other r c a b e h
+  goes r (character c a b Normal) mode h narrow = elim (cases_Bool (is_break c)) [ inl e ↦ goes_break r c a b e h (narrow e) | inr e ↦ goes_other r c a b e h ]
 
   -- ---- a run
 

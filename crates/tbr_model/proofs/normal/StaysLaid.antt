@@ -5,12 +5,12 @@ use Rattle.std.proofs.lemmas.Bool.{cond_both}
 use Rattle.tbr_model.specs.declared.white_space.WhiteSpace.TheVariants.{Normal, PreWrap}
 use Rattle.tbr_model.specs.Run.{Entry, Item, glyph, item_width, is_blank}
 use Rattle.tbr_model.specs.Layout.{joined}
-use Rattle.tbr_model.specs.Laid.{Laid, extended, end_if_character, put_items}
+use Rattle.tbr_model.specs.Laid.{Laid, extended, end_if_character}
 use Rattle.tbr_model.specs.Rule.{Event, run_of, Progress, Space, collapse, enter, step, progress, finished}
 use Rattle.tbr_model.specs.Hard.{HasMode}
 use Rattle.tbr_model.proofs.words.Items.{WaitsIn}
 use Rattle.tbr_model.proofs.lists.Each.{each_front, each_back, each_append}
-use Rattle.tbr_model.proofs.rule.LaidText.{text, text-extended, text-end_line, text-end_if_character, text-put_items}
+use Rattle.tbr_model.proofs.rule.LaidText.{text, text-extended, text-end_line, text-end_if_character}
 use Rattle.tbr_model.proofs.rule.Walk.{KeptByRule, Waits, Stands, one_entered, run_ended, walked, run_walked}
 
 -- all items that are laid have the property
@@ -30,17 +30,11 @@ module _ {A : Type 0} (P : Item A → Type 0) where
   all_lines (l ∷ ls) h = (each_front P l (joined ls) h, all_lines ls (each_back P l (joined ls) h))
 
   -- what is laid, and more after it
-  laid_after : (l m : Laid A) (is : List (Item A)) → text m ≡ text l ++ is → AllLaid P m → AllLaid P l × Each P is
+  pub laid_after : (l m : Laid A) (is : List (Item A)) → text m ≡ text l ++ is → AllLaid P m → AllLaid P l × Each P is
   laid_after l m is e h =
       let all : Each P (text l ++ is) = subst (Each P) e (each_append P (joined m.done) m.line (all_joined m.done h.0) h.1) in
       let front : Each P (text l) = each_front P (text l) is all in
       ((all_lines l.done (each_front P (joined l.done) l.line front), each_back P (joined l.done) l.line front), each_back P (text l) is all)
-
-  pub laid_extended : (l : Laid A) (is : List (Item A)) (n : ℕ) → AllLaid P (extended l is n) → AllLaid P l × Each P is
-  laid_extended l is n = laid_after l (extended l is n) is (text-extended l is n)
-
-  pub laid_items : (columns : ℕ → Option ℕ) (width : ℕ) (is : List (Item A)) (l : Laid A) → AllLaid P (put_items columns width l is) → AllLaid P l × Each P is
-  laid_items columns width is l = laid_after l (put_items columns width l is) is (text-put_items columns width is l)
 
   pub laid_end_if_character : (l : Laid A) → AllLaid P (end_if_character l) → AllLaid P l
   laid_end_if_character l h = (laid_after l (end_if_character l) [] (text-end_if_character l ∙ sym (append-nil (text l))) h).0

@@ -1,7 +1,8 @@
 -- The annotations of a hard line of Pre: the main one up to the width, the continuation's after it.
-use Rattle.std.proofs.Common.{◌≡◌, ◌≢◌, ℕ, zero, suc, ◌+◌, ◌<◌, ◌≤◌, ◌==◌, if◌then◌else◌, Bool, true, false, Option, Some, None, List, [], ◌∷◌, ◌++◌, map, fold, length, take, drop, refl, ap, sym, ◌∙◌, arith, append_assoc, append-nil, subst, add-one, ltb-true, ltb-false}
+use Rattle.std.proofs.Common.{◌≡◌, ◌≢◌, ℕ, zero, suc, ◌+◌, ◌<◌, ◌≤◌, if◌then◌else◌, Bool, true, false, Option, Some, None, List, [], ◌∷◌, ◌++◌, map, fold, length, take, drop, refl, ap, sym, ◌∙◌, arith, append_assoc, append-nil, subst, add-one, ltb-true, ltb-false, inl, inr}
 use Rattle.std.specs.List.{AllByRecursion as Each}
-use Rattle.std.proofs.lemmas.Bool.{cond_both, eqb-true, eqb-false}
+use Rattle.std.proofs.lemmas.Bool.{cond_both}
+use Rattle.std.proofs.lemmas.Bool.Decides.{eqb_tells}
 use Rattle.tbr_model.specs.declared.white_space.WhiteSpace.{WhiteSpace}
 use Rattle.tbr_model.specs.declared.white_space.WhiteSpace.TheVariants.{Pre}
 use Rattle.tbr_model.specs.Run.{Entry, character, marker_entry, Item, glyph, items_width, has_character}
@@ -98,7 +99,10 @@ module _ {A : Type 0} (columns : ℕ → Option ℕ) (Same : A → A → Type 0)
   character_tags : (c : ℕ) (a b : A) (es : List (Event A)) (q : Progress A) → IsPrintable columns c → HasBegunWord columns width q (c ∷ entry_letters (run_of es)) →
       ((s : Progress A) → HasBegunWord columns width s (entry_letters (run_of es)) → AddsTagged columns Same width s (fold (step columns width) s es) (run_of es)) →
       AddsTagged columns Same width q (fold (step columns width) (enter columns width q (character c a b Pre)) es) (character c a b Pre ∷ run_of es)
-  character_tags c a b es q printable h rest = go (c == 32) refl
+  character_tags c a b es q printable h rest = elim (eqb_tells c 32) [
+    | inl w ↦ subst Holds (subst (λ (d : ℕ). keep_space d (tag_of q a b) Pre (Some 1) q ≡ enter columns width q (character d a b Pre)) (sym w.1) (sym (preserved_space columns width a b Pre q one_space))) (spaced w.1)
+    | inr w ↦ subst Holds (sym (preserved_visible columns width c a b Pre q (visible_of columns c printable w.1))) visible
+  ]
     where
       Holds : Progress A → Type 0
       Holds s = AddsTagged columns Same width q (fold (step columns width) s es) (character c a b Pre ∷ run_of es)
@@ -124,12 +128,6 @@ module _ {A : Type 0} (columns : ℕ → Option ℕ) (Same : A → A → Type 0)
           joined_tags q c a b (tag_of q a b) (if has_character q.word then q.mode else Pre) q.continuation_flag q.in_continuation es h printable.2
           (λ _. (λ _. subst (λ (y : A). Same y a) (sym tag) (reflexive a), λ past. absurd (omega (arith, past, before)))) (λ less. h.first before)
           (rest _))
-
-      go : (t : Bool) → (c == 32) ≡ t → Holds (enter columns width q (character c a b Pre))
-      go true e =
-          let same : c ≡ 32 = eqb-true c 32 e in
-          subst Holds (subst (λ (d : ℕ). keep_space d (tag_of q a b) Pre (Some 1) q ≡ enter columns width q (character d a b Pre)) (sym same) (sym (preserved_space columns width a b Pre q one_space))) (spaced same)
-      go false e = subst Holds (sym (preserved_visible columns width c a b Pre q (visible_of columns c printable (eqb-false c 32 e)))) visible
 
   line_tags : (es : List (Event A)) (q : Progress A) → HasBegunWord columns width q (entry_letters (run_of es)) → Each (HasMode Pre) (run_of es) → Each (IsPrintableEntry columns) (run_of es) →
       AddsTagged columns Same width q (fold (step columns width) q es) (run_of es)

@@ -1,18 +1,17 @@
 -- A hard line of printable characters waits as one word after its first spaces.
-use Rattle.std.proofs.Common.{◌≡◌, ℕ, ◌+◌, if◌then◌else◌, Bool, true, false, Option, Some, List, [], ◌∷◌, ◌++◌, map, fold, length, refl, ap, sym, ◌∙◌, arith, append_assoc, append-nil, length-append, inl, inr}
+use Rattle.std.proofs.Common.{◌≡◌, ℕ, false, Option, Some, List, [], ◌∷◌, ◌++◌, fold, length, refl, sym, arith, append_assoc, append-nil, subst, inl, inr}
 use Rattle.std.specs.List.{AllByRecursion as Each}
-use Rattle.std.proofs.lemmas.Bool.{cond_both}
+use Rattle.std.proofs.lemmas.Bool.{cond_both, both_ways}
 use Rattle.std.proofs.lemmas.Bool.Decides.{eqb_tells}
-use Rattle.std.proofs.lemmas.List.{length-replicate, replicate-append-replicate}
-use Rattle.tbr_model.specs.declared.white_space.WhiteSpace.{WhiteSpace}
 use Rattle.tbr_model.specs.declared.white_space.WhiteSpace.TheVariants.{Pre}
 use Rattle.tbr_model.specs.Run.{character, marker_entry, Item, glyph, marker, items_width, has_character}
-use Rattle.tbr_model.specs.Rule.{Event, call, entry, run_of, Progress, pending_width, space_text, space_of, keep_space, keep_character, passes, tag_of, enter, step}
-use Rattle.tbr_model.specs.Hard.{HasMode, letters_of, entry_letters, IsPrintable, IsPrintableEntry, IsSpaces}
+use Rattle.tbr_model.specs.Rule.{Event, call, entry, run_of, Progress, keep_space, keep_character, passes, tag_of, enter, step}
+use Rattle.tbr_model.specs.Hard.{HasMode, letters_of, entry_letters, IsPrintableEntry, IsSpaces}
 use Rattle.tbr_model.proofs.rule.Printable.{preserved_space, preserved_visible, visible_of}
-use Rattle.tbr_model.proofs.words.Items.{each_marker, letters_of-append, no_glyphs, letters_of-space_text, letters_of-space_of, back_has}
+use Rattle.tbr_model.proofs.words.Items.{each_marker, back_has}
 use Rattle.tbr_model.proofs.lists.Each.{each_append}
 use Rattle.tbr_model.proofs.rule.HardLineStart.{BeginsHardLine}
+use Rattle.tbr_model.proofs.tabs.HardLine.{HoldsText, space_reads, continuation_reads, character_reads, character_joins, fresh_reads}
 
 -- ---- items of one column for each character
 
@@ -30,92 +29,46 @@ units_width columns (marker name ∷ is) h = omega (arith, units_width columns i
 
 -- ---- what waits
 
--- nothing is laid yet
-pub record HasNothingLaid {A : Type 0} (columns : ℕ → Option ℕ) (p : Progress A) : Type 0 where
-  pub done : p.laid.done ≡ []
-  pub line : p.laid.line ≡ []
-  pub width : p.laid.width ≡ 0
-  pub units : Each (IsUnit columns) p.word
+-- No line has begun, and the space and the word hold this text. The word has a character as soon as one is no space.
+pub record Waits {A : Type 0} (columns : ℕ → Option ℕ) (x : List ℕ) (q : Progress A) : Type 0 where
+  pub text : HoldsText columns x q
+  pub line : q.laid.line ≡ []
+  pub units : Each (IsUnit columns) q.word
+  pub spaces : has_character q.word ≡ false → IsSpaces x
 
--- the characters that wait
-abbrev pub waiting : {A : Type 0} → Progress A → List ℕ
-waiting p = letters_of (space_text p.space ++ p.word)
+module _ {A : Type 0} (columns : ℕ → Option ℕ) (width : ℕ) (one_space : columns 32 ≡ Some 1) where
+  space_waits : (x : List ℕ) (q : Progress A) (a : A) → Waits columns x q → Waits columns (x ++ 32 ∷ []) (keep_space 32 a Pre (Some 1) q)
+  space_waits x q a h = record {
+    text = space_reads columns a Pre x q one_space h.text;
+    line = cond_both (has_character q.word) _ _ (λ (r : Progress A). r.laid.line ≡ []) (λ _. h.line) (λ _. h.line);
+    units = cond_both (has_character q.word) _ _ (λ (r : Progress A). Each (IsUnit columns) r.word) (λ _. each_append (IsUnit columns) q.word (glyph 32 a ∷ []) h.units (one_space, tt)) (λ _. h.units);
+    spaces = cond_both (has_character q.word) _ _ (λ (r : Progress A). has_character r.word ≡ false → IsSpaces (x ++ 32 ∷ []))
+        (λ _ none. absurd (both_ways _ none (back_has q.word (glyph 32 a ∷ []) refl))) (λ none _. each_append (λ c. c ≡ 32) x (32 ∷ []) (h.spaces none) (refl, tt));
+  }
 
-pub waiting_length : {A : Type 0} (columns : ℕ → Option ℕ) (p : Progress A) → HasNothingLaid columns p → length (waiting p) ≡ pending_width p.space + items_width columns p.word
-waiting_length columns p h =
-    ap length (letters_of-append (space_text p.space) p.word)
-    ∙ length-append (letters_of (space_text p.space)) (letters_of p.word)
-    ∙ ap (λ n. n + length (letters_of p.word)) (ap length (letters_of-space_text p.space) ∙ length-replicate (pending_width p.space) 32)
-    ∙ ap (λ n. pending_width p.space + n) (sym (units_width columns p.word h.units))
+  visible_waits : (x : List ℕ) (q : Progress A) (c : ℕ) (a b : A) → columns c ≡ Some 1 → Waits columns x q → Waits columns (x ++ c ∷ []) (keep_character columns width c a b Pre (Some 1) q)
+  visible_waits x q c a b one h = record {
+    text = character_reads columns width c a b Pre x q one h.text;
+    line = cond_both (passes columns width 1 q) _ _ (λ (r : Progress A). r.laid.line ≡ []) (λ _. h.line) (λ _. h.line);
+    units = cond_both (passes columns width 1 q) _ _ (λ (r : Progress A). Each (IsUnit columns) r.word)
+        (λ _. each_append (IsUnit columns) q.word (glyph c b ∷ []) h.units (one, tt)) (λ _. each_append (IsUnit columns) q.word (glyph c (tag_of q a b) ∷ []) h.units (one, tt));
+    spaces = λ none. absurd (both_ways _ none (character_joins columns width c a b Pre q));
+  }
 
--- the second has these characters more, and its word has a character as soon as one is no space
-pub record WaitsWith {A : Type 0} (columns : ℕ → Option ℕ) (p q : Progress A) (cs : List ℕ) : Type 0 where
-  pub plain : HasNothingLaid columns q
-  pub waiting : waiting q ≡ waiting p ++ cs
-  pub spaces : has_character q.word ≡ false → (has_character p.word ≡ false) × IsSpaces cs
+  pub line_waits : (es : List (Event A)) (x : List ℕ) (q : Progress A) → Waits columns x q → Each (HasMode Pre) (run_of es) → Each (IsPrintableEntry columns) (run_of es) →
+      Waits columns (x ++ entry_letters (run_of es)) (fold (step columns width) q es)
+  line_waits [] x q h pre printable = subst (λ (t : List ℕ). Waits columns t q) (sym (append-nil x)) h
+  line_waits (call ∷ es) x q h pre printable =
+      line_waits es x (record q { in_continuation = q.continuation_flag })
+      (record { text = continuation_reads columns x q q.continuation_flag q.continuation_flag h.text; line = h.line; units = h.units; spaces = h.spaces }) pre printable
+  line_waits (entry (marker_entry name) ∷ es) x q h pre printable = absurd printable.0
+  line_waits (entry (character c a b m) ∷ es) x q h pre printable =
+      let first : Waits columns (x ++ c ∷ []) (enter columns width q (character c a b Pre)) = elim (eqb_tells c 32) [
+        | inl w ↦ rw (w.1, preserved_space columns width a b Pre q one_space) (space_waits x q (tag_of q a b) h)
+        | inr w ↦ rw (preserved_visible columns width c a b Pre q (visible_of columns c printable.0 w.1)) (visible_waits x q c a b printable.0.2 h)
+      ] in
+      rw (pre.0) (subst (λ (t : List ℕ). Waits columns t (fold (step columns width) (enter columns width q (character c a b Pre)) es)) (append_assoc x (c ∷ []) (entry_letters (run_of es)))
+      (line_waits es (x ++ c ∷ []) (enter columns width q (character c a b Pre)) first pre.1 printable.1))
 
-join_waits : {A : Type 0} (columns : ℕ → Option ℕ) (p : Progress A) (c : ℕ) (x : A) (m : WhiteSpace) (continuation_flag in_continuation : Bool) → HasNothingLaid columns p → columns c ≡ Some 1 →
-    WaitsWith columns p (record { laid = p.laid; space = p.space; word = p.word ++ glyph c x ∷ []; mode = m; continuation_flag = continuation_flag; in_continuation = in_continuation }) (c ∷ [])
-join_waits {A} columns p c x m continuation_flag in_continuation h one = record {
-  plain = record { done = h.done; line = h.line; width = h.width; units = each_append (IsUnit columns) p.word (glyph c x ∷ []) h.units (one, tt) };
-  waiting = ap letters_of (sym (append_assoc (space_text p.space) p.word (glyph c x ∷ []))) ∙ letters_of-append (space_text p.space ++ p.word) (glyph c x ∷ []);
-  spaces = λ none. (let some : has_character (p.word ++ glyph c x ∷ []) ≡ true = back_has p.word (glyph c x ∷ []) refl in cc);
-}
-
-space_waits : {A : Type 0} (columns : ℕ → Option ℕ) (p : Progress A) (x : A) → HasNothingLaid columns p → columns 32 ≡ Some 1 → WaitsWith columns p (keep_space 32 x Pre (Some 1) p) (32 ∷ [])
-space_waits {A} columns p x h one =
-    cond_both (has_character p.word) _ _ (λ (q : Progress A). WaitsWith columns p q (32 ∷ []))
-    (λ some. join_waits columns p 32 x (if has_character p.word then p.mode else Pre) p.continuation_flag p.in_continuation h one)
-    (λ none. record {
-      plain = record { done = h.done; line = h.line; width = h.width; units = h.units };
-      waiting = grown none;
-      spaces = λ n. (n, (refl, tt));
-    })
-  where
-    bare : (is : List (Item A)) → has_character p.word ≡ false → letters_of (is ++ p.word) ≡ letters_of is
-    bare is none = letters_of-append is p.word ∙ ap (λ gs. letters_of is ++ map (λ g. g.0) gs) (no_glyphs p.word none) ∙ append-nil (letters_of is)
-
-    grown : has_character p.word ≡ false → letters_of (space_text (space_of (pending_width p.space + 1) x Pre) ++ p.word) ≡ waiting p ++ 32 ∷ []
-    grown none =
-        bare (space_text (space_of (pending_width p.space + 1) x Pre)) none
-        ∙ letters_of-space_of (pending_width p.space + 1) x Pre
-        ∙ sym (replicate-append-replicate (pending_width p.space) 1 32)
-        ∙ ap (λ cs. cs ++ 32 ∷ []) (sym (letters_of-space_text p.space) ∙ sym (bare (space_text p.space) none))
-
-visible_waits : {A : Type 0} (columns : ℕ → Option ℕ) (width c : ℕ) (a b : A) (p : Progress A) → HasNothingLaid columns p → columns c ≡ Some 1 → WaitsWith columns p (keep_character columns width c a b Pre (Some 1) p) (c ∷ [])
-visible_waits {A} columns width c a b p h one =
-    cond_both (passes columns width 1 p) _ _ (λ (q : Progress A). WaitsWith columns p q (c ∷ []))
-    (λ _. join_waits columns p c b (if has_character p.word then p.mode else Pre) true true h one)
-    (λ _. join_waits columns p c (tag_of p a b) (if has_character p.word then p.mode else Pre) p.continuation_flag p.in_continuation h one)
-
-character_waits : {A : Type 0} (columns : ℕ → Option ℕ) (width c : ℕ) (a b : A) (p : Progress A) → HasNothingLaid columns p → IsPrintable columns c → columns 32 ≡ Some 1 → WaitsWith columns p (enter columns width p (character c a b Pre)) (c ∷ [])
-character_waits columns width c a b p h one space =
-    elim (eqb_tells c 32) [
-      | inl w ↦ rw (w.1, preserved_space columns width a b Pre p space) (space_waits columns p (tag_of p a b) h space)
-      | inr w ↦ rw (preserved_visible columns width c a b Pre p (visible_of columns c one w.1)) (visible_waits columns width c a b p h one.2)
-    ]
-
--- ---- a whole hard line
-
-pub line_waits : {A : Type 0} (columns : ℕ → Option ℕ) (width : ℕ) (es : List (Event A)) (p : Progress A) → columns 32 ≡ Some 1 → HasNothingLaid columns p → Each (HasMode Pre) (run_of es) → Each (IsPrintableEntry columns) (run_of es) →
-    WaitsWith columns p (fold (step columns width) p es) (entry_letters (run_of es))
-line_waits columns width [] p space h pre printable = record { plain = h; waiting = sym (append-nil (waiting p)); spaces = λ none. (none, tt) }
-line_waits columns width (call ∷ es) p space h pre printable =
-    let w = line_waits columns width es (record p { in_continuation = p.continuation_flag }) space (record { done = h.done; line = h.line; width = h.width; units = h.units }) pre printable in
-    record { plain = w.plain; waiting = w.waiting; spaces = w.spaces }
-line_waits columns width (entry (character c a b m) ∷ es) p space h pre printable =
-    rw (pre.0)
-    (let first = character_waits columns width c a b p h printable.0 space in
-    let rest = line_waits columns width es (enter columns width p (character c a b Pre)) space first.plain pre.1 printable.1 in
-    record {
-      plain = rest.plain;
-      waiting = rest.waiting ∙ ap (λ cs. cs ++ entry_letters (run_of es)) first.waiting ∙ append_assoc (waiting p) (c ∷ []) (entry_letters (run_of es));
-      spaces = λ none. (let r = rest.spaces none in let f = first.spaces r.0 in (f.0, (f.1.0, r.1)));
-    })
-line_waits columns width (entry (marker_entry name) ∷ es) p space h pre printable = absurd printable.0
-
-pub fresh_plain : {A : Type 0} (columns : ℕ → Option ℕ) (p : Progress A) → BeginsHardLine p → HasNothingLaid columns p
-fresh_plain columns p f = record { done = f.done; line = f.line; width = f.width; units = unit_markers columns p.word f.word }
-
-pub fresh_waiting : {A : Type 0} (p : Progress A) → BeginsHardLine p → waiting p ≡ []
-fresh_waiting p f = rw (f.space) (ap (λ gs. map (λ g. g.0) gs) (no_glyphs p.word f.word))
+  pub fresh_waits : (p : Progress A) → BeginsHardLine p → Waits columns [] p
+  fresh_waits p f = record { text = fresh_reads columns p f; line = f.line; units = unit_markers columns p.word f.word; spaces = λ _. tt }

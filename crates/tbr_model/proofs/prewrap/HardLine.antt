@@ -2,12 +2,12 @@
 use Rattle.std.proofs.Common.{◌≡◌, ◌≢◌, ℕ, ◌<◌, ◌≤◌, ◌⊎◌, inl, inr, ◌==◌, Bool, true, false, Option, Some, List, [], ◌∷◌, ◌++◌, map, flat_map, fold, length, refl, ap, sym, ◌∙◌, arith, subst}
 use Rattle.std.specs.List.{AllByRecursion as Each}
 use Rattle.std.proofs.lemmas.Bool.Decides.{eqb_tells}
+use Rattle.tbr_model.proofs.rule.HardLines.{ShowsOne, hard_lines_parted}
 use Rattle.tbr_model.specs.declared.white_space.WhiteSpace.TheVariants.{PreWrap}
 use Rattle.tbr_model.specs.Run.{Entry, character, marker_entry, Item}
-use Rattle.tbr_model.specs.Rule.{Event, run_of, Progress, flush_word, newline, step, finished}
-use Rattle.tbr_model.specs.Hard.{HasMode, is_newline, letters_of, entry_letters, IsPrintableLine, IsSpaces, EndsWithNonBlank, without_last_spaces, stretches, IsCutOf, IsWrapped, blank_lines, ShowsPreWrap}
-use Rattle.tbr_model.proofs.rule.HardLineStart.{BeginsHardLine}
-use Rattle.tbr_model.proofs.rule.BlankLines.{blank_line_of}
+use Rattle.tbr_model.specs.Rule.{Event, run_of, flush_word, newline, step, finished, lines_of}
+use Rattle.tbr_model.specs.Hard.{HasMode, letters_of, entry_letters, IsPrintableLine, IsSpaces, EndsWithNonBlank, without_last_spaces, stretches, IsCutOf, IsWrapped, blank_lines, ShowsPreWrap, hard_lines, Parted}
+use Rattle.tbr_model.proofs.rule.BlankLines.{blank_line_of, mode_preserves}
 use Rattle.tbr_model.proofs.prewrap.OneWay.{wrapped_in_one_way}
 use Rattle.tbr_model.proofs.prewrap.Stretches.{stretches_spaces, cut_if_wrapped}
 use Rattle.tbr_model.proofs.prewrap.WrappedLines.{wrapped_line}
@@ -16,32 +16,22 @@ use Rattle.tbr_model.proofs.prewrap.WrappedLines.{wrapped_line}
 
 spaces_or : (cs : List ℕ) → IsSpaces cs ⊎ ¬ (IsSpaces cs)
 spaces_or [] = inl tt
-spaces_or (c ∷ cs) = go (eqb_tells c 32) (spaces_or cs)
-  where
-    go : (((c == 32) ≡ true) × (c ≡ 32)) ⊎ (((c == 32) ≡ false) × (c ≢ 32)) → IsSpaces cs ⊎ ¬ (IsSpaces cs) → IsSpaces (c ∷ cs) ⊎ ¬ (IsSpaces (c ∷ cs))
-    go (inl w) (inl all) = inl (w.1, all)
-    go (inl w) (inr other) = inr (λ h. other h.1)
-    go (inr w) rest = inr (λ h. w.1 h.0)
+spaces_or (c ∷ cs) = elim (eqb_tells c 32) [
+  | inl w ↦ elim (spaces_or cs) [ inl all ↦ inl (w.1, all) | inr other ↦ inr (λ h. other h.1) ]
+  | inr w ↦ inr (λ h. w.1 h.0)
+]
 
-spaces_after : (cs : List ℕ) → (rest : List ℕ) × IsSpaces rest × (cs ≡ without_last_spaces cs ++ rest)
-spaces_after [] = ([], tt, refl)
-spaces_after (c ∷ cs) = let (rest, spaces, whole) = spaces_after cs in go (without_last_spaces cs) refl rest spaces whole (eqb_tells c 32)
+-- it ends with a non-blank, or is nothing, and spaces are after it
+last_spaces : (cs : List ℕ) → Each (λ c. 32 ≤ c) cs → (rest : List ℕ) × IsSpaces rest × (cs ≡ without_last_spaces cs ++ rest) × ((without_last_spaces cs ≡ []) ⊎ EndsWithNonBlank (without_last_spaces cs))
+last_spaces [] h = ([], tt, refl, inl refl)
+last_spaces (c ∷ cs) h = let (rest, spaces, whole, ends) = last_spaces cs h.1 in go (without_last_spaces cs) refl rest spaces whole ends (eqb_tells c 32)
   where
-    go : (ds : List ℕ) → without_last_spaces cs ≡ ds → (rest : List ℕ) → IsSpaces rest → cs ≡ ds ++ rest → (((c == 32) ≡ true) × (c ≡ 32)) ⊎ (((c == 32) ≡ false) × (c ≢ 32)) →
-        (more : List ℕ) × IsSpaces more × (c ∷ cs ≡ without_last_spaces (c ∷ cs) ++ more)
-    go [] e rest spaces whole (inl w) = (c ∷ rest, (w.1, spaces), rw (e, w.0) (ap (λ xs. c ∷ xs) whole))
-    go [] e rest spaces whole (inr w) = (rest, spaces, rw (e, w.0) (ap (λ xs. c ∷ xs) whole))
-    go (d ∷ ds) e rest spaces whole either = (rest, spaces, rw e (ap (λ xs. c ∷ xs) whole))
-
-ends_last : (cs : List ℕ) → Each (λ c. 32 ≤ c) cs → 0 < length (without_last_spaces cs) → EndsWithNonBlank (without_last_spaces cs)
-ends_last [] h some = absurd (omega (arith, some))
-ends_last (c ∷ cs) h some = go (without_last_spaces cs) refl (ends_last cs h.1) (eqb_tells c 32)
-  where
-    go : (ds : List ℕ) → without_last_spaces cs ≡ ds → (0 < length (without_last_spaces cs) → EndsWithNonBlank (without_last_spaces cs)) → (((c == 32) ≡ true) × (c ≡ 32)) ⊎ (((c == 32) ≡ false) × (c ≢ 32)) →
-        EndsWithNonBlank (without_last_spaces (c ∷ cs))
-    go [] e more (inl w) = absurd (let none : length (without_last_spaces (c ∷ cs)) ≡ 0 = rw (e, w.0) refl in omega (arith, some, none))
-    go [] e more (inr w) = rw (e, w.0) (w.1, λ k. omega (arith, h.0, k))
-    go (d ∷ ds) e more either = rw e (subst EndsWithNonBlank e (more (omega (arith, ap length e))))
+    go : (ds : List ℕ) → without_last_spaces cs ≡ ds → (rest : List ℕ) → IsSpaces rest → cs ≡ ds ++ rest → (ds ≡ []) ⊎ EndsWithNonBlank ds → (((c == 32) ≡ true) × (c ≡ 32)) ⊎ (((c == 32) ≡ false) × (c ≢ 32)) →
+        (more : List ℕ) × IsSpaces more × (c ∷ cs ≡ without_last_spaces (c ∷ cs) ++ more) × ((without_last_spaces (c ∷ cs) ≡ []) ⊎ EndsWithNonBlank (without_last_spaces (c ∷ cs)))
+    go [] e rest spaces whole ends (inl w) = (c ∷ rest, (w.1, spaces), rw (e, w.0) (ap (λ xs. c ∷ xs) whole), rw (e, w.0) (inl refl))
+    go [] e rest spaces whole ends (inr w) = (rest, spaces, rw (e, w.0) (ap (λ xs. c ∷ xs) whole), rw (e, w.0) (inr (w.1, λ k. omega (arith, h.0, k))))
+    go (d ∷ ds) e rest spaces whole (inl none) either = cc
+    go (d ∷ ds) e rest spaces whole (inr ends) either = (rest, spaces, rw e (ap (λ xs. c ∷ xs) whole), rw e (inr ends))
 
 printable_text : {A : Type 0} (columns : ℕ → Option ℕ) (es : List (Entry A)) → IsPrintableLine columns es → Each (λ c. 32 ≤ c) (entry_letters es)
 printable_text columns [] h = tt
@@ -51,19 +41,12 @@ printable_text columns (marker_entry name ∷ es) h = absurd h.0
 -- where it fits, the text is one line
 one_line : (width : ℕ) (cs : List ℕ) → Each (λ c. 32 ≤ c) cs → ¬ (IsSpaces cs) → length (without_last_spaces cs) ≤ width → IsWrapped width [] cs (without_last_spaces cs ∷ [])
 one_line width cs printable other fits =
-    let (rest, spaces, whole) = spaces_after cs in
-    (0, rest, whole, ends_last cs printable (some (without_last_spaces cs) (λ e. subst IsSpaces (sym (whole ∙ ap (λ ds. ds ++ rest) e)) spaces)), fits, inl (refl, refl), spaces)
-  where
-    some : (ds : List ℕ) → (ds ≡ [] → IsSpaces cs) → 0 < length ds
-    some [] h = absurd (other (h refl))
-    some (d ∷ ds) h = omega arith
+    let (rest, spaces, whole, ends) = last_spaces cs printable in
+    (0, rest, whole, elim ends [ inl none ↦ absurd (other (subst IsSpaces (sym (whole ∙ ap (λ ds. ds ++ rest) none)) spaces)) | inr some ↦ some ], fits, inl (refl, refl), spaces)
 
 -- What is shown of a hard line in a run of `PreWrap` alone.
-pub prewrap_line : {A : Type 0} (columns : ℕ → Option ℕ) (width : ℕ) → columns 32 ≡ Some 1 → 0 < width → (p : Progress A) (es : List (Event A)) →
-    BeginsHardLine p → Each (λ e. is_newline e ≡ false) (run_of es) → Each (HasMode PreWrap) (run_of es) →
-    ShowsPreWrap columns width true (run_of es) (newline (flush_word columns width (fold (step columns width) p es))).laid.done
-    × ShowsPreWrap columns width false (run_of es) (finished columns width (fold (step columns width) p es)).done
-prewrap_line {A} columns width one some p es f no_newline modes = (
+prewrap_line : {A : Type 0} (columns : ℕ → Option ℕ) (width : ℕ) → columns 32 ≡ Some 1 → 0 < width → ShowsOne columns width (ShowsPreWrap {A = A} columns width) (HasMode PreWrap)
+prewrap_line {A} columns width one some p es f modes no_newline = (
   shows true (newline (flush_word columns width (fold (step columns width) p es))).laid.done (λ printable other. (wraps printable other).0) (λ spaces. (blank_line_of columns width PreWrap (λ e. cc) p es f modes spaces).0),
   shows false (finished columns width (fold (step columns width) p es)).done (λ printable other. (wraps printable other).1) (λ spaces. (blank_line_of columns width PreWrap (λ e. cc) p es f modes spaces).1),
 )
@@ -93,3 +76,9 @@ prewrap_line {A} columns width one some p es f no_newline modes = (
       wrapped = wrapped;
       blank = blank;
     }
+
+-- each hard line of a run of `PreWrap` alone
+pub prewrap_shown : {A : Type 0} (columns : ℕ → Option ℕ) (width : ℕ) → columns 32 ≡ Some 1 → 0 < width → (es : List (Event A)) →
+    Each (HasMode PreWrap) (run_of es) → Parted (ShowsPreWrap columns width) (hard_lines (run_of es)) (lines_of columns width es)
+prewrap_shown columns width one some =
+    hard_lines_parted columns width (ShowsPreWrap columns width) (HasMode PreWrap) (mode_preserves PreWrap (λ e. cc)) (prewrap_line columns width one some)

@@ -1,7 +1,8 @@
 -- A text is wrapped in one way.
-use Rattle.std.proofs.Common.{◌≡◌, ◌≢◌, ℕ, zero, suc, ◌+◌, ◌<◌, ◌≤◌, ◌⊎◌, inl, inr, ◌==◌, true, false, List, [], ◌∷◌, ◌++◌, length, replicate, refl, ap, sym, ◌∙◌, subst, arith, append-nil, length-append}
+use Rattle.std.proofs.Common.{◌≡◌, ℕ, zero, suc, ◌+◌, ◌<◌, ◌≤◌, inl, inr, ◌==◌, List, [], ◌∷◌, ◌++◌, length, replicate, refl, ap, sym, ◌∙◌, subst, arith, append-nil, length-append}
 use Rattle.std.proofs.lemmas.Bool.Decides.{eqb_tells}
 use Rattle.std.proofs.lemmas.List.{length-replicate}
+use Rattle.std.proofs.lemmas.Bool.{cond_both}
 use Rattle.tbr_model.specs.Hard.{IsSpaces, BeginsWithNonBlank, EndsWithNonBlank, first_stretch, BeginsAfter, IsWrapped}
 use Rattle.tbr_model.proofs.lists.Each.{each_front, each_back}
 use Rattle.tbr_model.proofs.lists.Joined.{cut_twice}
@@ -34,31 +35,19 @@ no_gap (suc n) cs ds e h = absurd (let k : BeginsWithNonBlank (32 ∷ (replicate
 -- the first stretch ends at a space
 first_ends : (a cs : List ℕ) → length (first_stretch (a ++ (32 ∷ cs))) ≤ length a
 first_ends [] cs = omega arith
-first_ends (c ∷ a) cs = go (eqb_tells c 32) (first_ends a cs)
-  where
-    go : (((c == 32) ≡ true) × (c ≡ 32)) ⊎ (((c == 32) ≡ false) × (c ≢ 32)) → length (first_stretch (a ++ (32 ∷ cs))) ≤ length a →
-        length (first_stretch (c ∷ (a ++ (32 ∷ cs)))) ≤ length (c ∷ a)
-    go (inl e) more = rw (e.0) (omega arith)
-    go (inr e) more = rw (e.0) (omega arith)
-
-first_none : (cs : List ℕ) → length (first_stretch (32 ∷ cs)) ≡ 0
-first_none cs = refl
+first_ends (c ∷ a) cs = cond_both (c == 32) _ _ (λ (ds : List ℕ). length ds ≤ length (c ∷ a)) (λ _. omega arith) (λ _. omega (arith, first_ends a cs))
 
 -- after a part of a stretch the text goes on with a non-blank
 stretch_goes_on : (a b c e : List ℕ) → a ++ b ≡ c ++ e → length a < length (first_stretch c) → BeginsWithNonBlank b
 stretch_goes_on a b [] e h k = absurd (omega arith)
-stretch_goes_on [] b (x ∷ c) e h k = go (eqb_tells x 32)
-  where
-    go : (((x == 32) ≡ true) × (x ≡ 32)) ⊎ (((x == 32) ≡ false) × (x ≢ 32)) → BeginsWithNonBlank b
-    go (inl s) = absurd (let n : 0 < length (first_stretch (32 ∷ c)) = subst (λ y. 0 < length (first_stretch (y ∷ c))) s.1 k in omega (arith, n))
-    go (inr s) = subst BeginsWithNonBlank (sym h) s.1
-stretch_goes_on (x ∷ a) b (y ∷ c) e h k = go (eqb_tells y 32) (λ n. stretch_goes_on a b c e (let more : a ++ b ≡ c ++ e = cc in more) n)
-  where
-    go : (((y == 32) ≡ true) × (y ≡ 32)) ⊎ (((y == 32) ≡ false) × (y ≢ 32)) → (length a < length (first_stretch c) → BeginsWithNonBlank b) → BeginsWithNonBlank b
-    go (inl s) more = absurd (let n : suc (length a) < length (first_stretch (32 ∷ c)) = subst (λ z. suc (length a) < length (first_stretch (z ∷ c))) s.1 k in omega (arith, n))
-    go (inr s) more =
-        let n : suc (length a) < length (y ∷ first_stretch c) = rw (s.0) at k in
-        more (omega (arith, n))
+stretch_goes_on [] b (y ∷ c) e h k = elim (eqb_tells y 32) [
+  | inl s ↦ absurd (let n : 0 < length (first_stretch (32 ∷ c)) = subst (λ z. 0 < length (first_stretch (z ∷ c))) s.1 k in omega (arith, n))
+  | inr s ↦ subst BeginsWithNonBlank (sym h) s.1
+]
+stretch_goes_on (x ∷ a) b (y ∷ c) e h k = elim (eqb_tells y 32) [
+  | inl s ↦ absurd (let n : suc (length a) < length (first_stretch (32 ∷ c)) = subst (λ z. suc (length a) < length (first_stretch (z ∷ c))) s.1 k in omega (arith, n))
+  | inr s ↦ stretch_goes_on a b c e (let more : a ++ b ≡ c ++ e = cc in more) (let n : suc (length a) < length (y ∷ first_stretch c) = rw (s.0) at k in omega (arith, n))
+]
 
 -- a part that ends with a non-blank goes beyond spaces
 beyond_spaces : (n : ℕ) (a b cs : List ℕ) → a ++ b ≡ replicate n 32 ++ cs → EndsWithNonBlank a →
@@ -73,34 +62,21 @@ beyond_spaces (suc n) (x ∷ y ∷ a) b cs e h =
     (w.0, (let p : y ∷ a ≡ replicate n 32 ++ w.0 = w.1 in cc), w.2)
 
 -- two texts that begin with a non-blank come after as many spaces
-same_gap : (n k : ℕ) (a b c e : List ℕ) → replicate n 32 ++ (a ++ b) ≡ replicate k 32 ++ (c ++ e) → BeginsWithNonBlank a → BeginsWithNonBlank c → n ≡ k
+same_gap : (n k : ℕ) (a b c e : List ℕ) → replicate n 32 ++ (a ++ b) ≡ replicate k 32 ++ (c ++ e) → BeginsWithNonBlank a → BeginsWithNonBlank c → a ++ b ≡ c ++ e
 same_gap n k [] b c e h p q = absurd p
 same_gap n k (x ∷ a) b [] e h p q = absurd q
-same_gap zero zero (x ∷ a) b (y ∷ c) e h p q = refl
+same_gap zero zero (x ∷ a) b (y ∷ c) e h p q = h
 same_gap zero (suc k) (x ∷ a) b (y ∷ c) e h p q = absurd (let s : x ≡ 32 = cc in p s)
 same_gap (suc n) zero (x ∷ a) b (y ∷ c) e h p q = absurd (let s : y ≡ 32 = cc in q s)
 same_gap (suc n) (suc k) (x ∷ a) b (y ∷ c) e h p q =
-    let rest : replicate n 32 ++ ((x ∷ a) ++ b) ≡ replicate k 32 ++ ((y ∷ c) ++ e) = cc in
-    let same : n ≡ k = same_gap n k (x ∷ a) b (y ∷ c) e rest p q in
-    cc
-
-same_after : (n : ℕ) (a b : List ℕ) → replicate n 32 ++ a ≡ replicate n 32 ++ b → a ≡ b
-same_after zero a b e = e
-same_after (suc n) a b e = let rest : replicate n 32 ++ a ≡ replicate n 32 ++ b = cc in same_after n a b rest
+    let rest : replicate n 32 ++ ((x ∷ a) ++ b) ≡ replicate k 32 ++ ((y ∷ c) ++ e) = cc in same_gap n k (x ∷ a) b (y ∷ c) e rest p q
 
 -- ---- lines
 
 -- a line after which a stretch goes on was filled by that stretch alone
 pub filled : (width : ℕ) (l r : List ℕ) (ls : List (List ℕ)) → EndsWithNonBlank l → BeginsWithNonBlank r → IsWrapped width l r ls → (length l ≡ width) × (first_stretch l ≡ l)
 filled width l r [] ends begins h = absurd (begins_not_spaces r begins h)
-filled width l r (m ∷ ls) ends begins h = go h.5
-  where
-    none : h.0 ≡ 0
-    none = no_gap h.0 r (m ++ h.1) h.2 begins
-
-    go : BeginsAfter width l h.0 m → (length l ≡ width) × (first_stretch l ≡ l)
-    go (inl e) = absurd (omega (arith, ends_some l ends, ap length e.0))
-    go (inr e) = e.2 none
+filled width l r (m ∷ ls) ends begins h = elim h.5 [ inl e ↦ absurd (omega (arith, ends_some l ends, ap length e.0)) | inr e ↦ e.2 (no_gap h.0 r (m ++ h.1) h.2 begins) ]
 
 -- no line ends before another that begins at its place
 module _ (width : ℕ) where
@@ -126,15 +102,15 @@ module _ (width : ℕ) where
           omega (arith, ap length whole, short, long)
 
   -- no line keeps spaces in front that another drops
-  not_kept : (l m r q : List ℕ) (ls : List (List ℕ)) (n : ℕ) → EndsWithNonBlank l → length l ≤ width → width < n + length (first_stretch m) → 0 < n →
-      l ++ r ≡ replicate n 32 ++ (m ++ q) → ¬ (IsWrapped width l r ls)
-  not_kept l m r q ls zero ends fits wide some e h = omega arith
-  not_kept l m r q ls (suc n) ends fits wide some e h =
-      let w = beyond_spaces (suc n) l r (m ++ q) e ends in
+  not_kept : (before l m r q : List ℕ) (ls : List (List ℕ)) (g n : ℕ) → EndsWithNonBlank l → length l ≤ width → (before ≡ []) × (g ≡ 0) → width < length before + (n + length (first_stretch m)) →
+      (n ≡ 0 → (length before ≡ width) × (first_stretch before ≡ before)) → replicate g 32 ++ (l ++ r) ≡ replicate n 32 ++ (m ++ q) → ¬ (IsWrapped width l r ls)
+  not_kept before l m r q ls g zero ends fits first wide full e h = omega (arith, ap length first.0, (full refl).0, ends_some l ends, fits)
+  not_kept before l m r q ls g (suc n) ends fits first wide full e h =
+      let w = beyond_spaces (suc n) l r (m ++ q) (rw (first.1) at e) ends in
       let size : length l ≡ suc n + length w.0 = ap length w.1 ∙ length-append (replicate (suc n) 32) w.0 ∙ ap (λ x. x + length w.0) (length-replicate (suc n) 32) in
-      let next : BeginsWithNonBlank r = stretch_goes_on w.0 r m q w.2 (omega (arith, size, wide, fits)) in
+      let next : BeginsWithNonBlank r = stretch_goes_on w.0 r m q w.2 (omega (arith, size, wide, fits, ap length first.0)) in
       let whole : first_stretch l ≡ l = (filled width l r ls ends next h).1 in
-      let none : length (first_stretch l) ≡ 0 = subst (λ x. length (first_stretch x) ≡ 0) (sym w.1) (first_none (replicate n 32 ++ w.0)) in
+      let none : length (first_stretch l) ≡ 0 = subst (λ x. length (first_stretch x) ≡ 0) (sym w.1) refl in
       omega (arith, ap length whole, none, ends_some l ends)
 
   -- two lines that begin at one place are the same
@@ -156,20 +132,11 @@ module _ (width : ℕ) where
   same_line before l m r q ls ms g n e ends others fits other (inl a) (inl b) h k =
       same_place l m r q ls ms (rw (a.1, b.1) at e) ends others fits other h k
   same_line before l m r q ls ms g n e ends others fits other (inr a) (inr b) h k =
-      let same : g ≡ n = same_gap g n l r m q e a.0 b.0 in
-      same_place l m r q ls ms (same_after n (l ++ r) (m ++ q) (rw same at e)) ends others fits other h k
+      same_place l m r q ls ms (same_gap g n l r m q e a.0 b.0) ends others fits other h k
   same_line before l m r q ls ms g n e ends others fits other (inl a) (inr b) h k =
-      absurd (not_kept l m r q ls n ends fits (omega (arith, ap length a.0, b.1)) (some n b.2) (rw (a.1) at e) h)
-    where
-      some : (x : ℕ) → (x ≡ 0 → (length before ≡ width) × (first_stretch before ≡ before)) → 0 < x
-      some zero f = absurd (omega (arith, ap length a.0, (f refl).0, ends_some l ends, fits))
-      some (suc x) f = omega arith
+      absurd (not_kept before l m r q ls g n ends fits a b.1 b.2 e h)
   same_line before l m r q ls ms g n e ends others fits other (inr a) (inl b) h k =
-      absurd (not_kept m l q r ms g others other (omega (arith, ap length b.0, a.1)) (some g a.2) (sym (rw (b.1) at e)) k)
-    where
-      some : (x : ℕ) → (x ≡ 0 → (length before ≡ width) × (first_stretch before ≡ before)) → 0 < x
-      some zero f = absurd (omega (arith, ap length b.0, (f refl).0, ends_some m others, other))
-      some (suc x) f = omega arith
+      absurd (not_kept before m l q r ms n g others other b a.1 a.2 (sym e) k)
 
   nothing_left : (before text : List ℕ) (m : List ℕ) (ms : List (List ℕ)) → IsSpaces text → ¬ (IsWrapped width before text (m ∷ ms))
   nothing_left before text m ms h k =

@@ -1,40 +1,73 @@
--- The items of a word of `PreWrap`, put one by one: on which lines its text is.
-use Rattle.std.proofs.Common.{◌≡◌, ◌≢◌, ℕ, ◌+◌, ◌<◌, ◌≤◌, ◌⊎◌, inl, inr, ◌==◌, Bool, true, false, nat_le, Option, List, [], ◌∷◌, ◌++◌, map, length, refl, ap, sym, ◌∙◌, arith, append_assoc, append-nil, length-append, subst, leb-true, leb-false, ne_eqb}
+-- What holds before each entry of a hard line of `PreWrap`, and the items of a word, put one by one: on which lines they are.
+use Rattle.std.proofs.Common.{◌≡◌, ℕ, zero, suc, ◌+◌, ◌<◌, ◌≤◌, ◌⊎◌, inl, inr, nat_le, Option, List, [], ◌∷◌, length, refl, ap, sym, ◌∙◌, arith, subst, le-leb, ◌++◌, map, append_assoc, append-nil, length-append, leb-true, leb-false, ne_eqb}
 use Rattle.std.specs.List.{AllByRecursion as Each}
-use Rattle.std.proofs.lemmas.List.{map-append}
-use Rattle.tbr_model.specs.Run.{Item, glyph, marker}
-use Rattle.tbr_model.specs.Laid.{Laid, extended, end_line, put_item, put_items}
-use Rattle.tbr_model.specs.Rule.{without_trailing}
+use Rattle.std.proofs.lemmas.Bool.{cases_Bool}
+use Rattle.tbr_model.specs.declared.white_space.WhiteSpace.TheVariants.{PreWrap}
+use Rattle.tbr_model.specs.Run.{Item, glyph, marker, items_width}
+use Rattle.tbr_model.specs.Laid.{Laid, extended, end_line, put_items}
+use Rattle.tbr_model.specs.Rule.{Progress, pending_width, space_of, without_leading, join, without_trailing}
 use Rattle.tbr_model.specs.Hard.{letters_of, EndsWithNonBlank, first_stretch, BeginsAfter}
+use Rattle.tbr_model.proofs.words.Items.{each_marker, WaitsIn, pending_width-of, letters_of-append}
 use Rattle.tbr_model.proofs.lists.Each.{each_append}
-use Rattle.tbr_model.proofs.words.Items.{letters_of-append}
-use Rattle.tbr_model.proofs.prewrap.WordUnderWay.{IsVisibleOrMarker, put_marker, put_here, put_next}
+use Rattle.tbr_model.proofs.rule.HardLineStart.{BeginsHardLine}
+use Rattle.tbr_model.proofs.rule.Printable.{IsVisible, whitespace_not}
+use Rattle.std.proofs.lemmas.List.{map-append}
 use Rattle.tbr_model.proofs.prewrap.WrappedText.{AreNonBlank, GoesOnFrom, ends_nonblank, stretch_front, stretch_all, longer, ended, begun, last_of}
+
+-- ---- items
+
+-- a visible character, or a marker
+abbrev pub IsVisibleOrMarker : {A : Type 0} → (ℕ → Option ℕ) → Item A → Type 0
+IsVisibleOrMarker columns (glyph c a) = IsVisible columns c
+IsVisibleOrMarker columns (marker name) = Unit {0}
+
+pub plain_width : {A : Type 0} (columns : ℕ → Option ℕ) (is : List (Item A)) → Each (IsVisibleOrMarker columns) is → items_width columns is ≡ length (letters_of is)
+plain_width columns [] h = refl
+plain_width columns (glyph c a ∷ is) h = rw (h.0.one) (omega (arith, plain_width columns is h.1))
+plain_width columns (marker name ∷ is) h = omega (arith, plain_width columns is h.1)
+
+-- such a word begins with no white space
+pub plain_leading : {A : Type 0} (columns : ℕ → Option ℕ) (is : List (Item A)) → Each (IsVisibleOrMarker columns) is → without_leading is ≡ is
+plain_leading columns [] h = refl
+plain_leading columns (glyph c a ∷ is) h = rw (whitespace_not c h.0.from h.0.to) refl
+plain_leading columns (marker name ∷ is) h = refl
+
+-- what is kept between entries
+pub record IsReadyForWord {A : Type 0} (columns : ℕ → Option ℕ) (p : Progress A) : Type 0 where
+  pub plain : Each (IsVisibleOrMarker columns) p.word
+  pub measured : p.laid.width ≡ length (letters_of p.laid.line)
+  pub apart : (letters_of p.laid.line ≡ []) ⊎ (0 < pending_width p.space)
+  pub wraps : WaitsIn PreWrap p.space
+
+-- ---- entries that join it
+
+pub waits : {A : Type 0} (columns : ℕ → Option ℕ) (p : Progress A) (a : A) → Each (IsVisibleOrMarker columns) p.word → p.laid.width ≡ length (letters_of p.laid.line) →
+    IsReadyForWord columns (record p { space = space_of (pending_width p.space + 1) a PreWrap })
+waits {A} columns p a plain measured = record { plain = plain; measured = measured; apart = inr (omega (arith, pending_width-of (pending_width p.space + 1) a PreWrap)); wraps = wrapped (pending_width p.space + 1) }
+  where
+    wrapped : (n : ℕ) → WaitsIn PreWrap (space_of n a PreWrap)
+    wrapped zero = tt
+    wrapped (suc n) = refl
+
+pub join_ready : {A : Type 0} (columns : ℕ → Option ℕ) (p : Progress A) (c : ℕ) (a : A) → IsVisible columns c → IsReadyForWord columns p → IsReadyForWord columns (join c a PreWrap p)
+join_ready columns p c a v h = record { plain = each_append (IsVisibleOrMarker columns) p.word (glyph c a ∷ []) h.plain (v, tt); measured = h.measured; apart = h.apart; wraps = h.wraps }
+
+pub fresh_ready : {A : Type 0} (columns : ℕ → Option ℕ) (p : Progress A) → BeginsHardLine p → IsReadyForWord columns p
+fresh_ready columns p h = record {
+  plain = each_marker (IsVisibleOrMarker columns) (λ name. tt) p.word h.word;
+  measured = h.width ∙ ap (λ is. length (letters_of is)) (sym h.line);
+  apart = inl (ap letters_of h.line);
+  wraps = subst (WaitsIn PreWrap) (sym h.space) tt;
+}
 
 -- an open line whose text is no spaces at its end has none there
 pub trailing_whole : {A : Type 0} (is : List (Item A)) → (letters_of is ≡ []) ⊎ EndsWithNonBlank (letters_of is) → without_trailing is ≡ is
 trailing_whole [] h = refl
-trailing_whole {A} (marker name ∷ is) h = go (without_trailing is) refl (trailing_whole is h)
-  where
-    go : (js : List (Item A)) → without_trailing is ≡ js → js ≡ is → without_trailing (marker name ∷ is) ≡ marker name ∷ is
-    go [] e f = rw e (ap (λ (ks : List (Item A)). marker name ∷ ks) f)
-    go (j ∷ js) e f = rw e (ap (λ (ks : List (Item A)). marker name ∷ ks) f)
-trailing_whole {A} (glyph c a ∷ is) (inl none) = cc
-trailing_whole {A} (glyph c a ∷ is) (inr ends) = go (without_trailing is) refl (trailing_whole is (after (last_of c (letters_of is) ends)))
-  where
-    after : ((letters_of is ≡ []) × (c ≢ 32)) ⊎ EndsWithNonBlank (letters_of is) → (letters_of is ≡ []) ⊎ EndsWithNonBlank (letters_of is)
-    after (inl h) = inl h.0
-    after (inr h) = inr h
-
-    alone : is ≡ [] → ((letters_of is ≡ []) × (c ≢ 32)) ⊎ EndsWithNonBlank (letters_of is) → c ≢ 32
-    alone e (inl h) = h.1
-    alone e (inr h) = absurd (subst (λ (ks : List (Item A)). EndsWithNonBlank (letters_of ks)) e h)
-
-    go : (js : List (Item A)) → without_trailing is ≡ js → js ≡ is → without_trailing (glyph c a ∷ is) ≡ glyph c a ∷ is
-    go [] e f =
-        let other : (c == 32) ≡ false = ne_eqb c 32 (alone (sym f) (last_of c (letters_of is) ends)) in
-        rw (e, other) (ap (λ (ks : List (Item A)). glyph c a ∷ ks) f)
-    go (j ∷ js) e f = rw e (ap (λ (ks : List (Item A)). glyph c a ∷ ks) f)
+trailing_whole (marker name ∷ []) h = refl
+trailing_whole (marker name ∷ i ∷ is) h = rw (trailing_whole (i ∷ is) h) refl
+trailing_whole (glyph c a ∷ is) (inl none) = cc
+trailing_whole (glyph c a ∷ []) (inr ends) = rw (ne_eqb c 32 ends.0) refl
+trailing_whole (glyph c a ∷ i ∷ is) (inr ends) = rw (trailing_whole (i ∷ is) (last_of c (letters_of (i ∷ is)) ends)) refl
 
 pub nonblanks : {A : Type 0} (columns : ℕ → Option ℕ) (is : List (Item A)) → Each (IsVisibleOrMarker columns) is → AreNonBlank (letters_of is)
 nonblanks columns [] h = tt
@@ -114,21 +147,16 @@ module _ {A : Type 0} (columns : ℕ → Option ℕ) (width : ℕ) (some : 0 < w
       PutsText l y (letters_of is) (put_items columns width l is)
   put_text [] l y plain letters nonblank measured fits = put_none l y letters nonblank measured (omega (arith, measured, fits))
   put_text (marker name ∷ is) l y plain letters nonblank measured fits =
-      rw (put_marker columns width some l name fits)
+      rw (le-leb (l.width + 0) width (omega (arith, fits)))
       (let k = put_text is (extended l (marker name ∷ []) 0) y plain.1 (letters_of-append l.line (marker name ∷ []) ∙ append-nil (letters_of l.line) ∙ letters) nonblank
       (omega (arith, measured)) (omega (arith, fits)) in
       record { nonblank = k.nonblank; fits = k.fits; columns_are = k.columns_are; measured = k.measured; goes = λ text ls h. (let g = k.goes text ls h in record { all = g.all; are = g.are; goes = g.goes; reach = g.reach }) })
   put_text (glyph c a ∷ is) l y plain letters nonblank measured fits =
-      go (nat_le (l.width + 1) width) refl
-      (λ room. put_text is (extended l (glyph c a ∷ []) 1) (y ++ c ∷ []) plain.1 (letters_of-append l.line (glyph c a ∷ []) ∙ ap (λ cs. cs ++ c ∷ []) letters)
-      (each_append (λ d. 33 ≤ d) y (c ∷ []) nonblank (plain.0.from, tt)) (omega (arith, measured, length-append y (c ∷ []))) room)
-      (put_text is (extended (end_line l) (glyph c a ∷ []) 1) (c ∷ []) plain.1 refl (plain.0.from, tt) refl (omega (arith, some)))
-    where
-      go : (b : Bool) → nat_le (l.width + 1) width ≡ b →
-          (l.width + 1 ≤ width → PutsText (extended l (glyph c a ∷ []) 1) (y ++ c ∷ []) (letters_of is) (put_items columns width (extended l (glyph c a ∷ []) 1) is)) →
-          PutsText (extended (end_line l) (glyph c a ∷ []) 1) (c ∷ []) (letters_of is) (put_items columns width (extended (end_line l) (glyph c a ∷ []) 1) is) →
-          PutsText l y (c ∷ letters_of is) (put_items columns width (put_item columns width l (glyph c a)) is)
-      go true e here k = rw (put_here columns width some l c a plain.0.one (leb-true _ _ e)) (put_one_here l c a y (letters_of is) _ (here (leb-true _ _ e)))
-      go false e here k =
-          rw (put_next columns width some l c a plain.0.one (leb-false _ _ e))
-          (put_one_next l c a y (letters_of is) _ letters nonblank (omega (arith, leb-false _ _ e, measured, fits)) plain.0.from k)
+      elim (cases_Bool (nat_le (l.width + 1) width)) [
+        | inl e ↦ rw (plain.0.one, e) (put_one_here l c a y (letters_of is) _
+            (put_text is (extended l (glyph c a ∷ []) 1) (y ++ c ∷ []) plain.1 (letters_of-append l.line (glyph c a ∷ []) ∙ ap (λ cs. cs ++ c ∷ []) letters)
+            (each_append (λ d. 33 ≤ d) y (c ∷ []) nonblank (plain.0.from, tt)) (omega (arith, measured, length-append y (c ∷ []))) (leb-true _ _ e)))
+        | inr e ↦ rw (plain.0.one, e, le-leb 1 width (omega (arith, some)))
+            (put_one_next l c a y (letters_of is) _ letters nonblank (omega (arith, leb-false _ _ e, measured, fits)) plain.0.from
+            (put_text is (extended (end_line l) (glyph c a ∷ []) 1) (c ∷ []) plain.1 refl (plain.0.from, tt) refl (omega (arith, some))))
+      ]

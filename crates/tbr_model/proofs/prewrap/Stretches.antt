@@ -1,7 +1,7 @@
 -- Stretches of non-blanks, and where the lines of a wrapped text cut them.
 use Rattle.std.proofs.Common.{◌≡◌, ◌≢◌, ℕ, zero, suc, ◌<◌, inl, inr, Bool, true, false, not, ◌==◌, if◌then◌else◌, List, [], ◌∷◌, ◌++◌, flat_map, replicate, length, refl, ap, sym, ◌∙◌, subst, arith, append-nil, length-append, ne_eqb}
 use Rattle.std.specs.List.{AllByRecursion as Each}
-use Rattle.std.proofs.lemmas.Bool.{cond_both}
+use Rattle.std.proofs.lemmas.Bool.{cond_both, not-true}
 use Rattle.std.proofs.lemmas.Bool.Decides.{eqb_tells}
 use Rattle.tbr_model.specs.Hard.{IsSpaces, BeginsWithNonBlank, EndsWithNonBlank, onto_first, begins_stretch, first_stretch, stretches, IsCutOf, IsWrapped}
 use Rattle.tbr_model.proofs.prewrap.OneWay.{filled}
@@ -22,15 +22,12 @@ begins_gap (x ∷ xs) ys = refl
 
 begins_some : (xs : List ℕ) → begins_stretch xs ≡ true → 0 < length (stretches xs)
 begins_some [] h = cc
-begins_some (x ∷ xs) h = go (x == 32) h
+begins_some (x ∷ xs) h =
+    rw (not-true (x == 32) h) (cond_both (begins_stretch xs) _ _ (λ (u : List (List ℕ)). 0 < length u) (λ _. some (stretches xs)) (λ _. omega arith))
   where
     some : (u : List (List ℕ)) → 0 < length (onto_first x u)
     some [] = omega arith
     some (s ∷ u) = omega arith
-
-    go : (b : Bool) → not b ≡ true → 0 < length (if b then stretches xs else pushed x (begins_stretch xs) (stretches xs))
-    go true e = cc
-    go false e = cond_both (begins_stretch xs) _ _ (λ (u : List (List ℕ)). 0 < length u) (λ _. some (stretches xs)) (λ _. omega arith)
 
 -- a space parts the stretches
 stretches_gap : (xs ys : List ℕ) → stretches (xs ++ 32 ∷ ys) ≡ stretches xs ++ stretches ys

@@ -1,7 +1,7 @@
 -- A hard line of `PreWrap` is wrapped: spaces are dropped, and a line ends, only where the next stretch doesn't fit.
-use Rattle.std.proofs.Common.{◌≡◌, ℕ, ◌+◌, ◌<◌, ◌≤◌, ◌⊎◌, inl, inr, Bool, true, false, nat_le, if◌then◌else◌, Option, Some, None, List, [], ◌∷◌, ◌++◌, map, fold, replicate, length, refl, ap, sym, ◌∙◌, arith, append_assoc, append-nil, length-append, subst, leb-true, leb-false}
+use Rattle.std.proofs.Common.{◌≡◌, ℕ, ◌+◌, ◌<◌, ◌≤◌, ◌⊎◌, inl, inr, Bool, true, false, nat_le, if◌then◌else◌, Option, Some, None, List, [], ◌∷◌, ◌++◌, map, fold, replicate, length, refl, ap, sym, ◌∙◌, arith, append_assoc, append-nil, length-append, subst, leb-true, leb-false, lt-ltb}
 use Rattle.std.specs.List.{AllByRecursion as Each}
-use Rattle.std.proofs.lemmas.Bool.{cond_both}
+use Rattle.std.proofs.lemmas.Bool.{cond_both, cases_Bool}
 use Rattle.std.proofs.lemmas.Bool.Decides.{eqb_tells}
 use Rattle.std.proofs.lemmas.List.{map-append, length-replicate}
 use Rattle.tbr_model.specs.declared.white_space.WhiteSpace.TheVariants.{PreWrap}
@@ -11,16 +11,20 @@ use Rattle.tbr_model.specs.Rule.{Event, call, entry, run_of, Progress, Space, pe
 use Rattle.tbr_model.specs.Hard.{HasMode, letters_of, entry_letters, IsPrintableLine, IsSpaces, EndsWithNonBlank, IsWrapped}
 use Rattle.tbr_model.proofs.rule.BlankLines.{not_broken}
 use Rattle.tbr_model.proofs.words.Items.{letters_of-append, some_letters, has_letters, no_letters, no_character_no_width, WaitsIn, pending_width-of}
-use Rattle.tbr_model.proofs.tabs.FittingText.{laid_letters}
-use Rattle.tbr_model.proofs.prewrap.WordUnderWay.{IsVisibleOrMarker, plain_width, plain_leading, IsReadyForWord, waits, join_ready, again_ready, fresh_ready}
-use Rattle.tbr_model.proofs.prewrap.Entry.{enter_wrap_space, enter_wrap_visible, break_some}
-use Rattle.tbr_model.proofs.rule.Printable.{visible_of}
+use Rattle.tbr_model.proofs.tabs.HardLine.{laid_letters}
+use Rattle.tbr_model.proofs.rule.Printable.{visible_of, preserved_space, entered_visible}
 use Rattle.tbr_model.proofs.rule.HardLineStart.{BeginsHardLine}
 use Rattle.tbr_model.proofs.prewrap.WrappedText.{GoesOnFrom, GoesOn, IsOpen, ends_nonblank, ends_append, goes_on_some, ended, begun, on_line, from_some, from_none, begins_after, first_begins, spaces_alone, one_more_space}
-use Rattle.tbr_model.proofs.prewrap.PutText.{trailing_whole, nonblanks, PutsText, ReachesFrom, put_text}
+use Rattle.tbr_model.proofs.prewrap.PutText.{trailing_whole, nonblanks, PutsText, ReachesFrom, put_text, IsVisibleOrMarker, plain_width, plain_leading, IsReadyForWord, waits, join_ready, fresh_ready}
 
 module _ {A : Type 0} (columns : ℕ → Option ℕ) (width : ℕ) (some : 0 < width) where
   -- ---- a word
+
+  -- these lines, after those that are then done, are lines on which the first's text goes on with more
+  abbrev LaysOn : Progress A → Laid A → List ℕ → List (List ℕ) → Type 0
+  LaysOn p r text ls =
+      (all : List (List ℕ)) × (map letters_of r.done ++ ls ≡ map letters_of p.laid.done ++ all)
+      × GoesOn width (letters_of p.laid.line) (replicate (pending_width p.space) 32 ++ (letters_of p.word ++ text)) all
 
   -- A word that is laid makes the open line hold something, and lines that go on from there go on from the line before.
   record LaysText (p q : Progress A) : Type 0 where
@@ -29,9 +33,7 @@ module _ {A : Type 0} (columns : ℕ → Option ℕ) (width : ℕ) (some : 0 < w
     columns_are : q.laid.width ≡ length (letters_of q.laid.line)
     space : q.space ≡ None
     word : q.word ≡ []
-    goes : (text : List ℕ) (ls : List (List ℕ)) → GoesOnFrom width (letters_of q.laid.line) text ls →
-        (all : List (List ℕ)) × (map letters_of q.laid.done ++ ls ≡ map letters_of p.laid.done ++ all)
-        × GoesOn width (letters_of p.laid.line) (replicate (pending_width p.space) 32 ++ (letters_of p.word ++ text)) all
+    goes : (text : List ℕ) (ls : List (List ℕ)) → GoesOnFrom width (letters_of q.laid.line) text ls → LaysOn p q.laid text ls
 
   here_text : (p : Progress A) → IsReadyForWord columns p → has_character p.word ≡ true → p.laid.width + (pending_width p.space + items_width columns p.word) ≤ width → LaysText p (lay_here columns p)
   here_text p h has fits =
@@ -101,9 +103,7 @@ module _ {A : Type 0} (columns : ℕ → Option ℕ) (width : ℕ) (some : 0 < w
       columns_over = omega (arith, over, h.measured, plain_width columns p.word h.plain)
 
       lays : (l : Laid A) → PutsText columns width some l [] w (put_items columns width l p.word) →
-          ((text : List ℕ) (ls : List (List ℕ)) → ReachesFrom columns width some l [] w (put_items columns width l p.word) text ls →
-          (all : List (List ℕ)) × (map letters_of (put_items columns width l p.word).done ++ ls ≡ map letters_of p.laid.done ++ all)
-          × GoesOn width (letters_of p.laid.line) (replicate n 32 ++ (w ++ text)) all) →
+          ((text : List ℕ) (ls : List (List ℕ)) → ReachesFrom columns width some l [] w (put_items columns width l p.word) text ls → LaysOn p (put_items columns width l p.word) text ls) →
           LaysText p (let r : Progress A = record q { laid = put_items columns width l p.word; space = None; word = []; continuation_flag = is_pre q.mode } in r)
       lays l k on = record {
         line = (ends_nonblank (letters_of (put_items columns width l p.word).line) k.nonblank (k.measured (omega (arith, long))), k.fits);
@@ -125,8 +125,7 @@ module _ {A : Type 0} (columns : ℕ → Option ℕ) (width : ℕ) (some : 0 < w
           apart = elim h.apart [ inl none ↦ absurd (omega (arith, full, ap length none)) | inr gap ↦ gap ]
 
           ended_first : (text : List ℕ) (ls : List (List ℕ)) → ReachesFrom columns width some (end_line q.laid) [] w (put_items columns width (end_line q.laid) p.word) text ls →
-              (all : List (List ℕ)) × (map letters_of (put_items columns width (end_line q.laid) p.word).done ++ ls ≡ map letters_of p.laid.done ++ all)
-              × GoesOn width (letters_of p.laid.line) (replicate n 32 ++ (w ++ text)) all
+              LaysOn p (put_items columns width (end_line q.laid) p.word) text ls
           ended_first text ls g = elim line [
             | inl none ↦ absurd (omega (arith, full, ap length none))
             | inr ends ↦ (
@@ -148,9 +147,7 @@ module _ {A : Type 0} (columns : ℕ → Option ℕ) (width : ℕ) (some : 0 < w
           none : letters_of p.laid.line ≡ []
           none = sym d.line ∙ no_letters q.laid.line e
 
-          first : (text : List ℕ) (ls : List (List ℕ)) → ReachesFrom columns width some q.laid [] w (put_items columns width q.laid p.word) text ls →
-              (all : List (List ℕ)) × (map letters_of (put_items columns width q.laid p.word).done ++ ls ≡ map letters_of p.laid.done ++ all)
-              × GoesOn width (letters_of p.laid.line) (replicate n 32 ++ (w ++ text)) all
+          first : (text : List ℕ) (ls : List (List ℕ)) → ReachesFrom columns width some q.laid [] w (put_items columns width q.laid p.word) text ls → LaysOn p (put_items columns width q.laid p.word) text ls
           first text ls g = (
             g.all,
             g.are ∙ ap (λ (ds : List (List (Item A))). map letters_of ds ++ g.all) d.done,
@@ -168,11 +165,11 @@ module _ {A : Type 0} (columns : ℕ → Option ℕ) (width : ℕ) (some : 0 < w
 
   -- The lines at the end are those that are done, and then lines on which the text goes on from the open line. The last
   -- line has a character, or there is none and the text is spaces alone.
-  record WrapsText (p : Progress A) (text : List ℕ) (l : Laid A) : Type 0 where
+  record WrapsText (before : Laid A) (text : List ℕ) (l : Laid A) : Type 0 where
     lines : List (List ℕ)
-    are : map letters_of (end_if_character l).done ≡ map letters_of p.laid.done ++ lines
-    goes : GoesOn width (letters_of p.laid.line) text lines
-    last : (IsSpaces text × (letters_of p.laid.line ≡ [])) ⊎ (has_character l.line ≡ true)
+    are : map letters_of (end_if_character l).done ≡ map letters_of before.done ++ lines
+    goes : GoesOn width (letters_of before.line) text lines
+    last : (IsSpaces text × (letters_of before.line ≡ [])) ⊎ (has_character l.line ≡ true)
 
   -- the text of a state, with what follows
   abbrev text_ahead : Progress A → List ℕ → List ℕ
@@ -181,10 +178,7 @@ module _ {A : Type 0} (columns : ℕ → Option ℕ) (width : ℕ) (some : 0 < w
   ended_done : (l : Laid A) → has_character l.line ≡ true → (end_if_character l).done ≡ l.done ++ l.line ∷ []
   ended_done l h = rw h refl
 
-  bare_done : (l : Laid A) → has_character l.line ≡ false → (end_if_character l).done ≡ l.done
-  bare_done l h = rw h refl
-
-  end_laid : (p : Progress A) → IsReadyForWord columns p → IsOpen width (letters_of p.laid.line) → has_character p.word ≡ true → WrapsText p (text_ahead p []) (lay columns width p).laid
+  end_laid : (p : Progress A) → IsReadyForWord columns p → IsOpen width (letters_of p.laid.line) → has_character p.word ≡ true → WrapsText p.laid (text_ahead p []) (lay columns width p).laid
   end_laid p h line has =
       let q : Progress A = lay columns width p in
       let k = lay_text p h line has in
@@ -197,7 +191,7 @@ module _ {A : Type 0} (columns : ℕ → Option ℕ) (width : ℕ) (some : 0 < w
         last = inr last;
       }
 
-  end_bare : (p : Progress A) → IsOpen width (letters_of p.laid.line) → has_character p.word ≡ false → WrapsText p (text_ahead p []) p.laid
+  end_bare : (p : Progress A) → IsOpen width (letters_of p.laid.line) → has_character p.word ≡ false → WrapsText p.laid (text_ahead p []) p.laid
   end_bare p line none = go (has_character p.laid.line) refl
     where
       text : List ℕ
@@ -206,7 +200,7 @@ module _ {A : Type 0} (columns : ℕ → Option ℕ) (width : ℕ) (some : 0 < w
       spaces : IsSpaces text
       spaces = subst (λ (w : List ℕ). IsSpaces (replicate (pending_width p.space) 32 ++ (w ++ []))) (sym (no_letters p.word none)) (spaces_alone (pending_width p.space))
 
-      go : (b : Bool) → has_character p.laid.line ≡ b → WrapsText p text p.laid
+      go : (b : Bool) → has_character p.laid.line ≡ b → WrapsText p.laid text p.laid
       go true e = elim line [
         | inl bare ↦ absurd (omega (arith, some_letters p.laid.line e, ap length bare))
         | inr ends ↦ record {
@@ -220,14 +214,14 @@ module _ {A : Type 0} (columns : ℕ → Option ℕ) (width : ℕ) (some : 0 < w
           let bare : letters_of p.laid.line ≡ [] = no_letters p.laid.line e in
           record {
             lines = [];
-            are = ap (map letters_of) (bare_done p.laid e) ∙ sym (append-nil (map letters_of p.laid.done));
+            are = rw e (sym (append-nil (map letters_of p.laid.done)));
             goes = from_none width (letters_of p.laid.line) text [] bare spaces;
             last = inl (spaces, bare);
           }
 
   -- a space after a word that is laid
   space_laid : (p : Progress A) (a : A) (cs : List ℕ) (l : Laid A) → LaysText p (lay columns width p) →
-      (let n : Progress A = record (lay columns width p) { space = space_of (pending_width (lay columns width p).space + 1) a PreWrap } in WrapsText n (text_ahead n cs) l) → WrapsText p (text_ahead p (32 ∷ cs)) l
+      (let n : Progress A = record (lay columns width p) { space = space_of (pending_width (lay columns width p).space + 1) a PreWrap } in WrapsText n.laid (text_ahead n cs) l) → WrapsText p.laid (text_ahead p (32 ∷ cs)) l
   space_laid p a cs l k rest =
       let q : Progress A = lay columns width p in
       let n : Progress A = record q { space = space_of (pending_width q.space + 1) a PreWrap } in
@@ -244,7 +238,7 @@ module _ {A : Type 0} (columns : ℕ → Option ℕ) (width : ℕ) (some : 0 < w
 
   -- a space after others
   space_more : (p : Progress A) (a : A) (cs : List ℕ) (l : Laid A) → has_character p.word ≡ false →
-      (let n : Progress A = record p { space = space_of (pending_width p.space + 1) a PreWrap } in WrapsText n (text_ahead n cs) l) → WrapsText p (text_ahead p (32 ∷ cs)) l
+      (let n : Progress A = record p { space = space_of (pending_width p.space + 1) a PreWrap } in WrapsText n.laid (text_ahead n cs) l) → WrapsText p.laid (text_ahead p (32 ∷ cs)) l
   space_more p a cs l none rest =
       let n : Progress A = record p { space = space_of (pending_width p.space + 1) a PreWrap } in
       let bare : letters_of p.word ≡ [] = no_letters p.word none in
@@ -253,7 +247,7 @@ module _ {A : Type 0} (columns : ℕ → Option ℕ) (width : ℕ) (some : 0 < w
       ∙ ap (λ (w : List ℕ). replicate (pending_width p.space + 1) 32 ++ (w ++ cs)) bare
       ∙ one_more_space (pending_width p.space) cs
       ∙ ap (λ (w : List ℕ). replicate (pending_width p.space) 32 ++ (w ++ 32 ∷ cs)) (sym bare) in
-      subst (λ (ds : List ℕ). WrapsText p ds l) ahead (record { lines = rest.lines; are = rest.are; goes = rest.goes; last = rest.last })
+      subst (λ (ds : List ℕ). WrapsText p.laid ds l) ahead rest
 
   abbrev end_laid_from : Progress A → List (Event A) → Laid A
   end_laid_from p es = (flush_word columns width (fold (step columns width) p es)).laid
@@ -267,53 +261,53 @@ module _ {A : Type 0} (columns : ℕ → Option ℕ) (width : ℕ) (some : 0 < w
 
   -- what a space that comes to the second leaves of the first
   abbrev ReadsSpace : List (Event A) → Progress A → A → A → Progress A → Type 0
-  ReadsSpace es p a b q = WrapsText p (text_ahead p (32 ∷ entry_letters (run_of es))) (end_laid_from (keep_space 32 (tag_of q a b) PreWrap (Some 1) q) es)
+  ReadsSpace es p a b q = WrapsText p.laid (text_ahead p (32 ∷ entry_letters (run_of es))) (end_laid_from (keep_space 32 (tag_of q a b) PreWrap (Some 1) q) es)
+
+  break_some : (p : Progress A) → 0 < items_width columns p.word → break_word columns width p ≡ lay columns width p
+  break_some p takes = rw (lt-ltb _ _ takes) refl
 
   space_read : (es : List (Event A)) (p : Progress A) (a b : A) → IsReadyForWord columns p → IsOpen width (letters_of p.laid.line) →
-      ((n : Progress A) → IsReadyForWord columns n → IsOpen width (letters_of n.laid.line) → WrapsText n (text_ahead n (entry_letters (run_of es))) (end_laid_from n es)) →
+      ((n : Progress A) → IsReadyForWord columns n → IsOpen width (letters_of n.laid.line) → WrapsText n.laid (text_ahead n (entry_letters (run_of es))) (end_laid_from n es)) →
       ReadsSpace es p a b (break_word columns width p)
-  space_read es p a b h line later = go (has_character p.word) refl
+  space_read es p a b h line later = elim (cases_Bool (has_character p.word)) [
+    | inl e ↦
+        let q : Progress A = lay columns width p in
+        let k = lay_text p h line e in
+        let n : Progress A = spaced q (tag_of q a b) in
+        let plain : Each (IsVisibleOrMarker columns) q.word = subst (Each (IsVisibleOrMarker columns)) (sym k.word) tt in
+        let rest = later n (waits columns q (tag_of q a b) plain k.columns_are) (inr k.line) in
+        subst (ReadsSpace es p a b) (sym (break_some p (omega (arith, plain_width columns p.word h.plain, some_letters p.word e))))
+        (kept q (ap has_character k.word) (space_laid p (tag_of q a b) (entry_letters (run_of es)) (end_laid_from n es) k rest))
+    | inr e ↦
+        let n : Progress A = spaced p (tag_of p a b) in
+        let rest = later n (waits columns p (tag_of p a b) h.plain h.measured) line in
+        subst (ReadsSpace es p a b) (sym (not_broken columns width p e)) (kept p e (space_more p (tag_of p a b) (entry_letters (run_of es)) (end_laid_from n es) e rest))
+  ]
     where
-      kept : (q : Progress A) → has_character q.word ≡ false → WrapsText p (text_ahead p (32 ∷ entry_letters (run_of es))) (end_laid_from (spaced q (tag_of q a b)) es) → ReadsSpace es p a b q
-      kept q none k = subst (λ (r : Progress A). WrapsText p (text_ahead p (32 ∷ entry_letters (run_of es))) (end_laid_from r es)) (sym (keeps q (tag_of q a b) none)) k
-
-      go : (x : Bool) → has_character p.word ≡ x → ReadsSpace es p a b (break_word columns width p)
-      go true e =
-          let q : Progress A = lay columns width p in
-          let k = lay_text p h line e in
-          let n : Progress A = spaced q (tag_of q a b) in
-          let plain : Each (IsVisibleOrMarker columns) q.word = subst (Each (IsVisibleOrMarker columns)) (sym k.word) tt in
-          let rest = later n (waits columns q (tag_of q a b) plain k.columns_are) (inr k.line) in
-          subst (ReadsSpace es p a b) (sym (break_some columns width p (omega (arith, plain_width columns p.word h.plain, some_letters p.word e))))
-          (kept q (ap has_character k.word) (space_laid p (tag_of q a b) (entry_letters (run_of es)) (end_laid_from n es) k rest))
-      go false e =
-          let n : Progress A = spaced p (tag_of p a b) in
-          let rest = later n (waits columns p (tag_of p a b) h.plain h.measured) line in
-          subst (ReadsSpace es p a b) (sym (not_broken columns width p e)) (kept p e (space_more p (tag_of p a b) (entry_letters (run_of es)) (end_laid_from n es) e rest))
+      kept : (q : Progress A) → has_character q.word ≡ false → WrapsText p.laid (text_ahead p (32 ∷ entry_letters (run_of es))) (end_laid_from (spaced q (tag_of q a b)) es) → ReadsSpace es p a b q
+      kept q none k = subst (λ (r : Progress A). WrapsText p.laid (text_ahead p (32 ∷ entry_letters (run_of es))) (end_laid_from r es)) (sym (keeps q (tag_of q a b) none)) k
 
   wraps_read : (es : List (Event A)) (p : Progress A) → columns 32 ≡ Some 1 → Each (HasMode PreWrap) (run_of es) → IsPrintableLine columns (run_of es) → IsReadyForWord columns p → IsOpen width (letters_of p.laid.line) →
-      WrapsText p (text_ahead p (entry_letters (run_of es))) (flush_word columns width (fold (step columns width) p es)).laid
-  wraps_read [] p one modes printable h line = cond_both (has_character p.word) _ _ (λ (q : Progress A). WrapsText p (text_ahead p []) q.laid) (λ has. end_laid p h line has) (λ none. end_bare p line none)
+      WrapsText p.laid (text_ahead p (entry_letters (run_of es))) (flush_word columns width (fold (step columns width) p es)).laid
+  wraps_read [] p one modes printable h line = cond_both (has_character p.word) _ _ (λ (q : Progress A). WrapsText p.laid (text_ahead p []) q.laid) (λ has. end_laid p h line has) (λ none. end_bare p line none)
   wraps_read (call ∷ es) p one modes printable h line =
-      let k = wraps_read es (record p { in_continuation = p.continuation_flag }) one modes printable (again_ready columns p p.continuation_flag h) line in
-      record { lines = k.lines; are = k.are; goes = k.goes; last = k.last }
+      wraps_read es (record p { in_continuation = p.continuation_flag }) one modes printable (record { plain = h.plain; measured = h.measured; apart = h.apart; wraps = h.wraps }) line
   wraps_read (entry (marker_entry name) ∷ es) p one modes printable h line = absurd printable.0
   wraps_read (entry (character c a b mode) ∷ es) p one modes printable h line =
-      elim (eqb_tells c 32) [
+      rw (modes.0) (elim (eqb_tells c 32) [
         | inl w ↦
-            subst (λ d. WrapsText p (text_ahead p (d ∷ entry_letters (run_of es))) (flush_word columns width (fold (step columns width) (enter columns width p (character d a b mode)) es)).laid) (sym w.1)
-            (subst (λ (r : Progress A). WrapsText p (text_ahead p (32 ∷ entry_letters (run_of es))) (flush_word columns width (fold (step columns width) r es)).laid)
-            (sym (enter_wrap_space columns width a b mode p modes.0 one)) (space_read es p a b h line (λ n ready open_line. wraps_read es n one modes.1 printable.1 ready open_line)))
+            subst (λ d. WrapsText p.laid (text_ahead p (d ∷ entry_letters (run_of es))) (flush_word columns width (fold (step columns width) (enter columns width p (character d a b PreWrap)) es)).laid) (sym w.1)
+            (subst (λ (r : Progress A). WrapsText p.laid (text_ahead p (32 ∷ entry_letters (run_of es))) (flush_word columns width (fold (step columns width) r es)).laid)
+            (sym (preserved_space columns width a b PreWrap (break_word columns width p) one)) (space_read es p a b h line (λ n ready open_line. wraps_read es n one modes.1 printable.1 ready open_line)))
         | inr w ↦
             let v = visible_of columns c printable.0 w.1 in
             let n = join c (tag_of p a b) PreWrap p in
             let k = wraps_read es n one modes.1 printable.1 (join_ready columns p c (tag_of p a b) v h) line in
             let text : letters_of n.word ++ entry_letters (run_of es) ≡ letters_of p.word ++ (c ∷ entry_letters (run_of es)) =
             ap (λ cs. cs ++ entry_letters (run_of es)) (letters_of-append p.word (glyph c (tag_of p a b) ∷ [])) ∙ append_assoc (letters_of p.word) (c ∷ []) (entry_letters (run_of es)) in
-            subst (λ (r : Progress A). WrapsText p (text_ahead p (c ∷ entry_letters (run_of es))) (flush_word columns width (fold (step columns width) r es)).laid) (sym (enter_wrap_visible columns width a b mode p modes.0 c v))
-            (subst (λ (t : List ℕ). WrapsText p (replicate (pending_width p.space) 32 ++ t) (flush_word columns width (fold (step columns width) n es)).laid) text
-            (record { lines = k.lines; are = k.are; goes = k.goes; last = k.last }))
-      ]
+            subst (λ (r : Progress A). WrapsText p.laid (text_ahead p (c ∷ entry_letters (run_of es))) (flush_word columns width (fold (step columns width) r es)).laid) (sym (entered_visible columns width c a b PreWrap p (λ e. cc) v))
+            (subst (λ (t : List ℕ). WrapsText p.laid (replicate (pending_width p.space) 32 ++ t) (flush_word columns width (fold (step columns width) n es)).laid) text k)
+      ])
 
 -- the lines of a hard line, before a newline and at the end of the run
 pub wrapped_line : {A : Type 0} (columns : ℕ → Option ℕ) (width : ℕ) → 0 < width → columns 32 ≡ Some 1 → (p : Progress A) (es : List (Event A)) → BeginsHardLine p → Each (HasMode PreWrap) (run_of es) →
@@ -336,8 +330,8 @@ wrapped_line {A} columns width some one p es f modes printable other = (
         ap (λ (o : Option (Space A)). replicate (pending_width o) 32 ++ (letters_of p.word ++ entry_letters (run_of es))) f.space
         ∙ ap (λ (w : List ℕ). w ++ entry_letters (run_of es)) (no_letters p.word f.word)
 
-    k : WrapsText columns width some p (entry_letters (run_of es)) l
-    k = subst (λ (cs : List ℕ). WrapsText columns width some p cs l) ahead (wraps_read columns width some es p one modes printable (fresh_ready columns p f) (inl bare))
+    k : WrapsText columns width some p.laid (entry_letters (run_of es)) l
+    k = subst (λ (cs : List ℕ). WrapsText columns width some p.laid cs l) ahead (wraps_read columns width some es p one modes printable (fresh_ready columns p f) (inl bare))
 
     last : has_character l.line ≡ true
     last = elim k.last [ inl spaces ↦ absurd (other spaces.0) | inr has ↦ has ]

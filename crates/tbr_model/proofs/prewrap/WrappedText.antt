@@ -1,8 +1,9 @@
 -- Lines on which a text of stretches and spaces goes on from an open line.
-use Rattle.std.proofs.Common.{◌≡◌, ◌≢◌, ℕ, zero, suc, ◌+◌, ◌<◌, ◌≤◌, ◌⊎◌, inl, inr, ◌==◌, Bool, true, false, nat_le, List, [], ◌∷◌, ◌++◌, replicate, length, refl, ap, sym, ◌∙◌, arith, append_assoc, append-nil, subst, leb-true, leb-false, ne_eqb}
+use Rattle.std.proofs.Common.{◌≡◌, ℕ, zero, suc, ◌+◌, ◌<◌, ◌≤◌, ◌⊎◌, inl, inr, ◌==◌, false, List, [], ◌∷◌, ◌++◌, replicate, length, refl, ap, sym, ◌∙◌, arith, append_assoc, append-nil, subst, ne_eqb}
 use Rattle.std.specs.List.{AllByRecursion as Each}
 use Rattle.std.proofs.lemmas.Bool.Decides.{eqb_tells}
 use Rattle.std.proofs.lemmas.List.{replicate-append-replicate}
+use Rattle.std.proofs.lemmas.Bool.{cases_lt}
 use Rattle.tbr_model.specs.Hard.{IsSpaces, BeginsWithNonBlank, EndsWithNonBlank, first_stretch, BeginsAfter, IsWrapped}
 
 -- characters that are neither spaces nor before them
@@ -108,9 +109,9 @@ from_some width (c ∷ line) text ls some h = h
 pub from_none : (width : ℕ) (line text : List ℕ) (ls : List (List ℕ)) → line ≡ [] → IsWrapped width [] text ls → GoesOn width line text ls
 from_none width line text ls none h = subst (λ (cs : List ℕ). GoesOn width cs text ls) (sym none) h
 
--- a text that ends with a non-blank is one, or what is after its first character does
-pub last_of : (c : ℕ) (cs : List ℕ) → EndsWithNonBlank (c ∷ cs) → ((cs ≡ []) × (c ≢ 32)) ⊎ EndsWithNonBlank cs
-last_of c [] h = inl (refl, h.0)
+-- in a text that ends with a non-blank, what is after its first character is nothing, or does
+pub last_of : (c : ℕ) (cs : List ℕ) → EndsWithNonBlank (c ∷ cs) → (cs ≡ []) ⊎ EndsWithNonBlank cs
+last_of c [] h = inl refl
 last_of c (d ∷ cs) h = inr h
 
 -- ---- where lines begin
@@ -128,13 +129,9 @@ pub begins_after : (width : ℕ) → 0 < width → (before : List ℕ) (gap : �
     ((k : ℕ) → k ≤ width → k ≤ length w → k ≤ length (first_stretch more)) → BeginsAfter width before gap more
 begins_after width some before gap w more long over apart reach = inr (
   begins_nonblank more (reach 1 some long),
-  go (nat_le (length w) width) refl,
+  elim (cases_lt width (length w)) [ inl wide ↦ omega (arith, apart, reach width (omega arith) (omega (arith, wide))) | inr short ↦ omega (arith, over, reach (length w) short (omega arith)) ],
   λ none. absurd (omega (arith, none, apart)),
 )
-  where
-    go : (b : Bool) → nat_le (length w) width ≡ b → width < length before + (gap + length (first_stretch more))
-    go true e = let all : length w ≤ length (first_stretch more) = reach (length w) (leb-true _ _ e) (omega arith) in omega (arith, over, all)
-    go false e = let all : width ≤ length (first_stretch more) = reach width (omega arith) (omega (arith, leb-false _ _ e)) in omega (arith, apart, all)
 
 pub first_begins : (width : ℕ) → 0 < width → (gap : ℕ) (w more : List ℕ) → 0 < length w → width < gap + length w →
     ((k : ℕ) → k ≤ width → k ≤ length w → k ≤ length (first_stretch more)) → BeginsAfter width [] gap more

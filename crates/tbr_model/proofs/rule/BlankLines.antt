@@ -1,6 +1,7 @@
 -- A hard line of spaces alone leaves an empty line before a newline, and none at the end of a run.
 use Rattle.std.proofs.Common.{◌≡◌, ◌≢◌, ℕ, true, false, Option, None, Some, List, [], ◌∷◌, fold, refl, ap, sym, ◌∙◌, subst}
 use Rattle.std.specs.List.{AllByRecursion as Each}
+use Rattle.tbr_model.proofs.lists.Each.{each_weaker}
 use Rattle.tbr_model.specs.declared.white_space.WhiteSpace.{WhiteSpace}
 use Rattle.tbr_model.specs.declared.white_space.WhiteSpace.TheVariants.{Normal, Pre, PreWrap}
 use Rattle.tbr_model.specs.Run.{Entry, character, marker_entry, marker, items_width, has_character}
@@ -16,15 +17,11 @@ pub mode_preserves : {A : Type 0} (mode : WhiteSpace) → mode ≢ Normal → (e
 mode_preserves mode kept (character c a b m) h = λ e. kept (sym h ∙ e)
 mode_preserves mode kept (marker_entry name) h = tt
 
-pub all_preserve : {A : Type 0} (mode : WhiteSpace) → mode ≢ Normal → (run : List (Entry A)) → Each (HasMode mode) run → Each Preserves run
-all_preserve mode kept [] h = tt
-all_preserve mode kept (e ∷ run) h = (mode_preserves mode kept e h.0, all_preserve mode kept run h.1)
-
 -- Nothing is laid, and no character is in the word.
-record IsBlankSoFar {A : Type 0} (p : Progress A) : Type 0 where
-  done : p.laid.done ≡ []
-  line : p.laid.line ≡ []
-  word : has_character p.word ≡ false
+pub record IsBlankSoFar {A : Type 0} (p : Progress A) : Type 0 where
+  pub done : p.laid.done ≡ []
+  pub line : p.laid.line ≡ []
+  pub word : has_character p.word ≡ false
 
 module _ {A : Type 0} (columns : ℕ → Option ℕ) (width : ℕ) where
   pub not_broken : (p : Progress A) → has_character p.word ≡ false → break_word columns width p ≡ p
@@ -40,7 +37,7 @@ module _ {A : Type 0} (columns : ℕ → Option ℕ) (width : ℕ) where
   space_blank a b PreWrap p preserving k =
       subst (λ (q : Progress A). IsBlankSoFar (keep_space 32 (tag_of q a b) PreWrap (columns 32) q)) (sym (not_broken p k.word)) (space_waits (tag_of p a b) PreWrap (columns 32) p k)
 
-  fold_blank : (es : List (Event A)) (p : Progress A) → Each Preserves (run_of es) → IsSpaces (entry_letters (run_of es)) → IsBlankSoFar p → IsBlankSoFar (fold (step columns width) p es)
+  pub fold_blank : (es : List (Event A)) (p : Progress A) → Each Preserves (run_of es) → IsSpaces (entry_letters (run_of es)) → IsBlankSoFar p → IsBlankSoFar (fold (step columns width) p es)
   fold_blank [] p modes spaces k = k
   fold_blank (call ∷ es) p modes spaces k = fold_blank es (record p { in_continuation = p.continuation_flag }) modes spaces (record { done = k.done; line = k.line; word = k.word })
   fold_blank (entry (marker_entry name) ∷ es) p modes spaces k =
@@ -68,4 +65,4 @@ module _ {A : Type 0} (columns : ℕ → Option ℕ) (width : ℕ) where
   -- in a run of one preserving mode
   pub blank_line_of : (mode : WhiteSpace) → mode ≢ Normal → (p : Progress A) (es : List (Event A)) → BeginsHardLine p → Each (HasMode mode) (run_of es) → IsSpaces (entry_letters (run_of es)) →
       ((newline (flush_word columns width (fold (step columns width) p es))).laid.done ≡ blank_lines true) × ((finished columns width (fold (step columns width) p es)).done ≡ blank_lines false)
-  blank_line_of mode kept p es f modes = blank_line p es f (all_preserve mode kept (run_of es) modes)
+  blank_line_of mode kept p es f modes = blank_line p es f (each_weaker (HasMode mode) Preserves (mode_preserves mode kept) (run_of es) modes)

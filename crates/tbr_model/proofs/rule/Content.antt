@@ -1,20 +1,21 @@
 -- What is found in a run's items, for any way to look at them that passes over characters that aren't kept. The rule
 -- keeps it, in order.
-use Rattle.std.proofs.Common.{◌≡◌, ℕ, ◌⊎◌, inl, true, false, List, Option, [], ◌∷◌, ◌++◌, fold, refl, ap, sym, ◌∙◌, append_assoc, append-nil}
+use Rattle.std.proofs.Common.{◌≡◌, ℕ, ◌⊎◌, inl, true, false, List, Option, [], ◌∷◌, ◌++◌, fold, refl, ap, sym, ◌∙◌, append_assoc, append-nil, Bool, filter}
 use Rattle.std.specs.Char.{is_whitespace}
 use Rattle.std.specs.List.{AllZip, AllByRecursion as Each}
-use Rattle.std.proofs.lemmas.Bool.{cond_both, eqb-true}
+use Rattle.std.proofs.lemmas.Bool.{eqb-true}
 use Rattle.tbr_model.specs.declared.white_space.WhiteSpace.{WhiteSpace}
 use Rattle.tbr_model.specs.declared.white_space.WhiteSpace.TheVariants.{Pre, PreWrap}
 use Rattle.tbr_model.specs.Run.{Entry, character, marker_entry, Item, glyph, marker, item_width, has_character, is_kept}
 use Rattle.tbr_model.specs.Layout.{joined}
 use Rattle.tbr_model.specs.Laid.{Laid, nothing_laid, extended, end_line}
 use Rattle.tbr_model.specs.Rule.{Event, run_of, Progress, is_space_item, is_white_item, without_trailing, trimmed, is_pre, flush_word, newline, step, progress, finished, waiting, lines_of}
-use Rattle.tbr_model.proofs.rule.LaidText.{text, text-extended, text-end_line}
+use Rattle.tbr_model.proofs.rule.LaidText.{text, text-extended, text-end_line, trailing_cases}
 use Rattle.tbr_model.proofs.rule.HardLineStart.{BeginsHardLine}
 use Rattle.tbr_model.proofs.rule.HardLines.{no_character_after_end, flush_flushes}
 use Rattle.tbr_model.proofs.rule.Walk.{KeptByRule, word_flushed, line_ended, run_ended, walked, run_walked}
 use Rattle.tbr_model.proofs.words.Items.{break_lost}
+use Rattle.std.proofs.lemmas.List.Elements.{filter-append}
 
 -- ---- ways to look at items
 
@@ -76,16 +77,9 @@ module _ {A X : Type 0} {columns : ℕ → Option ℕ} {Comes : Entry A → Type
   space_first (marker name) is h = cc
 
   trailing_same : (is : List (Item A)) → found (without_trailing is) ≡ found is
-  trailing_same [] = refl
-  trailing_same (i ∷ is) = go (without_trailing is) refl (trailing_same is)
-    where
-      after_first : (js : List (Item A)) → found js ≡ found is → found (i ∷ js) ≡ found (i ∷ is)
-      after_first js h = looks.append (i ∷ []) js ∙ ap (λ xs. found (i ∷ []) ++ xs) h ∙ sym (looks.append (i ∷ []) is)
-
-      go : (js : List (Item A)) → without_trailing is ≡ js → found js ≡ found is → found (without_trailing (i ∷ is)) ≡ found (i ∷ is)
-      go [] e h =
-          rw e (cond_both (is_space_item i) _ _ (λ (js : List (Item A)). found js ≡ found (i ∷ is)) (λ s. h ∙ sym (space_first i is s)) (λ _. after_first [] h))
-      go (j ∷ js) e h = rw e (after_first (j ∷ js) h)
+  trailing_same =
+      trailing_cases (λ is js. found js ≡ found is) refl
+      (λ i is js h. looks.append (i ∷ []) js ∙ ap (λ xs. found (i ∷ []) ++ xs) h ∙ sym (looks.append (i ∷ []) is)) (λ i is s h. h ∙ sym (space_first i is s))
 
   -- ---- what is found on the lines that are done and the open one, and in the word
 
@@ -183,3 +177,30 @@ module _ {A X : Type 0} {columns : ℕ → Option ℕ} {Comes : Entry A → Type
           lines_alone (run_of es) (newline r).laid r.word refl (flush_flushes columns width q) (line_ended (finds width) (run_of es) r (word_flushed (finds width) (run_of es) q s)).laid,
           lines_alone (run_of es) (finished columns width q) r.word (no_character_after_end r.laid) (flush_flushes columns width q) (run_ended (finds width) (run_of es) q s),
         )
+
+-- a marker, or a character that passes the test
+abbrev pub item_passes : {A : Type 0} → (ℕ → Bool) → Item A → Bool
+item_passes test (glyph c a) = test c
+item_passes test (marker name) = true
+
+abbrev pub passing : {A : Type 0} → (ℕ → Bool) → List (Item A) → List (Item A)
+passing test is = filter (item_passes test) is
+
+pub passing-append : {A : Type 0} (test : ℕ → Bool) (is js : List (Item A)) → passing test (is ++ js) ≡ passing test is ++ passing test js
+passing-append test is js = filter-append (item_passes test) is js
+
+pub looks_at_passing : {A : Type 0} (columns : ℕ → Option ℕ) (Comes : Entry A → Type 0) (Modes : WhiteSpace → Type 0) (test : ℕ → Bool) → ((c : ℕ) (a b : A) (m : WhiteSpace) → Comes (character c a b m) → Modes m) →
+    ((c : ℕ) → is_kept columns c ≡ false → test c ≡ false) → (Modes PreWrap → (c : ℕ) → is_whitespace c ≡ true → test c ≡ false) → LooksAtKept columns Comes Modes (passing test)
+looks_at_passing columns Comes Modes test modes lost white = record {
+  modes = modes;
+  append = passing-append test;
+  nothing = refl;
+  lost = λ c a h. rw (lost c h) refl;
+  white = λ m c a h. rw (white m c h) refl;
+}
+
+-- items that have no character all pass
+pub markers_pass : {A : Type 0} (test : ℕ → Bool) (is : List (Item A)) → has_character is ≡ false → passing test is ≡ is
+markers_pass test [] h = refl
+markers_pass test (glyph c a ∷ is) h = cc
+markers_pass test (marker name ∷ is) h = ap (λ js. marker name ∷ js) (markers_pass test is h)

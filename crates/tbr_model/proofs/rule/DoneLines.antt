@@ -1,19 +1,14 @@
--- Lines that are done have no influence on how a block goes on.
-use Rattle.std.proofs.Common.{◌≡◌, ℕ, zero, suc, ◌+◌, ◌-◌, ◌%◌, ◌==◌, ◌&&◌, nat_le, nat_lt, Bool, true, false, if◌then◌else◌, is_some, is_none, Option, Some, None, List, [], ◌∷◌, ◌++◌, fold, refl, ap, ◌∙◌, append_assoc, append-nil, sym}
+-- Lines that are done have no influence on how a block goes on: this is the rule where each annotation stays as it is.
+use Rattle.std.proofs.Common.{◌≡◌, ℕ, ◌&&◌, nat_lt, is_none, Option, Some, None, List, [], ◌++◌, fold, refl, ap, sym, ◌∙◌, append-nil}
+use Rattle.std.specs.Option.{option_map}
 use Rattle.tbr_model.specs.declared.white_space.WhiteSpace.{WhiteSpace}
-use Rattle.tbr_model.specs.declared.white_space.WhiteSpace.TheVariants.{Normal, Pre, PreWrap}
-use Rattle.tbr_model.specs.Run.{character, marker_entry, Item, glyph, item_width, items_width, has_character, is_blank, is_break, Entry}
-use Rattle.tbr_model.specs.Laid.{Laid, extended, end_line, end_if_character, end_if_columns, put_item, put_items}
-use Rattle.tbr_model.specs.Rule.{Event, call, entry, Space, Progress, spaces, pending_width, wrap_space_by, wrap_space, put_space, put_spaces, put_pending, is_pre, lay_fresh, lay, flush_word, break_word, collapse, newline, put_tab, tab, keep_space, passes, tag_of, keep_character, preserve, enter, step, finished}
-
--- ---- cases
-
--- a function goes into both cases
-pub if_same : {X Y : Type 0} (f : X → Y) (b : Bool) (x y : X) (z w : Y) → z ≡ f x → w ≡ f y → (if b then z else w) ≡ f (if b then x else y)
-if_same f true x y z w p q = p
-if_same f false x y z w p q = q
-
--- ---- what is laid
+use Rattle.tbr_model.specs.Run.{character, marker_entry, Item, glyph, marker, is_blank}
+use Rattle.tbr_model.specs.Laid.{Laid, put_items}
+use Rattle.tbr_model.specs.Rule.{Event, call, entry, Space, Progress, collapse, newline, tab, preserve, step, finished}
+use Rattle.tbr_model.specs.Mapped.{map_item, map_items, map_event, map_space}
+pub use Rattle.tbr_model.proofs.lists.Each.{if_same}
+use Rattle.tbr_model.proofs.lists.Each.{map_same}
+use Rattle.tbr_model.proofs.maps.Rule.{moved_laid, moved, put_items-map, tab-map, preserve-map, step-map, steps-map, finished_moved, newline-map}
 
 -- after lines that are done
 abbrev pub under : {A : Type 0} → List (List (Item A)) → Laid A → Laid A
@@ -22,133 +17,64 @@ under d l = record l { done = d ++ l.done }
 abbrev pub after : {A : Type 0} → List (List (Item A)) → Progress A → Progress A
 after d p = record p { laid = under d p.laid }
 
-pub end_line_under : {A : Type 0} (d : List (List (Item A))) (l : Laid A) → end_line (under d l) ≡ under d (end_line l)
-end_line_under d l = ap (λ ls. record { done = ls; line = []; width = 0 }) (append_assoc d l.done (l.line ∷ []))
+-- ---- each annotation as it is
 
-pub end_if_character_under : {A : Type 0} (d : List (List (Item A))) (l : Laid A) → end_if_character (under d l) ≡ under d (end_if_character l)
-end_if_character_under d l = if_same (under d) (has_character l.line) (end_line l) l (end_line (under d l)) (under d l) (end_line_under d l) refl
+item_same : {A : Type 0} (i : Item A) → map_item (λ a. a) i ≡ i
+item_same (glyph c a) = refl
+item_same (marker name) = refl
 
-end_if_columns_under : {A : Type 0} (d : List (List (Item A))) (l : Laid A) → end_if_columns (under d l) ≡ under d (end_if_columns l)
-end_if_columns_under d l = if_same (under d) (l.width == 0) l (end_line l) (under d l) (end_line (under d l)) refl (end_line_under d l)
+items_same : {A : Type 0} (is : List (Item A)) → map_items (λ a. a) is ≡ is
+items_same = map_same (map_item (λ a. a)) item_same
 
-put_item_under : {A : Type 0} (columns : ℕ → Option ℕ) (width : ℕ) (d : List (List (Item A))) (l : Laid A) (i : Item A) → put_item columns width (under d l) i ≡ under d (put_item columns width l i)
-put_item_under {A} columns width d l i =
-    if_same (under d) (nat_le (l.width + item_width columns i) width) _ _ _ _ refl
-    (if_same (under d) (nat_le (item_width columns i) width) _ _ _ _ (ap (λ (m : Laid A). extended m (i ∷ []) (item_width columns i)) (end_line_under d l))
-    (ap (λ (m : Laid A). end_line (extended m (i ∷ []) (item_width columns i))) (end_if_columns_under d l) ∙ end_line_under d (extended (end_if_columns l) (i ∷ []) (item_width columns i))))
+event_same : {A : Type 0} (e : Event A) → map_event (λ a. a) e ≡ e
+event_same call = refl
+event_same (entry (character c a b mode)) = refl
+event_same (entry (marker_entry name)) = refl
+
+space_same : {A : Type 0} (o : Option (Space A)) → option_map (map_space (λ a. a)) o ≡ o
+space_same None = refl
+space_same (Some s) = refl
+
+laid_same : {A : Type 0} (d : List (List (Item A))) (l : Laid A) → moved_laid d (λ a. a) l ≡ under d l
+laid_same d l = rw (map_same (map_items (λ a. a)) items_same l.done, items_same l.line) refl
+
+by_move : {A : Type 0} (d : List (List (Item A))) (F : Progress A → Progress A) → ((p : Progress A) → F (moved d (λ a. a) p) ≡ moved d (λ a. a) (F p)) → (p : Progress A) → F (after d p) ≡ after d (F p)
+by_move {A} d F goes p = ap F (sym (same p)) ∙ goes p ∙ same (F p)
+  where
+    same : (q : Progress A) → moved d (λ a. a) q ≡ after d q
+    same q = rw (laid_same d q.laid, space_same q.space, items_same q.word) refl
 
 pub put_items_under : {A : Type 0} (columns : ℕ → Option ℕ) (width : ℕ) (d : List (List (Item A))) (l : Laid A) (is : List (Item A)) → put_items columns width (under d l) is ≡ under d (put_items columns width l is)
-put_items_under columns width d l [] = refl
-put_items_under {A} columns width d l (i ∷ is) =
-    ap (λ (m : Laid A). put_items columns width m is) (put_item_under columns width d l i) ∙ put_items_under columns width d (put_item columns width l i) is
-
-put_space_under : {A : Type 0} (width : ℕ) (a : A) (d : List (List (Item A))) (l : Laid A) → put_space width a (under d l) ≡ under d (put_space width a l)
-put_space_under width a d l = if_same (under d) (l.width + 1 == width) _ _ _ _ (end_line_under d (extended l (glyph 32 a ∷ []) 1)) refl
-
-put_spaces_under : {A : Type 0} (width : ℕ) (a : A) (d : List (List (Item A))) (n : ℕ) (l : Laid A) → put_spaces width a n (under d l) ≡ under d (put_spaces width a n l)
-put_spaces_under width a d zero l = refl
-put_spaces_under {A} width a d (suc n) l =
-    ap (λ (m : Laid A). put_spaces width a n m) (put_space_under width a d l) ∙ put_spaces_under width a d n (put_space width a l)
-
-put_pending_under : {A : Type 0} (width : ℕ) (d : List (List (Item A))) (o : Option (Space A)) (l : Laid A) → put_pending width o (under d l) ≡ under d (put_pending width o l)
-put_pending_under width d None l = refl
-put_pending_under width d (Some s) l = put_spaces_under width s.tag d s.width l
-
-put_tab_under : {A : Type 0} (width column : ℕ) (a : A) (d : List (List (Item A))) (l : Laid A) → put_tab width column a (under d l) ≡ under d (put_tab width column a l)
-put_tab_under width column a d l =
-    if_same (under d) (nat_le (8 - column % 8) (width - column)) _ _ _ _ refl (end_line_under d (extended l (spaces (width - column) a) (width - column)))
+put_items_under {A} columns width d l is =
+    ap (λ (m : Laid A). put_items columns width m is) (sym (laid_same d l)) ∙ ap (put_items columns width (moved_laid d (λ a. a) l)) (sym (items_same is))
+    ∙ put_items-map d (λ a. a) columns width is l ∙ laid_same d (put_items columns width l is)
 
 -- ---- where a block is
-
-wrap_space_by_after : {A : Type 0} (columns : ℕ → Option ℕ) (width : ℕ) (d : List (List (Item A))) (p : Progress A) (s : Space A) (mode : WhiteSpace) →
-    wrap_space_by columns width (after d p) s mode ≡ after d (wrap_space_by columns width p s mode)
-wrap_space_by_after columns width d p s Normal = refl
-wrap_space_by_after columns width d p s Pre = if_same (after d) (nat_le (width - p.laid.width) s.width) _ _ _ _ refl refl
-wrap_space_by_after columns width d p s PreWrap = refl
-
-wrap_space_after : {A : Type 0} (columns : ℕ → Option ℕ) (width : ℕ) (d : List (List (Item A))) (p : Progress A) (o : Option (Space A)) → wrap_space columns width (after d p) o ≡ after d (wrap_space columns width p o)
-wrap_space_after columns width d p None = refl
-wrap_space_after columns width d p (Some s) = wrap_space_by_after columns width d p s s.mode
-
-lay_fresh_after : {A : Type 0} (columns : ℕ → Option ℕ) (width : ℕ) (d : List (List (Item A))) (p : Progress A) → lay_fresh columns width (after d p) ≡ after d (lay_fresh columns width p)
-lay_fresh_after {A} columns width d p =
-    if_same (after d) (has_character p.word) _ _ _ _
-    (ap (λ (l : Laid A). record p { laid = l; space = None; word = []; continuation_flag = is_pre p.mode })
-    (ap (λ (l : Laid A). put_items columns width l p.word) same ∙ put_items_under columns width d (put_pending width p.space (end_if_character p.laid)) p.word))
-    (ap (λ (l : Laid A). record p { laid = l; space = None; continuation_flag = is_pre p.mode }) same)
-  where
-    same : put_pending width p.space (end_if_character (under d p.laid)) ≡ under d (put_pending width p.space (end_if_character p.laid))
-    same = ap (λ (l : Laid A). put_pending width p.space l) (end_if_character_under d p.laid) ∙ put_pending_under width d p.space (end_if_character p.laid)
-
-lay_after : {A : Type 0} (columns : ℕ → Option ℕ) (width : ℕ) (d : List (List (Item A))) (p : Progress A) → lay columns width (after d p) ≡ after d (lay columns width p)
-lay_after {A} columns width d p =
-    if_same (after d) (nat_le (p.laid.width + (pending_width p.space + items_width columns p.word)) width) _ _ _ _ refl
-    (ap (lay_fresh columns width) (wrap_space_after columns width d p p.space) ∙ lay_fresh_after columns width d (wrap_space columns width p p.space))
-
-pub flush_word_after : {A : Type 0} (columns : ℕ → Option ℕ) (width : ℕ) (d : List (List (Item A))) (p : Progress A) → flush_word columns width (after d p) ≡ after d (flush_word columns width p)
-flush_word_after columns width d p = if_same (after d) (has_character p.word) _ _ _ _ (lay_after columns width d p) refl
-
-break_word_after : {A : Type 0} (columns : ℕ → Option ℕ) (width : ℕ) (d : List (List (Item A))) (p : Progress A) → break_word columns width (after d p) ≡ after d (break_word columns width p)
-break_word_after columns width d p = if_same (after d) (nat_lt 0 (items_width columns p.word)) _ _ _ _ (lay_after columns width d p) refl
 
 pub collapse_after : {A : Type 0} (c : ℕ) (a : A) (d : List (List (Item A))) (p : Progress A) → collapse c a (after d p) ≡ after d (collapse c a p)
 collapse_after c a d p = if_same (after d) (is_blank c && (nat_lt 0 p.laid.width && is_none p.space)) _ _ _ _ refl refl
 
 pub newline_after : {A : Type 0} (d : List (List (Item A))) (p : Progress A) → newline (after d p) ≡ after d (newline p)
-newline_after {A} d p = ap (λ (l : Laid A). record p { laid = l; space = None; continuation_flag = false; in_continuation = false }) (end_line_under d p.laid)
+newline_after d = by_move d newline (newline-map d (λ x. x) (λ c. None) 0)
 
 pub tab_after : {A : Type 0} (width : ℕ) (a : A) (d : List (List (Item A))) (p : Progress A) → tab width a (after d p) ≡ after d (tab width a p)
-tab_after {A} width a d p =
-    let column : ℕ = p.laid.width + pending_width p.space in
-    ap (λ (l : Laid A). record p { laid = l })
-    (if_same (under d) (nat_lt column width) _ _ _ _ (put_tab_under width column a d p.laid)
-    (ap (put_tab width 0 a) (end_if_character_under d p.laid) ∙ put_tab_under width 0 a d (end_if_character p.laid)))
-
-keep_space_after : {A : Type 0} (columns : ℕ → Option ℕ) (c : ℕ) (a : A) (mode : WhiteSpace) (d : List (List (Item A))) (o : Option ℕ) (p : Progress A) →
-    keep_space c a mode o (after d p) ≡ after d (keep_space c a mode o p)
-keep_space_after columns c a mode d None p = refl
-keep_space_after columns c a mode d (Some n) p = if_same (after d) (has_character p.word) _ _ _ _ refl refl
-
-keep_character_after : {A : Type 0} (columns : ℕ → Option ℕ) (width c : ℕ) (a b : A) (mode : WhiteSpace) (d : List (List (Item A))) (o : Option ℕ) (p : Progress A) →
-    keep_character columns width c a b mode o (after d p) ≡ after d (keep_character columns width c a b mode o p)
-keep_character_after columns width c a b mode d None p = refl
-keep_character_after columns width c a b mode d (Some n) p = if_same (after d) (is_pre mode && passes columns width n p) _ _ _ _ refl refl
+tab_after width a d = by_move d (tab width a) (tab-map d (λ x. x) (λ c. None) width a)
 
 pub preserve_after : {A : Type 0} (columns : ℕ → Option ℕ) (width c : ℕ) (a b : A) (mode : WhiteSpace) (d : List (List (Item A))) (p : Progress A) →
     preserve columns width c a b mode (after d p) ≡ after d (preserve columns width c a b mode p)
-preserve_after {A} columns width c a b mode d p =
-    if_same (after d) (c == 8203) _ _ _ _ refl
-    (if_same (after d) (c == 10) _ _ _ _ (ap newline flushed ∙ newline_after d (flush_word columns width p))
-    (if_same (after d) (c == 9) _ _ _ _ (ap (tab width (tag_of p a b)) flushed ∙ tab_after width (tag_of p a b) d (flush_word columns width p))
-    (if_same (after d) (is_blank c) _ _ _ _ (keep_space_after columns c (tag_of p a b) mode d (columns c) p) (keep_character_after columns width c a b mode d (columns c) p))))
-  where
-    flushed : flush_word columns width (after d p) ≡ after d (flush_word columns width p)
-    flushed = flush_word_after columns width d p
+preserve_after columns width c a b mode d = by_move d (preserve columns width c a b mode) (preserve-map d (λ x. x) columns width c a b mode)
 
-pub enter_after : {A : Type 0} (columns : ℕ → Option ℕ) (width : ℕ) (d : List (List (Item A))) (p : Progress A) (e : Entry A) → enter columns width (after d p) e ≡ after d (enter columns width p e)
-enter_after columns width d p (marker_entry name) = refl
-enter_after {A} columns width d p (character c a b Normal) =
-    if_same (after d) (is_break c) _ _ _ _
-    (ap (collapse c (tag_of p a b)) (break_word_after columns width d p) ∙ collapse_after c (tag_of p a b) d (break_word columns width p))
-    (if_same (after d) (is_some (columns c)) _ _ _ _ refl refl)
-enter_after columns width d p (character c a b Pre) = preserve_after columns width c a b Pre d p
-enter_after {A} columns width d p (character c a b PreWrap) =
-    ap (preserve columns width c a b PreWrap) (if_same (after d) (is_break c) _ _ _ _ (break_word_after columns width d p) refl)
-    ∙ preserve_after columns width c a b PreWrap d (if is_break c then break_word columns width p else p)
+module _ {A : Type 0} (columns : ℕ → Option ℕ) (width : ℕ) (d : List (List (Item A))) (p : Progress A) where
+  pub step_after : (e : Event A) → step columns width (after d p) e ≡ after d (step columns width p e)
+  step_after e = by_move d (λ q. step columns width q e) (λ q. ap (step columns width (moved d (λ a. a) q)) (sym (event_same e)) ∙ step-map d (λ a. a) columns width q e) p
 
-pub step_after : {A : Type 0} (columns : ℕ → Option ℕ) (width : ℕ) (d : List (List (Item A))) (p : Progress A) (e : Event A) → step columns width (after d p) e ≡ after d (step columns width p e)
-step_after columns width d p call = refl
-step_after columns width d p (entry e) = enter_after columns width d p e
+  pub fold_after : (es : List (Event A)) → fold (step columns width) (after d p) es ≡ after d (fold (step columns width) p es)
+  fold_after es =
+      by_move d (λ q. fold (step columns width) q es)
+      (λ q. ap (fold (step columns width) (moved d (λ a. a) q)) (sym (map_same (map_event (λ a. a)) event_same es)) ∙ steps-map d (λ a. a) columns width es q) p
 
-pub fold_after : {A : Type 0} (columns : ℕ → Option ℕ) (width : ℕ) (d : List (List (Item A))) (p : Progress A) (es : List (Event A)) →
-    fold (step columns width) (after d p) es ≡ after d (fold (step columns width) p es)
-fold_after columns width d p [] = refl
-fold_after columns width d p (e ∷ es) =
-    ap (λ q. fold (step columns width) q es) (step_after columns width d p e) ∙ fold_after columns width d (step columns width p e) es
-
-pub finished_after : {A : Type 0} (columns : ℕ → Option ℕ) (width : ℕ) (d : List (List (Item A))) (p : Progress A) → finished columns width (after d p) ≡ under d (finished columns width p)
-finished_after {A} columns width d p =
-    ap (λ (q : Progress A). end_if_character q.laid) (flush_word_after columns width d p) ∙ end_if_character_under d (flush_word columns width p).laid
+  pub finished_after : finished columns width (after d p) ≡ under d (finished columns width p)
+  finished_after = ap (λ (q : Progress A). q.laid) (by_move d (λ q. record q { laid = finished columns width q }) (λ q. ap (λ (l : Laid A). record (moved d (λ a. a) q) { laid = l }) (finished_moved d (λ a. a) columns width q)) p)
 
 -- ---- lines are only added
 

@@ -1,12 +1,12 @@
 -- What holds of one hard line at a time holds of a run of them.
-use Rattle.std.proofs.Common.{◌≡◌, ℕ, ◌+◌, nat_le, nat_lt, Bool, true, false, if◌then◌else◌, Option, List, [], ◌∷◌, ◌++◌, fold, refl, ap, sym, ◌∙◌, subst, append_assoc, append-nil, ltb-true}
+use Rattle.std.proofs.Common.{◌≡◌, ℕ, ◌+◌, nat_le, nat_lt, Bool, true, false, Option, List, [], ◌∷◌, ◌++◌, fold, refl, ap, sym, ◌∙◌, subst, append_assoc, append-nil, ltb-true, inl, inr}
 use Rattle.std.specs.List.{AllByRecursion as Each}
-use Rattle.std.proofs.lemmas.Bool.{cond_both, eqb-true}
+use Rattle.std.proofs.lemmas.Bool.{cond_both, eqb-true, cases_Bool}
 use Rattle.std.proofs.lemmas.List.Sums.{fold-append}
 use Rattle.tbr_model.specs.declared.white_space.WhiteSpace.TheVariants.{Normal, Pre, PreWrap}
-use Rattle.tbr_model.specs.Run.{Entry, character, marker_entry, Item, items_width, has_character, is_break}
+use Rattle.tbr_model.specs.Run.{Entry, character, marker_entry, Item, items_width, has_character}
 use Rattle.tbr_model.specs.Laid.{Laid, end_if_character}
-use Rattle.tbr_model.specs.Rule.{Event, call, entry, run_of, Progress, at_start, wrap_space, pending_width, lay_fresh, lay, flush_word, break_word, newline, enter, step, finished, lines_of}
+use Rattle.tbr_model.specs.Rule.{Event, call, entry, run_of, Progress, at_start, wrap_space, pending_width, lay, flush_word, break_word, newline, enter, step, finished, lines_of}
 use Rattle.tbr_model.specs.Hard.{Preserves, is_newline, onto_first, hard_lines, Parted}
 use Rattle.tbr_model.proofs.lists.Each.{each_append}
 use Rattle.tbr_model.proofs.words.LinesHaveCharacters.{wide_items}
@@ -19,14 +19,11 @@ use Rattle.tbr_model.proofs.rule.DoneLines.{after, fold_after, finished_after}
 pub no_character_after_end : {A : Type 0} (l : Laid A) → has_character (end_if_character l).line ≡ false
 no_character_after_end {A} l = cond_both (has_character l.line) _ _ (λ (m : Laid A). has_character m.line ≡ false) (λ _. refl) (λ h. h)
 
-lay_fresh_flushes : {A : Type 0} (columns : ℕ → Option ℕ) (width : ℕ) (p : Progress A) → has_character (lay_fresh columns width p).word ≡ false
-lay_fresh_flushes {A} columns width p = cond_both (has_character p.word) _ _ (λ (q : Progress A). has_character q.word ≡ false) (λ _. refl) (λ e. e)
-
 -- no character is left in a word that is laid
 pub lay_flushes : {A : Type 0} (columns : ℕ → Option ℕ) (width : ℕ) (p : Progress A) → has_character (lay columns width p).word ≡ false
 lay_flushes {A} columns width p =
     cond_both (nat_le (p.laid.width + (pending_width p.space + items_width columns p.word)) width) _ _ (λ (q : Progress A). has_character q.word ≡ false)
-    (λ _. refl) (λ _. lay_fresh_flushes columns width (wrap_space columns width p p.space))
+    (λ _. refl) (λ _. cond_both (has_character (wrap_space columns width p p.space).word) _ _ (λ (q : Progress A). has_character q.word ≡ false) (λ _. refl) (λ e. e))
 
 pub flush_flushes : {A : Type 0} (columns : ℕ → Option ℕ) (width : ℕ) (p : Progress A) → has_character (flush_word columns width p).word ≡ false
 flush_flushes {A} columns width p =
@@ -63,10 +60,6 @@ pub restart_after : {A : Type 0} (p : Progress A) → after p.laid.done (restart
 unfolding restart
 restart_after {A} p = ap (λ ls. record p { laid = record p.laid { done = ls } }) (append-nil p.laid.done)
 
-if_break : {A : Type 0} (columns : ℕ → Option ℕ) (width : ℕ) (b : Bool) (p : Progress A) → flush_word columns width (if b then break_word columns width p else p) ≡ flush_word columns width p
-if_break columns width true p = flush_after_break columns width p
-if_break columns width false p = refl
-
 -- in a preserving mode a newline ends the line after the word
 pub enter_newline : {A : Type 0} (columns : ℕ → Option ℕ) (width : ℕ) (p : Progress A) (e : Entry A) → Preserves e → is_newline e ≡ true →
     enter columns width p e ≡ newline (flush_word columns width p)
@@ -74,7 +67,7 @@ enter_newline columns width p (marker_entry name) m h = cc
 enter_newline columns width p (character c a b Normal) m h = absurd (m refl)
 enter_newline {A} columns width p (character c a b Pre) m h = let n : c ≡ 10 = eqb-true c 10 h in rw n refl
 enter_newline {A} columns width p (character c a b PreWrap) m h =
-    let n : c ≡ 10 = eqb-true c 10 h in rw n (ap newline (if_break columns width (is_break 10) p))
+    let n : c ≡ 10 = eqb-true c 10 h in rw n (ap newline (flush_after_break columns width p))
 
 -- ---- hard lines
 
@@ -108,9 +101,14 @@ parted_front {A} {Y} R x es front back first others =
     let (h, hs, is) = some_hard_line es in
     subst (λ (r : List (List (Entry A))). Parted R (x ∷ r) (front ++ back)) (sym is) (front, back, refl, first, subst (λ (r : List (List (Entry A))). Parted R r back) is others)
 
+-- each hard line whose entries have a property is shown so, before a newline and at the end of the run
+abbrev pub ShowsOne : {A : Type 0} → (ℕ → Option ℕ) → ℕ → (Bool → List (Entry A) → List (List (Item A)) → Type 0) → (Entry A → Type 0) → Type 0
+ShowsOne {A} columns width R M =
+    (p : Progress A) (es : List (Event A)) → BeginsHardLine p → Each M (run_of es) → NoNewline (run_of es) →
+    R true (run_of es) (newline (flush_word columns width (fold (step columns width) p es))).laid.done × R false (run_of es) (finished columns width (fold (step columns width) p es)).done
+
 module _ {A : Type 0} (columns : ℕ → Option ℕ) (width : ℕ) (R : Bool → List (Entry A) → List (List (Item A)) → Type 0) (M : Entry A → Type 0) (preserves : (e : Entry A) → M e → Preserves e)
-    (one : (p : Progress A) (es : List (Event A)) → BeginsHardLine p → Each M (run_of es) → NoNewline (run_of es) →
-    R true (run_of es) (newline (flush_word columns width (fold (step columns width) p es))).laid.done × R false (run_of es) (finished columns width (fold (step columns width) p es)).done) where
+    (one : ShowsOne columns width R M) where
   -- entries that come, after a hard line's entries so far
   abbrev pub GoOn : List (Event A) → Type 0
   GoOn es = (p : Progress A) (so_far : List (Event A)) → BeginsHardLine p → Each M (run_of so_far) → NoNewline (run_of so_far) →
@@ -121,11 +119,13 @@ module _ {A : Type 0} (columns : ℕ → Option ℕ) (width : ℕ) (R : Bool →
       let alone : hard_lines (run_of so_far ++ []) ≡ run_of so_far ∷ [] = ap hard_lines (append-nil (run_of so_far)) ∙ hard_line_alone (run_of so_far) plain in
       subst (λ (hs : List (List (Entry A))). Parted R hs (finished columns width (fold (step columns width) p so_far)).done) (sym alone) (one p so_far is_fresh modes plain).1
 
-  go_on_call : (es : List (Event A)) → GoOn es → GoOn (call ∷ es)
-  go_on_call es rest p so_far is_fresh modes plain =
-      let same : run_of (so_far ++ call ∷ []) ≡ run_of so_far = run_of-append so_far (call ∷ []) ∙ append-nil (run_of so_far) in
-      let later = rest p (so_far ++ call ∷ []) is_fresh (subst (Each M) (sym same) modes) (subst NoNewline (sym same) plain) in
-      rw (same, fold-append (step columns width) p so_far (call ∷ [])) at later
+  -- by an event that is no newline
+  go_on_more : (x : Event A) (es : List (Event A)) → Each M (run_of (x ∷ [])) → NoNewline (run_of (x ∷ [])) → GoOn es → GoOn (x ∷ es)
+  go_on_more x es m k rest p so_far is_fresh modes plain =
+      let same : run_of (so_far ++ x ∷ []) ≡ run_of so_far ++ run_of (x ∷ []) = run_of-append so_far (x ∷ []) in
+      let later = rest p (so_far ++ x ∷ []) is_fresh (subst (Each M) (sym same) (each_append M (run_of so_far) (run_of (x ∷ [])) modes m))
+      (subst NoNewline (sym same) (each_append (λ d. is_newline d ≡ false) (run_of so_far) (run_of (x ∷ [])) plain k)) in
+      rw (same, fold-append (step columns width) p so_far (x ∷ []), append_assoc (run_of so_far) (run_of (x ∷ [])) (run_of es), ← run_of-append (x ∷ []) es) at later
 
   go_on_newline : (e : Entry A) (es : List (Event A)) → M e → is_newline e ≡ true → GoOn es → GoOn (entry e ∷ es)
   go_on_newline e es m k rest p so_far is_fresh modes plain = rw (hard_line_first (run_of so_far) e (run_of es) plain k, lines) all
@@ -149,21 +149,10 @@ module _ {A : Type 0} (columns : ℕ → Option ℕ) (width : ℕ) (R : Bool →
           ∙ ap (λ r. (finished columns width r).done) (fold_after columns width ended_line.laid.done (restart ended_line) es)
           ∙ ap (λ l. l.done) (finished_after columns width ended_line.laid.done (fold (step columns width) (restart ended_line) es))
 
-  go_on_entry : (e : Entry A) (es : List (Event A)) → M e → is_newline e ≡ false → GoOn es → GoOn (entry e ∷ es)
-  go_on_entry e es m k rest p so_far is_fresh modes plain =
-      let same : run_of (so_far ++ entry e ∷ []) ≡ run_of so_far ++ e ∷ [] = run_of-append so_far (entry e ∷ []) in
-      let later = rest p (so_far ++ entry e ∷ []) is_fresh (subst (Each M) (sym same) (each_append M (run_of so_far) (e ∷ []) modes (m, tt)))
-      (subst NoNewline (sym same) (each_append (λ d. is_newline d ≡ false) (run_of so_far) (e ∷ []) plain (k, tt))) in
-      rw (same, fold-append (step columns width) p so_far (entry e ∷ []), append_assoc (run_of so_far) (e ∷ []) (run_of es)) at later
-
   go_on : (es : List (Event A)) → Each M (run_of es) → GoOn es
   go_on [] h = go_on_end
-  go_on (call ∷ es) h = go_on_call es (go_on es h)
-  go_on (entry e ∷ es) h = go_on_either e es h.0 (is_newline e) refl (go_on es h.1)
-    where
-      go_on_either : (e : Entry A) (es : List (Event A)) → M e → (b : Bool) → is_newline e ≡ b → GoOn es → GoOn (entry e ∷ es)
-      go_on_either e es m true k rest = go_on_newline e es m k rest
-      go_on_either e es m false k rest = go_on_entry e es m k rest
+  go_on (call ∷ es) h = go_on_more call es tt tt (go_on es h)
+  go_on (entry e ∷ es) h = elim (cases_Bool (is_newline e)) [ inl k ↦ go_on_newline e es h.0 k (go_on es h.1) | inr k ↦ go_on_more (entry e) es (h.0, tt) (k, tt) (go_on es h.1) ]
 
   -- what holds of each hard line, begun afresh, holds of the hard lines of a run
   pub hard_lines_parted : (es : List (Event A)) → Each M (run_of es) → Parted R (hard_lines (run_of es)) (lines_of columns width es)

@@ -1,8 +1,9 @@
 -- What a block has laid, as one text, and the characters of a text.
-use Rattle.std.proofs.Common.{◌≡◌, ℕ, ◌+◌, nat_le, ◌==◌, false, Option, List, [], ◌∷◌, ◌++◌, map, filter, refl, ap, sym, ◌∙◌, append_assoc, append-nil}
+use Rattle.std.proofs.Common.{◌≡◌, ℕ, ◌+◌, nat_le, ◌==◌, false, Option, List, [], ◌∷◌, ◌++◌, map, filter, refl, ap, sym, ◌∙◌, append_assoc, append-nil, true}
 use Rattle.std.proofs.lemmas.Bool.{cond_both}
 use Rattle.std.proofs.lemmas.List.Elements.{filter-append}
-use Rattle.tbr_model.specs.Run.{Item, glyph, item_width, is_kept, has_character}
+use Rattle.tbr_model.specs.Rule.{is_space_item, without_trailing}
+use Rattle.tbr_model.specs.Run.{Item, item_width, is_kept, has_character}
 use Rattle.tbr_model.specs.Layout.{joined}
 use Rattle.tbr_model.specs.Laid.{Laid, extended, end_line, end_if_character, end_if_columns, put_item, put_items}
 use Rattle.tbr_model.specs.Hard.{letters_of}
@@ -41,6 +42,16 @@ text-put_items columns width [] l = sym (append-nil (text l))
 text-put_items columns width (i ∷ is) l =
     text-put_items columns width is (put_item columns width l i) ∙ ap (λ js. js ++ is) (text-put_item columns width l i) ∙ append_assoc (text l) (i ∷ []) is
 
+-- what the spaces at the end are taken from: an item stays in front, or is a space that nothing is left after
+pub trailing_cases : {A : Type 0} (P : List (Item A) → List (Item A) → Type 0) → P [] [] → ((i : Item A) (is js : List (Item A)) → P is js → P (i ∷ is) (i ∷ js)) → ((i : Item A) (is : List (Item A)) → is_space_item i ≡ true → P is [] → P (i ∷ is) []) →
+    (is : List (Item A)) → P is (without_trailing is)
+trailing_cases P none more drops [] = none
+trailing_cases {A} P none more drops (i ∷ is) = go (without_trailing is) refl (trailing_cases P none more drops is)
+  where
+    go : (js : List (Item A)) → without_trailing is ≡ js → P is js → P (i ∷ is) (without_trailing (i ∷ is))
+    go [] e h = rw e (cond_both (is_space_item i) _ _ (P (i ∷ is)) (λ s. drops i is s h) (λ _. more i is [] h))
+    go (j ∷ js) e h = rw e (more i is (j ∷ js) h)
+
 -- ---- characters
 
 -- the characters that are kept
@@ -52,6 +63,3 @@ kept-append columns a b = ap (filter (is_kept columns)) (letters_of-append a b) 
 
 pub none_kept : {A : Type 0} (columns : ℕ → Option ℕ) (is : List (Item A)) → has_character is ≡ false → kept_of columns is ≡ []
 none_kept columns is h = ap (λ gs. filter (is_kept columns) (map (λ g. g.0) gs)) (no_glyphs is h)
-
-pub kept_one : {A : Type 0} (columns : ℕ → Option ℕ) (c : ℕ) (a : A) → is_kept columns c ≡ false → kept_of columns (glyph c a ∷ []) ≡ []
-kept_one columns c a h = rw h refl

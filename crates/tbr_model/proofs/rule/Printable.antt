@@ -51,3 +51,9 @@ preserved_visible columns width c a b mode p h =
     let i : (c == 9) ≡ false = ne_eqb c 9 (λ e. absurd (omega (arith, h.from, e))) in
     let j : is_blank c ≡ false = blank_not c h.from h.to in
     rw (f, g, i, j, h.one) refl
+
+pub entered_visible : {A : Type 0} (columns : ℕ → Option ℕ) (width c : ℕ) (a b : A) (mode : WhiteSpace) (p : Progress A) → mode ≢ Normal → IsVisible columns c →
+    enter columns width p (character c a b mode) ≡ keep_character columns width c a b mode (Some 1) p
+entered_visible columns width c a b Normal p kept h = absurd (kept refl)
+entered_visible columns width c a b Pre p kept h = preserved_visible columns width c a b Pre p h
+entered_visible columns width c a b PreWrap p kept h = rw (break_not c h.from h.to) (preserved_visible columns width c a b PreWrap p h)

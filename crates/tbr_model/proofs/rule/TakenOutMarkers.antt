@@ -1,6 +1,6 @@
 -- Markers at the end of the word under way can be taken out of the run.
 use Rattle.std.proofs.Common.{◌≡◌, ℕ, ◌+◌, ◌-◌, ◌≤◌, ◌⊎◌, inl, inr, ◌==◌, ◌&&◌, ◌||◌, Bool, true, false, nat_le, nat_lt, if◌then◌else◌, is_some, is_none, Option, Some, None, List, [], ◌∷◌, ◌++◌, length, refl, ap, sym, ◌∙◌, arith, append-nil, length-append, ltb-true, ltb-false, lt-ltb}
-use Rattle.std.proofs.lemmas.Bool.{cond_both, le-ltb, or_parts}
+use Rattle.std.proofs.lemmas.Bool.{cond_both, le-ltb, or_parts, cases_Bool}
 use Rattle.std.proofs.lemmas.List.Sums.{fold-append}
 use Rattle.tbr_model.specs.declared.white_space.WhiteSpace.{WhiteSpace}
 use Rattle.tbr_model.specs.declared.white_space.WhiteSpace.TheVariants.{Normal, Pre, PreWrap}
@@ -28,31 +28,23 @@ without_events-append : {A : Type 0} (n : ℕ) (es fs : List (Event A)) → leng
 without_events-append n [] fs h = refl
 without_events-append {A} n (call ∷ es) fs h = ap (λ (gs : List (Event A)). call ∷ gs) (without_events-append n es fs h)
 without_events-append {A} n (entry (character c a b mode) ∷ es) fs h = ap (λ (gs : List (Event A)). entry (character c a b mode) ∷ gs) (without_events-append n es fs h)
-without_events-append {A} n (entry (marker_entry name) ∷ es) fs h = go (nat_lt (length (names_in_run (run_of es))) (n - length (names_in_run (run_of fs)))) refl (without_events-append n es fs h)
+without_events-append {A} n (entry (marker_entry name) ∷ es) fs h = elim (cases_Bool (nat_lt (length (names_in_run (run_of es))) (n - length (names_in_run (run_of fs))))) [
+  | inl e ↦
+      let test : nat_lt (length (names_in_run (run_of (es ++ fs)))) n ≡ true = lt-ltb _ _ (omega (arith, both, ltb-true _ _ e)) in
+      rw (test, e) (without_events-append n es fs h)
+  | inr e ↦
+      let test : nat_lt (length (names_in_run (run_of (es ++ fs)))) n ≡ false = le-ltb _ _ (omega (arith, both, ltb-false _ _ e)) in
+      rw (test, e) (ap (λ (gs : List (Event A)). entry (marker_entry name) ∷ gs) (without_events-append n es fs h))
+]
   where
     both : length (names_in_run (run_of (es ++ fs))) ≡ length (names_in_run (run_of es)) + length (names_in_run (run_of fs))
     both = ap (λ (gs : List (Entry A)). length (names_in_run gs)) (run_of-append es fs) ∙ ap length (names_in_run-append (run_of es) (run_of fs)) ∙ length-append (names_in_run (run_of es)) (names_in_run (run_of fs))
 
-    go : (x : Bool) → nat_lt (length (names_in_run (run_of es))) (n - length (names_in_run (run_of fs))) ≡ x →
-        without_markers n (es ++ fs) ≡ without_markers (n - length (names_in_run (run_of fs))) es ++ without_markers n fs →
-        without_markers n (entry (marker_entry name) ∷ (es ++ fs)) ≡ without_markers (n - length (names_in_run (run_of fs))) (entry (marker_entry name) ∷ es) ++ without_markers n fs
-    go true e rest =
-        let test : nat_lt (length (names_in_run (run_of (es ++ fs)))) n ≡ true = lt-ltb _ _ (omega (arith, both, ltb-true _ _ e)) in
-        rw (test, e) rest
-    go false e rest =
-        let test : nat_lt (length (names_in_run (run_of (es ++ fs)))) n ≡ false = le-ltb _ _ (omega (arith, both, ltb-false _ _ e)) in
-        rw (test, e) (ap (λ (gs : List (Event A)). entry (marker_entry name) ∷ gs) rest)
-
 -- one more event that is no marker, and one more marker that goes
-without_after : {A : Type 0} (n : ℕ) (es : List (Event A)) (c : ℕ) (a b : A) (mode : WhiteSpace) → without_markers n (es ++ entry (character c a b mode) ∷ []) ≡ without_markers n es ++ entry (character c a b mode) ∷ []
-without_after {A} n es c a b mode =
-    without_events-append n es (entry (character c a b mode) ∷ []) (omega arith)
-    ∙ ap (λ k. without_markers k es ++ entry (character c a b mode) ∷ []) (let e : n - 0 ≡ n = omega arith in e)
-
-without_call : {A : Type 0} (n : ℕ) (es : List (Event A)) → without_markers n (es ++ call ∷ []) ≡ without_markers n es ++ call ∷ []
-without_call {A} n es =
-    without_events-append n es (call ∷ []) (omega arith)
-    ∙ ap (λ k. without_markers k es ++ call ∷ []) (let e : n - 0 ≡ n = omega arith in e)
+without_plain : {A : Type 0} (n : ℕ) (es : List (Event A)) (x : Event A) → length (names_in_run (run_of (x ∷ []))) ≡ 0 → without_markers n (es ++ x ∷ []) ≡ without_markers n es ++ without_markers n (x ∷ [])
+without_plain n es x none =
+    without_events-append n es (x ∷ []) (omega arith)
+    ∙ ap (λ k. without_markers k es ++ without_markers n (x ∷ [])) (let e : n - length (names_in_run (run_of (x ∷ []))) ≡ n = omega arith in e)
 
 without_one : {A : Type 0} (n : ℕ) (es : List (Event A)) (name : List ℕ) → without_markers (n + 1) (es ++ entry (marker_entry name) ∷ []) ≡ without_markers n es
 without_one {A} n es name =
@@ -92,16 +84,14 @@ width_front columns is front ms e h = omega (arith, ap (items_width columns) e, 
 leading_front : {A : Type 0} (is front ms : List (Item A)) → without_leading is ≡ front ++ ms → (before : List (Item A)) × (is ≡ before ++ ms) × (without_leading before ≡ front)
 leading_front [] [] ms h = ([], h, refl)
 leading_front [] (j ∷ front) ms h = cc
-leading_front {A} (i ∷ is) front ms h = go (is_white_item i) refl (leading_front is front ms) h
+leading_front {A} (i ∷ is) front ms h = elim (cases_Bool (is_white_item i)) [
+  | inl w ↦ let (before, whole, left) = leading_front is front ms (rw w at h) in (i ∷ before, ap (λ (js : List (Item A)). i ∷ js) whole, rw w left)
+  | inr w ↦ let e : i ∷ is ≡ front ++ ms = rw w at h in (front, e, kept front e w)
+]
   where
     kept : (front : List (Item A)) → i ∷ is ≡ front ++ ms → is_white_item i ≡ false → without_leading front ≡ front
     kept [] e w = refl
     kept (j ∷ front) e w = let same : i ≡ j = cc in let not : is_white_item j ≡ false = rw (← same) w in rw not refl
-
-    go : (x : Bool) → is_white_item i ≡ x → (without_leading is ≡ front ++ ms → (before : List (Item A)) × (is ≡ before ++ ms) × (without_leading before ≡ front)) →
-        (if x then without_leading is else i ∷ is) ≡ front ++ ms → (before : List (Item A)) × (i ∷ is ≡ before ++ ms) × (without_leading before ≡ front)
-    go true w others e = let (before, whole, left) = others e in (i ∷ before, ap (λ (js : List (Item A)). i ∷ js) whole, rw w left)
-    go false w others e = (front, e, kept front e w)
 
 -- ---- a step of the rule
 
@@ -137,22 +127,17 @@ module _ {A : Type 0} where
   abbrev IsBlind : (Progress A → Bool) → Type 0
   IsBlind t = (p : Progress A) (before ms : List (Item A)) → p.word ≡ before ++ ms → has_character ms ≡ false → t (with_word p before) ≡ t p
 
+  leaves_as : (F f : Progress A → Progress A) (p : Progress A) → F p ≡ f p → ((before ms : List (Item A)) → p.word ≡ before ++ ms → has_character ms ≡ false → F (with_word p before) ≡ f (with_word p before)) → Leaves f p → Leaves F p
+  leaves_as F f p here there h front ms none e = elim (h front ms none (ap (λ (q : Progress A). q.word) (sym here) ∙ e)) [
+    | inl all ↦ inl all
+    | inr r ↦ inr (r.0, r.1, there r.0 ms r.1 none ∙ r.2 ∙ ap (λ (q : Progress A). with_word q front) (sym here))
+  ]
+
   leaves_if : (t : Progress A → Bool) (f g : Progress A → Progress A) (p : Progress A) → IsBlind t → (t p ≡ true → Leaves f p) → (t p ≡ false → Leaves g p) → Leaves (λ q. if t q then f q else g q) p
-  leaves_if t f g p blind h k = go (t p) refl
-    where
-      go : (x : Bool) → t p ≡ x → Leaves (λ q. if t q then f q else g q) p
-      go true is front ms none e =
-          let here : (if t p then f p else g p) ≡ f p = rw is refl in
-          elim (h is front ms none (sym (ap (λ (q : Progress A). q.word) here) ∙ e)) [
-            | inl all ↦ inl all
-            | inr r ↦ inr (r.0, r.1, (let same : t (with_word p r.0) ≡ true = blind p r.0 ms r.1 none ∙ is in rw (same, is) r.2))
-          ]
-      go false is front ms none e =
-          let here : (if t p then f p else g p) ≡ g p = rw is refl in
-          elim (k is front ms none (sym (ap (λ (q : Progress A). q.word) here) ∙ e)) [
-            | inl all ↦ inl all
-            | inr r ↦ inr (r.0, r.1, (let same : t (with_word p r.0) ≡ false = blind p r.0 ms r.1 none ∙ is in rw (same, is) r.2))
-          ]
+  leaves_if t f g p blind h k = elim (cases_Bool (t p)) [
+    | inl is ↦ leaves_as (λ q. if t q then f q else g q) f p (rw is refl) (λ before ms e none. let same : t (with_word p before) ≡ true = blind p before ms e none ∙ is in rw same refl) (h is)
+    | inr is ↦ leaves_as (λ q. if t q then f q else g q) g p (rw is refl) (λ before ms e none. let same : t (with_word p before) ≡ false = blind p before ms e none ∙ is in rw same refl) (k is)
+  ]
 
   blind_character : IsBlind (λ q. has_character q.word)
   blind_character p before ms e h = has_front p.word before ms e h
@@ -238,15 +223,12 @@ module _ {A : Type 0} (columns : ℕ → Option ℕ) (width : ℕ) where
       go false true = whole_leaves (join c a Normal) p (joined_whole c a Normal p)
       go false false = λ front ms h e. inr (front, e, refl)
 
-  break_if_leaves : (x : Bool) (p : Progress A) → Leaves (λ q. if x then break_word columns width q else q) p
-  break_if_leaves true p = break_word_leaves p
-  break_if_leaves false p = λ front ms h e. inr (front, e, refl)
-
   enter_leaves : (c : ℕ) (a b : A) (mode : WhiteSpace) (p : Progress A) → Leaves (λ q. enter columns width q (character c a b mode)) p
   enter_leaves c a b Normal p = enter_normal_leaves c (tag_of p a b) p
   enter_leaves c a b Pre p = preserve_leaves c a b Pre p
   enter_leaves c a b PreWrap p =
-      leaves_then (λ q. if is_break c then break_word columns width q else q) (preserve columns width c a b PreWrap) p (break_if_leaves (is_break c) p)
+      leaves_then (λ q. if is_break c then break_word columns width q else q) (preserve columns width c a b PreWrap) p
+      (leaves_if (λ q. is_break c) (break_word columns width) (λ q. q) p (λ q before ms e h. refl) (λ _. break_word_leaves p) (λ _ front ms h e. inr (front, e, refl)))
       (preserve_leaves c a b PreWrap (if is_break c then break_word columns width p else p))
 
   -- ---- a run
@@ -293,10 +275,10 @@ module _ {A : Type 0} (columns : ℕ → Option ℕ) (width : ℕ) where
       ]
 
   out_event : (es : List (Event A)) (x : Event A) → CanTakeOut es → CanTakeOut (es ++ x ∷ [])
-  out_event es call can = out_after es call can (λ front ms h e. inr (front, e, refl)) (λ n. without_call n es)
+  out_event es call can = out_after es call can (λ front ms h e. inr (front, e, refl)) (λ n. without_plain n es call refl)
   out_event es (entry (marker_entry name)) can = out_marker es name can
   out_event es (entry (character c a b mode)) can =
-      out_after es (entry (character c a b mode)) can (enter_leaves c a b mode (progress columns width es)) (λ n. without_after n es c a b mode)
+      out_after es (entry (character c a b mode)) can (enter_leaves c a b mode (progress columns width es)) (λ n. without_plain n es (entry (character c a b mode)) refl)
 
   -- Without the markers that end the word under way, a run is at the same place but for them.
   pub taken_events : (es : List (Event A)) (front ms : List (Item A)) → (progress columns width es).word ≡ front ++ ms → has_character ms ≡ false →

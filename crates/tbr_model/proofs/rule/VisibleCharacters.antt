@@ -1,8 +1,8 @@
 -- A block shows the visible characters of its run once, in order.
-use Rattle.std.proofs.Common.{◌≡◌, ℕ, ◌⊎◌, inl, inr, Bool, true, false, not, Option, List, [], ◌∷◌, ◌++◌, filter, fold, refl, ap, ◌∙◌, arith, length-append}
+use Rattle.std.proofs.Common.{◌≡◌, ℕ, ◌⊎◌, inl, inr, true, false, not, Option, List, [], ◌∷◌, ◌++◌, filter, fold, refl, ap, ◌∙◌, arith, length-append}
 use Rattle.std.specs.List.{AllZip, AllByRecursion as Each}
 use Rattle.std.specs.Char.{is_whitespace}
-use Rattle.std.proofs.lemmas.Bool.{and_left, and_right, not_from_true}
+use Rattle.std.proofs.lemmas.Bool.{and_left, and_right, not_from_true, cases_Bool}
 use Rattle.std.proofs.lemmas.List.Elements.{filter-append}
 use Rattle.tbr_model.specs.declared.white_space.WhiteSpace.{WhiteSpace}
 use Rattle.tbr_model.specs.declared.white_space.WhiteSpace.TheVariants.{Pre}
@@ -14,7 +14,7 @@ use Rattle.tbr_model.proofs.words.Items.{glyphs_of-append}
 use Rattle.tbr_model.proofs.rule.Content.{LooksAtKept, AnyEntry, AnyMode, StandsFor, by_entry, found_from}
 use Rattle.tbr_model.proofs.rule.Walk.{any_entries}
 use Rattle.tbr_model.proofs.rule.BlankLines.{blank_line}
-use Rattle.tbr_model.proofs.rule.HardLines.{NoNewline, start_fresh, hard_lines_parted}
+use Rattle.tbr_model.proofs.rule.HardLines.{start_fresh, hard_lines_parted, ShowsOne}
 
 visible-append : {A : Type 0} (columns : ℕ → Option ℕ) (is js : List (Item A)) → visible_glyphs columns (is ++ js) ≡ visible_glyphs columns is ++ visible_glyphs columns js
 visible-append {A} columns is js = ap (filter (λ g. is_visible columns g.0)) (glyphs_of-append is js) ∙ filter-append (λ (g : ℕ × A). is_visible columns g.0) (glyphs_of is) (glyphs_of js)
@@ -28,17 +28,14 @@ none_visible columns (marker m ∷ is) h = none_visible columns is h
 pub white_not_visible : (columns : ℕ → Option ℕ) (c : ℕ) → is_whitespace c ≡ true → is_visible columns c ≡ false
 white_not_visible columns c h = and_right (is_kept columns c) (not (is_whitespace c)) (not_from_true (is_whitespace c) h)
 
-hidden : {A : Type 0} (columns : ℕ → Option ℕ) (c : ℕ) (a : A) → is_visible columns c ≡ false → visible_glyphs columns (glyph c a ∷ []) ≡ []
-hidden columns c a h = rw h refl
-
 pub looks_at_characters : {A : Type 0} (columns : ℕ → Option ℕ) (Comes : Entry A → Type 0) (Modes : WhiteSpace → Type 0) → ((c : ℕ) (a b : A) (m : WhiteSpace) → Comes (character c a b m) → Modes m) →
     LooksAtKept columns Comes Modes (visible_glyphs columns)
 looks_at_characters columns Comes Modes modes = record {
   modes = modes;
   append = visible-append columns;
   nothing = refl;
-  lost = λ c a h. hidden columns c a (and_left (is_kept columns c) (not (is_whitespace c)) h);
-  white = λ m c a h. hidden columns c a (white_not_visible columns c h);
+  lost = λ c a h. (let hides : is_visible columns c ≡ false = and_left (is_kept columns c) (not (is_whitespace c)) h in rw hides refl);
+  white = λ m c a h. rw (white_not_visible columns c h) refl;
 }
 
 -- the visible ones among items that stand for entries, where each has a relation to its entry
@@ -46,14 +43,13 @@ pub visible_zip : {A : Type 0} (columns : ℕ → Option ℕ) (Modes : WhiteSpac
     (is : List (Item A)) (es : List (Entry A)) → AllZip (StandsFor Modes) is es → AllZip S (visible_glyphs columns is) (visible_entries columns es)
 visible_zip {A} columns Modes S each =
     by_entry Modes (λ is es. AllZip S (visible_glyphs columns is) (visible_entries columns es)) tt
-    (λ c x a b m is es either rest. go c x a b m is es (each c x a b m either) rest (is_visible columns c) refl) (λ name is es rest. rest)
-  where
-    go : (c : ℕ) (x a b : A) (m : WhiteSpace) (is : List (Item A)) (es : List (Entry A)) → S (c, x) (character c a b m) → AllZip S (visible_glyphs columns is) (visible_entries columns es) → (v : Bool) → is_visible columns c ≡ v →
-        AllZip S (visible_glyphs columns (glyph c x ∷ is)) (visible_entries columns (character c a b m ∷ es))
-    go c x a b m is es s rest true e = rw e (s, rest)
-    go c x a b m is es s rest false e = rw e rest
+    (λ c x a b m is es either rest. elim (cases_Bool (is_visible columns c)) [ inl e ↦ rw e (each c x a b m either, rest) | inr e ↦ rw e rest ]) (λ name is es rest. rest)
 
 module _ {A : Type 0} (columns : ℕ → Option ℕ) (width : ℕ) (Same : A → A → Type 0) (same : (x : A) → Same x x) where
+  pub under : (x a b : A) → (x ≡ a) ⊎ ((x ≡ b) × Unit {0}) → Same x a ⊎ Same x b
+  under x a b (inl e) = inl (rw (← e) (same x))
+  under x a b (inr e) = inr (rw (← e.0) (same x))
+
   -- the visible characters of a run from where a hard line begins, before a newline and at the end of the run
   visible_lines : (p : Progress A) (es : List (Event A)) → BeginsHardLine p →
       let q = fold (step columns width) p es in
@@ -62,12 +58,8 @@ module _ {A : Type 0} (columns : ℕ → Option ℕ) (width : ℕ) (Same : A →
       let (ended, finished) = found_from (looks_at_characters columns AnyEntry AnyMode (λ c a b m h. tt)) (none_visible columns) width p es f (λ _. tt) (any_entries (run_of es)) in
       (rw (ended.are) (shown ended.items (run_of es) ended.stand), rw (finished.are) (shown finished.items (run_of es) finished.stand))
     where
-      under : (c : ℕ) (x a b : A) (m : WhiteSpace) → (x ≡ a) ⊎ ((x ≡ b) × Unit {0}) → IsShown Same (c, x) (character c a b m)
-      under c x a b m (inl e) = (refl, inl (rw (← e) (same x)))
-      under c x a b m (inr e) = (refl, inr (rw (← e.0) (same x)))
-
       shown : (is : List (Item A)) (fs : List (Entry A)) → AllZip (StandsFor AnyMode) is fs → AllZip (IsShown Same) (visible_glyphs columns is) (visible_entries columns fs)
-      shown = visible_zip columns AnyMode (IsShown Same) under
+      shown = visible_zip columns AnyMode (IsShown Same) (λ c x a b m either. (refl, under x a b either))
 
   pub visible_from : (p : Progress A) (es : List (Event A)) → BeginsHardLine p → ShowsVisible columns Same (run_of es) (finished columns width (fold (step columns width) p es)).done
   visible_from p es f = (visible_lines p es f).1
@@ -81,9 +73,7 @@ module _ {A : Type 0} (columns : ℕ → Option ℕ) (width : ℕ) (Same : A →
 
   -- ---- hard lines
 
-  one_hard_line : (p : Progress A) (es : List (Event A)) → BeginsHardLine p → Each Preserves (run_of es) → NoNewline (run_of es) →
-      ShowsHardLine columns Same true (run_of es) (newline (flush_word columns width (fold (step columns width) p es))).laid.done
-      × ShowsHardLine columns Same false (run_of es) (finished columns width (fold (step columns width) p es)).done
+  one_hard_line : ShowsOne columns width (ShowsHardLine columns Same) Preserves
   one_hard_line p es f m n = (
     record { line = λ _. (let q = flush_word columns width (fold (step columns width) p es) in omega (arith, length-append q.laid.done (q.laid.line ∷ []))); visible = visible_ended p es f; blank = λ spaces. (blank_line columns width p es f m spaces).0 },
     record { line = λ h. cc; visible = visible_from p es f; blank = λ spaces. (blank_line columns width p es f m spaces).1 },

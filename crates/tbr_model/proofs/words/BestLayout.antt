@@ -3,9 +3,9 @@ use Rattle.std.proofs.Common.{◌≡◌, ℕ, ◌+◌, ◌<◌, ◌≤◌, Bool,
 use Rattle.std.specs.List.{AllByRecursion as Each}
 use Rattle.std.proofs.lemmas.Bool.{cond_both}
 use Rattle.tbr_model.specs.Run.{Item, item_width, items_width, Word}
-use Rattle.tbr_model.specs.Layout.{Slot, slot_of, word_slots, joined, line_width, rest_width, MayFollow, FirstMayBegin, IsLegalLine, HasNoEmptyLine, IsBest}
+use Rattle.tbr_model.specs.Layout.{Slot, slot_of, word_slots, joined, line_width, rest_width, MayFollow, FirstMayBegin, IsLegalLine, IsBest}
 use Rattle.tbr_model.proofs.lists.Joined.{joined-append}
-use Rattle.tbr_model.proofs.lists.Each.{each_append}
+use Rattle.tbr_model.proofs.lists.Each.{each_append, each_weaker, each_map}
 use Rattle.tbr_model.proofs.layouts.Ahead.{line_width_back, greedy_best}
 use Rattle.tbr_model.specs.Greedy.{close, Lines, fill, place, place_word, no_lines, wrapped, IsNarrow}
 use Rattle.tbr_model.proofs.layouts.Greedy.{stays_by_unit, stays_by_wider, MayNotBegin, HoldsSlots, InWider, longer, longer_holds_slots, next_holds_slots, fill_holds_slots, greedy_close}
@@ -17,16 +17,11 @@ InWord width wider s = (s.begins ≡ false) × (s.wider ≡ wider) × (s.width �
 
 each_in_word : {A : Type 0} (columns : ℕ → Option ℕ) (width : ℕ) (wider : Bool) (is : List (Item A)) → Each (λ i. item_width columns i ≤ width) is →
     Each (InWord width wider) (map (slot_of columns wider None false) is)
-each_in_word columns width wider [] h = tt
-each_in_word columns width wider (i ∷ is) h = ((refl, refl, h.0), each_in_word columns width wider is h.1)
+each_in_word columns width wider = each_map (slot_of columns wider None false) (λ i. item_width columns i ≤ width) (InWord width wider) (λ i h. (refl, refl, h))
 
 pub rest_width_within : {A : Type 0} (columns : ℕ → Option ℕ) (wider : Bool) (is : List (Item A)) → rest_width (map (slot_of columns wider None false) is) ≡ items_width columns is
 rest_width_within columns wider [] = refl
 rest_width_within columns wider (i ∷ is) = omega (arith, rest_width_within columns wider is)
-
-each_weaker : {X : Type 0} (P Q : X → Type 0) → ((x : X) → P x → Q x) → (xs : List X) → Each P xs → Each Q xs
-each_weaker P Q f [] h = tt
-each_weaker P Q f (x ∷ xs) h = (f x h.0, each_weaker P Q f xs h.1)
 
 -- ---- placing a word keeps what holds
 
@@ -117,17 +112,13 @@ joined_close : {X : Type 0} (ls : List (List X)) (l : List X) → joined (close 
 joined_close ls [] = sym (append-nil (joined ls))
 joined_close ls (x ∷ l) = joined-append ls ((x ∷ l) ∷ []) ∙ ap (λ r. joined ls ++ r) (append-nil (x ∷ l))
 
-each_close : {X : Type 0} (P : List X → Type 0) (ls : List (List X)) (l : List X) → Each P ls → P l → Each P (close ls l)
+each_close : {X : Type 0} (P : List X → Type 0) (ls : List (List X)) (l : List X) → Each P ls → (0 < length l → P l) → Each P (close ls l)
 each_close P ls [] h p = h
-each_close P ls (x ∷ l) h p = each_append P ls ((x ∷ l) ∷ []) h (p, tt)
-
-full_close : {X : Type 0} (ls : List (List X)) (l : List X) → HasNoEmptyLine ls → HasNoEmptyLine (close ls l)
-full_close ls [] h = h
-full_close ls (x ∷ l) h = each_append (λ l. 0 < length l) ls ((x ∷ l) ∷ []) h ((let p : 0 < length (x ∷ l) = omega arith in p), tt)
+each_close P ls (x ∷ l) h p = each_append P ls ((x ∷ l) ∷ []) h (p (omega arith), tt)
 
 -- the lines, the open one closed, are the best
 pub holds_best : {A : Type 0} (width : ℕ) (slots : List (Slot A)) (lines : Lines A) → HoldsSlots width slots lines → IsBest width slots (close lines.done lines.last)
 holds_best width slots lines h =
     greedy_best width slots (close lines.done lines.last)
-    (record { whole = joined_close lines.done lines.last ∙ h.whole; each = each_close (IsLegalLine width) lines.done lines.last h.each h.legal })
-    (full_close lines.done lines.last h.full) (greedy_close width lines.done lines.last h.closed)
+    (record { whole = joined_close lines.done lines.last ∙ h.whole; each = each_close (IsLegalLine width) lines.done lines.last h.each (λ _. h.legal) })
+    (each_close (λ l. 0 < length l) lines.done lines.last h.full (λ some. some)) (greedy_close width lines.done lines.last h.closed)

@@ -84,6 +84,3 @@ letters_of-space_text (Some s) = letters_of-spaces s.width s.tag
 pub pending_width-of : {A : Type 0} (n : ℕ) (a : A) (mode : WhiteSpace) → pending_width (space_of n a mode) ≡ n
 pending_width-of zero a mode = refl
 pending_width-of (suc n) a mode = refl
-
-pub letters_of-space_of : {A : Type 0} (n : ℕ) (a : A) (mode : WhiteSpace) → letters_of (space_text (space_of n a mode)) ≡ replicate n 32
-letters_of-space_of n a mode = letters_of-space_text (space_of n a mode) ∙ ap (λ k. replicate k 32) (pending_width-of n a mode)

@@ -1,11 +1,11 @@
 -- The words of a run hold its kept items, and which runs have a legal layout.
-use Rattle.std.proofs.Common.{◌≡◌, ℕ, ◌≤◌, Bool, true, false, nat_lt, if◌then◌else◌, Option, None, List, [], ◌∷◌, ◌++◌, map, fold, flat_map, refl, ap, sym, ◌∙◌, arith, append_assoc, append-nil, subst}
+use Rattle.std.proofs.Common.{◌≡◌, ℕ, ◌≤◌, Bool, true, false, nat_lt, Option, None, List, [], ◌∷◌, ◌++◌, map, fold, flat_map, refl, ap, sym, ◌∙◌, arith, append_assoc, append-nil, subst, inl, inr}
 use Rattle.std.specs.List.{AllByRecursion as Each}
-use Rattle.std.proofs.lemmas.Bool.{cond_both, and_parts}
+use Rattle.std.proofs.lemmas.Bool.{cond_both, and_parts, cases_Bool}
 use Rattle.std.proofs.lemmas.List.Concat.{flat_map-append}
-use Rattle.tbr_model.specs.Run.{Entry, character, marker_entry, Item, item_width, items_width, items_of, kept_items, is_kept, is_break_entry, has_character, Word, word_of, Reading, start, works, read, reading, words_of, trailing}
+use Rattle.tbr_model.specs.Run.{Entry, character, marker_entry, Item, item_width, items_width, items_of, kept_items, is_kept, is_break_entry, has_character, Word, Reading, start, works, read, reading, words_of, trailing}
 use Rattle.tbr_model.specs.Layout.{Slot, slot_of, word_slots, slots_of, joined, line_width, rest_width, IsLegalLine, IsLegal, IsBest}
-use Rattle.tbr_model.proofs.lists.Each.{each_front, each_back, each_append}
+use Rattle.tbr_model.proofs.lists.Each.{each_front, each_back, each_append, each_unmap}
 use Rattle.tbr_model.specs.Greedy.{close, wrapped, IsNarrow}
 use Rattle.tbr_model.proofs.words.Items.{each_marker, break_lost}
 use Rattle.tbr_model.proofs.words.BestLayout.{wrapped_holds, holds_best}
@@ -33,14 +33,10 @@ held-fold columns (e ∷ run) r =
     held-fold columns run (read columns r e) ∙ ap (λ is. is ++ kept_items columns run) (held-read columns r e) ∙ append_assoc (held r) (items_of columns e) (kept_items columns run)
 
 pub words_hold : {A : Type 0} (columns : ℕ → Option ℕ) (run : List (Entry A)) → flat_map (λ w. w.items) (words_of columns run) ++ trailing columns run ≡ kept_items columns run
-words_hold {A} columns run = go (has_character r.items) ∙ held-fold columns run start
-  where
-    r : Reading A
-    r = reading columns run
-
-    go : (b : Bool) → flat_map (λ w. w.items) (if b then r.words ++ word_of r ∷ [] else r.words) ++ (if b then [] else r.items) ≡ held r
-    go true = simp (flat_map-append, append-nil)
-    go false = refl
+words_hold {A} columns run = elim (cases_Bool (has_character (reading columns run).items)) [
+  | inl e ↦ rw e (simp (flat_map-append, append-nil) (held-fold columns run start))
+  | inr e ↦ rw e (held-fold columns run start)
+]
 
 -- ---- which runs have a legal layout
 
@@ -69,8 +65,7 @@ narrow_lines width (l ∷ ls) h = each_append (Fits width) l (joined ls) (narrow
 
 narrow_within : {A : Type 0} (columns : ℕ → Option ℕ) (width : ℕ) (wider : Bool) (is : List (Item A)) →
     Each (Fits width) (map (slot_of columns wider None false) is) → IsNarrow columns width is
-narrow_within columns width wider [] h = tt
-narrow_within columns width wider (i ∷ is) h = (h.0, narrow_within columns width wider is h.1)
+narrow_within columns width wider = each_unmap (slot_of columns wider None false) (λ i. item_width columns i ≤ width) (Fits width) (λ i h. h)
 
 narrow_word : {A : Type 0} (columns : ℕ → Option ℕ) (width : ℕ) (gap : Option A) (is : List (Item A)) →
     Each (Fits width) (word_slots columns width (record { gap = gap; items = is })) → IsNarrow columns width is
@@ -89,17 +84,14 @@ narrow_words columns width (w ∷ words) h = (
 pub narrow_markers : {A : Type 0} (columns : ℕ → Option ℕ) (width : ℕ) (is : List (Item A)) → has_character is ≡ false → IsNarrow columns width is
 narrow_markers columns width = each_marker (λ i. item_width columns i ≤ width) (λ name. omega arith)
 
-narrow_trailing : {A : Type 0} (columns : ℕ → Option ℕ) (width : ℕ) (run : List (Entry A)) → IsNarrow columns width (trailing columns run)
-narrow_trailing {A} columns width run =
-    cond_both (has_character (reading columns run).items) _ _ (IsNarrow columns width) (λ _. tt) (narrow_markers columns width (reading columns run).items)
-
 pub narrow_if_legal : {A : Type 0} (columns : ℕ → Option ℕ) (width : ℕ) (run : List (Entry A)) (lines : List (List (Slot A))) →
     IsLegal width (slots_of columns width run) lines → IsNarrow columns width (kept_items columns run)
 narrow_if_legal {A} columns width run lines h =
     let P : Item A → Type 0 = λ i. item_width columns i ≤ width in
     let words : Each (λ w. Each P w.items) (words_of columns run) = narrow_words columns width (words_of columns run) (subst (Each (Fits width)) h.whole (narrow_lines width lines h.each)) in
     subst (Each P) (words_hold columns run)
-    (each_append P (flat_map (λ w. w.items) (words_of columns run)) (trailing columns run) (flat_map_each P (λ w. w.items) (words_of columns run) words) (narrow_trailing columns width run))
+    (each_append P (flat_map (λ w. w.items) (words_of columns run)) (trailing columns run) (flat_map_each P (λ w. w.items) (words_of columns run) words)
+    (cond_both (has_character (reading columns run).items) _ _ (IsNarrow columns width) (λ _. tt) (narrow_markers columns width (reading columns run).items)))
 
 pub each_words_narrow : {A : Type 0} (columns : ℕ → Option ℕ) (width : ℕ) (run : List (Entry A)) → IsNarrow columns width (kept_items columns run) → Each (λ w. IsNarrow columns width w.items) (words_of columns run)
 each_words_narrow {A} columns width run h =

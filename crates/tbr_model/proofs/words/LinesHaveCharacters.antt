@@ -7,7 +7,7 @@ use Rattle.tbr_model.specs.Run.{Entry, Item, glyph, marker, item_width, items_wi
 use Rattle.tbr_model.specs.Layout.{Slot, slot_of, slots_of, line_width, gap_width, line_has_character, IsBest}
 use Rattle.tbr_model.specs.Greedy.{close, Lines, fill, place_word, no_lines, wrapped, IsNarrow}
 use Rattle.tbr_model.proofs.words.Items.{has_character-append, no_character_no_width}
-use Rattle.tbr_model.proofs.lists.Each.{each_append}
+use Rattle.tbr_model.proofs.lists.Each.{each_append, each_map}
 use Rattle.tbr_model.proofs.layouts.Ahead.{rest_width-append, unique}
 use Rattle.tbr_model.proofs.words.BestLayout.{rest_width_within}
 use Rattle.tbr_model.proofs.words.KeptItems.{narrow_if_legal, best_lines, best_if_narrow, each_words_narrow}
@@ -33,12 +33,10 @@ pub line_width-one : {A : Type 0} (l : List (Slot A)) (s : Slot A) → s.gap ≡
 line_width-one [] s e = omega arith
 line_width-one (t ∷ l) s e = omega (arith, rest_width-append l (s ∷ []), ap gap_width e)
 
-wide_has : {A : Type 0} (columns : ℕ → Option ℕ) (s : Slot A) → s.width ≡ item_width columns s.item → 0 < s.width → HasGlyph (s ∷ [])
-wide_has {A} columns s e wide = go s.item refl
-  where
-    go : (i : Item A) → s.item ≡ i → has_character (i ∷ []) ≡ true
-    go (glyph c a) is = refl
-    go (marker m) is = absurd (omega (arith, wide, e, ap (item_width columns) is))
+pub wide_items : {A : Type 0} (columns : ℕ → Option ℕ) (is : List (Item A)) → 0 < items_width columns is → has_character is ≡ true
+wide_items columns [] h = absurd (omega arith)
+wide_items columns (glyph c a ∷ is) h = refl
+wide_items columns (marker m ∷ is) h = wide_items columns is (omega arith)
 
 one_width : {A : Type 0} (columns : ℕ → Option ℕ) (s : Slot A) → s.width ≡ item_width columns s.item → line_has_character (s ∷ []) ≡ false → s.width ≡ 0
 one_width {A} columns s e none = omega (arith, e, no_character_no_width columns (s.item ∷ []) none)
@@ -53,7 +51,7 @@ fill_characters {A} columns width done last (s ∷ ss) h inner fits empty some =
     let wide : width < line_width last + s.width = omega (arith, leb-false _ _ e, line_width-one last s inner.0.0) in
     fill_characters columns width (done ++ last ∷ []) (s ∷ []) ss (each_append HasGlyph done (last ∷ []) h (ended (line_has_character last) refl wide, tt)) inner.1
     (omega (arith, inner.0.2)) (λ none. omega (arith, one_width columns s inner.0.1 none))
-    (line-append (s ∷ []) ss ∙ ap (λ x. x || line_has_character ss) (wide_has columns s inner.0.1 (omega (arith, wide, fits)))))
+    (line-append (s ∷ []) ss ∙ ap (λ x. x || line_has_character ss) (wide_items columns (s.item ∷ []) (omega (arith, wide, fits, inner.0.1)))))
   where
     longer : line_has_character (last ++ s ∷ []) ≡ false → line_width (last ++ s ∷ []) ≡ 0
     longer none =
@@ -79,69 +77,59 @@ each_close done [] h k = h
 each_close done (s ∷ l) h k = each_append HasGlyph done ((s ∷ l) ∷ []) h (k, tt)
 
 pub inner_slots : {A : Type 0} (columns : ℕ → Option ℕ) (width : ℕ) (wider : Bool) (is : List (Item A)) → IsNarrow columns width is → Each (Inner columns width) (map (slot_of columns wider None false) is)
-inner_slots columns width wider [] h = tt
-inner_slots columns width wider (i ∷ is) h = ((refl, refl, h.0), inner_slots columns width wider is h.1)
+inner_slots columns width wider = each_map (slot_of columns wider None false) (λ i. item_width columns i ≤ width) (Inner columns width) (λ i h. (refl, refl, h))
 
 pub items_within : {A : Type 0} (columns : ℕ → Option ℕ) (wider : Bool) (is : List (Item A)) → map (λ s. s.item) (map (slot_of columns wider None false) is) ≡ is
 items_within columns wider [] = refl
 items_within columns wider (i ∷ is) = ap (λ js. i ∷ js) (items_within columns wider is)
 
-pub place_characters : {A : Type 0} (columns : ℕ → Option ℕ) (width : ℕ) (lines : Lines A) (w : Word A) → Each HasGlyph lines.done → LastHas lines.last → has_character w.items ≡ true → IsNarrow columns width w.items →
-    Each HasGlyph (place_word columns width lines w).done × LastHas (place_word columns width lines w).last
-place_characters {A} columns width lines w h k some narrow = go w.items refl some narrow
+pub place_characters : {A : Type 0} (columns : ℕ → Option ℕ) (width : ℕ) (lines : Lines A) (gap : Option A) (is : List (Item A)) → Each HasGlyph lines.done → LastHas lines.last → has_character is ≡ true → IsNarrow columns width is →
+    (let r = place_word columns width lines (record { gap = gap; items = is }) in Each HasGlyph r.done × LastHas r.last)
+place_characters columns width lines gap [] h k some narrow = cc
+place_characters {A} columns width lines gap (i ∷ is) h k some narrow =
+    cond_both (nat_le (line_width (lines.last ++ slots)) width) _ _ (λ (q : Lines A). Each HasGlyph q.done × LastHas q.last)
+    (λ _. (h, last_has (lines.last ++ slots) (back_has lines.last slots word_has)))
+    (λ full. cond_both wider _ _ (λ (q : Lines A). Each HasGlyph q.done × LastHas q.last)
+    (λ _. filled) (λ not_wider. (each_append HasGlyph lines.done (lines.last ∷ []) h (open_has lines.last k (leb-false _ _ full) (ltb-false _ _ not_wider), tt), word_has)))
   where
-    go : (is : List (Item A)) → w.items ≡ is → has_character is ≡ true → IsNarrow columns width is →
-        (let r = place_word columns width lines (record { gap = w.gap; items = is }) in Each HasGlyph r.done × LastHas r.last)
-    go [] e some narrow = cc
-    go (i ∷ is) e some narrow =
-        cond_both (nat_le (line_width (lines.last ++ slots)) width) _ _ (λ (q : Lines A). Each HasGlyph q.done × LastHas q.last)
-        (λ _. (h, last_has (lines.last ++ slots) (back_has lines.last slots word_has)))
-        (λ full. cond_both wider _ _ (λ (q : Lines A). Each HasGlyph q.done × LastHas q.last)
-        (λ _. filled) (λ not_wider. (each_append HasGlyph lines.done (lines.last ∷ []) h (open_has lines.last k (leb-false _ _ full) (ltb-false _ _ not_wider), tt), word_has)))
-      where
-        wider : Bool
-        wider = nat_lt width (items_width columns (i ∷ is))
+    wider : Bool
+    wider = nat_lt width (items_width columns (i ∷ is))
 
-        first : Slot A
-        first = slot_of columns wider w.gap true i
+    first : Slot A
+    first = slot_of columns wider gap true i
 
-        rest : List (Slot A)
-        rest = map (slot_of columns wider None false) is
+    rest : List (Slot A)
+    rest = map (slot_of columns wider None false) is
 
-        slots : List (Slot A)
-        slots = first ∷ rest
+    slots : List (Slot A)
+    slots = first ∷ rest
 
-        word_has : HasGlyph slots
-        word_has = ap (λ js. has_character (i ∷ js)) (items_within columns wider is) ∙ some
+    word_has : HasGlyph slots
+    word_has = ap (λ js. has_character (i ∷ js)) (items_within columns wider is) ∙ some
 
-        filled : (let r = fill width (close lines.done lines.last) [] slots in Each HasGlyph r.done × LastHas r.last)
-        filled =
-            let fits : nat_le (line_width ([] ++ first ∷ [])) width ≡ true = le-leb _ _ (omega (arith, narrow.0)) in
-            let both = fill_characters columns width (close lines.done lines.last) (first ∷ []) rest (each_close lines.done lines.last h k) (inner_slots columns width wider is narrow.1) (omega (arith, narrow.0))
-            (λ none. omega (arith, one_width columns first refl none)) word_has in
-            rw fits (both.0, last_has (fill width (close lines.done lines.last) (first ∷ []) rest).last both.1)
+    filled : (let r = fill width (close lines.done lines.last) [] slots in Each HasGlyph r.done × LastHas r.last)
+    filled =
+        let fits : nat_le (line_width ([] ++ first ∷ [])) width ≡ true = le-leb _ _ (omega (arith, narrow.0)) in
+        let both = fill_characters columns width (close lines.done lines.last) (first ∷ []) rest (each_close lines.done lines.last h k) (inner_slots columns width wider is narrow.1) (omega (arith, narrow.0))
+        (λ none. omega (arith, one_width columns first refl none)) word_has in
+        rw fits (both.0, last_has (fill width (close lines.done lines.last) (first ∷ []) rest).last both.1)
 
-        open_has : (l : List (Slot A)) → LastHas l → width < line_width (l ++ slots) → items_width columns (i ∷ is) ≤ width → HasGlyph l
-        open_has [] p wide narrow = absurd (omega (arith, wide, narrow, rest_width_within columns wider is))
-        open_has (s ∷ l) p wide narrow = p
+    open_has : (l : List (Slot A)) → LastHas l → width < line_width (l ++ slots) → items_width columns (i ∷ is) ≤ width → HasGlyph l
+    open_has [] p wide narrow = absurd (omega (arith, wide, narrow, rest_width_within columns wider is))
+    open_has (s ∷ l) p wide narrow = p
 
 fold_characters : {A : Type 0} (columns : ℕ → Option ℕ) (width : ℕ) (words : List (Word A)) (lines : Lines A) → Each HasGlyph lines.done → LastHas lines.last →
     Each (λ w. has_character w.items ≡ true) words → Each (λ w. IsNarrow columns width w.items) words →
     Each HasGlyph (fold (place_word columns width) lines words).done × LastHas (fold (place_word columns width) lines words).last
 fold_characters columns width [] lines h k some narrow = (h, k)
 fold_characters columns width (w ∷ words) lines h k some narrow =
-    let placed = place_characters columns width lines w h k some.0 narrow.0 in
+    let placed = place_characters columns width lines w.gap w.items h k some.0 narrow.0 in
     fold_characters columns width words (place_word columns width lines w) placed.0 placed.1 some.1 narrow.1
 
 -- ---- the words of a run have characters
 
 abbrev WordHas : {A : Type 0} → Word A → Type 0
 WordHas w = has_character w.items ≡ true
-
-pub wide_items : {A : Type 0} (columns : ℕ → Option ℕ) (is : List (Item A)) → 0 < items_width columns is → has_character is ≡ true
-wide_items columns [] h = absurd (omega arith)
-wide_items columns (glyph c a ∷ is) h = refl
-wide_items columns (marker m ∷ is) h = wide_items columns is (omega arith)
 
 ended_words : {A : Type 0} (columns : ℕ → Option ℕ) (run : List (Entry A)) (r : Reading A) → Each WordHas r.words → Each WordHas (fold (read columns) r run).words
 ended_words columns [] r h = h

@@ -3,12 +3,12 @@ use Rattle.std.proofs.Common.{◌≡◌, ℕ, zero, suc, ◌+◌, Bool, true, fa
 use Rattle.std.specs.List.{AllByRecursion as Each, list_any}
 use Rattle.std.proofs.lemmas.List.Concat.{flat_map-append}
 use Rattle.std.proofs.lemmas.List.Sums.{fold-append}
-use Rattle.std.proofs.lemmas.Bool.{and_from, and_parts, false_from_ne_true}
-use Rattle.tbr_model.specs.Run.{Entry, character, marker_entry, Item, glyph, items_width, items_of, kept_items, is_kept, is_break, is_break_entry, blank_of, first_of, has_character, Word, word_of, Reading, works, read, words_of, trailing}
+use Rattle.std.proofs.lemmas.Bool.{and_from, and_parts, false_from_ne_true, cases_Bool, both_ways}
+use Rattle.tbr_model.specs.Run.{Entry, character, marker_entry, Item, items_width, items_of, kept_items, is_kept, is_break, is_break_entry, blank_of, first_of, has_character, Word, word_of, Reading, works, read, words_of, trailing}
 use Rattle.tbr_model.specs.Regions.{takes_columns, HasColumns, NoBreakWorks, Region, region_entries, EndsAtWorkingBreak, IsParted, first_blank, word_after, words_after, words_between, markers_left}
 use Rattle.tbr_model.proofs.words.Items.{items_width-append}
 use Rattle.tbr_model.proofs.lists.Joined.{cut_twice}
-use Rattle.tbr_model.proofs.lists.Each.{each_append}
+use Rattle.tbr_model.proofs.lists.Each.{each_append, if_same}
 
 -- ---- a kept character of positive width, and the width of kept items
 
@@ -17,11 +17,10 @@ lt-zero-add zero b = ap (nat_lt 0) (let e : 0 + b ≡ b = omega arith in e)
 lt-zero-add (suc a) b = rw (lt-ltb 0 (suc a + b) (omega arith), lt-ltb 0 (suc a) (omega arith)) refl
 
 takes_columns_width : {A : Type 0} (columns : ℕ → Option ℕ) (e : Entry A) → takes_columns columns e ≡ nat_lt 0 (items_width columns (items_of columns e))
-takes_columns_width columns (character c a b mode) = go (is_kept columns c)
-  where
-    go : (b : Bool) → b && nat_lt 0 (unwrap_or (columns c) 0) ≡ nat_lt 0 (items_width columns (if b then glyph c a ∷ [] else []))
-    go true = ap (nat_lt 0) (let e : unwrap_or (columns c) 0 ≡ unwrap_or (columns c) 0 + 0 = omega arith in e)
-    go false = refl
+takes_columns_width columns (character c a b mode) = elim (cases_Bool (is_kept columns c)) [
+  | inl e ↦ rw e (ap (nat_lt 0) (let same : unwrap_or (columns c) 0 ≡ unwrap_or (columns c) 0 + 0 = omega arith in same))
+  | inr e ↦ rw e refl
+]
 takes_columns_width columns (marker_entry name) = refl
 
 pub has_columns_width : {A : Type 0} (columns : ℕ → Option ℕ) (es : List (Entry A)) → list_any (takes_columns columns) es ≡ nat_lt 0 (items_width columns (kept_items columns es))
@@ -57,11 +56,7 @@ goes_on {A} columns words before since e h =
     rw stays same
   where
     stays : works columns (read_since columns words before since) e ≡ false
-    stays = go (is_break_entry e) refl
-      where
-        go : (b : Bool) → is_break_entry e ≡ b → b && nat_lt 0 (items_width columns (kept_items columns since)) ≡ false
-        go true k = sym (has_columns_width columns since) ∙ false_from_ne_true _ (h k)
-        go false k = refl
+    stays = elim (cases_Bool (is_break_entry e)) [ inl k ↦ rw k (sym (has_columns_width columns since) ∙ false_from_ne_true _ (h k)) | inr k ↦ rw k refl ]
 
     blank : first_of (first_blank (before ++ since)) (blank_of e) ≡ first_blank (before ++ (since ++ e ∷ []))
     blank = ap (first_of (first_blank (before ++ since))) (sym (first_of_none (blank_of e))) ∙ sym (first_blank-append (before ++ since) (e ∷ [])) ∙ ap first_blank (append_assoc before since (e ∷ []))
@@ -106,11 +101,7 @@ left r = if has_character r.items then [] else r.items
 over_rest : {A : Type 0} (columns : ℕ → Option ℕ) (words : List (Word A)) (before rest : List (Entry A)) →
     (finished (read_since columns words before rest) ≡ words ++ words_after columns before [] rest) × (left (read_since columns words before rest) ≡ markers_left columns rest)
 unfolding finished left
-over_rest {A} columns words before rest = (go (has_character (kept_items columns rest)), refl)
-  where
-    go : (b : Bool) → (if b then words ++ word_after columns before rest ∷ [] else words) ≡ words ++ (if b then word_after columns before rest ∷ [] else [])
-    go true = refl
-    go false = sym (append-nil words)
+over_rest {A} columns words before rest = (if_same (λ (ws : List (Word A)). words ++ ws) (has_character (kept_items columns rest)) _ _ _ _ refl (sym (append-nil words)), refl)
 
 over_parts : {A : Type 0} (columns : ℕ → Option ℕ) (words : List (Word A)) (before : List (Entry A)) (regions : List (Region A)) (rest : List (Entry A)) →
     Each (EndsAtWorkingBreak columns) regions → NoBreakWorks columns rest →
@@ -168,11 +159,6 @@ part_more {A} columns run (e ∷ more) regions rest h =
     let v = part_more columns (run ++ e ∷ []) more w.0 w.1 w.2 in
     (v.0, v.1, record { whole = v.2.whole ∙ append_assoc run (e ∷ []) more; each = v.2.each; last = v.2.last })
   where
-    and_not : (a b : Bool) → a && b ≡ false → a ≡ true → b ≡ true → ⊥
-    and_not true true h p q = cc
-    and_not true false h p q = cc
-    and_not false b h p q = cc
-
     step : (b : Bool) → is_break_entry e && list_any (takes_columns columns) rest ≡ b →
         (rs : List (Region A)) × (r : List (Entry A)) × IsParted columns (run ++ e ∷ []) rs r
     step true k = let both = and_parts _ _ k in (regions ++ record { content = rest; break = e } ∷ [], [], more_regions columns run regions rest e h both.0 both.1)
@@ -182,7 +168,7 @@ part_more {A} columns run (e ∷ more) regions rest h =
       record {
         whole = sym (append_assoc (flat_map region_entries regions) rest (e ∷ [])) ∙ ap (λ (es : List (Entry A)). es ++ e ∷ []) h.whole;
         each = h.each;
-        last = longer_rest columns rest e h.last (and_not _ _ k);
+        last = longer_rest columns rest e h.last (λ p q. both_ways _ k (and_from _ _ p q));
       },
     )
 

@@ -1,7 +1,8 @@
 -- The slots of a run, read region by region.
-use Rattle.std.proofs.Common.{◌≡◌, ℕ, zero, suc, ◌+◌, ◌-◌, ◌≤◌, Bool, true, false, if◌then◌else◌, Option, Some, List, [], ◌∷◌, ◌++◌, fold, flat_map, take, drop, slice_get, slice_range, ap, sym, ◌∙◌, arith, append_assoc, append-nil, take-append-drop, drop-drop, add-one}
+use Rattle.std.proofs.Common.{◌≡◌, ℕ, zero, suc, ◌+◌, ◌-◌, ◌≤◌, Bool, if◌then◌else◌, Option, Some, List, [], ◌∷◌, ◌++◌, fold, flat_map, take, drop, slice_get, slice_range, ap, sym, ◌∙◌, arith, append_assoc, append-nil, take-append-drop, drop-drop, add-one}
 use Rattle.std.proofs.Math.Seq.{take-add}
 use Rattle.std.proofs.lemmas.List.Concat.{flat_map-append}
+use Rattle.tbr_model.proofs.lists.Each.{if_same}
 use Rattle.tbr_model.specs.Run.{Entry, Item, items_of, kept_items, has_character, Word, word_of, Reading, read, reading}
 use Rattle.tbr_model.specs.Layout.{Slot, word_slots, slots_of}
 use Rattle.tbr_model.specs.Regions.{NoBreakWorks, EndsAtWorkingBreak, IsFirstWorkingBreak, first_blank, word_after}
@@ -46,14 +47,9 @@ pub at_end : {A : Type 0} (columns : ℕ → Option ℕ) (width : ℕ) (run : Li
 at_end {A} columns width run slots before left h last =
     ap (λ (r : Reading A). flat_map (word_slots columns width) (if has_character r.items then r.words ++ word_of r ∷ [] else r.words))
     (h.reads ∙ still columns h.words before [] left last)
-    ∙ go (has_character (kept_items columns left))
-  where
-    w : Word A
-    w = word_after columns before left
-
-    go : (b : Bool) → flat_map (word_slots columns width) (if b then h.words ++ w ∷ [] else h.words) ≡ (if b then slots ++ word_slots columns width (word_after columns [] (before ++ left)) else slots)
-    go true = slots_more columns width h.words w ∙ ap (λ (s : List (Slot A)). s ++ word_slots columns width w) (sym h.placed) ∙ ap (λ (v : Word A). slots ++ word_slots columns width v) (sym (same_word columns before left h.unkept))
-    go false = sym h.placed
+    ∙ sym (if_same (flat_map (word_slots columns width)) (has_character (kept_items columns left)) (h.words ++ word_after columns before left ∷ []) h.words _ _
+    (ap (λ (v : Word A). slots ++ word_slots columns width v) (same_word columns before left h.unkept)
+    ∙ ap (λ (s : List (Slot A)). s ++ word_slots columns width (word_after columns before left)) h.placed ∙ sym (slots_more columns width h.words (word_after columns before left))) h.placed)
 
 -- ---- by places
 

@@ -11,7 +11,7 @@ module _ {A : Type 0} where
   rest_text-append (s ∷ ss) ts =
       ap (λ is. (gap_text s.gap ++ s.item ∷ []) ++ is) (rest_text-append ss ts) ∙ sym (append_assoc (gap_text s.gap ++ s.item ∷ []) (rest_text ss) (rest_text ts))
 
-  inner_text : (columns : ℕ → Option ℕ) (wider : Bool) (is : List (Item A)) → rest_text (map (slot_of columns wider None false) is) ≡ is
+  pub inner_text : (columns : ℕ → Option ℕ) (wider : Bool) (is : List (Item A)) → rest_text (map (slot_of columns wider None false) is) ≡ is
   inner_text columns wider [] = refl
   inner_text columns wider (i ∷ is) = ap (λ js. i ∷ js) (inner_text columns wider is)
 
@@ -51,3 +51,5 @@ module _ {A : Type 0} where
   pub no_blank_found : (es : List (Entry A)) → Each (λ e. blank_of e ≡ None) es → first_blank es ≡ None
   no_blank_found [] h = refl
   no_blank_found (x ∷ es) h = ap (λ o. first_of o (first_blank es)) h.0 ∙ no_blank_found es h.1
+
+pub ruleset gap_laws = (words_text, no_blank_found, none_blank)

@@ -1,13 +1,12 @@
 -- Entries in memory, one after another.
 use Rattle.std.proofs.Common.{◌≡◌, ℕ, ◌+◌, ◌-◌, ◌<◌, ◌||◌, Bool, Some, option_map, List, [], ◌∷◌, ◌++◌, length, take, drop, get_or, slice_get, slice_range, refl, ap, sym, ◌∙◌}
 use Rattle.std.specs.List.{list_any}
-use Rattle.std.proofs.lemmas.List.{take-map, drop-map, take_rest, map-append}
+use Rattle.std.proofs.lemmas.List.{take_more, take-map, drop-map, take_rest, map-append}
 use Rattle.std.proofs.Math.Bool.{or-false}
 use Rattle.std.proofs.lemmas.List.Folds.{list_any-append}
 use Rattle.std.proofs.lemmas.Option.{slice_get-map, slice_get_read}
 use Rattle.tbr_model.specs.declared.entry.Entry.{Entry as StoredEntry}
 use Rattle.tbr_model.specs.Entry.{entry_value, entry_values}
-use Rattle.tbr_model.proofs.lists.Joined.{take_item}
 
 pub list_any_more : {X : Type 0} (p : X → Bool) (xs : List X) (x : X) → list_any p (xs ++ x ∷ []) ≡ list_any p xs || p x
 list_any_more p xs x = list_any-append p xs (x ∷ []) ∙ ap (λ b. list_any p xs || b) (or-false (p x))
@@ -15,7 +14,7 @@ list_any_more p xs x = list_any-append p xs (x ∷ []) ∙ ap (λ b. list_any p 
 -- the values with one entry more
 pub values_more : {A : Type 0} (es : List (StoredEntry A)) (i : ℕ) (e : StoredEntry A) → i < length es → e ≡ get_or es i e →
     entry_values (take (i + 1) es) ≡ entry_values (take i es) ++ entry_value e ∷ []
-values_more es i e h k = ap entry_values (take_item es i e h k) ∙ map-append entry_value (take i es) (e ∷ [])
+values_more es i e h k = ap entry_values (take_more es i e h ∙ ap (λ x. take i es ++ x ∷ []) (sym k)) ∙ map-append entry_value (take i es) (e ∷ [])
 
 pub value_at : {A : Type 0} (es : List (StoredEntry A)) (i : ℕ) (e : StoredEntry A) → i < length es → e ≡ get_or es i e → slice_get (entry_values es) i ≡ Some (entry_value e)
 value_at es i e h k = slice_get-map entry_value es i ∙ ap (option_map entry_value) (slice_get_read es (length es) i e refl h k)

@@ -1,6 +1,6 @@
 use Rattle.std.proofs.Common.{◌-◌, length}
 use Rattle.tbr_model.specs.Slot.{slot_values}
-use Rattle.tbr_model.proofs.layouts.BestCuts.{CutsSoFar}
+use Rattle.tbr_model.proofs.layouts.LongestLines.{CutsSoFar}
 use Rattle.tbr_model.proofs.best.best_cuts.Given as goal
 
 abbrev pub invariant-loop-from : goal.invariant-loop-from

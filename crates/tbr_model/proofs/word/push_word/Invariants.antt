@@ -1,9 +1,14 @@
-use Rattle.std.proofs.Common.{◌≡◌, ◌++◌, true, drop, option_copied}
-use Rattle.tbr_model.specs.Run.{kept_items}
+use Rattle.std.proofs.Common.{◌≡◌, ◌++◌, true, drop, option_copied, ℕ, Bool, false, Option, None, List, [], ◌∷◌, map}
+use Rattle.tbr_model.specs.Run.{kept_items, Item}
 use Rattle.tbr_model.specs.Entry.{entry_values}
 use Rattle.tbr_model.specs.Slot.{slot_values}
-use Rattle.tbr_model.proofs.words.RestSlots.{slots_on}
+use Rattle.tbr_model.specs.Layout.{Slot, slot_of}
 use Rattle.tbr_model.proofs.word.push_word.Given as goal
+
+-- the slots of what is left of a word
+abbrev slots_on : {A : Type 0} → (ℕ → Option ℕ) → Bool → Option A → Bool → List (Item A) → List (Slot A)
+slots_on columns wider gap begins [] = []
+slots_on columns wider gap begins (i ∷ is) = slot_of columns wider gap begins i ∷ map (slot_of columns wider None false) is
 
 abbrev pub invariant-loop-entry : goal.invariant-loop-entry
 invariant-loop-entry g l =

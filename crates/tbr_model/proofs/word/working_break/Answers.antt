@@ -1,32 +1,17 @@
-use Rattle.std.proofs.Common.{◌||◌, IsTrue, refl, ap, sym, ◌∙◌, subst, take}
+use Rattle.std.proofs.Common.{◌||◌, IsTrue, refl, ap, sym, ◌∙◌, take}
 use Rattle.std.specs.List.{list_any}
 use Rattle.std.proofs.lemmas.Bool.{or_right}
 use Rattle.tbr_model.specs.Run.{is_break_entry}
-use Rattle.tbr_model.specs.Regions.{takes_columns, HasColumns, NoBreakWorks}
+use Rattle.tbr_model.specs.Regions.{takes_columns, HasColumns}
 use Rattle.tbr_model.specs.Entry.{entry_value, entry_values}
 use Rattle.tbr_model.proofs.words.Regions.{no_break, longer_rest}
 use Rattle.std.proofs.Math.Bool.{or-false}
-use Rattle.tbr_model.proofs.words.StoredEntries.{list_any_more, values_more, value_at, values_front}
+use Rattle.tbr_model.proofs.words.StoredEntries.{list_any_more, values_more}
 use Rattle.tbr_model.proofs.word.working_break.Goals as goal
 use Rattle.tbr_model.proofs.word.working_break.Goals.{else-works-via-then-works+else-is_break, else-works-via-else-works, then-takes_columns, else-takes_columns}
 
 pub loop-place-init : goal.loop-place-init
 loop-place-init g c = (refl, no_break g.W.CharWidth.columns)
-
-pub returns-then-is_break : goal.returns-then-is_break
-returns-then-is_break g c =
-    let es = c.args.entries.now in
-    let i = c.loop-place.place in
-    let e = c.index-entries-place.result in
-    let front = values_front es i in (
-      entry_value e,
-      value_at es i e c.loop-place-test.true c.index-entries-place.is,
-      record {
-        is_break = sym c.is_break.ensures ∙ c.if-is_break.true;
-        works = rw (← front) (sym c.loop-place.invariant.0 ∙ c.if-works.true);
-        none_before = subst (NoBreakWorks g.W.CharWidth.columns) front c.loop-place.invariant.1;
-      },
-    )
 
 pub loop-place-preserved : goal.loop-place-preserved
 loop-place-preserved g c =
