@@ -37,6 +37,9 @@ use tbr_tagged::{Error, OutOfMemory, TaggedLineElement, always_takes_space, is_w
 /// U+200B, at which a word may end without a space.
 const ZERO_WIDTH_SPACE: char = '\u{200b}';
 
+/// For so many lines at most a call makes room ahead of time.
+const MOST_AHEAD: usize = 32;
+
 /// White space that waits for a word.
 #[derive(Drop)]
 pub struct Space<T> {
@@ -386,6 +389,8 @@ impl<T: Eq + Clone + Drop> Wrapper<T> {
         ensures limits { KeepsLimits self.old.lines self.new.lines }
     {
         self.lines.flat.make_room(bytes);
+        let lines = bytes / self.lines.width;
+        let _ = self.lines.ended.reserve(lines.min(MOST_AHEAD));
         self.in_continuation = self.continuation_flag;
     }
 

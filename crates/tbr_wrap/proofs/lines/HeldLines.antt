@@ -40,8 +40,8 @@ keeps_trans a b c h k = record {
 }
 
 -- where no other field changed
-pub holds_same : {A : Type 0} (b c : LaidLines A) (before : List (List (Item A))) (l : Laid A) → HoldsLaid b before l → c.flat.placed ≡ b.flat.placed → c.ended ≡ b.ended → c.line_len ≡ b.line_len → c.line_markers ≡ b.line_markers → c.line_width ≡ b.line_width → HoldsLaid c before l
-holds_same b c before l h flat lines len markers width = record { placed = flat ∙ h.placed; lens = ap (λ q. q.items) lines ∙ h.lens; len = len ∙ h.len; markers = markers ∙ h.markers; width = width ∙ h.width }
+pub holds_same : {A : Type 0} (b c : LaidLines A) (before : List (List (Item A))) (l : Laid A) → HoldsLaid b before l → c.flat.placed ≡ b.flat.placed → c.ended.items ≡ b.ended.items → c.line_len ≡ b.line_len → c.line_markers ≡ b.line_markers → c.line_width ≡ b.line_width → HoldsLaid c before l
+holds_same b c before l h flat lines len markers width = record { placed = flat ∙ h.placed; lens = lines ∙ h.lens; len = len ∙ h.len; markers = markers ∙ h.markers; width = width ∙ h.width }
 
 -- ---- the first ended line
 

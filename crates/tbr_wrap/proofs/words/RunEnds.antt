@@ -61,7 +61,7 @@ module _ {A : Type 0} (columns : ℕ → Option ℕ) (eq : A → A → Bool) (la
   word_stands : (is : List (Item A)) → IsAtProgress columns eq b before given p → SameItems eq lines.flat.word is → items_width columns is ≡ items_width columns p.word → lines.flat.placed ≡ b.lines.flat.placed → lines.ended ≡ b.lines.ended → lines.line_len ≡ b.lines.line_len → lines.line_markers ≡ b.lines.line_markers →
       lines.line_width ≡ b.lines.line_width → KeepsLimits b.lines lines → IsAtProgress columns eq (record b { lines = lines }) before given (record p { word = is })
   word_stands is s word wide placed ended len markers width limits = record {
-    lays = lays_same columns eq laws b.lines lines limits before given p.laid s.lays (holds_same b.lines lines before s.lays.laid s.lays.holds placed ended len markers width);
+    lays = lays_same columns eq laws b.lines lines limits before given p.laid s.lays (holds_same b.lines lines before s.lays.laid s.lays.holds placed (ap (λ q. q.items) ended) len markers width);
     space = s.space;
     word = word;
     word_width = s.word_width ∙ sym wide;

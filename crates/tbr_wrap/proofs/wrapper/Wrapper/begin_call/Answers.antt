@@ -8,7 +8,7 @@ returns-clause-begun g c = λ columns before given p s.
     let old = c.args.self.now in let room = c.make_room.ensures in
     record {
       lays = lays_same columns g.T.PartialEq.eq g.met.T.Eq.laws old.lines _ (record { width = refl; may_overflow = refl }) before given p.laid s.lays
-          (holds_same old.lines _ before s.lays.laid s.lays.holds (ap (λ f. f.placed) room) refl refl refl refl);
+          (holds_same old.lines _ before s.lays.laid s.lays.holds (ap (λ f. f.placed) room) c.reserve.ensures.items refl refl refl);
       space = s.space;
       word = rw room s.word;
       word_width = s.word_width;
