@@ -32,6 +32,10 @@ among_cons x y ys h = go h.0 h.2
     go [] e = inl cc
     go (f ∷ front) e = inr (front, h.1, cc)
 
+-- where the others are among those, it is, too
+pub among_again : {X : Type 0} (x y : X) (ys zs : List X) → (StandsAmong x ys → StandsAmong x zs) → StandsAmong x (y ∷ ys) → StandsAmong x (y ∷ zs)
+among_again x y ys zs others h = elim (among_cons x y ys h) [ inl e ↦ ([], zs, ap (λ z. z ∷ zs) (sym e)) | inr l ↦ among_front x y zs (others l) ]
+
 pub each_take : {X : Type 0} (P : X → Type 0) (n : ℕ) (xs : List X) → Each P xs → Each P (take n xs)
 each_take P n xs h = each_front P (take n xs) (drop n xs) (subst (Each P) (sym (take-append-drop n xs)) h)
 

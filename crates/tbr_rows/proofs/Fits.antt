@@ -38,7 +38,7 @@ pub all_found : {A : Type 0} (hs : List (Cell A)) → true ≡ row_fits hs []
 all_found [] = refl
 all_found (h ∷ hs) = all_found hs
 
-some_mapped : {X Y : Type 0} (f : X → Y) (o : Option X) → is_some (option_map f o) ≡ is_some o
+pub some_mapped : {X Y : Type 0} (f : X → Y) (o : Option X) → is_some (option_map f o) ≡ is_some o
 some_mapped f None = refl
 some_mapped f (Some x) = refl
 

@@ -4,6 +4,7 @@ pub mod RowLines
 pub mod FilledGaps
 pub mod Fits
 pub mod Seats
+pub mod Squares
 pub mod Left
 pub mod WholeRow
 pub mod Fitted

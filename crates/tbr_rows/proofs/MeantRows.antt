@@ -26,7 +26,7 @@ use Rattle.tbr_rows.specs.Texts.{row_height, line_texts}
 use Rattle.tbr_rows.specs.Gaps.{overhang}
 use Rattle.tbr_rows.specs.Rows.{cells_under, next_under, next_merged, columns_shown, cells_left, separator_in, drawn_in, IsPlain, IsRow}
 use Rattle.tbr_rows.specs.Meant.{map_hole, map_border, map_cell, map_column, map_line, map_element, EqualIfMeant, row_meant, HasGaps, MeansRow, MeansFilled}
-use Rattle.tbr_rows.proofs.MeantCells.{spot-map, with_hanging-map, row_width-map, border_above-map, cells_under-map, next_under-map, next_merged-map, columns_shown-map}
+use Rattle.tbr_rows.proofs.MeantCells.{blank-map, with_hanging-map, row_width-map, border_above-map, cells_under-map, next_under-map, next_merged-map, columns_shown-map}
 use Rattle.tbr_rows.proofs.MeantTexts.{text-map, items-map, line_texts-map, row_height-map, cells_left-map, overhang-map, gaps_mean, texts_mean}
 
 module _ {A B : Type 0} (f : A → B) (eq : A → A → Bool) (means : MeansEqual f eq) (told : EqualIfMeant f eq) where
@@ -59,7 +59,7 @@ module _ {A B : Type 0} (f : A → B) (eq : A → A → Bool) (means : MeansEqua
       ∙ next_merged-map f collapses under (next_under top r.cells r.plain) in
       record {
         cells = map (map_cell f) r.cells;
-        seated = with_hanging-map f 0 hanging own ∙ ap (option_map (map (map_cell f))) r.seated;
+        seated = with_hanging-map f hanging own r.cells r.seated;
         upper = ap (option_map (map_border f)) r.upper ∙ sym (border_above-map f collapses r.cells top);
         shown = map (map_column f) r.shown;
         shown_is = ap (map (map_column f)) r.shown_is ∙ sym (columns_shown-map f collapses under) ∙ ap (columns_shown collapses) (sym (cells_under-map f collapses top r.cells));
@@ -107,7 +107,7 @@ module _ {A B : Type 0} (f : A → B) (eq : A → A → Bool) (means : MeansEqua
 module _ {A B : Type 0} (f : A → B) where
   pub spots_mean : (cs : List (Cell A)) → map spot_of (map (map_cell f) cs) ≡ map spot_of cs
   spots_mean [] = refl
-  spots_mean (c ∷ cs) = ap (λ (s : Spot). s ∷ map spot_of (map (map_cell f) cs)) (spot-map f c) ∙ ap (λ (ss : List Spot). spot_of c ∷ ss) (spots_mean cs)
+  spots_mean (c ∷ cs) = rw (blank-map f c.lines, spots_mean cs) refl
 
   pub fits_mean : (hs : List (Cell A)) (spots : List Spot) → row_fits (map (map_cell f) hs) spots ≡ row_fits hs spots
   fits_mean [] spots = refl
