@@ -1,20 +1,19 @@
 -- A row by what its tags mean is the one that is computed.
 use Rattle.std.proofs.Common.{◌≡◌, ◌↔◌, ℕ, Bool, true, false, if◌then◌else◌, Option, None, Some, List, [], ◌∷◌, fold, ap, sym, ◌∙◌, subst, refl}
 use Rattle.std.specs.Option.{option_map}
-use Rattle.std.specs.Prelude.{replicate}
 use Rattle.std.proofs.lemmas.Option.{same_Some}
 use Rattle.tbr_model.specs.Run.{Item, glyph, marker}
 use Rattle.tbr_border.specs.declared.render_line.RenderLine.{RenderLine}
 use Rattle.tbr_border.specs.declared.render_line.RenderLine.TheVariants.{Text, Line}
-use Rattle.tbr_border.specs.Cell.{horizontal}
-use Rattle.tbr_border.specs.Border.{Border, without_holes, shown}
+use Rattle.tbr_border.specs.Border.{Border, shown}
 use Rattle.tbr_tagged.specs.Elements.{Element, piece, marker_element, items_of}
 use Rattle.tbr_rows.specs.declared.line_set.LineSet.{LineSet as Cell}
 use Rattle.tbr_rows.specs.declared.row.RowStyle.{RowStyle}
-use Rattle.tbr_rows.specs.Cells.{first_line, row_width, with_hanging}
+use Rattle.tbr_rows.specs.Cells.{first_line, with_hanging}
 use Rattle.tbr_rows.specs.Gaps.{has_gap, with_elements}
 use Rattle.tbr_rows.specs.Meant.{EndsStretch, AreLongest, IsGapOf, HasGapIf, HasGaps, SeenRow, MeansRow}
-use Rattle.tbr_rows.specs.Computed.{TellsApart, character_before, longest, gap_of, with_gap, shown_of, left_of, border_below, row_under, row_of}
+use Rattle.tbr_rows.specs.Computed.{TellsApart, character_before, longest, gap_of, with_gap, left_of, border_below, row_under, row_of}
+use Rattle.tbr_rows.specs.Rows.{shown_in}
 use Rattle.tbr_rows.proofs.OneRow.{one_row}
 
 module _ {A : Type 0} (same : A → A → Bool) (tells : TellsApart same) where
@@ -82,11 +81,9 @@ module _ {A : Type 0} (same : A → A → Bool) (tells : TellsApart same) where
         cells = cells;
         seated = seated;
         upper = refl;
-        shown = shown_of same columns style a top cells;
+        shown = shown_in style top cells;
         shown_is = refl;
         texts = refl;
-        plain = without_holes (replicate (row_width cells) horizontal) a;
-        plain_is = refl;
         full = border_below same columns style a top cells;
         gaps = has_gaps (left_of same columns style a top cells) _;
         lower = refl;

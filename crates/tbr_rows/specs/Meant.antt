@@ -17,7 +17,7 @@ use Rattle.tbr_rows.specs.declared.row.RowStyle.{RowStyle}
 use Rattle.tbr_rows.specs.Cells.{first_line, row_width, with_hanging}
 use Rattle.tbr_rows.specs.Texts.{row_height, line_texts}
 use Rattle.tbr_rows.specs.Gaps.{has_gap, with_elements, overhang}
-use Rattle.tbr_rows.specs.Rows.{border_above, cells_under, next_under, next_merged, columns_shown, cells_left, separator_in, drawn_in}
+use Rattle.tbr_rows.specs.Rows.{border_above, cells_under, columns_shown, cells_left, next_begun, separator_in, drawn_in}
 pub use Rattle.tbr_tagged.specs.Mapped.{map_element}
 
 -- ---- borders, lines and cells under other tags, each as what a function makes of it
@@ -110,10 +110,8 @@ pub record MeansRow {A : Type 0} (columns : ℕ → Option ℕ) (style : RowStyl
   pub shown : List (Column A)
   pub shown_is : shown ≡ columns_shown style.collapses (cells_under style.collapses top cells)
   pub texts : row.lines ≡ line_texts (glyph (separator_in style) a) a shown (row_height shown)
-  pub plain : Border A
-  pub plain_is : plain ≡ without_holes (replicate (row_width cells) horizontal) a
   pub full : Border A
   pub gaps : HasGaps style.draws_borders columns a (cells_left (row_height shown) shown)
-      (next_merged style.collapses (cells_under style.collapses top cells) (next_under top cells plain)) full
+      (next_begun style top cells (without_holes (replicate (row_width cells) horizontal) a)) full
   pub lower : row.next ≡ drawn_in style full
   pub rest : row.overhang ≡ overhang style.draws_borders (cells_left (row_height shown) shown)
