@@ -26,14 +26,13 @@ use Rattle.tbr_rows.specs.Rows.{vertical_bar, separator_in, cells_left, cells_un
 use Rattle.tbr_rows.specs.Meant.{IsGapOf, HasGaps}
 use Rattle.tbr_rows.specs.Shown.{met, continued, goes_on, later_of, AreItsRows, DrawsInOne}
 use Rattle.tbr_rows.proofs.Seats.{stand_side_by_side}
-use Rattle.tbr_rows.proofs.Left.{left_of_row, rest_apart}
 use Rattle.tbr_rows.proofs.CellColumns.{width_append, stands_at}
 use Rattle.tbr_rows.proofs.FilledCells.{text_columns, spaces_narrow}
 use Rattle.tbr_rows.proofs.AllLines.{row_is_high_enough, all_texts, rows_go_on}
 use Rattle.tbr_rows.specs.CellsShown.{MadeRow, StandsAmong, Fills, IsFilled, meeting_in, ShowsAt, ShowsBelow, StandsInItsColumns, StandsInAll, FollowOneAnother, HasFilledCells, IsOfFirst, ShowsTexts}
 use Rattle.tbr_rows.proofs.Among.{among_map, each_among, each_drop}
 use Rattle.tbr_rows.proofs.LinesOfRows.{count_lines, drop_at, first_text, line_at}
-use Rattle.tbr_rows.proofs.ColumnsOfRows.{cell_is, column_fills, column_of, columns_are, columns_fill, columns_side_by_side, lines_stay, place_stays, span_stays, width_stays}
+use Rattle.tbr_rows.proofs.ColumnsOfRows.{column_fills, column_of, columns_are, columns_fill, columns_side_by_side, left_of_row, rest_apart, lines_stay}
 use Rattle.tbr_rows.proofs.CellsSeated.{among_seated, each_seated}
 use Rattle.tbr_rows.proofs.BelowRows.{begins_plain, within_row, gap_width, gap_stands}
 

@@ -5,8 +5,6 @@ pub mod FilledGaps
 pub mod Fits
 pub mod Seats
 pub mod Squares
-pub mod Left
-pub mod WholeRow
 pub mod Fitted
 pub mod AllLines
 pub mod CellColumns
