@@ -1,5 +1,5 @@
 -- Rows lose no line of a cell.
-use Rattle.std.proofs.Common.{◌≡◌, if◌then◌else◌, ℕ, ◌-◌, ◌≤◌, ◌&&◌, Bool, true, false, Option, None, Some, List, [], ◌∷◌, ◌++◌, map, take, drop, length, fold, max, ◌/◌, refl, ap, sym, ◌∙◌, subst, arith, append_assoc, append-nil}
+use Rattle.std.proofs.Common.{◌≡◌, if◌then◌else◌, ℕ, ◌-◌, ◌≤◌, ◌&&◌, Bool, true, false, Option, None, Some, List, [], ◌∷◌, ◌++◌, map, take, drop, length, fold, max, refl, ap, sym, ◌∙◌, arith, append_assoc, append-nil}
 use Rattle.std.specs.Prelude.{nat_lt, is_some, flat_map}
 use Rattle.std.specs.List.{AllByRecursion as Each}
 use Rattle.std.proofs.lemmas.Bool.{ltb-false, le-leb}
@@ -11,7 +11,7 @@ use Rattle.tbr_border.specs.Border.{Border, has_holes}
 use Rattle.tbr_rows.specs.declared.line_set.LineSet.{LineSet as Cell}
 use Rattle.tbr_rows.specs.declared.column.Column.{Column}
 use Rattle.tbr_rows.specs.Cells.{cell_height}
-use Rattle.tbr_rows.specs.Borders.{first_mergeable, last_mergeable, after_mergeable, before_mergeable, without_first_border, with_last_border_apart}
+use Rattle.tbr_rows.specs.Borders.{first_mergeable, last_mergeable, after_mergeable, before_mergeable, without_first_border}
 use Rattle.tbr_rows.specs.Texts.{row_height}
 use Rattle.tbr_rows.specs.Gaps.{overhang_of, overhang, cell_in}
 use Rattle.tbr_rows.specs.Shown.{part_of, later_of, as_lines, Meeting, met, merged_first, merged_last, continued, goes_on, parts_of, parts_and_merged, meeting, AreItsRows, texts_in}

@@ -19,7 +19,8 @@ use Rattle.tbr_rows.specs.CellsShown.{Fills, IsFilled}
 use Rattle.tbr_rows.specs.Borders.{joined, joined_at_each, last_mergeable, merged_with, merged_above}
 use Rattle.tbr_rows.specs.Gaps.{has_gap, with_element, with_elements}
 use Rattle.tbr_rows.specs.Meant.{IsGapOf, HasGapIf, HasGaps}
-use Rattle.tbr_rows.specs.Rows.{next_under, next_merged}
+use Rattle.tbr_rows.specs.Rows.{cells_under, next_under, next_merged, next_begun}
+use Rattle.tbr_rows.specs.declared.row.RowStyle.{RowStyle}
 use Rattle.tbr_rows.specs.Shown.{DrawsInOne, HolesFill}
 use Rattle.tbr_rows.proofs.CellColumns.{width_append}
 use Rattle.tbr_rows.proofs.FilledCells.{text_columns, spaces_narrow, fill_later, part_width}
@@ -68,19 +69,16 @@ module _ {A : Type 0} where
       (omega (arith, one.0, later.0), λ e. later.1 (one.1 e))
 
   -- as a border below a row begins
-  pub begins_plain : (collapses : Bool) (top : Option (Border A)) (cs under : List (Cell A)) (b : Border A) → KeepsPlain b (next_merged collapses under (next_under top cs b))
-  begins_plain collapses top cs under b = go collapses top
+  pub begins_plain : (style : RowStyle) (top : Option (Border A)) (cs : List (Cell A)) (b : Border A) → KeepsPlain b (next_begun style top cs b)
+  begins_plain style top cs b = go style.collapses (joins top)
     where
       joins : (o : Option (Border A)) → KeepsPlain b (next_under o cs b)
       joins None = (omega arith, λ e. e)
       joins (Some t) = joins_plain above (separators cs) b
 
-      go : (x : Bool) (o : Option (Border A)) → KeepsPlain b (next_merged x under (next_under o cs b))
-      go true o =
-          let one = joins o in
-          let later = all_merged_plain under (next_under o cs b) in
-          (omega (arith, one.0, later.0), λ e. later.1 (one.1 e))
-      go false o = joins o
+      go : (x : Bool) → KeepsPlain b (next_under top cs b) → KeepsPlain b (next_merged x (cells_under x top cs) (next_under top cs b))
+      go true one = let later = all_merged_plain (cells_under true top cs) (next_under top cs b) in (omega (arith, one.0, later.0), λ e. later.1 (one.1 e))
+      go false one = one
 
   -- each cell of a row begins within its width
   pub first_within : (at : ℕ) (c : Cell A) (cs : List (Cell A)) → AreSideBySide at (c ∷ cs) → c.place ≤ row_width (c ∷ cs)

@@ -35,7 +35,7 @@ columns_are false None cs = refl
 columns_are false (Some b) cs = refl
 
 -- cells that change their lines alone stay in their places
-keep_places : {A : Type 0} (lines : Cell A → List (RenderLine A)) (at : ℕ) (cs : List (Cell A)) → AreSideBySide at cs → AreSideBySide at (map (λ (c : Cell A). let d : Cell A = record c { lines = lines c } in d) cs)
+pub keep_places : {A : Type 0} (lines : Cell A → List (RenderLine A)) (at : ℕ) (cs : List (Cell A)) → AreSideBySide at cs → AreSideBySide at (map (λ (c : Cell A). let d : Cell A = record c { lines = lines c } in d) cs)
 keep_places lines at [] s = tt
 keep_places lines at (c ∷ cs) s = (s.0, keep_places lines (end_of c + 1) cs s.1)
 
