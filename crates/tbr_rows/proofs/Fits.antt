@@ -5,7 +5,7 @@ use Rattle.std.specs.Option.{option_map}
 use Rattle.std.specs.List.{list_all, list_any}
 use Rattle.std.proofs.lemmas.Bool.{eqb-true, ne_eqb, leb-true, leb-false, le-leb, and_parts}
 use Rattle.tbr_rows.specs.declared.line_set.LineSet.{LineSet as Cell}
-use Rattle.tbr_rows.specs.Cells.{end_of, AreSideBySide, AreApart, Spot, spot_of, is_left_for, ends_before, row_fits, with_hanging}
+use Rattle.tbr_rows.specs.Cells.{end_of, AreSideBySide, AreApart, Spot, spot_of, spots_from, look, is_left_for, ends_before, row_fits, with_hanging}
 
 -- whether a cell finds its place among others
 abbrev pub finds : {A : Type 0} → List Spot → Cell A → Bool
@@ -19,11 +19,18 @@ left_is h c e =
 pub elsewhere : {A : Type 0} (h : Cell A) (s : Spot) → (h.place ≡ s.place → ⊥) → is_left_for h s ≡ false
 elsewhere h s n = rw (ne_eqb h.place s.place n) refl
 
+pub spots_side_by_side : {A : Type 0} (at : ℕ) (cs : List (Cell A)) → AreSideBySide at cs → map spot_of cs ≡ spots_from at (map look cs)
+spots_side_by_side at [] s = refl
+spots_side_by_side at (c ∷ cs) s = rw (← s.0, spots_side_by_side (end_of c + 1) cs s.1) refl
+
 -- a cell before a place isn't found after it
+pub none_from : {A : Type 0} (h : Cell A) (at : ℕ) (ws : List (ℕ × Bool)) → h.place < at → list_any (is_left_for h) (spots_from at ws) ≡ false
+none_from h at [] before = refl
+none_from h at (w ∷ ws) before =
+    rw (elsewhere h (record { place = at; width = w.0; is_blank = w.1 }) (λ e. let no : ⊥ = omega (arith, before, e) in no)) (none_from h (at + w.0 + 1) ws (omega (arith, before)))
+
 none_after : {A : Type 0} (h : Cell A) (at : ℕ) (cs : List (Cell A)) → h.place < at → AreSideBySide at cs → list_any (is_left_for h) (map spot_of cs) ≡ false
-none_after h at [] before s = refl
-none_after h at (c ∷ cs) before s =
-    rw (elsewhere h (spot_of c) (λ e. let no : ⊥ = omega (arith, before, e, s.0) in no)) (none_after h (end_of c + 1) cs (omega (arith, before, s.0)) s.1)
+none_after h at cs before s = rw (spots_side_by_side at cs s) (none_from h at (map look cs) before)
 
 -- cells after a place need not look at one that ends before it
 pub past : {A : Type 0} (s : Spot) (spots : List Spot) (at : ℕ) (hs : List (Cell A)) → s.place + s.width + 1 ≤ at → AreApart at hs → row_fits hs (s ∷ spots) ≡ row_fits hs spots
