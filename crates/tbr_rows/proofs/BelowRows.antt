@@ -2,7 +2,7 @@
 use Rattle.std.proofs.Common.{◌≡◌, ℕ, zero, suc, ◌+◌, ◌-◌, ◌≤◌, max, Bool, true, false, Option, None, Some, List, [], ◌∷◌, ◌++◌, map, fold, drop, length, refl, ap, sym, ◌∙◌, subst, arith, append_assoc, append-nil}
 use Rattle.std.specs.Prelude.{⊤, slice_range}
 use Rattle.std.specs.List.{AllByRecursion as Each}
-use Rattle.std.proofs.lemmas.List.{map-append, length-replicate, drop-drop}
+use Rattle.std.proofs.lemmas.List.{map-append, drop-drop}
 use Rattle.std.proofs.Math.Seq.{take-add}
 use Rattle.std.proofs.lemmas.Bool.{cond_both}
 use Rattle.std.proofs.lemmas.List.Folds.{drop_split}
@@ -25,7 +25,7 @@ use Rattle.tbr_rows.specs.Rows.{cells_under, next_under, next_merged, next_begun
 use Rattle.tbr_rows.specs.declared.row.RowStyle.{RowStyle}
 use Rattle.tbr_rows.specs.Shown.{DrawsInOne, HolesFill}
 use Rattle.tbr_rows.proofs.CellColumns.{width_append}
-use Rattle.tbr_rows.proofs.FilledCells.{text_columns, spaces_narrow, fill_later, part_width}
+use Rattle.tbr_rows.proofs.FilledCells.{spaces_width, fill_later, part_width}
 use Rattle.tbr_rows.proofs.ColumnsOfRows.{takes}
 
 -- ---- a border that changes is no shorter
@@ -199,8 +199,7 @@ module _ {A : Type 0} (columns : ℕ → Option ℕ) where
     -- what is in a gap takes its cell's columns
     pub gap_width : (width : ℕ) (ls : List (RenderLine A)) (es : List (Element A)) → Each (Fills columns width) ls → IsGapOf tag width (first_line ls) es → items_width columns (items_of es) ≡ width
     gap_width width [] es h is =
-        ap (λ xs. items_width columns (items_of xs)) is ∙ ap (items_width columns) (append-nil (text_items (spaces width) tag))
-        ∙ text_columns columns (spaces width) tag one (spaces_narrow width) ∙ length-replicate {A = ℕ} width 32
+        ap (λ xs. items_width columns (items_of xs)) is ∙ ap (items_width columns) (append-nil (text_items (spaces width) tag)) ∙ spaces_width columns one width tag
     gap_width width (Text line ∷ ls) es h is = ap (λ xs. items_width columns (items_of xs)) is ∙ h.0
     gap_width width (Line b ∷ ls) es h is = ap (items_width columns) is.0 ∙ takes columns one b.tag width (Line b) h.0
 

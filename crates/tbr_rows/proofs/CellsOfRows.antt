@@ -1,17 +1,14 @@
 -- What rows show of their cells.
-use Rattle.std.proofs.Common.{◌≡◌, ℕ, ◌+◌, ◌-◌, ◌<◌, ◌≤◌, Bool, true, false, if◌then◌else◌, Option, None, Some, unwrap_or, List, [], ◌∷◌, ◌++◌, map, flat_map, drop, length, refl, ap, sym, ◌∙◌, subst, arith, append_assoc}
+use Rattle.std.proofs.Common.{◌≡◌, ℕ, ◌-◌, ◌<◌, ◌≤◌, Bool, true, false, if◌then◌else◌, Option, None, Some, unwrap_or, List, [], ◌∷◌, ◌++◌, map, flat_map, drop, length, refl, ap, sym, ◌∙◌, subst, arith, append_assoc}
 use Rattle.std.specs.Prelude.{nat_lt, replicate}
 use Rattle.std.specs.List.{slice_get, AllByRecursion as Each}
 use Rattle.std.proofs.lemmas.Bool.{and_parts, le-ltb, lt-ltb, cond_both}
 use Rattle.std.proofs.lemmas.Simd.{map-map}
 use Rattle.std.proofs.lemmas.List.{length-replicate, map-append}
 use Rattle.std.proofs.lemmas.List.Concat.{flat_map-append}
-use Rattle.tbr_model.specs.Run.{Item, items_width, glyph}
+use Rattle.tbr_model.specs.Run.{Item, glyph}
 use Rattle.tbr_model.proofs.lists.Each.{each_append, each_front, each_back, each_map}
-use Rattle.tbr_tagged.specs.Elements.{Element, items_of, text_items}
-use Rattle.tbr_tagged.specs.Padding.{spaces, columns_in_front, aligned_items}
-use Rattle.tbr_tagged.specs.declared.padding.CellAlign.{CellAlign}
-use Rattle.tbr_tagged.proofs.PaddedLines.{front_within}
+use Rattle.tbr_tagged.specs.Elements.{Element, items_of}
 use Rattle.tbr_model.specs.Codes.{space_character}
 use Rattle.tbr_border.specs.declared.render_line.RenderLine.{RenderLine}
 use Rattle.tbr_border.specs.declared.render_line.RenderLine.TheVariants.{Text, Line}
@@ -27,8 +24,8 @@ use Rattle.tbr_rows.specs.Rows.{vertical_bar, separator_in, cells_left, next_beg
 use Rattle.tbr_rows.specs.Meant.{IsGapOf}
 use Rattle.tbr_rows.specs.Shown.{met, continued, goes_on, later_of, AreItsRows, DrawsInOne}
 use Rattle.tbr_rows.proofs.Seats.{stand_side_by_side}
-use Rattle.tbr_rows.proofs.CellColumns.{width_append, stands_at}
-use Rattle.tbr_rows.proofs.FilledCells.{text_columns, spaces_narrow}
+use Rattle.tbr_rows.proofs.CellColumns.{stands_at}
+pub use Rattle.tbr_rows.proofs.FilledCells.{aligned_width}
 use Rattle.tbr_rows.proofs.AllLines.{row_is_high_enough, all_texts, rows_go_on}
 use Rattle.tbr_rows.specs.CellsShown.{MadeRow, StandsAmong, Fills, IsFilled, meeting_in, ShowsAt, ShowsBelow, StandsInItsColumns, StandsInAll, FollowOneAnother, HasFilledCells, IsOfFirst, ShowsTexts}
 use Rattle.tbr_rows.proofs.Among.{among_map, each_among, each_drop}
@@ -38,23 +35,6 @@ use Rattle.tbr_rows.proofs.CellsSeated.{among_seated, each_seated}
 use Rattle.tbr_rows.proofs.BelowRows.{begins_plain, within_row, gap_width, gap_stands}
 
 -- ---- one row
-
--- a text that is filled up takes so many columns more
-pub aligned_width : {A : Type 0} (columns : ℕ → Option ℕ) → DrawsInOne columns → (align : CellAlign) (is : List (Item A)) (missing : ℕ) (a : A) → items_width columns (aligned_items align is missing a) ≡ items_width columns is + missing
-aligned_width {A} columns one align is missing a =
-    let front : ℕ = columns_in_front align missing in
-    let before : List (Item A) = text_items (spaces front) a in
-    let last : List (Item A) = text_items (spaces (missing - front)) a in
-    omega (
-      arith,
-      width_append columns (before ++ is) last,
-      width_append columns before is,
-      text_columns columns (spaces front) a one (spaces_narrow front),
-      text_columns columns (spaces (missing - front)) a one (spaces_narrow (missing - front)),
-      length-replicate {A = ℕ} front 32,
-      length-replicate {A = ℕ} (missing - front) 32,
-      front_within align missing,
-    )
 
 module _ {A : Type 0} (columns : ℕ → Option ℕ) (one : DrawsInOne columns) (r : MadeRow A columns) where
   one_wide : (draws : Bool) → columns (if draws then vertical_bar else space_character) ≡ Some 1
