@@ -1,6 +1,6 @@
-use Rattle.std.proofs.Common.{◌≡◌, ◌++◌, ◌∷◌, [], map, ap, sym, subst, ◌∙◌}
+use Rattle.std.proofs.Common.{◌≡◌, ◌++◌, ◌∷◌, [], map, refl}
 use Rattle.std.proofs.lemmas.List.{map_push}
-use Rattle.tbr_rows.specs.Gaps.{FillsGaps, overhang, overhang_of, cell_in}
+use Rattle.tbr_rows.specs.Gaps.{cell_in}
 use Rattle.tbr_rows.proofs.FilledGaps.{fills_push, overhang_push}
 use Rattle.tbr_rows.proofs.gaps.hang.Goals as goal
 
@@ -13,7 +13,6 @@ loop-column-preserved g c =
     let cell = c.in-Some.column.cell in
     let more : map cell_in (c.loop-column.yielded ++ c.in-Some.column ∷ []) ≡ seen ++ cell ∷ [] = map_push cell_in c.loop-column.yielded c.in-Some.column in
     record {
-      gaps = subst (λ cs. FillsGaps c.args.draws columns eq tag cs c.args.next.now c.hang_cell.new.next) (sym more)
-          (fills_push c.args.draws columns eq tag seen cell c.args.next.now c.loop-column.next c.hang_cell.new.next c.loop-column.invariant.gaps c.in_ok-hang_cell.ensures.gap);
-      rest = c.in_ok-hang_cell.ensures.rest ∙ ap (λ cs. cs ++ overhang_of c.args.draws cell) c.loop-column.invariant.rest ∙ sym (ap (overhang c.args.draws) more ∙ overhang_push c.args.draws seen cell);
+      gaps = rw more (fills_push c.args.draws columns eq tag seen cell c.args.next.now c.loop-column.next c.hang_cell.new.next c.loop-column.invariant.gaps c.in_ok-hang_cell.ensures.gap);
+      rest = rw (c.in_ok-hang_cell.ensures.rest, c.loop-column.invariant.rest, more, overhang_push c.args.draws seen cell) refl;
     }
