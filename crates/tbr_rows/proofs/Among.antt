@@ -1,5 +1,5 @@
 -- What is among the items of a list, and what holds of each of them.
-use Rattle.std.proofs.Common.{◌≡◌, ℕ, ◌⊎◌, inl, inr, List, [], ◌∷◌, ◌++◌, map, take, drop, ap, sym, ◌∙◌, subst, append_assoc}
+use Rattle.std.proofs.Common.{◌≡◌, ℕ, ◌⊎◌, inl, inr, List, [], ◌∷◌, ◌++◌, map, take, drop, ap, sym, ◌∙◌, subst}
 use Rattle.std.specs.List.{AllByRecursion as Each}
 use Rattle.std.proofs.lemmas.List.{take-append-drop, map-append}
 use Rattle.tbr_model.proofs.lists.Each.{each_front, each_back}
@@ -7,9 +7,6 @@ use Rattle.tbr_rows.specs.CellsShown.{StandsAmong}
 
 pub among_front : {X : Type 0} (x y : X) (ys : List X) → StandsAmong x ys → StandsAmong x (y ∷ ys)
 among_front x y ys h = (y ∷ h.0, h.1, ap (λ zs. y ∷ zs) h.2)
-
-pub among_after : {X : Type 0} (x : X) (ys zs : List X) → StandsAmong x zs → StandsAmong x (ys ++ zs)
-among_after x ys zs h = (ys ++ h.0, h.1, ap (λ us. ys ++ us) h.2 ∙ sym (append_assoc ys h.0 (x ∷ h.1)))
 
 pub among_map : {X Y : Type 0} (f : X → Y) (x : X) (xs : List X) → StandsAmong x xs → StandsAmong (f x) (map f xs)
 among_map f x xs h = (map f h.0, map f h.1, ap (map f) h.2 ∙ map-append f h.0 (x ∷ h.1))

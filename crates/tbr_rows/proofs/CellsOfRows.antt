@@ -92,16 +92,16 @@ module _ {A : Type 0} (columns : ℕ → Option ℕ) (one : DrawsInOne columns) 
         let stands = stands_at columns separator r.tag i (map column_in front) (column_in c) after (ap (λ (o : Option ℕ). unwrap_or o 0) (one_wide r.style.draws_borders))
         (columns_fill columns one r.style.collapses r.top r.tag i front front_filled) (rw map-append at (columns_side_by_side r.style.collapses r.top height (front ++ c ∷ rest) side)) in
         let first = first_text separator r.tag (column_in c) after i in
-        let line : line_text separator r.tag r.means.shown i ≡ (stands.0 ++ here) ++ first.0 = ap (λ cs. line_text separator r.tag cs i) parts ∙ rw (stands.1, first.1) (sym (append_assoc stands.0 here first.0)) in
-        record {
+        let line = line_text separator r.tag r.means.shown i in
+        (line, ap (λ ls. slice_get ls i) r.means.texts ∙ line_at separator r.tag r.means.shown height i (omega (arith, h, height_is)), record {
           before = stands.0;
           here = here;
           after = first.0;
-          line = ap (λ ls. slice_get ls i) r.means.texts ∙ line_at separator r.tag r.means.shown height i (omega (arith, h, height_is)) ∙ ap (λ js. Some js) line;
+          parts = ap (λ cs. line_text separator r.tag cs i) parts ∙ rw (stands.1, first.1) (sym (append_assoc stands.0 here first.0));
           place = stands.2;
           width = column_fills columns one r.style.collapses r.top r.tag i c own_filled;
-          shows = λ l got. let at = drop_at (column_in c).cell.lines i l got in ap (text_of_lines r.tag (column_in c)) at.1;
-        }
+          is = λ l got. let at = drop_at (column_in c).cell.lines i l got in ap (text_of_lines r.tag (column_in c)) at.1;
+        })
 
     -- and in the border below it
     shows_below : has_gap r.style.draws_borders c ≡ true → ShowsBelow columns r c
@@ -112,17 +112,15 @@ module _ {A : Type 0} (columns : ℕ → Option ℕ) (one : DrawsInOne columns) 
         let stands = gap_stands columns one r.style.draws_borders r.tag (map left_of front) (left_of c) (map left_of rest) (next_begun r.style r.top r.means.cells plain) r.means.full gap
         (rw left_are at r.means.gaps) (rw map-append at (keep_places (λ d. (left_of d).lines) 0 (front ++ c ∷ rest) side)) (each_map left_of (IsFilled columns) (IsFilled columns) left_filled front front_filled) (begins.1 refl)
         (omega (arith, within_row 0 front c rest side, ap row_width is, length-replicate (row_width r.means.cells) horizontal, begins.0)) in
-        record {
-          border = r.means.full;
-          is_next = r.means.lower ∙ ap (λ b. if b then Some r.means.full else None) (and_parts r.style.draws_borders (nat_lt 1 c.span) gap).0;
+        (r.means.full, r.means.lower ∙ ap (λ b. if b then Some r.means.full else None) (and_parts r.style.draws_borders (nat_lt 1 c.span) gap).0, record {
           before = stands.before;
           here = items_of stands.es;
           after = stands.after;
-          line = stands.line;
+          parts = stands.line;
           place = stands.place;
           width = gap_width columns one r.style.draws_borders r.tag c.width (left_of c).lines stands.es (left_filled c own_filled) stands.is;
-          shows = λ l got. let at = drop_at (column_in c).cell.lines height l (rw height_is at got) in first_of (left_of c).lines l at.0 stands.es c.width at.1 stands.is;
-        }
+          is = λ l got. let at = drop_at (column_in c).cell.lines height l (rw height_is at got) in first_of (left_of c).lines l at.0 stands.es c.width at.1 stands.is;
+        })
 
   stands_in_columns : (c : Cell A) → AreApart 0 r.hanging → StandsAmong c r.means.cells → Each (IsFilled columns) r.means.cells → StandsInItsColumns columns r c
   stands_in_columns c apart (front, rest, is) filled =

@@ -7,7 +7,7 @@ use Rattle.tbr_border.specs.declared.render_line.RenderLine.{RenderLine}
 use Rattle.tbr_border.specs.declared.render_line.RenderLine.TheVariants.{Text, Line}
 use Rattle.tbr_border.specs.Cell.{horizontal}
 use Rattle.tbr_border.specs.Border.{Hole, Border, without_holes, with_cells, stretched, shown}
-use Rattle.tbr_tagged.specs.Elements.{Element, piece, marker_element, items_of, HasText}
+use Rattle.tbr_tagged.specs.Elements.{Element, piece, items_of, HasText}
 use Rattle.tbr_tagged.specs.Padding.{spaces, aligned_items, columns_missing}
 use Rattle.tbr_tagged.specs.declared.padding.CellAlign.{CellAlign}
 use Rattle.tbr_rows.specs.declared.line_set.LineSet.{LineSet as Cell}
@@ -50,8 +50,7 @@ abbrev pub MeansFilled : {A : Type 0} →
 MeansFilled columns align width a (Text es) (Text done) =
     items_of done ≡ aligned_items align (items_of es) (columns_missing columns width es) a
 MeansFilled columns align width a (Line b) (Line done) = done ≡ with_cells (stretched width b.cells) b
-MeansFilled columns align width a (Text es) (Line done) = ⊥
-MeansFilled columns align width a (Line b) (Text done) = ⊥
+MeansFilled columns align width a _ _ = ⊥
 
 -- ---- rows
 
@@ -75,8 +74,7 @@ row_meant f row = record {
 abbrev pub EndsStretch : {A : Type 0} → Element A → List (Element A) → Type 0
 EndsStretch e [] = ⊤
 EndsStretch (piece cs a) (piece ds b ∷ es) = a ≡ b → ⊥
-EndsStretch (piece cs a) (marker_element name ∷ es) = ⊤
-EndsStretch (marker_element name) (e ∷ es) = ⊤
+EndsStretch e (d ∷ es) = ⊤
 
 -- Pieces have characters, and are the longest stretches of characters under one tag.
 abbrev pub AreLongest : {A : Type 0} → List (Element A) → Type 0
