@@ -24,12 +24,11 @@ use Rattle.tbr_rows.specs.Rows.{vertical_bar, separator_in, cells_left, next_beg
 use Rattle.tbr_rows.specs.Meant.{IsGapOf}
 use Rattle.tbr_rows.specs.Shown.{met, continued, goes_on, later_of, AreItsRows, DrawsInOne}
 use Rattle.tbr_rows.proofs.Seats.{stand_side_by_side}
-use Rattle.tbr_rows.proofs.CellColumns.{stands_at}
+use Rattle.tbr_rows.proofs.CellColumns.{count_lines, drop_at, first_text, line_at, stands_at}
 pub use Rattle.tbr_rows.proofs.FilledCells.{aligned_width}
 use Rattle.tbr_rows.proofs.AllLines.{row_is_high_enough, all_texts, rows_go_on}
 use Rattle.tbr_rows.specs.CellsShown.{MadeRow, StandsAmong, Fills, IsFilled, meeting_in, ShowsAt, ShowsBelow, StandsInItsColumns, StandsInAll, FollowOneAnother, HasFilledCells, IsOfFirst, ShowsTexts}
 use Rattle.tbr_rows.proofs.Among.{among_map, each_among, each_drop}
-use Rattle.tbr_rows.proofs.LinesOfRows.{count_lines, drop_at, first_text, line_at}
 use Rattle.tbr_rows.proofs.ColumnsOfRows.{column_fills, column_of, columns_are, columns_fill, columns_side_by_side, keep_places, rest_apart, lines_stay}
 use Rattle.tbr_rows.proofs.CellsSeated.{among_seated, each_seated}
 use Rattle.tbr_rows.proofs.BelowRows.{begins_plain, within_row, gap_width, gap_stands}

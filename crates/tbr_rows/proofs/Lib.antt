@@ -1,7 +1,5 @@
-pub mod Places
 pub mod RowTexts
 pub mod RowLines
-pub mod FilledGaps
 pub mod Fits
 pub mod Seats
 pub mod Squares
@@ -15,7 +13,6 @@ pub mod MeantRows
 pub mod OneRow
 pub mod ComputedRow
 pub mod Among
-pub mod LinesOfRows
 pub mod ColumnsOfRows
 pub mod CellsSeated
 pub mod BelowRows
