@@ -7,7 +7,6 @@ pub mod Fitted
 pub mod AllLines
 pub mod CellColumns
 pub mod FilledCells
-pub mod MeantCells
 pub mod MeantTexts
 pub mod MeantRows
 pub mod OneRow

@@ -23,7 +23,6 @@ use Rattle.tbr_rows.specs.Rows.{cells_left}
 use Rattle.tbr_rows.specs.Meant.{map_element, map_hole, map_border, map_line, map_cell, map_column, EqualIfMeant, EndsStretch, AreLongest, IsGapOf, HasGapIf, HasGaps}
 use Rattle.std.proofs.lemmas.Bool.{both_ways}
 use Rattle.std.proofs.lemmas.Simd.{map-map}
-use Rattle.tbr_rows.proofs.MeantCells.{first_line-map}
 use Rattle.tbr_rows.proofs.Squares.{map_both, flat_both, fold_both, if_both, zip_same}
 
 module _ {A B : Type 0} (f : A → B) where
@@ -99,6 +98,10 @@ module _ {A B : Type 0} (f : A → B) where
   with_elements-map columns place b es =
       fold_both (map_element f) (map_border f) (with_element columns place) (with_element columns place) (λ d e. rw (span_end-map d.holes, element-map e, items_width-map f columns (element_items e), map_push) refl) b es
 
+  first_line-map : (ls : List (RenderLine A)) → first_line (map (map_line f) ls) ≡ option_map (map_line f) (first_line ls)
+  first_line-map [] = refl
+  first_line-map (l ∷ ls) = refl
+
   -- ---- where equal tags mean the same
 
   module _ (eq : A → A → Bool) (means : MeansEqual f eq) (told : EqualIfMeant f eq) where
@@ -132,7 +135,7 @@ module _ {A B : Type 0} (f : A → B) where
     gap_if_means false columns a c x y h = ap (map_border f) h
     gap_if_means true columns a c x y h = (
       map (map_element f) h.0,
-      rw (first_line-map f c.lines) (gap_means a c.width (first_line c.lines) h.0 h.1),
+      rw (first_line-map c.lines) (gap_means a c.width (first_line c.lines) h.0 h.1),
       ap (map_border f) h.2 ∙ sym (with_elements-map columns c.place x h.0),
     )
 
