@@ -1,5 +1,5 @@
 -- Whether overhanging cells find their places.
-use Rattle.std.proofs.Common.{◌≡◌, if◌then◌else◌, ℕ, ◌+◌, ◌<◌, ◌≤◌, Bool, true, false, ◌&&◌, ◌||◌, Option, Some, None, List, [], ◌∷◌, map, refl, ap, sym, ◌∙◌, subst, arith}
+use Rattle.std.proofs.Common.{◌≡◌, if◌then◌else◌, ℕ, ◌+◌, ◌<◌, ◌≤◌, Bool, true, false, ◌&&◌, ◌||◌, Option, Some, None, List, [], ◌∷◌, map, refl, subst, arith}
 use Rattle.std.specs.Prelude.{is_some}
 use Rattle.std.specs.Option.{option_map}
 use Rattle.std.specs.List.{list_all, list_any}
@@ -67,14 +67,10 @@ found_exactly {A} at (h ∷ hs) (c ∷ cs) s a =
     go true e left before taken kept =
         let is = left_is h c left in
         let same : end_of c + 1 ≡ end_of h + 1 = omega (arith, is.0, is.1) in
-        some_mapped (λ r. h ∷ r) (with_hanging (end_of h + 1) hs cs)
-        ∙ taken (subst (λ n. AreSideBySide n cs) same s.1)
-        ∙ sym (past (spot_of c) spots (end_of h + 1) hs (omega (arith, same)) a.1)
+        rw (some_mapped, taken (subst (λ n. AreSideBySide n cs) same s.1), past (spot_of c) spots (end_of h + 1) hs (omega (arith, same)) a.1) refl
     go false true left before taken kept =
         let ends : end_of c + 1 ≤ h.place = leb-true _ _ before in
-        some_mapped (λ r. c ∷ r) (with_hanging (end_of c + 1) (h ∷ hs) cs)
-        ∙ kept (ends, a.1)
-        ∙ ap (λ b. finds spots h && b) (sym (past (spot_of c) spots (end_of h + 1) hs (omega (arith, ends)) a.1))
+        rw (some_mapped, kept (ends, a.1), past (spot_of c) spots (end_of h + 1) hs (omega (arith, ends)) a.1) refl
     go false false left before taken kept =
         let short : h.place < end_of c + 1 = leb-false _ _ before in
         rw (none_after h (end_of c + 1) cs short s.1) refl

@@ -2,7 +2,7 @@
 use Rattle.std.proofs.Common.{◌≡◌, ℕ, ◌+◌, ◌-◌, ◌<◌, ◌≤◌, Bool, true, false, ◌&&◌, ◌||◌, ◌==◌, List, [], ◌∷◌, map, refl, ap, sym, ◌∙◌, arith, inl, inr, take, length, get_or, ◌++◌, append_assoc}
 use Rattle.std.specs.Prelude.{is_none}
 use Rattle.std.specs.List.{list_all, list_any, AllZip}
-use Rattle.std.proofs.lemmas.Bool.{ne_eqb, eq-eqb, eqb-false, lt-leb, and_parts, and_from, or_cases, or_left, or_right}
+use Rattle.std.proofs.lemmas.Bool.{ne_eqb, eq-eqb, eqb-false, lt-leb, and_parts, and_from, or_cases, or_left, or_right, and_right}
 use Rattle.tbr_rows.specs.declared.line_set.LineSet.{LineSet as Cell}
 use Rattle.tbr_rows.specs.Cells.{end_of, AreSideBySide, AreApart, Spot, spot_of, spots_from, look, first_line, is_left_for, ends_before, row_fits, stands_first, IsAsFree}
 use Rattle.tbr_border.specs.declared.render_line.RenderLine.{RenderLine}
@@ -40,9 +40,7 @@ module _ {A : Type 0} (width : ℕ) (blank : Bool) where
       later (k ∷ ks) a = ne_eqb k.place at (λ e. let no : ⊥ = omega (arith, here, a.0, e) in no)
 
       go : (x y z : Bool) → ((x && y) && z) ≡ (x && (((y || false) || false) && z))
-      go true true z = refl
-      go true false z = refl
-      go false y z = refl
+      go x y z = grind arith
 
   pub untaken : (f : Fitting A) → AreApart f.at f.waiting → stands_first f.waiting f.at ≡ false → IsAsked f f width blank
   untaken f apart passed = record { apart = apart; passed = passed; same = λ more. refl }
@@ -54,8 +52,7 @@ module _ {A : Type 0} (width : ℕ) (blank : Bool) where
       let spot : Spot = record { place = at; width = width; is_blank = blank } in
       let apart : AreApart (at + width + 1) (k ∷ ks) = (omega (arith, short), asked.apart.1) in
       ap (λ n. fits && row_fits (k ∷ ks) (spots_from n more)) is
-      ∙ ap (λ b. fits && b) (sym (past spot (spots_from (at + width + 1) more) (at + width + 1) (k ∷ ks) (omega arith) apart))
-      ∙ asked.same more
+      ∙ rw (← past spot (spots_from (at + width + 1) more) (at + width + 1) (k ∷ ks) (omega arith) apart) (asked.same more)
 
   pub next_lost : (f : Fitting A) (k : Cell A) (ks : List (Cell A)) (at : ℕ) (fits : Bool) → IsAsked f (record { waiting = k ∷ ks; at = at; fits = fits }) width blank →
       k.place - at ≤ width → (more : List (ℕ × Bool)) → false ≡ fits_with f ((width, blank) ∷ more)
@@ -64,11 +61,7 @@ module _ {A : Type 0} (width : ℕ) (blank : Bool) where
       let short : k.place < at + width + 1 = omega (arith, long, asked.apart.0) in
       let lost : row_fits (k ∷ ks) (spot ∷ spots_from (at + width + 1) more) ≡ false =
       rw (elsewhere k spot (eqb-false k.place at asked.passed), none_from k (at + width + 1) more short, lt-leb (at + width + 1) k.place short) refl in
-      go fits _ lost ∙ asked.same more
-    where
-      go : (x y : Bool) → y ≡ false → false ≡ (x && y)
-      go true y e = sym e
-      go false y e = refl
+      sym (and_right fits _ lost) ∙ asked.same more
 
 -- ---- where fewer cells have lines
 

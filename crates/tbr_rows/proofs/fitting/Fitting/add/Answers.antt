@@ -1,10 +1,10 @@
-use Rattle.std.proofs.Common.{◌≡◌, ℕ, ◌+◌, ◌-◌, ◌<◌, ◌≤◌, Bool, true, false, ◌⊎◌, inl, inr, ◌&&◌, ◌==◌, Option, Some, None, List, [], ◌∷◌, ap, sym, ◌∙◌, subst, arith, rules, refl}
+use Rattle.std.proofs.Common.{◌≡◌, ℕ, ◌+◌, ◌-◌, ◌<◌, ◌≤◌, Bool, false, ◌&&◌, ◌==◌, Option, Some, None, List, [], ◌∷◌, arith, rules}
 use Rattle.std.specs.Borrow.{Bor}
 use Rattle.std.specs.Option.{MatchOption}
 use Rattle.std.proofs.lemmas.Bool.{ne_eqb}
 use Rattle.tbr_rows.specs.declared.line_set.LineSet.{LineSet as Cell}
 use Rattle.tbr_rows.specs.declared.fitting.Fitting.TheInside.{Inside}
-use Rattle.tbr_rows.specs.Cells.{AreApart, row_fits, spots_from, stands_first}
+use Rattle.tbr_rows.specs.Cells.{AreApart}
 use Rattle.tbr_rows.specs.Fitting.{Fitting, fits_with, waiting_cells}
 use Rattle.tbr_rows.proofs.Fitted.{IsAsked, taken, untaken, next_after, next_lost}
 use Rattle.tbr_rows.proofs.fitting.Fitting.add.Goals as goal
