@@ -17,7 +17,7 @@ use Rattle.tbr_border.specs.declared.render_line.RenderLine.{RenderLine}
 use Rattle.tbr_border.specs.declared.render_line.RenderLine.TheVariants.{Text, Line}
 use Rattle.tbr_tagged.specs.Padding.{spaces}
 use Rattle.tbr_rows.specs.Cells.{AreSideBySide, end_of, first_line, row_width, separators}
-use Rattle.tbr_rows.specs.CellsShown.{Fills, IsFilled}
+use Rattle.tbr_rows.specs.CellsShown.{Fills, IsFilled, HasInColumns}
 use Rattle.tbr_rows.specs.Borders.{joined, joined_at_each, last_mergeable, merged_with, merged_above}
 use Rattle.tbr_rows.specs.Gaps.{has_gap, with_element, with_elements}
 use Rattle.tbr_rows.specs.Meant.{IsGapOf, HasGapIf, HasGaps}
@@ -197,7 +197,7 @@ module _ {A : Type 0} (columns : ℕ → Option ℕ) where
 
   module _ (one : DrawsInOne columns) (draws : Bool) (tag : A) where
     -- what is in a gap takes its cell's columns
-    pub gap_width : (width : ℕ) (ls : List (RenderLine A)) (es : List (Element A)) → Each (Fills columns width) ls → IsGapOf tag width (first_line ls) es → items_width columns (items_of es) ≡ width
+    gap_width : (width : ℕ) (ls : List (RenderLine A)) (es : List (Element A)) → Each (Fills columns width) ls → IsGapOf tag width (first_line ls) es → items_width columns (items_of es) ≡ width
     gap_width width [] es h is =
         ap (λ xs. items_width columns (items_of xs)) is ∙ ap (items_width columns) (append-nil (text_items (spaces width) tag)) ∙ spaces_width columns one width tag
     gap_width width (Text line ∷ ls) es h is = ap (λ xs. items_width columns (items_of xs)) is ∙ h.0
@@ -238,17 +238,10 @@ module _ {A : Type 0} (columns : ℕ → Option ℕ) where
     places_after at p (d ∷ ds) h s = (omega (arith, h, s.0), places_after (end_of d + 1) p ds (omega (arith, h, s.0)) s.1)
 
     -- What a gap shows of its cell is in the cell's columns.
-    pub record GapStands (c : Cell A) (full : Border A) : Type 0 where
-      pub before : List (Item A)
-      pub es : List (Element A)
-      pub after : List (Item A)
-      pub line : shown full.tag full ≡ before ++ items_of es ++ after
-      pub place : items_width columns before ≡ c.place
-      pub is : IsGapOf tag c.width (first_line c.lines) es
-
-    pub gap_stands : (front : List (Cell A)) (c : Cell A) (rest : List (Cell A)) (b full : Border A) → has_gap draws c ≡ true → HasGaps draws columns tag (front ++ c ∷ rest) b full → AreSideBySide 0 (front ++ c ∷ rest) →
-        Each (IsFilled columns) front → b.holes ≡ [] → c.place ≤ length b.cells → GapStands c full
-    gap_stands front c rest b full gap h side fills none within =
+    pub gap_stands : (front : List (Cell A)) (c : Cell A) (rest : List (Cell A)) (b full : Border A) (Is : List (Item A) → Type 0) → has_gap draws c ≡ true → HasGaps draws columns tag (front ++ c ∷ rest) b full →
+        AreSideBySide 0 (front ++ c ∷ rest) → Each (IsFilled columns) front → IsFilled columns c → b.holes ≡ [] → c.place ≤ length b.cells →
+        ((es : List (Element A)) → IsGapOf tag c.width (first_line c.lines) es → Is (items_of es)) → HasInColumns columns (shown full.tag full) c.place c.width Is
+    gap_stands front c rest b full Is gap h side fills own_fills none within shows =
         let begins : HolesFill columns 0 b.holes 0 = rw none (omega arith) in
         let (m, to, (n, own, others), more_side, order, longer) = gaps_in_front front (c ∷ rest) 0 b full h side fills begins in
         let (es, is, put) = rw gap at own in
@@ -263,9 +256,10 @@ module _ {A : Type 0} (columns : ℕ → Option ℕ) where
         let front_shown = shown_before one full.tag full.cells 0 m.holes c.place later ordered inside starts in
         record {
           before = front_shown.0;
-          es = es;
+          here = items_of es;
           after = shown_from full.tag full.cells (c.place + items_width columns (items_of es)) hs;
-          line = ap (shown_from full.tag full.cells 0) all ∙ rw (front_shown.1, shown_here one full.tag full.cells c.place es hs) (sym (append_assoc front_shown.0 (items_of es) _));
+          parts = ap (shown_from full.tag full.cells 0) all ∙ rw (front_shown.1, shown_here one full.tag full.cells c.place es hs) (sym (append_assoc front_shown.0 (items_of es) _));
           place = omega (arith, front_shown.2);
-          is = is;
+          width = gap_width c.width c.lines es own_fills is;
+          is = shows es is;
         }

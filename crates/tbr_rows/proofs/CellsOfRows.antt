@@ -31,7 +31,7 @@ use Rattle.tbr_rows.specs.CellsShown.{MadeRow, StandsAmong, Fills, IsFilled, mee
 use Rattle.tbr_rows.proofs.Among.{among_map, each_among, each_drop}
 use Rattle.tbr_rows.proofs.ColumnsOfRows.{column_fills, column_of, columns_are, columns_fill, columns_side_by_side, keep_places, rest_apart, lines_stay}
 use Rattle.tbr_rows.proofs.CellsSeated.{among_seated, each_seated}
-use Rattle.tbr_rows.proofs.BelowRows.{begins_plain, within_row, gap_width, gap_stands}
+use Rattle.tbr_rows.proofs.BelowRows.{begins_plain, within_row, gap_stands}
 
 -- ---- one row
 
@@ -108,18 +108,11 @@ module _ {A : Type 0} (columns : ℕ → Option ℕ) (one : DrawsInOne columns) 
         let plain : Border A = without_holes (replicate (row_width r.means.cells) horizontal) r.tag in
         let begins = begins_plain r.style r.top r.means.cells plain in
         let left_are : cells_left height r.means.shown ≡ map left_of front ++ left_of c ∷ map left_of rest = ap (cells_left height) shown_are ∙ simp (map-map, is, map-append) in
-        let stands = gap_stands columns one r.style.draws_borders r.tag (map left_of front) (left_of c) (map left_of rest) (next_begun r.style r.top r.means.cells plain) r.means.full gap
-        (rw left_are at r.means.gaps) (rw map-append at (keep_places (λ d. (left_of d).lines) 0 (front ++ c ∷ rest) side)) (each_map left_of (IsFilled columns) (IsFilled columns) left_filled front front_filled) (begins.1 refl)
-        (omega (arith, within_row 0 front c rest side, ap row_width is, length-replicate (row_width r.means.cells) horizontal, begins.0)) in
-        (r.means.full, r.means.lower ∙ ap (λ b. if b then Some r.means.full else None) (and_parts r.style.draws_borders (nat_lt 1 c.span) gap).0, record {
-          before = stands.before;
-          here = items_of stands.es;
-          after = stands.after;
-          parts = stands.line;
-          place = stands.place;
-          width = gap_width columns one r.style.draws_borders r.tag c.width (left_of c).lines stands.es (left_filled c own_filled) stands.is;
-          is = λ l got. let at = drop_at (column_in c).cell.lines height l (rw height_is at got) in first_of (left_of c).lines l at.0 stands.es c.width at.1 stands.is;
-        })
+        let bordered = r.means.lower ∙ ap (λ b. if b then Some r.means.full else None) (and_parts r.style.draws_borders (nat_lt 1 c.span) gap).0 in
+        (r.means.full, bordered, gap_stands columns one r.style.draws_borders r.tag (map left_of front) (left_of c) (map left_of rest) (next_begun r.style r.top r.means.cells plain) r.means.full _ gap
+        (rw left_are at r.means.gaps) (rw map-append at (keep_places (λ d. (left_of d).lines) 0 (front ++ c ∷ rest) side)) (each_map left_of (IsFilled columns) (IsFilled columns) left_filled front front_filled) (left_filled c own_filled) (begins.1 refl)
+        (omega (arith, within_row 0 front c rest side, ap row_width is, length-replicate (row_width r.means.cells) horizontal, begins.0))
+        (λ es shows l got. let at = drop_at (column_in c).cell.lines height l (rw height_is at got) in first_of (left_of c).lines l at.0 es c.width at.1 shows))
 
   stands_in_columns : (c : Cell A) → AreApart 0 r.hanging → StandsAmong c r.means.cells → Each (IsFilled columns) r.means.cells → StandsInItsColumns columns r c
   stands_in_columns c apart (front, rest, is) filled =
