@@ -65,11 +65,8 @@ module _ {A : Type 0} (columns : ℕ → Option ℕ) (one : DrawsInOne columns) 
   height_is : length r.row.lines ≡ height
   height_is = ap length r.means.texts ∙ count_lines separator r.tag r.means.shown height
 
-  stay_filled : (c : Cell A) → IsFilled columns c → IsFilled columns (column_in c).cell
-  stay_filled c h = lines_stay (Fills columns c.width) r.style.collapses r.top c h
-
   left_filled : (c : Cell A) → IsFilled columns c → IsFilled columns (left_of c)
-  left_filled c h = each_drop (Fills columns c.width) height (column_in c).cell.lines (stay_filled c h)
+  left_filled c h = each_drop (Fills columns c.width) height (column_in c).cell.lines (lines_stay (Fills columns c.width) r.style.collapses r.top c h)
 
   first_of : (ls : List (RenderLine A)) (l : RenderLine A) (more : List (RenderLine A)) (es : List (Element A)) (w : ℕ) → ls ≡ l ∷ more → IsGapOf r.tag w (first_line ls) es → items_of es ≡ line_items l
   first_of ls (Text line) more es w e is = ap items_of (rw e at is)

@@ -56,12 +56,10 @@ module _ {A : Type 0} (collapses : Bool) (top : Option (Border A)) (height : ℕ
   pub columns_side_by_side : (cs : List (Cell A)) → AreSideBySide 0 cs → AreSideBySide 0 (map cell_in (map (column_of collapses top) cs))
   columns_side_by_side cs s = rw map-map (keep_places (λ c. (column_of collapses top c).cell.lines) 0 cs s)
 
-  pub left_of_row : (cs : List (Cell A)) → AreSideBySide 0 cs → AreSideBySide 0 (cells_left height (columns_shown collapses (cells_under collapses top cs)))
-  left_of_row cs s = simp (columns_are collapses top cs, map-map) (keep_places (λ c. drop height (column_of collapses top c).cell.lines) 0 cs s)
-
   -- what overhangs of a row
   pub rest_apart : (draws : Bool) (cs : List (Cell A)) → AreSideBySide 0 cs → AreApart 0 (overhang draws (cells_left height (columns_shown collapses (cells_under collapses top cs))))
-  rest_apart draws cs s = overhang_apart draws 0 0 _ (omega arith) (left_of_row cs s)
+  rest_apart draws cs s =
+      simp (columns_are collapses top cs, map-map) (overhang_apart draws 0 0 _ (omega arith) (keep_places (λ c. drop height (column_of collapses top c).cell.lines) 0 cs s))
 
 module _ {A : Type 0} (P : RenderLine A → Type 0) where
   after_first : (ls : List (RenderLine A)) → Each P ls → Each P (after_mergeable ls)

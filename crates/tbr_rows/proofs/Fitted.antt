@@ -42,9 +42,6 @@ module _ {A : Type 0} (width : ℕ) (blank : Bool) where
       go : (x y z : Bool) → ((x && y) && z) ≡ (x && (((y || false) || false) && z))
       go x y z = grind arith
 
-  pub untaken : (f : Fitting A) → AreApart f.at f.waiting → stands_first f.waiting f.at ≡ false → IsAsked f f width blank
-  untaken f apart passed = record { apart = apart; passed = passed; same = λ more. refl }
-
   pub next_after : (f : Fitting A) (k : Cell A) (ks : List (Cell A)) (at to : ℕ) (fits : Bool) → IsAsked f (record { waiting = k ∷ ks; at = at; fits = fits }) width blank →
       width < k.place - at → to ≡ at + width + 1 → (more : List (ℕ × Bool)) →
       (let t : Fitting A = record { waiting = k ∷ ks; at = to; fits = fits } in fits_with t more) ≡ fits_with f ((width, blank) ∷ more)

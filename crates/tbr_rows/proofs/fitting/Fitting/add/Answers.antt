@@ -1,4 +1,4 @@
-use Rattle.std.proofs.Common.{◌≡◌, ℕ, ◌+◌, ◌-◌, ◌<◌, ◌≤◌, Bool, false, ◌&&◌, ◌==◌, Option, Some, None, List, [], ◌∷◌, arith, rules}
+use Rattle.std.proofs.Common.{◌≡◌, ℕ, ◌+◌, ◌-◌, ◌<◌, ◌≤◌, Bool, false, ◌&&◌, ◌==◌, Option, Some, None, List, [], ◌∷◌, arith, rules, refl}
 use Rattle.std.specs.Borrow.{Bor}
 use Rattle.std.specs.Option.{MatchOption}
 use Rattle.std.proofs.lemmas.Bool.{ne_eqb}
@@ -6,7 +6,7 @@ use Rattle.tbr_rows.specs.declared.line_set.LineSet.{LineSet as Cell}
 use Rattle.tbr_rows.specs.declared.fitting.Fitting.TheInside.{Inside}
 use Rattle.tbr_rows.specs.Cells.{AreApart}
 use Rattle.tbr_rows.specs.Fitting.{Fitting, fits_with, waiting_cells}
-use Rattle.tbr_rows.proofs.Fitted.{IsAsked, taken, untaken, next_after, next_lost}
+use Rattle.tbr_rows.proofs.Fitted.{IsAsked, taken, next_after, next_lost}
 use Rattle.tbr_rows.proofs.fitting.Fitting.add.Goals as goal
 use Rattle.tbr_rows.proofs.fitting.Fitting.add.Goals.{then-first-self, else-first-self, then-self, else-self, then-first-width, else-first-width}
 
@@ -16,7 +16,7 @@ seen i = record { waiting = waiting_cells i.first i.rest; at = i.at; fits = i.fi
 -- what is asked once the first cell that waits is looked at
 module _ {A : Type 0} {width : ℕ} {blank : Bool} (i j : Inside A) {first : Bor (Cell A)} where
   after_other : AreApart i.at (waiting_cells i.first i.rest) → i.first ≡ Some first → (first.now.place ≡ i.at → ⊥) → j ≡ i → IsAsked (seen i) (seen j) width blank
-  after_other apart some other is = rw is (untaken width blank (seen i) apart (rw some (ne_eqb first.now.place i.at other)))
+  after_other apart some other is = rw is (record { apart = apart; passed = rw some (ne_eqb first.now.place i.at other); same = λ more. refl })
 
   after_taken : {next : Option (Bor (Cell A))} {rest : List (Cell A)} {fits : Bool} → AreApart i.at (waiting_cells i.first i.rest) → i.first ≡ Some first → first.now.place ≡ i.at →
       MatchOption next ((i.rest ≡ []) × (rest ≡ [])) (λ x. i.rest ≡ x.now ∷ rest) → j ≡ record { first = next; rest = rest; at = i.at; fits = fits } →
