@@ -58,7 +58,8 @@ row_is_high_enough cs = (at_least 0 cs).1
 first_and_after : {A : Type 0} (ls : List (RenderLine A)) → as_lines (first_mergeable ls) ++ after_mergeable ls ≡ ls
 first_and_after [] = refl
 first_and_after (Text es ∷ ls) = refl
-first_and_after (Line b ∷ ls) = cond_both (has_holes b.holes) None (Some b) (λ o. as_lines o ++ (if is_some o then ls else Line b ∷ ls) ≡ Line b ∷ ls) (λ e. refl) (λ e. refl)
+first_and_after (Line b ∷ ls) =
+    cond_both (has_holes b.holes) None (Some b) (λ o. as_lines o ++ (if is_some o then ls else Line b ∷ ls) ≡ Line b ∷ ls) (λ e. refl) (λ e. refl)
 
 split_last : {A : Type 0} (front back : List (RenderLine A)) → length back ≤ 1 → (if is_some (first_mergeable back) then front else front ++ back) ++ as_lines (first_mergeable back) ≡ front ++ back
 split_last front [] short = append-nil (front ++ [])
@@ -111,7 +112,8 @@ texts_left m c =
 pub all_texts : {A : Type 0} (draws : Bool) (ms : List Meeting) (c : Cell A) → AreItsRows draws ms c → texts_in (joined (parts_of draws ms c)) ≡ texts_in c.lines
 all_texts draws [] c h = ap texts_in (sym h)
 all_texts draws (m ∷ ms) c h =
-    rw (texts_append, all_texts draws ms (continued draws m c) h.1, ← texts_append (part_of draws m.height (met m c)), part_and_later draws m.height (met m c) h.0) (texts_left m c)
+    rw (texts_append, all_texts draws ms (continued draws m c) h.1, ← texts_append (part_of draws m.height (met m c)),
+        part_and_later draws m.height (met m c) h.0) (texts_left m c)
 
 -- ---- the cells of a row
 
@@ -131,6 +133,7 @@ rows_go_on {A} draws collapses top height cs = simp (columns_are collapses top c
         left : List (RenderLine A)
         left = drop (if draws then 1 else 0) (drop height (column_of collapses top c).cell.lines)
 
-        go : (s : Bool) → (if s then next left ∷ [] else []) ≡ (if s then next (flat_map (λ (k : Cell A). k.lines) (if s then next left ∷ [] else [])) ∷ [] else [])
+        go : (s : Bool) → (if s then next left ∷ [] else []) ≡ (if s then next (flat_map (λ (k : Cell A). k.lines) (if s then next left ∷ [] else [])) ∷ []
+            else [])
         go true = rw append-nil refl
         go false = refl

@@ -29,7 +29,9 @@ number_at (suc n) i d h = elim (cases_lt i n) [
 
 module _ {A : Type 0} (separator : Item A) (tag : A) where
   pub line_at : (cs : List (Column A)) (height i : ℕ) → i < height → slice_get (line_texts separator tag cs height) i ≡ Some (line_text separator tag cs i)
-  line_at cs height i h = slice_get-map (line_text separator tag cs) (numbers_below height) i ∙ rw (slice_get-get_or (numbers_below height) i 0 (omega (arith, length_numbers height, h)), number_at height i 0 h) refl
+  line_at cs height i h =
+      slice_get-map (line_text separator tag cs) (numbers_below height) i
+      ∙ rw (slice_get-get_or (numbers_below height) i 0 (omega (arith, length_numbers height, h)), number_at height i 0 h) refl
 
   pub count_lines : (cs : List (Column A)) (height : ℕ) → length (line_texts separator tag cs height) ≡ height
   count_lines cs height = length-map (numbers_below height) (line_text separator tag cs) ∙ length_numbers height

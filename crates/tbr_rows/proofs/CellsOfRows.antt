@@ -73,7 +73,8 @@ module _ {A : Type 0} (columns : ℕ → Option ℕ) (one : DrawsInOne columns) 
   first_of ls (Line b) more es w e is = (rw e at is).0
 
   -- a cell among those of the row
-  module _ (front : List (Cell A)) (c : Cell A) (rest : List (Cell A)) (is : r.means.cells ≡ front ++ c ∷ rest) (side : AreSideBySide 0 (front ++ c ∷ rest)) (filled : Each (IsFilled columns) (front ++ c ∷ rest)) where
+  module _ (front : List (Cell A)) (c : Cell A) (rest : List (Cell A)) (is : r.means.cells ≡ front ++ c ∷ rest) (side : AreSideBySide 0 (front ++ c ∷ rest))
+      (filled : Each (IsFilled columns) (front ++ c ∷ rest)) where
     front_filled : Each (IsFilled columns) front
     front_filled = each_front (IsFilled columns) front (c ∷ rest) filled
 
@@ -85,8 +86,11 @@ module _ {A : Type 0} (columns : ℕ → Option ℕ) (one : DrawsInOne columns) 
         let after : List (Column A) = map column_in rest in
         let here : List (Item A) = cell_text r.tag i (column_in c) in
         let parts : r.means.shown ≡ map column_in front ++ column_in c ∷ after = shown_are ∙ ap (map column_in) is ∙ map-append column_in front (c ∷ rest) in
-        let stands = stands_at columns separator r.tag i (map column_in front) (column_in c) after (ap (λ (o : Option ℕ). unwrap_or o 0) (one_wide r.style.draws_borders))
-        (columns_fill columns one r.style.collapses r.top r.tag i front front_filled) (rw map-append at (columns_side_by_side r.style.collapses r.top height (front ++ c ∷ rest) side)) in
+        let stands =
+            stands_at columns separator r.tag i (map column_in front) (column_in c) after
+            (ap (λ (o : Option ℕ). unwrap_or o 0) (one_wide r.style.draws_borders))
+        (columns_fill columns one r.style.collapses r.top r.tag i front front_filled)
+            (rw map-append at (columns_side_by_side r.style.collapses r.top height (front ++ c ∷ rest) side)) in
         let first = first_text separator r.tag (column_in c) after i in
         let line = line_text separator r.tag r.means.shown i in
         (line, ap (λ ls. slice_get ls i) r.means.texts ∙ line_at separator r.tag r.means.shown height i (omega (arith, h, height_is)), record {
@@ -104,10 +108,13 @@ module _ {A : Type 0} (columns : ℕ → Option ℕ) (one : DrawsInOne columns) 
     shows_below gap =
         let plain : Border A = without_holes (replicate (row_width r.means.cells) horizontal) r.tag in
         let begins = begins_plain r.style r.top r.means.cells plain in
-        let left_are : cells_left height r.means.shown ≡ map left_of front ++ left_of c ∷ map left_of rest = ap (cells_left height) shown_are ∙ simp (map-map, is, map-append) in
+        let left_are : cells_left height r.means.shown ≡ map left_of front ++ left_of c ∷ map left_of rest =
+            ap (cells_left height) shown_are ∙ simp (map-map, is, map-append) in
         let bordered = r.means.lower ∙ ap (λ b. if b then Some r.means.full else None) (and_parts r.style.draws_borders (nat_lt 1 c.span) gap).0 in
-        (r.means.full, bordered, gap_stands columns one r.style.draws_borders r.tag (map left_of front) (left_of c) (map left_of rest) (next_begun r.style r.top r.means.cells plain) r.means.full _ gap
-        (rw left_are at r.means.gaps) (rw map-append at (keep_places (λ d. (left_of d).lines) 0 (front ++ c ∷ rest) side)) (each_map left_of (IsFilled columns) (IsFilled columns) left_filled front front_filled) (left_filled c own_filled) (begins.1 refl)
+        (r.means.full, bordered, gap_stands columns one r.style.draws_borders r.tag (map left_of front) (left_of c) (map left_of rest)
+            (next_begun r.style r.top r.means.cells plain) r.means.full _ gap
+        (rw left_are at r.means.gaps) (rw map-append at (keep_places (λ d. (left_of d).lines) 0 (front ++ c ∷ rest) side))
+            (each_map left_of (IsFilled columns) (IsFilled columns) left_filled front front_filled) (left_filled c own_filled) (begins.1 refl)
         (omega (arith, within_row 0 front c rest side, ap row_width is, length-replicate (row_width r.means.cells) horizontal, begins.0))
         (λ es shows l got. let at = drop_at (column_in c).cell.lines height l (rw height_is at got) in first_of (left_of c).lines l at.0 es c.width at.1 shows))
 
@@ -118,7 +125,8 @@ module _ {A : Type 0} (columns : ℕ → Option ℕ) (one : DrawsInOne columns) 
 
   high_enough : (c : Cell A) → StandsAmong c r.means.cells → cell_height (met (meeting_in columns r) c) ≤ height
   high_enough c k =
-      each_among (λ (d : Column A). cell_height d.cell ≤ height) (column_in c) r.means.shown (rw shown_are (among_map column_in c r.means.cells k)) (row_is_high_enough r.means.shown)
+      each_among (λ (d : Column A). cell_height d.cell ≤ height) (column_in c) r.means.shown (rw shown_are (among_map column_in c r.means.cells k))
+          (row_is_high_enough r.means.shown)
 
   -- ---- what it leaves
 
@@ -130,21 +138,26 @@ module _ {A : Type 0} (columns : ℕ → Option ℕ) (one : DrawsInOne columns) 
 
   overhang_is : r.row.overhang ≡ flat_map goes r.means.cells
   overhang_is =
-      r.means.rest ∙ ap (λ cs. overhang r.style.draws_borders (cells_left height cs)) r.means.shown_is ∙ rows_go_on r.style.draws_borders r.style.collapses r.top height r.means.cells
+      r.means.rest ∙ ap (λ cs. overhang r.style.draws_borders (cells_left height cs)) r.means.shown_is
+          ∙ rows_go_on r.style.draws_borders r.style.collapses r.top height r.means.cells
 
   among_overhang : (c : Cell A) → 1 < c.span → StandsAmong c r.means.cells → StandsAmong (left c) r.row.overhang
-  among_overhang c long (front, rest, is) = (flat_map goes front, flat_map goes rest, overhang_is ∙ ap (flat_map goes) is ∙ rw (flat_map-append, lt-ltb 1 c.span long) refl)
+  among_overhang c long (front, rest, is) =
+      (flat_map goes front, flat_map goes rest, overhang_is ∙ ap (flat_map goes) is ∙ rw (flat_map-append, lt-ltb 1 c.span long) refl)
 
   later_filled : (c : Cell A) → IsFilled columns c → IsFilled columns (left c)
   later_filled c h =
       let ls : List (RenderLine A) = drop (if r.style.draws_borders then 1 else 0) (left_of c).lines in
-      cond_both (nat_lt 1 c.span) (record (column_in c).cell { span = c.span - 1; lines = ls } ∷ []) [] (λ ds. Each (Fills columns c.width) (flat_map (λ (d : Cell A). d.lines) ds))
-      (λ e. each_append (Fills columns c.width) ls [] (each_drop (Fills columns c.width) (if r.style.draws_borders then 1 else 0) (left_of c).lines (left_filled c h)) tt) (λ e. tt)
+      cond_both (nat_lt 1 c.span) (record (column_in c).cell { span = c.span - 1; lines = ls } ∷ []) []
+          (λ ds. Each (Fills columns c.width) (flat_map (λ (d : Cell A). d.lines) ds))
+      (λ e. each_append (Fills columns c.width) ls [] (each_drop (Fills columns c.width) (if r.style.draws_borders then 1 else 0) (left_of c).lines
+          (left_filled c h)) tt) (λ e. tt)
 
   goes_filled : (cs : List (Cell A)) → Each (IsFilled columns) cs → Each (IsFilled columns) (flat_map goes cs)
   goes_filled [] h = tt
   goes_filled (c ∷ cs) h =
-      each_append (IsFilled columns) (goes c) (flat_map goes cs) (cond_both (nat_lt 1 c.span) (left c ∷ []) [] (Each (IsFilled columns)) (λ e. (later_filled c h.0, tt)) (λ e. tt)) (goes_filled cs h.1)
+      each_append (IsFilled columns) (goes c) (flat_map goes cs) (cond_both (nat_lt 1 c.span) (left c ∷ []) [] (Each (IsFilled columns))
+          (λ e. (later_filled c h.0, tt)) (λ e. tt)) (goes_filled cs h.1)
 
   pub overhang_filled : Each (IsFilled columns) r.means.cells → Each (IsFilled columns) r.row.overhang
   overhang_filled h = rw overhang_is (goes_filled r.means.cells h)

@@ -22,7 +22,8 @@ pub among_seated : {A : Type 0} (at : ℕ) (x : Cell A) (hs cs r : List (Cell A)
 among_seated at x hs cs r k e = hangs_among x (seats at hs cs r e) k
 
 -- a cell that leaves its place has no line
-stays_among : {A : Type 0} {at : ℕ} {hs cs r : List (Cell A)} (x : Cell A) → is_none (first_line x.lines) ≡ false → Seats A at hs cs r → StandsAmong x cs → StandsAmong x r
+stays_among : {A : Type 0} {at : ℕ} {hs cs r : List (Cell A)} (x : Cell A) → is_none (first_line x.lines) ≡ false → Seats A at hs cs r → StandsAmong x cs →
+    StandsAmong x r
 stays_among x some rest k = k
 stays_among x some (apart e w) k = absurd (none_among x k)
 stays_among x some (next e w) k = absurd (none_among x k)

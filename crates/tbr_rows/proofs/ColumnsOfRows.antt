@@ -35,14 +35,16 @@ columns_are false None cs = refl
 columns_are false (Some b) cs = refl
 
 -- cells that change their lines alone stay in their places
-pub keep_places : {A : Type 0} (lines : Cell A → List (RenderLine A)) (at : ℕ) (cs : List (Cell A)) → AreSideBySide at cs → AreSideBySide at (map (λ (c : Cell A). let d : Cell A = record c { lines = lines c } in d) cs)
+pub keep_places : {A : Type 0} (lines : Cell A → List (RenderLine A)) (at : ℕ) (cs : List (Cell A)) → AreSideBySide at cs →
+    AreSideBySide at (map (λ (c : Cell A). let d : Cell A = record c { lines = lines c } in d) cs)
 keep_places lines at [] s = tt
 keep_places lines at (c ∷ cs) s = (s.0, keep_places lines (end_of c + 1) cs s.1)
 
 overhang_apart : {A : Type 0} (draws : Bool) (from at : ℕ) (cs : List (Cell A)) → from ≤ at → AreSideBySide at cs → AreApart from (overhang draws cs)
 overhang_apart draws from at [] before s = tt
 overhang_apart {A} draws from at (c ∷ cs) before s =
-    cond_both (nat_lt 1 c.span) (record c { span = c.span - 1; lines = drop (if draws then 1 else 0) c.lines } ∷ []) [] (λ hs. AreApart from (hs ++ overhang draws cs))
+    cond_both (nat_lt 1 c.span) (record c { span = c.span - 1; lines = drop (if draws then 1 else 0) c.lines } ∷ []) []
+        (λ hs. AreApart from (hs ++ overhang draws cs))
     (λ e. (omega (arith, before, s.0), overhang_apart draws (end_of c + 1) (end_of c + 1) cs (omega arith) s.1))
     (λ e. overhang_apart draws from (end_of c + 1) cs (omega (arith, before, s.0)) s.1)
 
@@ -57,9 +59,11 @@ module _ {A : Type 0} (collapses : Bool) (top : Option (Border A)) (height : ℕ
   columns_side_by_side cs s = rw map-map (keep_places (λ c. (column_of collapses top c).cell.lines) 0 cs s)
 
   -- what overhangs of a row
-  pub rest_apart : (draws : Bool) (cs : List (Cell A)) → AreSideBySide 0 cs → AreApart 0 (overhang draws (cells_left height (columns_shown collapses (cells_under collapses top cs))))
+  pub rest_apart : (draws : Bool) (cs : List (Cell A)) → AreSideBySide 0 cs →
+      AreApart 0 (overhang draws (cells_left height (columns_shown collapses (cells_under collapses top cs))))
   rest_apart draws cs s =
-      simp (columns_are collapses top cs, map-map) (overhang_apart draws 0 0 _ (omega arith) (keep_places (λ c. drop height (column_of collapses top c).cell.lines) 0 cs s))
+      simp (columns_are collapses top cs, map-map) (overhang_apart draws 0 0 _ (omega arith)
+          (keep_places (λ c. drop height (column_of collapses top c).cell.lines) 0 cs s))
 
 module _ {A : Type 0} (P : RenderLine A → Type 0) where
   after_first : (ls : List (RenderLine A)) → Each P ls → Each P (after_mergeable ls)
@@ -97,7 +101,9 @@ module _ {A : Type 0} (columns : ℕ → Option ℕ) (one : DrawsInOne columns) 
   column_fills collapses top tag i c h =
       let k : Column A = column_of collapses top c in
       cell_fills columns tag i k one
-      (below collapses top c h, each_gives (Fills columns c.width) (TakesColumns columns tag c.width) (takes tag c.width) k.cell.lines (lines_stay (Fills columns c.width) collapses top c h))
+      (below collapses top c h, each_gives (Fills columns c.width) (TakesColumns columns tag c.width) (takes tag c.width) k.cell.lines
+          (lines_stay (Fills columns c.width) collapses top c h))
 
   pub columns_fill : (collapses : Bool) (top : Option (Border A)) (tag : A) (i : ℕ) (cs : List (Cell A)) → Each (IsFilled columns) cs → Each (TakesCellColumns columns tag i) (map (column_of collapses top) cs)
-  columns_fill collapses top tag i cs h = each_map (column_of collapses top) (IsFilled columns) (TakesCellColumns columns tag i) (column_fills collapses top tag i) cs h
+  columns_fill collapses top tag i cs h =
+      each_map (column_of collapses top) (IsFilled columns) (TakesCellColumns columns tag i) (column_fills collapses top tag i) cs h

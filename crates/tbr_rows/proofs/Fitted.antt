@@ -71,11 +71,13 @@ and_too x y u v f g e = let both = and_parts x y e in and_from u v (f both.0) (g
 left_too : {A : Type 0} (h : Cell A) (s t : Spot) → IsAsFree s t → is_left_for h s ≡ true → is_left_for h t ≡ true
 left_too h s t z e =
     let same = h.width == s.width in
-    rw (z.0, z.1) (and_too (h.place == s.place) (same && s.is_blank) (h.place == s.place) (same && t.is_blank) (λ k. k) (and_too same s.is_blank same t.is_blank (λ k. k) z.2) e)
+    rw (z.0, z.1) (and_too (h.place == s.place) (same && s.is_blank) (h.place == s.place) (same && t.is_blank) (λ k. k)
+        (and_too same s.is_blank same t.is_blank (λ k. k) z.2) e)
 
 any_too : {A : Type 0} (h : Cell A) (spots others : List Spot) → AllZip IsAsFree spots others → list_any (is_left_for h) spots ≡ true → list_any (is_left_for h) others ≡ true
 any_too h [] [] z e = e
-any_too h (s ∷ ss) (t ∷ ts) z e = or_too (is_left_for h s) (list_any (is_left_for h) ss) (is_left_for h t) (list_any (is_left_for h) ts) (left_too h s t z.0) (any_too h ss ts z.1) e
+any_too h (s ∷ ss) (t ∷ ts) z e =
+    or_too (is_left_for h s) (list_any (is_left_for h) ss) (is_left_for h t) (list_any (is_left_for h) ts) (left_too h s t z.0) (any_too h ss ts z.1) e
 any_too h _ _ z e = absurd z
 
 all_too : {A : Type 0} (h : Cell A) (spots others : List Spot) → AllZip IsAsFree spots others → list_all (ends_before h) spots ≡ true → list_all (ends_before h) others ≡ true
@@ -88,7 +90,8 @@ pub fits_with_fewer_lines : {A : Type 0} (hanging : List (Cell A)) (spots others
 fits_with_fewer_lines [] spots others z e = e
 fits_with_fewer_lines (h ∷ hs) spots others z e =
     and_too (finds spots h) (row_fits hs spots) (finds others h) (row_fits hs others)
-    (or_too (list_any (is_left_for h) spots) (list_all (ends_before h) spots) (list_any (is_left_for h) others) (list_all (ends_before h) others) (any_too h spots others z) (all_too h spots others z))
+    (or_too (list_any (is_left_for h) spots) (list_all (ends_before h) spots) (list_any (is_left_for h) others) (list_all (ends_before h) others)
+        (any_too h spots others z) (all_too h spots others z))
     (fits_with_fewer_lines hs spots others z) e
 
 -- ---- the cells of a row, told one after another

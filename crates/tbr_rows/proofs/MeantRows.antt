@@ -59,7 +59,8 @@ module _ {A B : Type 0} (f : A → B) where
   seats-map (takes {c = c} left w) = rw (blank-map c.lines, left, seats-map w) refl
   seats-map (waits {c = c} left ends w) = rw (blank-map c.lines, left, ends, seats-map w) refl
 
-  with_hanging-map : (hs cs r : List (Cell A)) → with_hanging 0 hs cs ≡ Some r → with_hanging 0 (map (map_cell f) hs) (map (map_cell f) cs) ≡ Some (map (map_cell f) r)
+  with_hanging-map : (hs cs r : List (Cell A)) → with_hanging 0 hs cs ≡ Some r →
+      with_hanging 0 (map (map_cell f) hs) (map (map_cell f) cs) ≡ Some (map (map_cell f) r)
   with_hanging-map hs cs r e = seats-map (seats 0 hs cs r e)
 
   -- ---- borders
@@ -95,27 +96,34 @@ module _ {A B : Type 0} (f : A → B) where
 
   -- ---- the steps of a row
 
-  border_above-map : (collapses : Bool) (cs : List (Cell A)) (top : Option (Border A)) → border_above collapses (map (map_cell f) cs) (option_map (map_border f) top) ≡ option_map (map_border f) (border_above collapses cs top)
+  border_above-map : (collapses : Bool) (cs : List (Cell A)) (top : Option (Border A)) →
+      border_above collapses (map (map_cell f) cs) (option_map (map_border f) top) ≡ option_map (map_border f) (border_above collapses cs top)
   border_above-map collapses cs None = refl
   border_above-map true cs (Some b) =
-      rw (above_row-map cs b) (ap Some (fold_both (map_cell f) (map_border f) merged_below merged_below (λ x c. rw (first-map c.lines) (merged-map below c.place x (first_mergeable c.lines))) (above_row cs b) cs))
+      rw (above_row-map cs b) (ap Some (fold_both (map_cell f) (map_border f) merged_below merged_below
+          (λ x c. rw (first-map c.lines) (merged-map below c.place x (first_mergeable c.lines))) (above_row cs b) cs))
   border_above-map false cs (Some b) = rw (above_row-map cs b) refl
 
-  cells_under-map : (collapses : Bool) (top : Option (Border A)) (cs : List (Cell A)) → cells_under collapses (option_map (map_border f) top) (map (map_cell f) cs) ≡ map (map_cell f) (cells_under collapses top cs)
+  cells_under-map : (collapses : Bool) (top : Option (Border A)) (cs : List (Cell A)) →
+      cells_under collapses (option_map (map_border f) top) (map (map_cell f) cs) ≡ map (map_cell f) (cells_under collapses top cs)
   cells_under-map collapses None cs = refl
   cells_under-map true (Some b) cs = map_both (map_cell f) without_first_border without_first_border (map_cell f) (λ c. rw (after-map c.lines) refl) cs
   cells_under-map false (Some b) cs = refl
 
-  next_under-map : (top : Option (Border A)) (cs : List (Cell A)) (b : Border A) → next_under (option_map (map_border f) top) (map (map_cell f) cs) (map_border f b) ≡ map_border f (next_under top cs b)
+  next_under-map : (top : Option (Border A)) (cs : List (Cell A)) (b : Border A) →
+      next_under (option_map (map_border f) top) (map (map_cell f) cs) (map_border f b) ≡ map_border f (next_under top cs b)
   next_under-map None cs b = refl
   next_under-map (Some d) cs b = rw (separators-map cs) (joined-map above b (separators cs))
 
-  next_merged-map : (collapses : Bool) (cs : List (Cell A)) (b : Border A) → next_merged collapses (map (map_cell f) cs) (map_border f b) ≡ map_border f (next_merged collapses cs b)
-  next_merged-map true cs b = fold_both (map_cell f) (map_border f) merged_above merged_above (λ x c. rw (last-map c.lines) (merged-map above c.place x (last_mergeable c.lines))) b cs
+  next_merged-map : (collapses : Bool) (cs : List (Cell A)) (b : Border A) →
+      next_merged collapses (map (map_cell f) cs) (map_border f b) ≡ map_border f (next_merged collapses cs b)
+  next_merged-map true cs b =
+      fold_both (map_cell f) (map_border f) merged_above merged_above (λ x c. rw (last-map c.lines) (merged-map above c.place x (last_mergeable c.lines))) b cs
   next_merged-map false cs b = refl
 
   columns_shown-map : (collapses : Bool) (cs : List (Cell A)) → columns_shown collapses (map (map_cell f) cs) ≡ map (map_column f) (columns_shown collapses cs)
-  columns_shown-map true cs = map_both (map_cell f) with_last_border_apart with_last_border_apart (map_column f) (λ c. rw (before-map c.lines, last-map c.lines) refl) cs
+  columns_shown-map true cs =
+      map_both (map_cell f) with_last_border_apart with_last_border_apart (map_column f) (λ c. rw (before-map c.lines, last-map c.lines) refl) cs
   columns_shown-map false cs = map_both (map_cell f) whole_column whole_column (map_column f) (λ c. refl) cs
 
 -- ---- rows
@@ -124,7 +132,8 @@ module _ {A B : Type 0} (f : A → B) (eq : A → A → Bool) (means : MeansEqua
   plain_means : (a : A) (width : ℕ) (b : Border A) → IsPlain eq a width b → map_border f b ≡ without_holes (replicate width horizontal) (f a)
   plain_means a width b p = rw (p.cells, means b.tag a p.tag, p.holes) refl
 
-  pub row_means : EqualIfMeant f eq → (columns : ℕ → Option ℕ) (style : RowStyle) (a : A) (hanging own : List (Cell A)) (top : Option (Border A)) (row : Row A) → IsRow columns eq style a hanging own top row →
+  pub row_means : EqualIfMeant f eq → (columns : ℕ → Option ℕ) (style : RowStyle) (a : A) (hanging own : List (Cell A)) (top : Option (Border A))
+      (row : Row A) → IsRow columns eq style a hanging own top row →
       MeansRow columns style (f a) (map (map_cell f) hanging) (map (map_cell f) own) (option_map (map_border f) top) (row_meant f row)
   row_means told columns style a hanging own top row r =
       let collapses : Bool = style.collapses in
@@ -138,9 +147,13 @@ module _ {A B : Type 0} (f : A → B) (eq : A → A → Bool) (means : MeansEqua
         upper = rw (border_above-map f collapses r.cells top) (ap (option_map (map_border f)) r.upper);
         shown = map (map_column f) shown;
         shown_is = rw (cells_under-map f collapses top r.cells, columns_shown-map f collapses under) refl;
-        texts = rw (row_height-map f shown, line_texts-map f (separator_in style) a shown height) (texts_mean f eq means told row.lines.items (line_texts (glyph (separator_in style) a) a shown height) r.texts);
+        texts =
+            rw (row_height-map f shown, line_texts-map f (separator_in style) a shown height)
+            (texts_mean f eq means told row.lines.items (line_texts (glyph (separator_in style) a) a shown height) r.texts);
         full = map_border f r.full;
-        gaps = rw (row_height-map f shown, cells_left-map f height shown, row_width-map f r.cells, ← plain_means a (row_width r.cells) r.plain r.plain_is, next_under-map f top r.cells r.plain, cells_under-map f collapses top r.cells, next_merged-map f collapses under (next_under top r.cells r.plain))
+        gaps =
+            rw (row_height-map f shown, cells_left-map f height shown, row_width-map f r.cells, ← plain_means a (row_width r.cells) r.plain r.plain_is,
+            next_under-map f top r.cells r.plain, cells_under-map f collapses top r.cells, next_merged-map f collapses under (next_under top r.cells r.plain))
             (gaps_mean f eq means told draws columns a (cells_left height shown) (next_begun style top r.cells r.plain) r.full r.gaps);
         lower = ap (option_map (map_border f)) r.lower ∙ sym (if_both (option_map (map_border f)) draws (Some r.full) None);
         rest = rw (row_height-map f shown, cells_left-map f height shown, overhang-map f draws (cells_left height shown)) (ap (map (map_cell f)) r.rest);
@@ -150,7 +163,8 @@ module _ {A B : Type 0} (f : A → B) (eq : A → A → Bool) (means : MeansEqua
 
   pub filled_means : (columns : ℕ → Option ℕ) (align : CellAlign) (width : ℕ) (a : A) (l done : RenderLine A) → FillsLine columns eq align width a l done → MeansFilled columns align width (f a) (map_line f l) (map_line f done)
   filled_means columns align width a (Text es) (Text done) h =
-      rw (items-map f done, items-map f es, items_width-map f columns (items_of es), means_same_items f eq means (items_of done) (aligned_items align (items_of es) (columns_missing columns width es) a) h.0)
+      rw (items-map f done, items-map f es, items_width-map f columns (items_of es),
+          means_same_items f eq means (items_of done) (aligned_items align (items_of es) (columns_missing columns width es) a) h.0)
       (simp (map-append, text-map f))
   filled_means columns align width a (Line b) (Line done) h = ap (map_border f) h
   filled_means columns align width a (Text es) (Line done) h = absurd h
@@ -159,7 +173,8 @@ module _ {A B : Type 0} (f : A → B) (eq : A → A → Bool) (means : MeansEqua
   pub lines_mean : (columns : ℕ → Option ℕ) (align : CellAlign) (width : ℕ) (a : A) (ls done : List (RenderLine A)) → AllZip (FillsLine columns eq align width a) ls done →
       AllZip (MeansFilled columns align width (f a)) (map (map_line f) ls) (map (map_line f) done)
   lines_mean columns align width a ls done h =
-      zip-map (FillsLine columns eq align width a) (MeansFilled columns align width (f a)) (map_line f) (map_line f) (filled_means columns align width a) ls done h
+      zip-map (FillsLine columns eq align width a) (MeansFilled columns align width (f a)) (map_line f) (map_line f) (filled_means columns align width a) ls
+          done h
 
 module _ {A B : Type 0} (f : A → B) where
   pub spots_mean : (cs : List (Cell A)) → map spot_of (map (map_cell f) cs) ≡ map spot_of cs

@@ -17,7 +17,8 @@ use Rattle.tbr_rows.specs.Rows.{border_above, shown_in, left_in, next_begun, sep
 use Rattle.tbr_rows.specs.Meant.{EndsStretch, AreLongest, IsGapOf, HasGapIf, HasGaps, SeenRow, MeansRow}
 
 -- after the end of a stretch come no characters under its tag
-stops : {A : Type 0} (a : A) (d : ℕ) (xs : List ℕ) (es : List (Element A)) (more : List (Item A)) → EndsStretch (piece xs a) es → AreLongest es → items_of es ≡ glyph d a ∷ more → ⊥
+stops : {A : Type 0} (a : A) (d : ℕ) (xs : List ℕ) (es : List (Element A)) (more : List (Item A)) → EndsStretch (piece xs a) es → AreLongest es →
+    items_of es ≡ glyph d a ∷ more → ⊥
 stops a d xs [] more p l h = cc
 stops a d xs (piece [] b ∷ es) more p l h = l.0
 stops a d xs (piece (c ∷ cs) b ∷ es) more p l h = p (let same : a ≡ b = cc in same)
@@ -86,8 +87,10 @@ pub one_row : {A : Type 0} (columns : ℕ → Option ℕ) (style : RowStyle) (a 
 one_row {A} columns style a hanging own top row other r s =
     let cells : r.cells ≡ s.cells = same_Some r.cells s.cells (sym r.seated ∙ s.seated) in
     let Below : List (Cell A) → Border A → Type 0 =
-    λ cs full. HasGaps style.draws_borders columns a (left_in style top cs) (next_begun style top cs (without_holes (replicate (row_width cs) horizontal) a)) full in
-    let full : r.full ≡ s.full = one_border style.draws_borders columns a _ _ r.full s.full (subst (λ cs. Below cs r.full) cells (rw r.shown_is at r.gaps)) (rw s.shown_is at s.gaps) in
+    λ cs full. HasGaps style.draws_borders columns a (left_in style top cs) (next_begun style top cs (without_holes (replicate (row_width cs) horizontal) a))
+        full in
+    let full : r.full ≡ s.full =
+        one_border style.draws_borders columns a _ _ r.full s.full (subst (λ cs. Below cs r.full) cells (rw r.shown_is at r.gaps)) (rw s.shown_is at s.gaps) in
     is row r ∙ (λ i. row_with style a top (cells i) (full i)) ∙ sym (is other s)
   where
     is : (w : SeenRow A) (m : MeansRow columns style a hanging own top w) → w ≡ row_with style a top m.cells m.full

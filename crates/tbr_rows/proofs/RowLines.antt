@@ -19,14 +19,16 @@ text_later a i c (l ∷ ls) = refl
 
 -- the first line of what is left
 pub line_later : {A : Type 0} (separator : Item A) (a : A) (i : ℕ) (cs : List (Column A)) → line_text separator a (map (dropped i) cs) 0 ≡ line_text separator a cs i
-line_later separator a i cs = rw (map-map (cell_text a 0) (dropped i) cs) (ap (row_text separator) (λ j. map (λ c. text_later a i c (drop i c.cell.lines) j) cs))
+line_later separator a i cs =
+    rw (map-map (cell_text a 0) (dropped i) cs) (ap (row_text separator) (λ j. map (λ c. text_later a i c (drop i c.cell.lines) j) cs))
 
 pub one_more_line : {A : Type 0} (eq : A → A → Bool) (separator : Item A) (a : A) (cs now : List (Column A)) (i : ℕ) (lines : List (List (Element A))) (line : List (Element A)) →
     HaveTexts eq lines (line_texts separator a cs i) → now ≡ map (dropped i) cs → SameItems eq (items_of line) (line_text separator a now 0) →
     HaveTexts eq (lines ++ line ∷ []) (line_texts separator a cs (i + 1))
 one_more_line eq separator a cs now i lines line h e k =
     rw (add-one, map_push)
-    (all_zip_append (λ (es : List (Element _)) (is : List (Item _)). SameItems eq (items_of es) is) lines (line ∷ []) (line_texts separator a cs i) (line_text separator a cs i ∷ []) h (rw (e, line_later separator a i cs) at k, tt))
+    (all_zip_append (λ (es : List (Element _)) (is : List (Item _)). SameItems eq (items_of es) is) lines (line ∷ []) (line_texts separator a cs i)
+        (line_text separator a cs i ∷ []) h (rw (e, line_later separator a i cs) at k, tt))
 
 -- at first nothing is taken out
 pub dropped_none : {A : Type 0} (cs : List (Column A)) → cs ≡ map (dropped 0) cs

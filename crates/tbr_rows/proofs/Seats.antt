@@ -16,7 +16,8 @@ pub data Seats (A : Type 0) : ℕ → List (Cell A) → List (Cell A) → List (
   apart : {at : ℕ} {h : Cell A} {hs r : List (Cell A)} → nat_lt at h.place ≡ true → Seats A (end_of h + 1) hs [] r →
       Seats A at (h ∷ hs) [] (empty_cell at (h.place - at - 1) ∷ h ∷ r)
   next : {at : ℕ} {h : Cell A} {hs r : List (Cell A)} → nat_lt at h.place ≡ false → Seats A (end_of h + 1) hs [] r → Seats A at (h ∷ hs) [] (h ∷ r)
-  takes : {at : ℕ} {h c : Cell A} {hs cs r : List (Cell A)} → is_left_for h (spot_of c) ≡ true → Seats A (end_of h + 1) hs cs r → Seats A at (h ∷ hs) (c ∷ cs) (h ∷ r)
+  takes : {at : ℕ} {h c : Cell A} {hs cs r : List (Cell A)} → is_left_for h (spot_of c) ≡ true → Seats A (end_of h + 1) hs cs r →
+      Seats A at (h ∷ hs) (c ∷ cs) (h ∷ r)
   waits : {at : ℕ} {h c : Cell A} {hs cs r : List (Cell A)} → is_left_for h (spot_of c) ≡ false → ends_before h (spot_of c) ≡ true →
       Seats A (end_of c + 1) (h ∷ hs) cs r → Seats A at (h ∷ hs) (c ∷ cs) (c ∷ r)
 

@@ -18,5 +18,7 @@ loop-i-preserved g c =
           one_more_cell g.T.PartialEq.eq g.met.T.Eq.laws (glyph c.args.separator c.args.tag.now) c.args.tag.now xs i x c.loop-i.line c.push_separator.new.line c.push_first.new.line below read
           inv.items c.in_ok-push_separator.ensures.items c.in_ok-push_first.ensures.items;
       merged = c.in_ok-push_first.ensures.merged (c.in_ok-push_separator.ensures.merged inv.merged);
-      columns = ap (set c.loop-i.columns.items i) c.in_ok-push_first.ensures.rest ∙ map_over_more (dropped 1) xs c.loop-i.columns.items i x below inv.columns c.index_mut.ensures.value;
+      columns =
+          ap (set c.loop-i.columns.items i) c.in_ok-push_first.ensures.rest
+          ∙ map_over_more (dropped 1) xs c.loop-i.columns.items i x below inv.columns c.index_mut.ensures.value;
     }

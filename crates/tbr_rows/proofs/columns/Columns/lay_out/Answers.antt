@@ -16,7 +16,9 @@ left : (g : _) (c : After-drawn g) → map cell_in c.lines_of.new.columns.items 
 left g c = rw (c.in_ok-lines.ensures.rest, height g c, shown g c) refl
 
 pub of-requires : goal.of-requires
-of-requires g c = rw (c.in_ok-rest.ensures.rest, left g c) (rest_apart c.args.style.collapses c.args.above _ c.args.style.draws_borders c.in_ok-cells.cells.items c.in_ok-cells.ensures.side_by_side)
+of-requires g c =
+    rw (c.in_ok-rest.ensures.rest, left g c) (rest_apart c.args.style.collapses c.args.above _ c.args.style.draws_borders c.in_ok-cells.cells.items
+    c.in_ok-cells.ensures.side_by_side)
 
 pub returns-clause-row : goal.returns-clause-row
 returns-clause-row g c =
