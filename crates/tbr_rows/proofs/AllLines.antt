@@ -133,7 +133,6 @@ rows_go_on {A} draws collapses top height cs = simp (columns_are collapses top c
         left : List (RenderLine A)
         left = drop (if draws then 1 else 0) (drop height (column_of collapses top c).cell.lines)
 
-        go : (s : Bool) → (if s then next left ∷ [] else []) ≡ (if s then next (flat_map (λ (k : Cell A). k.lines) (if s then next left ∷ [] else [])) ∷ []
-            else [])
+        go : (s : Bool) → (let here : List (Cell A) = if s then next left ∷ [] else [] in here ≡ (if s then next (flat_map (λ k. k.lines) here) ∷ [] else []))
         go true = rw append-nil refl
         go false = refl

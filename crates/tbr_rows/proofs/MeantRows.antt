@@ -173,8 +173,7 @@ module _ {A B : Type 0} (f : A → B) (eq : A → A → Bool) (means : MeansEqua
   pub lines_mean : (columns : ℕ → Option ℕ) (align : CellAlign) (width : ℕ) (a : A) (ls done : List (RenderLine A)) → AllZip (FillsLine columns eq align width a) ls done →
       AllZip (MeansFilled columns align width (f a)) (map (map_line f) ls) (map (map_line f) done)
   lines_mean columns align width a ls done h =
-      zip-map (FillsLine columns eq align width a) (MeansFilled columns align width (f a)) (map_line f) (map_line f) (filled_means columns align width a) ls
-          done h
+      zip-map (FillsLine columns eq align width a) _ (map_line f) (map_line f) (filled_means columns align width a) ls done h
 
 module _ {A B : Type 0} (f : A → B) where
   pub spots_mean : (cs : List (Cell A)) → map spot_of (map (map_cell f) cs) ≡ map spot_of cs

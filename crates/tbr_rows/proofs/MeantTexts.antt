@@ -147,6 +147,4 @@ module _ {A B : Type 0} (f : A → B) where
     gaps_mean draws columns a (c ∷ cs) x y h = (map_border f h.0, gap_if_means (has_gap draws c) columns a c x h.0 h.1, gaps_mean draws columns a cs h.0 y h.2)
 
     pub texts_mean : (lines : List (List (Element A))) (texts : List (List (Item A))) → HaveTexts eq lines texts → map (λ es. map_items f (items_of es)) lines ≡ map (map_items f) texts
-    texts_mean lines texts h =
-        zip_same _ (λ (es : List (Element A)). map_items f (items_of es)) (map_items f) (λ es is k. means_same_items f eq means (items_of es) is k) lines
-        texts h
+    texts_mean lines texts h = zip_same _ (λ es. map_items f (items_of es)) (map_items f) (λ es is k. means_same_items f eq means (items_of es) is k) lines texts h

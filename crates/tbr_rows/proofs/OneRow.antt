@@ -86,11 +86,9 @@ pub one_row : {A : Type 0} (columns : ℕ → Option ℕ) (style : RowStyle) (a 
     MeansRow columns style a hanging own top row → MeansRow columns style a hanging own top other → row ≡ other
 one_row {A} columns style a hanging own top row other r s =
     let cells : r.cells ≡ s.cells = same_Some r.cells s.cells (sym r.seated ∙ s.seated) in
-    let Below : List (Cell A) → Border A → Type 0 =
-    λ cs full. HasGaps style.draws_borders columns a (left_in style top cs) (next_begun style top cs (without_holes (replicate (row_width cs) horizontal) a))
-        full in
-    let full : r.full ≡ s.full =
-        one_border style.draws_borders columns a _ _ r.full s.full (subst (λ cs. Below cs r.full) cells (rw r.shown_is at r.gaps)) (rw s.shown_is at s.gaps) in
+    let begun : List (Cell A) → Border A = λ cs. next_begun style top cs (without_holes (replicate (row_width cs) horizontal) a) in
+    let gaps = subst (λ cs. HasGaps style.draws_borders columns a (left_in style top cs) (begun cs) r.full) cells (rw r.shown_is at r.gaps) in
+    let full : r.full ≡ s.full = one_border style.draws_borders columns a _ _ r.full s.full gaps (rw s.shown_is at s.gaps) in
     is row r ∙ (λ i. row_with style a top (cells i) (full i)) ∙ sym (is other s)
   where
     is : (w : SeenRow A) (m : MeansRow columns style a hanging own top w) → w ≡ row_with style a top m.cells m.full

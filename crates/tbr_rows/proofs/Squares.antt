@@ -15,8 +15,7 @@ flat_both f g h k one [] = refl
 flat_both f g h k one (x ∷ xs) = rw (one x, flat_both f g h k one xs, map-append) refl
 
 pub fold_both : {X Y B C : Type 0} (f : X → Y) (g : B → C) (s : B → X → B) (t : C → Y → C) → ((b : B) (x : X) → t (g b) (f x) ≡ g (s b x)) →
-    (b : B) (xs : List X) →
-    fold t (g b) (map f xs) ≡ g (fold s b xs)
+    (b : B) (xs : List X) → fold t (g b) (map f xs) ≡ g (fold s b xs)
 fold_both f g s t one b [] = refl
 fold_both f g s t one b (x ∷ xs) = ap (λ c. fold t c (map f xs)) (one b x) ∙ fold_both f g s t one (s b x) xs
 
