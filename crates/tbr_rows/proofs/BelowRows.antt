@@ -18,7 +18,7 @@ use Rattle.tbr_border.specs.declared.render_line.RenderLine.TheVariants.{Text, L
 use Rattle.tbr_tagged.specs.Padding.{spaces}
 use Rattle.tbr_rows.specs.Cells.{AreSideBySide, end_of, first_line, row_width, separators}
 use Rattle.tbr_rows.specs.CellsShown.{Fills, IsFilled, HasInColumns}
-use Rattle.tbr_rows.specs.Borders.{joined, joined_at_each, last_mergeable, merged_with, merged_above}
+use Rattle.tbr_rows.specs.Borders.{joined, last_mergeable, merged_with, merged_above}
 use Rattle.tbr_rows.specs.Gaps.{has_gap, with_element, with_elements}
 use Rattle.tbr_rows.specs.Meant.{IsGapOf, HasGapIf, HasGaps}
 use Rattle.tbr_rows.specs.Rows.{cells_under, next_under, next_merged, next_begun}
@@ -52,23 +52,16 @@ module _ {A : Type 0} where
   abbrev KeepsPlain : Border A → Border A → Type 0
   KeepsPlain b m = (length b.cells ≤ length m.cells) × (b.holes ≡ [] → m.holes ≡ [])
 
-  joins_plain : (side : Side) (xs : List ℕ) (b : Border A) → KeepsPlain b (joined_at_each side b xs)
-  joins_plain side [] b = (omega arith, λ e. e)
-  joins_plain side (x ∷ xs) b =
-      let one : Border A = joined side b x in
-      let later = joins_plain side xs one in
-      (omega (arith, later.0, length-changed (joined_cell side) x (stretched (x + 1) b.cells), length-stretched (x + 1) b.cells), λ e. later.1 e)
-
   merged_plain : (side : Side) (place : ℕ) (b : Border A) (o : Option (Border A)) → KeepsPlain b (merged_with side place b o)
   merged_plain side place b None = (omega arith, λ e. e)
   merged_plain side place b (Some o) = (merged_longer side b.cells place o.cells, λ e. e)
 
-  all_merged_plain : (cs : List (Cell A)) (b : Border A) → KeepsPlain b (fold merged_above b cs)
-  all_merged_plain [] b = (omega arith, λ e. e)
-  all_merged_plain (c ∷ cs) b =
-      let one = merged_plain above c.place b (last_mergeable c.lines) in
-      let later = all_merged_plain cs (merged_above b c) in
-      (omega (arith, one.0, later.0), λ e. later.1 (one.1 e))
+  keeps_all : {X : Type 0} (step : Border A → X → Border A) → ((b : Border A) (x : X) → KeepsPlain b (step b x)) → (b : Border A) (xs : List X) → KeepsPlain b (fold step b xs)
+  keeps_all step keeps b [] = (omega arith, λ e. e)
+  keeps_all step keeps b (x ∷ xs) =
+      let first = keeps b x in
+      let later = keeps_all step keeps (step b x) xs in
+      (omega (arith, first.0, later.0), λ e. later.1 (first.1 e))
 
   -- as a border below a row begins
   pub begins_plain : (style : RowStyle) (top : Option (Border A)) (cs : List (Cell A)) (b : Border A) → KeepsPlain b (next_begun style top cs b)
@@ -76,10 +69,13 @@ module _ {A : Type 0} where
     where
       joins : (o : Option (Border A)) → KeepsPlain b (next_under o cs b)
       joins None = (omega arith, λ e. e)
-      joins (Some t) = joins_plain above (separators cs) b
+      joins (Some t) =
+          keeps_all (joined above) (λ m x. (omega (arith, length-changed (joined_cell above) x (stretched (x + 1) m.cells), length-stretched (x + 1) m.cells), λ e. e)) b (separators cs)
 
       go : (x : Bool) → KeepsPlain b (next_under top cs b) → KeepsPlain b (next_merged x (cells_under x top cs) (next_under top cs b))
-      go true one = let later = all_merged_plain (cells_under true top cs) (next_under top cs b) in (omega (arith, one.0, later.0), λ e. later.1 (one.1 e))
+      go true one =
+          let later = keeps_all merged_above (λ m c. merged_plain above c.place m (last_mergeable c.lines)) (next_under top cs b) (cells_under true top cs) in
+          (omega (arith, one.0, later.0), λ e. later.1 (one.1 e))
       go false one = one
 
   -- each cell of a row begins within its width

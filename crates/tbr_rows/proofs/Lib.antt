@@ -1,5 +1,4 @@
 pub mod RowTexts
-pub mod RowLines
 pub mod Fits
 pub mod Seats
 pub mod Squares

@@ -59,10 +59,6 @@ module _ {A B : Type 0} (f : A → B) where
   seats-map (takes {c = c} left w) = rw (blank-map c.lines, left, seats-map w) refl
   seats-map (waits {c = c} left ends w) = rw (blank-map c.lines, left, ends, seats-map w) refl
 
-  with_hanging-map : (hs cs r : List (Cell A)) → with_hanging 0 hs cs ≡ Some r →
-      with_hanging 0 (map (map_cell f) hs) (map (map_cell f) cs) ≡ Some (map (map_cell f) r)
-  with_hanging-map hs cs r e = seats-map (seats 0 hs cs r e)
-
   -- ---- borders
 
   joined-map : (side : Side) (b : Border A) (xs : List ℕ) → joined_at_each side (map_border f b) xs ≡ map_border f (joined_at_each side b xs)
@@ -143,7 +139,7 @@ module _ {A B : Type 0} (f : A → B) (eq : A → A → Bool) (means : MeansEqua
       let height : ℕ = row_height shown in
       record {
         cells = map (map_cell f) r.cells;
-        seated = with_hanging-map f hanging own r.cells r.seated;
+        seated = seats-map f (seats 0 hanging own r.cells r.seated);
         upper = rw (border_above-map f collapses r.cells top) (ap (option_map (map_border f)) r.upper);
         shown = map (map_column f) shown;
         shown_is = rw (cells_under-map f collapses top r.cells, columns_shown-map f collapses under) refl;
