@@ -1,9 +1,7 @@
 -- Rows lose no line of a cell.
-use Rattle.std.proofs.Common.{◌≡◌, if◌then◌else◌, ℕ, ◌-◌, ◌≤◌, ◌&&◌, Bool, true, false, Option, None, Some, List, [], ◌∷◌, ◌++◌, map, take, drop, length, fold, max, refl, ap, sym, ◌∙◌, arith, append_assoc, append-nil}
-use Rattle.std.specs.Prelude.{nat_lt, is_some, flat_map}
+use Rattle.std.proofs.Common.{◌≡◌, if◌then◌else◌, ℕ, ◌-◌, ◌≤◌, ◌&&◌, Bool, true, false, Option, None, Some, List, [], ◌∷◌, ◌++◌, map, take, drop, length, fold, max, refl, ap, sym, ◌∙◌, arith, append_assoc, append-nil, nat_lt, is_some, flat_map, take-append-drop, take_all, length-drop}
 use Rattle.std.specs.List.{AllByRecursion as Each}
-use Rattle.std.proofs.lemmas.Bool.{ltb-false, le-leb}
-use Rattle.std.proofs.lemmas.List.{take-append-drop, take_all, length-drop}
+use Rattle.std.proofs.lemmas.Bool.{ltb-false, le-leb, cond_both}
 use Rattle.tbr_model.specs.Layout.{joined}
 use Rattle.tbr_border.specs.declared.render_line.RenderLine.{RenderLine}
 use Rattle.tbr_border.specs.declared.render_line.RenderLine.TheVariants.{Text, Line}
@@ -12,14 +10,12 @@ use Rattle.tbr_rows.specs.declared.line_set.LineSet.{LineSet as Cell}
 use Rattle.tbr_rows.specs.declared.column.Column.{Column}
 use Rattle.tbr_rows.specs.Cells.{cell_height}
 use Rattle.tbr_rows.specs.Borders.{first_mergeable, last_mergeable, after_mergeable, before_mergeable, without_first_border}
-use Rattle.tbr_rows.specs.Texts.{row_height}
+use Rattle.tbr_rows.specs.Texts.{row_height, dropped}
 use Rattle.tbr_rows.specs.Gaps.{overhang_of, overhang, cell_in}
 use Rattle.tbr_rows.specs.Shown.{part_of, later_of, as_lines, Meeting, met, merged_first, merged_last, continued, goes_on, parts_of, parts_and_merged, meeting, AreItsRows, texts_in}
 use Rattle.tbr_rows.specs.Rows.{cells_under, columns_shown, cells_left}
-use Rattle.std.proofs.lemmas.Bool.{cond_both}
 use Rattle.std.proofs.lemmas.Simd.{map-map}
 use Rattle.std.proofs.lemmas.List.Folds.{flat_map-map}
-use Rattle.tbr_rows.specs.Texts.{dropped}
 use Rattle.tbr_rows.proofs.Squares.{if_both}
 use Rattle.tbr_rows.proofs.ColumnsOfRows.{column_of, columns_are}
 

@@ -1,6 +1,5 @@
 -- Which cells are in a row: those that overhang, and its own.
-use Rattle.std.proofs.Common.{◌≡◌, ℕ, ◌-◌, inl, inr, true, false, Option, Some, List, [], ◌∷◌, refl, ap, sym, ◌∙◌}
-use Rattle.std.specs.Prelude.{◌≢◌, is_none, ◌==◌}
+use Rattle.std.proofs.Common.{◌≡◌, ℕ, ◌-◌, inl, inr, true, false, Option, Some, List, [], ◌∷◌, refl, ap, sym, ◌∙◌, ◌≢◌, is_none, ◌==◌}
 use Rattle.std.specs.List.{AllByRecursion as Each}
 use Rattle.std.proofs.lemmas.Bool.{and_parts}
 use Rattle.tbr_border.specs.declared.render_line.RenderLine.{RenderLine}

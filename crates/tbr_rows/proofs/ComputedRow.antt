@@ -1,6 +1,5 @@
 -- A row by what its tags mean is the one that is computed.
-use Rattle.std.proofs.Common.{◌≡◌, ◌↔◌, ℕ, Bool, true, false, if◌then◌else◌, Option, None, Some, List, [], ◌∷◌, fold, ap, ◌∙◌, subst, refl}
-use Rattle.std.specs.Option.{option_map}
+use Rattle.std.proofs.Common.{◌≡◌, ◌↔◌, ℕ, Bool, true, false, if◌then◌else◌, Option, None, Some, List, [], ◌∷◌, fold, ap, ◌∙◌, subst, refl, option_map}
 use Rattle.std.proofs.lemmas.Option.{same_Some}
 use Rattle.std.proofs.lemmas.Bool.{cond_both, both_ways}
 use Rattle.tbr_model.specs.Run.{Item, glyph, marker}

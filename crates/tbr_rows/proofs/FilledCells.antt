@@ -1,6 +1,5 @@
 -- What a row has of a cell takes the cell's columns.
-use Rattle.std.proofs.Common.{◌≡◌, ℕ, zero, suc, ◌+◌, ◌-◌, ◌<◌, Bool, true, false, Option, None, Some, unwrap_or, List, [], ◌∷◌, ◌++◌, map, take, drop, length, get_or, set, drop-cons, refl, ap, ◌∙◌, arith}
-use Rattle.std.specs.Prelude.{◌≤◌, IsTrue, slice_range}
+use Rattle.std.proofs.Common.{◌≡◌, ℕ, zero, suc, ◌+◌, ◌-◌, ◌<◌, Bool, true, false, Option, None, Some, unwrap_or, List, [], ◌∷◌, ◌++◌, map, take, drop, length, get_or, set, drop-cons, refl, ap, ◌∙◌, arith, ◌≤◌, IsTrue, slice_range}
 use Rattle.std.specs.List.{AllZip, AllByRecursion as Each}
 use Rattle.tbr_model.specs.Run.{Item, items_width}
 use Rattle.tbr_model.specs.Width.{takes_one_column}

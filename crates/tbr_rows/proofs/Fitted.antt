@@ -1,6 +1,5 @@
 -- Whether a row fits, told cell by cell.
-use Rattle.std.proofs.Common.{◌≡◌, ℕ, ◌+◌, ◌-◌, ◌<◌, ◌≤◌, Bool, true, false, ◌&&◌, ◌||◌, ◌==◌, List, [], ◌∷◌, map, refl, ap, sym, ◌∙◌, arith, inl, inr, take, length, get_or, ◌++◌, append_assoc}
-use Rattle.std.specs.Prelude.{is_none}
+use Rattle.std.proofs.Common.{◌≡◌, ℕ, ◌+◌, ◌-◌, ◌<◌, ◌≤◌, Bool, true, false, ◌&&◌, ◌||◌, ◌==◌, List, [], ◌∷◌, map, refl, ap, sym, ◌∙◌, arith, inl, inr, take, length, get_or, ◌++◌, append_assoc, is_none}
 use Rattle.std.specs.List.{list_all, list_any, AllZip}
 use Rattle.std.proofs.lemmas.Bool.{ne_eqb, eq-eqb, eqb-false, lt-leb, and_parts, and_from, or_cases, or_left, or_right, and_right}
 use Rattle.tbr_rows.specs.declared.line_set.LineSet.{LineSet as Cell}

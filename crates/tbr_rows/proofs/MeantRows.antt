@@ -1,10 +1,8 @@
 -- Cells, their places, borders and rows by what tags mean.
-use Rattle.std.proofs.Common.{◌≡◌, ℕ, Bool, Option, None, Some, List, [], ◌∷◌, ◌&&◌, map, ap, sym, ◌∙◌, refl, ◌-◌, true, false, take, drop, length}
-use Rattle.std.specs.Option.{option_map}
+use Rattle.std.proofs.Common.{◌≡◌, ℕ, Bool, Option, None, Some, List, [], ◌∷◌, ◌&&◌, map, ap, sym, ◌∙◌, refl, ◌-◌, true, false, take, drop, length, option_map, replicate, is_some, is_none}
 use Rattle.tbr_model.specs.Run.{glyph}
 use Rattle.tbr_border.specs.Border.{Border, without_holes, Hole, has_holes}
 use Rattle.tbr_border.specs.Cell.{horizontal, Side, above, below}
-use Rattle.std.specs.Prelude.{replicate, is_some, is_none}
 use Rattle.tbr_tagged.specs.Mapped.{MeansEqual}
 use Rattle.tbr_tagged.specs.declared.padding.CellAlign.{CellAlign}
 use Rattle.tbr_tagged.specs.Elements.{items_of}

@@ -1,7 +1,5 @@
 -- Lines of rows, gaps and what overhangs, under other tags.
-use Rattle.std.proofs.Common.{◌≡◌, if◌then◌else◌, ℕ, ◌+◌, ◌-◌, max, Bool, true, false, Option, None, Some, List, [], ◌∷◌, map, drop, refl, ap, sym, ◌∙◌}
-use Rattle.std.specs.Prelude.{nat_lt, slice_range}
-use Rattle.std.specs.Option.{option_map}
+use Rattle.std.proofs.Common.{◌≡◌, if◌then◌else◌, ℕ, ◌+◌, ◌-◌, max, Bool, true, false, Option, None, Some, List, [], ◌∷◌, map, drop, refl, ap, sym, ◌∙◌, nat_lt, slice_range, option_map}
 use Rattle.std.proofs.lemmas.List.{length-map, drop-map, map-append, map_push}
 use Rattle.tbr_model.specs.Run.{Item, glyph}
 use Rattle.tbr_model.specs.Mapped.{map_item, map_items}

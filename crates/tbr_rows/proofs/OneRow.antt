@@ -1,10 +1,9 @@
 -- There is only one row by what tags mean.
-use Rattle.std.proofs.Common.{◌≡◌, ℕ, Bool, true, false, Option, None, Some, List, [], ◌∷◌, ◌++◌, ap, sym, ◌∙◌, subst, refl}
+use Rattle.std.proofs.Common.{◌≡◌, ℕ, Bool, true, false, Option, None, Some, List, [], ◌∷◌, ◌++◌, ap, sym, ◌∙◌, subst, refl, replicate}
 use Rattle.std.proofs.lemmas.Option.{same_Some}
 use Rattle.tbr_model.specs.Run.{Item, glyph}
 use Rattle.tbr_border.specs.declared.render_line.RenderLine.{RenderLine}
 use Rattle.tbr_border.specs.declared.render_line.RenderLine.TheVariants.{Text, Line}
-use Rattle.std.specs.Prelude.{replicate}
 use Rattle.tbr_border.specs.Cell.{horizontal}
 use Rattle.tbr_border.specs.Border.{Border, without_holes}
 use Rattle.tbr_tagged.specs.Elements.{Element, piece, marker_element, items_of, text_items, HasText}
