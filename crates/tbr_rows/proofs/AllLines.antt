@@ -108,8 +108,12 @@ texts_left m c =
 pub all_texts : {A : Type 0} (draws : Bool) (ms : List Meeting) (c : Cell A) → AreItsRows draws ms c → texts_in (joined (parts_of draws ms c)) ≡ texts_in c.lines
 all_texts draws [] c h = ap texts_in (sym h)
 all_texts draws (m ∷ ms) c h =
-    rw (texts_append, all_texts draws ms (continued draws m c) h.1, ← texts_append (part_of draws m.height (met m c)),
-        part_and_later draws m.height (met m c) h.0) (texts_left m c)
+    rw (
+      texts_append,
+      all_texts draws ms (continued draws m c) h.1,
+      ← texts_append (part_of draws m.height (met m c)),
+      part_and_later draws m.height (met m c) h.0,
+    ) (texts_left m c)
 
 -- ---- the cells of a row
 

@@ -44,7 +44,7 @@ merged_longer side cells place others =
     let end : ℕ = place + joins_end side others in
     cond_both (any_joins side others) (stretched end cells) cells (λ cs. length cells ≤ length (joined_under side cs place others))
     (λ e. omega (arith, length-under side (stretched end cells) place others, length-stretched end cells))
-        (λ e. omega (arith, length-under side cells place others))
+    (λ e. omega (arith, length-under side cells place others))
 
 module _ {A : Type 0} where
   -- as long at least, with nothing in front of it either
@@ -156,8 +156,13 @@ module _ {A : Type 0} (columns : ℕ → Option ℕ) where
     cut at p (g ∷ hs) h k =
         let sum : at + (p - at) ≡ p = omega (arith, h) in
         let far : g.place - at ≡ (p - at) + (g.place - p) = omega (arith, h, k) in
-        rw (far, take-add (p - at) (g.place - p) (drop at cells), drop-drop (p - at) at cells, sum,
-            drawn_two (slice_range cells at p) (slice_range cells p g.place)) (simp append_assoc)
+        rw (
+          far,
+          take-add (p - at) (g.place - p) (drop at cells),
+          drop-drop (p - at) at cells,
+          sum,
+          drawn_two (slice_range cells at p) (slice_range cells p g.place),
+        ) (simp append_assoc)
 
     -- what comes before a column
     pub shown_before : (from : ℕ) (hs : List (Hole A)) (p : ℕ) (more : List (Hole A)) → HolesFill columns from hs p → p ≤ length cells → BeginAfter p more →
@@ -198,18 +203,21 @@ module _ {A : Type 0} (columns : ℕ → Option ℕ) where
         items_width columns (items_of es) ≡ width
     gap_width width [] es h is =
         ap (λ xs. items_width columns (items_of xs)) is ∙ ap (items_width columns) (append-nil (text_items (spaces width) tag))
-            ∙ spaces_width columns one width tag
+        ∙ spaces_width columns one width tag
     gap_width width (Text line ∷ ls) es h is = ap (λ xs. items_width columns (items_of xs)) is ∙ h.0
     gap_width width (Line b ∷ ls) es h is = ap (items_width columns) is.0 ∙ takes columns one b.tag width (Line b) h.0
 
     -- what a cell puts in front of a border
     gap_holes : (g : Bool) (d : Cell A) (b m : Border A) → HasGapIf g columns tag d b m →
         (es : List (Element A)) × (m.holes ≡ b.holes ++ holes_from (max d.place (span_end b.holes)) es) ×
-            (IsFilled columns d → items_width columns (items_of es) ≤ d.width) × (length b.cells ≤ length m.cells)
+        (IsFilled columns d → items_width columns (items_of es) ≤ d.width) × (length b.cells ≤ length m.cells)
     gap_holes false d b m h = ([], rw h (sym (append-nil b.holes)), λ f. omega arith, omega (arith, ap (λ (x : Border A). length x.cells) h))
-    gap_holes true d b m (es, is, put) =
-        (es, rw put (put_holes d.place _ b es refl), λ f. omega (arith, gap_width d.width d.lines es f is),
-            omega (arith, ap (λ (x : Border A). length x.cells) put, put_longer d.place b es))
+    gap_holes true d b m (es, is, put) = (
+      es,
+      rw put (put_holes d.place _ b es refl),
+      λ f. omega (arith, gap_width d.width d.lines es f is),
+      omega (arith, ap (λ (x : Border A). length x.cells) put, put_longer d.place b es),
+    )
 
     -- Up to one of the cells: the border has gaps before its place alone.
     gaps_in_front : (ds more : List (Cell A)) (at : ℕ) (b full : Border A) → HasGaps draws columns tag (ds ++ more) b full → AreSideBySide at (ds ++ more) →
@@ -222,8 +230,8 @@ module _ {A : Type 0} (columns : ℕ → Option ℕ) where
         let far : max d.place (span_end b.holes) ≡ d.place = omega (arith, span_end-is b.holes, ends_before 0 b.holes d.place there) in
         let end : ℕ = d.place + items_width columns (items_of es) in
         let order : HolesFill columns 0 m.holes (end_of d + 1) =
-            rw (put, far) (fill_later columns 0 (b.holes ++ holes_from d.place es) end (end_of d + 1) (in_order_more 0 b.holes d.place es end there refl)
-            (omega (arith, wide fills.0))) in
+        rw (put, far) (fill_later columns 0 (b.holes ++ holes_from d.place es) end (end_of d + 1) (in_order_more 0 b.holes d.place es end there refl)
+        (omega (arith, wide fills.0))) in
         let (n, to, more_gaps, more_side, ordered, longer) = gaps_in_front ds more (end_of d + 1) m full past side.1 fills.1 order in
         (n, to, more_gaps, more_side, ordered, omega (arith, long, longer))
 
@@ -234,9 +242,12 @@ module _ {A : Type 0} (columns : ℕ → Option ℕ) where
     gaps_after p (d ∷ ds) b full (m, here, past) far =
         let (hs, more, after, longer) = gaps_after p ds m full past far.1 in
         let (es, put, wide, long) = gap_holes (has_gap draws d) d b m here in
-        let own : List (Hole A) = holes_from (max d.place (span_end b.holes)) es in
-        (own ++ hs, more ∙ ap (λ ks. ks ++ hs) put ∙ append_assoc b.holes own hs, after_both p own hs (from_after p _ es (omega (arith, far.0))) after,
-            omega (arith, long, longer))
+        let own : List (Hole A) = holes_from (max d.place (span_end b.holes)) es in (
+          own ++ hs,
+          more ∙ ap (λ ks. ks ++ hs) put ∙ append_assoc b.holes own hs,
+          after_both p own hs (from_after p _ es (omega (arith, far.0))) after,
+          omega (arith, long, longer),
+        )
 
     places_after : (at p : ℕ) (ds : List (Cell A)) → p ≤ at → AreSideBySide at ds → Each (λ (d : Cell A). p ≤ d.place) ds
     places_after at p [] h s = tt
@@ -247,7 +258,7 @@ module _ {A : Type 0} (columns : ℕ → Option ℕ) where
         HasGaps draws columns tag (front ++ c ∷ rest) b full →
         AreSideBySide 0 (front ++ c ∷ rest) → Each (IsFilled columns) front → IsFilled columns c → b.holes ≡ [] → c.place ≤ length b.cells →
         ((es : List (Element A)) → IsGapOf tag c.width (first_line c.lines) es → Is (items_of es)) →
-            HasInColumns columns (shown full.tag full) c.place c.width Is
+        HasInColumns columns (shown full.tag full) c.place c.width Is
     gap_stands front c rest b full Is gap h side fills own_fills none within shows =
         let begins : HolesFill columns 0 b.holes 0 = rw none (omega arith) in
         let (m, to, (n, own, others), more_side, order, longer) = gaps_in_front front (c ∷ rest) 0 b full h side fills begins in

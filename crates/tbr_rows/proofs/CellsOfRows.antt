@@ -86,21 +86,24 @@ module _ {A : Type 0} (columns : ℕ → Option ℕ) (one : DrawsInOne columns) 
         let here : List (Item A) = cell_text r.tag i (column_in c) in
         let parts : r.means.shown ≡ map column_in front ++ column_in c ∷ after = shown_are ∙ ap (map column_in) is ∙ map-append column_in front (c ∷ rest) in
         let stands =
-            stands_at columns separator r.tag i (map column_in front) (column_in c) after
-            (ap (λ (o : Option ℕ). unwrap_or o 0) (one_wide r.style.draws_borders))
+        stands_at columns separator r.tag i (map column_in front) (column_in c) after
+        (ap (λ (o : Option ℕ). unwrap_or o 0) (one_wide r.style.draws_borders))
         (columns_fill columns one r.style.collapses r.top r.tag i front front_filled)
-            (rw map-append at (columns_side_by_side r.style.collapses r.top height (front ++ c ∷ rest) side)) in
+        (rw map-append at (columns_side_by_side r.style.collapses r.top height (front ++ c ∷ rest) side)) in
         let first = first_text separator r.tag (column_in c) after i in
-        let line = line_text separator r.tag r.means.shown i in
-        (line, ap (λ ls. slice_get ls i) r.means.texts ∙ line_at separator r.tag r.means.shown height i (omega (arith, h, height_is)), record {
-          before = stands.0;
-          here = here;
-          after = first.0;
-          parts = ap (λ cs. line_text separator r.tag cs i) parts ∙ rw (stands.1, first.1) (sym (append_assoc stands.0 here first.0));
-          place = stands.2;
-          width = column_fills columns one r.style.collapses r.top r.tag i c own_filled;
-          is = λ l got. let at = drop_at (column_in c).cell.lines i l got in ap (text_of_lines r.tag (column_in c)) at.1;
-        })
+        let line = line_text separator r.tag r.means.shown i in (
+          line,
+          ap (λ ls. slice_get ls i) r.means.texts ∙ line_at separator r.tag r.means.shown height i (omega (arith, h, height_is)),
+          record {
+            before = stands.0;
+            here = here;
+            after = first.0;
+            parts = ap (λ cs. line_text separator r.tag cs i) parts ∙ rw (stands.1, first.1) (sym (append_assoc stands.0 here first.0));
+            place = stands.2;
+            width = column_fills columns one r.style.collapses r.top r.tag i c own_filled;
+            is = λ l got. let at = drop_at (column_in c).cell.lines i l got in ap (text_of_lines r.tag (column_in c)) at.1;
+          },
+        )
 
     -- and in the border below it
     shows_below : has_gap r.style.draws_borders c ≡ true → ShowsBelow columns r c
@@ -108,14 +111,17 @@ module _ {A : Type 0} (columns : ℕ → Option ℕ) (one : DrawsInOne columns) 
         let plain : Border A = without_holes (replicate (row_width r.means.cells) horizontal) r.tag in
         let begins = begins_plain r.style r.top r.means.cells plain in
         let left_are : cells_left height r.means.shown ≡ map left_of front ++ left_of c ∷ map left_of rest =
-            ap (cells_left height) shown_are ∙ simp (map-map, is, map-append) in
-        let bordered = r.means.lower ∙ ap (λ b. if b then Some r.means.full else None) (and_parts r.style.draws_borders (nat_lt 1 c.span) gap).0 in
-        (r.means.full, bordered, gap_stands columns one r.style.draws_borders r.tag (map left_of front) (left_of c) (map left_of rest)
-            (next_begun r.style r.top r.means.cells plain) r.means.full _ gap
-        (rw left_are at r.means.gaps) (rw map-append at (keep_places (λ d. (left_of d).lines) 0 (front ++ c ∷ rest) side))
-            (each_map left_of (IsFilled columns) (IsFilled columns) left_filled front front_filled) (left_filled c own_filled) (begins.1 refl)
-        (omega (arith, within_row 0 front c rest side, ap row_width is, length-replicate (row_width r.means.cells) horizontal, begins.0))
-        (λ es shows l got. let at = drop_at (column_in c).cell.lines height l (rw height_is at got) in first_of (left_of c).lines l at.0 es c.width at.1 shows))
+        ap (cells_left height) shown_are ∙ simp (map-map, is, map-append) in
+        let bordered = r.means.lower ∙ ap (λ b. if b then Some r.means.full else None) (and_parts r.style.draws_borders (nat_lt 1 c.span) gap).0 in (
+          r.means.full,
+          bordered,
+          gap_stands columns one r.style.draws_borders r.tag (map left_of front) (left_of c) (map left_of rest)
+              (next_begun r.style r.top r.means.cells plain) r.means.full _ gap
+              (rw left_are at r.means.gaps) (rw map-append at (keep_places (λ d. (left_of d).lines) 0 (front ++ c ∷ rest) side))
+              (each_map left_of (IsFilled columns) (IsFilled columns) left_filled front front_filled) (left_filled c own_filled) (begins.1 refl)
+              (omega (arith, within_row 0 front c rest side, ap row_width is, length-replicate (row_width r.means.cells) horizontal, begins.0))
+              (λ es shows l got. let at = drop_at (column_in c).cell.lines height l (rw height_is at got) in first_of (left_of c).lines l at.0 es c.width at.1 shows),
+        )
 
   stands_in_columns : (c : Cell A) → AreApart 0 r.hanging → StandsAmong c r.means.cells → Each (IsFilled columns) r.means.cells → StandsInItsColumns columns r c
   stands_in_columns c apart (front, rest, is) filled =
@@ -125,7 +131,7 @@ module _ {A : Type 0} (columns : ℕ → Option ℕ) (one : DrawsInOne columns) 
   high_enough : (c : Cell A) → StandsAmong c r.means.cells → cell_height (met (meeting_in columns r) c) ≤ height
   high_enough c k =
       each_among (λ (d : Column A). cell_height d.cell ≤ height) (column_in c) r.means.shown (rw shown_are (among_map column_in c r.means.cells k))
-          (row_is_high_enough r.means.shown)
+      (row_is_high_enough r.means.shown)
 
   -- ---- what it leaves
 
@@ -138,7 +144,7 @@ module _ {A : Type 0} (columns : ℕ → Option ℕ) (one : DrawsInOne columns) 
   overhang_is : r.row.overhang ≡ flat_map goes r.means.cells
   overhang_is =
       r.means.rest ∙ ap (λ cs. overhang r.style.draws_borders (cells_left height cs)) r.means.shown_is
-          ∙ rows_go_on r.style.draws_borders r.style.collapses r.top height r.means.cells
+      ∙ rows_go_on r.style.draws_borders r.style.collapses r.top height r.means.cells
 
   among_overhang : (c : Cell A) → 1 < c.span → StandsAmong c r.means.cells → StandsAmong (left c) r.row.overhang
   among_overhang c long (front, rest, is) =
@@ -148,15 +154,15 @@ module _ {A : Type 0} (columns : ℕ → Option ℕ) (one : DrawsInOne columns) 
   later_filled c h =
       let ls : List (RenderLine A) = drop (if r.style.draws_borders then 1 else 0) (left_of c).lines in
       cond_both (nat_lt 1 c.span) (record (column_in c).cell { span = c.span - 1; lines = ls } ∷ []) []
-          (λ ds. Each (Fills columns c.width) (flat_map (λ (d : Cell A). d.lines) ds))
+      (λ ds. Each (Fills columns c.width) (flat_map (λ (d : Cell A). d.lines) ds))
       (λ e. each_append (Fills columns c.width) ls [] (each_drop (Fills columns c.width) (if r.style.draws_borders then 1 else 0) (left_of c).lines
-          (left_filled c h)) tt) (λ e. tt)
+      (left_filled c h)) tt) (λ e. tt)
 
   goes_filled : (cs : List (Cell A)) → Each (IsFilled columns) cs → Each (IsFilled columns) (flat_map goes cs)
   goes_filled [] h = tt
   goes_filled (c ∷ cs) h =
       each_append (IsFilled columns) (goes c) (flat_map goes cs) (cond_both (nat_lt 1 c.span) (left c ∷ []) [] (Each (IsFilled columns))
-          (λ e. (later_filled c h.0, tt)) (λ e. tt)) (goes_filled cs h.1)
+      (λ e. (later_filled c h.0, tt)) (λ e. tt)) (goes_filled cs h.1)
 
   pub overhang_filled : Each (IsFilled columns) r.means.cells → Each (IsFilled columns) r.row.overhang
   overhang_filled h = rw overhang_is (goes_filled r.means.cells h)

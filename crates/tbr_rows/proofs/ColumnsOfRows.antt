@@ -43,7 +43,7 @@ overhang_apart : {A : Type 0} (draws : Bool) (from at : ℕ) (cs : List (Cell A)
 overhang_apart draws from at [] before s = tt
 overhang_apart {A} draws from at (c ∷ cs) before s =
     cond_both (nat_lt 1 c.span) (record c { span = c.span - 1; lines = drop (if draws then 1 else 0) c.lines } ∷ []) []
-        (λ hs. AreApart from (hs ++ overhang draws cs))
+    (λ hs. AreApart from (hs ++ overhang draws cs))
     (λ e. (omega (arith, before, s.0), overhang_apart draws (end_of c + 1) (end_of c + 1) cs (omega arith) s.1))
     (λ e. overhang_apart draws from (end_of c + 1) cs (omega (arith, before, s.0)) s.1)
 
@@ -62,7 +62,7 @@ module _ {A : Type 0} (collapses : Bool) (top : Option (Border A)) (height : ℕ
       AreApart 0 (overhang draws (cells_left height (columns_shown collapses (cells_under collapses top cs))))
   rest_apart draws cs s =
       simp (columns_are collapses top cs, map-map) (overhang_apart draws 0 0 _ (omega arith)
-          (keep_places (λ c. drop height (column_of collapses top c).cell.lines) 0 cs s))
+      (keep_places (λ c. drop height (column_of collapses top c).cell.lines) 0 cs s))
 
 module _ {A : Type 0} (P : RenderLine A → Type 0) where
   after_first : (ls : List (RenderLine A)) → Each P ls → Each P (after_mergeable ls)
@@ -99,9 +99,11 @@ module _ {A : Type 0} (columns : ℕ → Option ℕ) (one : DrawsInOne columns) 
   pub column_fills : (collapses : Bool) (top : Option (Border A)) (tag : A) (i : ℕ) (c : Cell A) → IsFilled columns c → TakesCellColumns columns tag i (column_of collapses top c)
   column_fills collapses top tag i c h =
       let k : Column A = column_of collapses top c in
-      cell_fills columns tag i k one
-      (below collapses top c h, each_gives (Fills columns c.width) (TakesColumns columns tag c.width) (takes tag c.width) k.cell.lines
-          (lines_stay (Fills columns c.width) collapses top c h))
+      cell_fills columns tag i k one (
+        below collapses top c h,
+        each_gives (Fills columns c.width) (TakesColumns columns tag c.width) (takes tag c.width) k.cell.lines
+            (lines_stay (Fills columns c.width) collapses top c h),
+      )
 
   pub columns_fill : (collapses : Bool) (top : Option (Border A)) (tag : A) (i : ℕ) (cs : List (Cell A)) → Each (IsFilled columns) cs → Each (TakesCellColumns columns tag i) (map (column_of collapses top) cs)
   columns_fill collapses top tag i cs h =

@@ -24,7 +24,7 @@ module _ {A : Type 0} (same : A → A → Bool) (tells : TellsApart same) where
   items_before c a (marker_element name ∷ es) = refl
   items_before c a (piece cs b ∷ es) =
       cond_both (same a b) (piece (c ∷ cs) b ∷ es) (piece (c ∷ []) a ∷ piece cs b ∷ es) (λ ds. items_of ds ≡ glyph c a ∷ items_of (piece cs b ∷ es))
-          (λ is. rw ((tells a b).0 is) refl) (λ is. refl)
+      (λ is. rw ((tells a b).0 is) refl) (λ is. refl)
 
   pub longest_items : (is : List (Item A)) → items_of (longest same is) ≡ is
   longest_items [] = refl

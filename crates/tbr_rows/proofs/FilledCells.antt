@@ -54,9 +54,10 @@ drawn_narrow (c ∷ cells) = (character_narrow c, drawn_narrow cells)
 
 above_narrow : (cells : List Segment) → Each (λ c. IsTrue (takes_one_column c)) (map line_above cells)
 above_narrow [] = tt
-above_narrow (c ∷ cells) =
-    (cond_both (is_among (character c) (0x2534 ∷ 0x253C ∷ 0x2514 ∷ 0x2518 ∷ [])) 0x2502 32 (λ d. IsTrue (takes_one_column d)) (λ e. refl) (λ e. refl),
-        above_narrow cells)
+above_narrow (c ∷ cells) = (
+  cond_both (is_among (character c) (0x2534 ∷ 0x253C ∷ 0x2514 ∷ 0x2518 ∷ [])) 0x2502 32 (λ d. IsTrue (takes_one_column d)) (λ e. refl) (λ e. refl),
+  above_narrow cells,
+)
 
 -- a text that is filled up takes so many columns more
 pub aligned_width : {A : Type 0} (columns : ℕ → Option ℕ) → DrawsInOne columns → (align : CellAlign) (is : List (Item A)) (missing : ℕ) (a : A) → items_width columns (aligned_items align is missing a) ≡ items_width columns is + missing
@@ -108,8 +109,12 @@ pub filled_line : {A : Type 0} (columns : ℕ → Option ℕ) (eq : A → A → 
     FillsLine columns eq align width a l done → TakesColumns columns t width done
 filled_line columns eq align width a t (Text es) (Text done) one fits fills =
     let missing : ℕ = columns_missing columns width es in
-    omega (arith, same_width columns eq (items_of done) (aligned_items align (items_of es) missing a) fills.0,
-        aligned_width columns one align (items_of es) missing a, fits)
+    omega (
+      arith,
+      same_width columns eq (items_of done) (aligned_items align (items_of es) missing a) fills.0,
+      aligned_width columns one align (items_of es) missing a,
+      fits,
+    )
 filled_line {A} columns eq align width a t (Line b) (Line done) one fits fills =
     let cells : List Segment = stretched width b.cells in
     let full : length cells ≡ width = omega (arith, length-stretched width b.cells, fits.0) in

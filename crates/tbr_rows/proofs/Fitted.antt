@@ -71,7 +71,7 @@ left_too : {A : Type 0} (h : Cell A) (s t : Spot) → IsAsFree s t → is_left_f
 left_too h s t z e =
     let same = h.width == s.width in
     rw (z.0, z.1) (and_too (h.place == s.place) (same && s.is_blank) (h.place == s.place) (same && t.is_blank) (λ k. k)
-        (and_too same s.is_blank same t.is_blank (λ k. k) z.2) e)
+    (and_too same s.is_blank same t.is_blank (λ k. k) z.2) e)
 
 any_too : {A : Type 0} (h : Cell A) (spots others : List Spot) → AllZip IsAsFree spots others → list_any (is_left_for h) spots ≡ true → list_any (is_left_for h) others ≡ true
 any_too h [] [] z e = e
@@ -90,7 +90,7 @@ fits_with_fewer_lines [] spots others z e = e
 fits_with_fewer_lines (h ∷ hs) spots others z e =
     and_too (finds spots h) (row_fits hs spots) (finds others h) (row_fits hs others)
     (or_too (list_any (is_left_for h) spots) (list_all (ends_before h) spots) (list_any (is_left_for h) others) (list_all (ends_before h) others)
-        (any_too h spots others z) (all_too h spots others z))
+    (any_too h spots others z) (all_too h spots others z))
     (fits_with_fewer_lines hs spots others z) e
 
 -- ---- the cells of a row, told one after another

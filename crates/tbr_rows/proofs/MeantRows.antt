@@ -95,7 +95,7 @@ module _ {A B : Type 0} (f : A → B) where
   border_above-map collapses cs None = refl
   border_above-map true cs (Some b) =
       rw (above_row-map cs b) (ap Some (fold_both (map_cell f) (map_border f) merged_below merged_below
-          (λ x c. rw (first-map c.lines) (merged-map below c.place x (first_mergeable c.lines))) (above_row cs b) cs))
+      (λ x c. rw (first-map c.lines) (merged-map below c.place x (first_mergeable c.lines))) (above_row cs b) cs))
   border_above-map false cs (Some b) = rw (above_row-map cs b) refl
 
   cells_under-map : (collapses : Bool) (top : Option (Border A)) (cs : List (Cell A)) →
@@ -146,8 +146,15 @@ module _ {A B : Type 0} (f : A → B) (eq : A → A → Bool) (means : MeansEqua
             (texts_mean f eq means told row.lines.items (line_texts (glyph (separator_in style) a) a shown height) r.texts);
         full = map_border f r.full;
         gaps =
-            rw (row_height-map f shown, cells_left-map f height shown, row_width-map f r.cells, ← plain_means a (row_width r.cells) r.plain r.plain_is,
-            next_under-map f top r.cells r.plain, cells_under-map f collapses top r.cells, next_merged-map f collapses under (next_under top r.cells r.plain))
+            rw (
+              row_height-map f shown,
+              cells_left-map f height shown,
+              row_width-map f r.cells,
+              ← plain_means a (row_width r.cells) r.plain r.plain_is,
+              next_under-map f top r.cells r.plain,
+              cells_under-map f collapses top r.cells,
+              next_merged-map f collapses under (next_under top r.cells r.plain),
+            )
             (gaps_mean f eq means told draws columns a (cells_left height shown) (next_begun style top r.cells r.plain) r.full r.gaps);
         lower = ap (option_map (map_border f)) r.lower ∙ sym (if_both (option_map (map_border f)) draws (Some r.full) None);
         rest = rw (row_height-map f shown, cells_left-map f height shown, overhang-map f draws (cells_left height shown)) (ap (map (map_cell f)) r.rest);
@@ -157,8 +164,12 @@ module _ {A B : Type 0} (f : A → B) (eq : A → A → Bool) (means : MeansEqua
 
   pub filled_means : (columns : ℕ → Option ℕ) (align : CellAlign) (width : ℕ) (a : A) (l done : RenderLine A) → FillsLine columns eq align width a l done → MeansFilled columns align width (f a) (map_line f l) (map_line f done)
   filled_means columns align width a (Text es) (Text done) h =
-      rw (items-map f done, items-map f es, items_width-map f columns (items_of es),
-          means_same_items f eq means (items_of done) (aligned_items align (items_of es) (columns_missing columns width es) a) h.0)
+      rw (
+        items-map f done,
+        items-map f es,
+        items_width-map f columns (items_of es),
+        means_same_items f eq means (items_of done) (aligned_items align (items_of es) (columns_missing columns width es) a) h.0,
+      )
       (simp (map-append, text-map f))
   filled_means columns align width a (Line b) (Line done) h = ap (map_border f) h
   filled_means columns align width a (Text es) (Line done) h = absurd h

@@ -64,7 +64,7 @@ module _ {A B : Type 0} (f : A → B) where
   line_text-map : (s : ℕ) (a : A) (cs : List (Column A)) (i : ℕ) → line_text (glyph s (f a)) (f a) (map (map_column f) cs) i ≡ map_items f (line_text (glyph s a) a cs i)
   line_text-map s a cs i =
       ap (row_text (glyph s (f a))) (map_both (map_column f) (cell_text a i) (cell_text (f a) i) (map_items f)
-          (λ c. rw drop-map (text_of_lines-map a c (drop i c.cell.lines))) cs)
+      (λ c. rw drop-map (text_of_lines-map a c (drop i c.cell.lines))) cs)
       ∙ row_text-map (glyph s a) (map (cell_text a i) cs)
 
   pub line_texts-map : (s : ℕ) (a : A) (cs : List (Column A)) (height : ℕ) → line_texts (glyph s (f a)) (f a) (map (map_column f) cs) height ≡ map (map_items f) (line_texts (glyph s a) a cs height)
@@ -73,7 +73,7 @@ module _ {A B : Type 0} (f : A → B) where
   pub row_height-map : (cs : List (Column A)) → row_height (map (map_column f) cs) ≡ row_height cs
   row_height-map cs =
       fold_both (map_column f) (λ h. h) (λ (n : ℕ) (c : Column A). max n (cell_height c.cell)) (λ (n : ℕ) (c : Column B). max n (cell_height c.cell))
-          (λ n c. rw (length-map c.cell.lines (map_line f)) refl) 0 cs
+      (λ n c. rw (length-map c.cell.lines (map_line f)) refl) 0 cs
 
   -- ---- what is left, and what overhangs
 
@@ -97,7 +97,7 @@ module _ {A B : Type 0} (f : A → B) where
   with_elements-map : (columns : ℕ → Option ℕ) (place : ℕ) (b : Border A) (es : List (Element A)) → with_elements columns place (map_border f b) (map (map_element f) es) ≡ map_border f (with_elements columns place b es)
   with_elements-map columns place b es =
       fold_both (map_element f) (map_border f) (with_element columns place) (with_element columns place)
-          (λ d e. rw (span_end-map d.holes, element-map e, items_width-map f columns (element_items e), map_push) refl) b es
+      (λ d e. rw (span_end-map d.holes, element-map e, items_width-map f columns (element_items e), map_push) refl) b es
 
   first_line-map : (ls : List (RenderLine A)) → first_line (map (map_line f) ls) ≡ option_map (map_line f) (first_line ls)
   first_line-map [] = refl

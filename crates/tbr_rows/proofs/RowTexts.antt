@@ -49,9 +49,9 @@ module _ {A : Type 0} (eq : A → A → Bool) (laws : IsEquivalence eq) where
       SameItems eq (items_of new) (items_of first ++ items_of (map element_of (es ++ e ∷ [])))
   one_more first old new es e h k =
       let parts : items_of (map element_of (es ++ e ∷ [])) ≡ items_of (map element_of es) ++ element_items (element_of e) =
-          simp (map-append, flat_map-append, append-nil) in
+      simp (map-append, flat_map-append, append-nil) in
       rw (parts, ← append_assoc (items_of first)) (onto (items_of old) (items_of first ++ items_of (map element_of es)) (element_items (element_of e))
-          (items_of new) h k)
+      (items_of new) h k)
 
   -- one more cell of a line of a row
   pub one_more_cell : (separator : Item A) (a : A) (xs : List (Column A)) (i : ℕ) (x : Column A) (old middle new : List (Element A)) → i < length xs → x ≡ get_or xs i x →

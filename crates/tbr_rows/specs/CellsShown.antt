@@ -64,14 +64,14 @@ module _ {A : Type 0} (columns : ℕ → Option ℕ) where
   ShowsAt r c i =
       (line : List (Item A)) × (slice_get r.row.lines i ≡ Some line)
       × HasInColumns line c.place c.width (λ here. (l : RenderLine A) → slice_get (met (meeting_in r) c).lines i ≡ Some l →
-          here ≡ text_in_row r.tag l)
+      here ≡ text_in_row r.tag l)
 
   -- The border below the row has in the cell's columns its line after those of the row, if it has one.
   abbrev pub ShowsBelow : MadeRow A columns → Cell A → Type 0
   ShowsBelow r c =
       (b : Border A) × (r.row.next ≡ Some b)
       × HasInColumns (shown b.tag b) c.place c.width (λ here. (l : RenderLine A) →
-          slice_get (met (meeting_in r) c).lines (length r.row.lines) ≡ Some l → here ≡ line_items l)
+      slice_get (met (meeting_in r) c).lines (length r.row.lines) ≡ Some l → here ≡ line_items l)
 
   -- In each line of the row what is shown of the cell is in its columns. So it is in the border below, if borders are
   -- drawn and the cell spans another row.

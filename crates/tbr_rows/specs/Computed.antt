@@ -1,6 +1,5 @@
 -- A row by what its tags mean, computed where tags can be told apart.
-use Rattle.std.specs.Prelude.{◌≡◌, ◌↔◌, IsTrue, ℕ, Bool, if◌then◌else◌, Option, None, Some, List, [], ◌∷◌, fold, replicate}
-use Rattle.std.specs.Option.{option_map}
+use Rattle.std.specs.Prelude.{◌≡◌, ◌↔◌, IsTrue, ℕ, Bool, if◌then◌else◌, Option, None, Some, List, [], ◌∷◌, fold, replicate, option_map}
 use Rattle.tbr_model.specs.Run.{Item, glyph, marker}
 use Rattle.tbr_border.specs.declared.render_line.RenderLine.{RenderLine}
 use Rattle.tbr_border.specs.declared.render_line.RenderLine.TheVariants.{Text, Line}

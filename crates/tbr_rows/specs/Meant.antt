@@ -1,6 +1,5 @@
 -- Rows by what tags mean.
-use Rattle.std.specs.Prelude.{◌≡◌, ℕ, Bool, true, false, Option, None, Some, List, [], ◌∷◌, map, replicate, ⊤}
-use Rattle.std.specs.Option.{option_map}
+use Rattle.std.specs.Prelude.{◌≡◌, ℕ, Bool, true, false, Option, None, Some, List, [], ◌∷◌, map, replicate, ⊤, option_map}
 use Rattle.tbr_model.specs.Run.{Item, glyph}
 use Rattle.tbr_model.specs.Mapped.{map_items}
 use Rattle.tbr_border.specs.declared.render_line.RenderLine.{RenderLine}
