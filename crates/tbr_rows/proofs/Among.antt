@@ -1,5 +1,5 @@
 -- What is among the items of a list, and what holds of each of them.
-use Rattle.std.proofs.Common.{◌≡◌, ℕ, ◌⊎◌, inl, inr, List, [], ◌∷◌, ◌++◌, map, take, drop, ap, sym, ◌∙◌, subst, append_assoc}
+use Rattle.std.proofs.Common.{◌≡◌, ℕ, ◌⊎◌, inl, inr, List, [], ◌∷◌, ◌++◌, map, take, drop, ap, sym, ◌∙◌, subst}
 use Rattle.std.specs.List.{AllByRecursion as Each}
 use Rattle.std.proofs.lemmas.List.{take-append-drop, map-append}
 use Rattle.tbr_model.proofs.lists.Each.{each_front, each_back}
@@ -7,9 +7,6 @@ use Rattle.tbr_rows.specs.CellsShown.{StandsAmong}
 
 pub among_front : {X : Type 0} (x y : X) (ys : List X) → StandsAmong x ys → StandsAmong x (y ∷ ys)
 among_front x y ys h = (y ∷ h.0, h.1, ap (λ zs. y ∷ zs) h.2)
-
-pub among_after : {X : Type 0} (x : X) (ys zs : List X) → StandsAmong x zs → StandsAmong x (ys ++ zs)
-among_after x ys zs h = (ys ++ h.0, h.1, ap (λ us. ys ++ us) h.2 ∙ sym (append_assoc ys h.0 (x ∷ h.1)))
 
 pub among_map : {X Y : Type 0} (f : X → Y) (x : X) (xs : List X) → StandsAmong x xs → StandsAmong (f x) (map f xs)
 among_map f x xs h = (map f h.0, map f h.1, ap (map f) h.2 ∙ map-append f h.0 (x ∷ h.1))
@@ -31,6 +28,10 @@ among_cons x y ys h = go h.0 h.2
     go : (front : List _) → y ∷ ys ≡ front ++ x ∷ h.1 → (x ≡ y) ⊎ StandsAmong x ys
     go [] e = inl cc
     go (f ∷ front) e = inr (front, h.1, cc)
+
+-- where the others are among those, it is, too
+pub among_again : {X : Type 0} (x y : X) (ys zs : List X) → (StandsAmong x ys → StandsAmong x zs) → StandsAmong x (y ∷ ys) → StandsAmong x (y ∷ zs)
+among_again x y ys zs others h = elim (among_cons x y ys h) [ inl e ↦ ([], zs, ap (λ z. z ∷ zs) (sym e)) | inr l ↦ among_front x y zs (others l) ]
 
 pub each_take : {X : Type 0} (P : X → Type 0) (n : ℕ) (xs : List X) → Each P xs → Each P (take n xs)
 each_take P n xs h = each_front P (take n xs) (drop n xs) (subst (Each P) (sym (take-append-drop n xs)) h)

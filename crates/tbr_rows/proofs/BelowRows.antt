@@ -1,9 +1,10 @@
 -- What is in the border below a row.
-use Rattle.std.proofs.Common.{◌≡◌, ℕ, zero, suc, ◌+◌, ◌-◌, ◌≤◌, max, Bool, true, false, if◌then◌else◌, Option, None, Some, List, [], ◌∷◌, ◌++◌, map, fold, take, drop, length, refl, ap, sym, ◌∙◌, subst, arith, append_assoc, append-nil}
+use Rattle.std.proofs.Common.{◌≡◌, ℕ, zero, suc, ◌+◌, ◌-◌, ◌≤◌, max, Bool, true, false, Option, None, Some, List, [], ◌∷◌, ◌++◌, map, fold, drop, length, refl, ap, sym, ◌∙◌, subst, arith, append_assoc, append-nil, take-add}
 use Rattle.std.specs.Prelude.{⊤, slice_range}
 use Rattle.std.specs.List.{AllByRecursion as Each}
-use Rattle.std.proofs.lemmas.List.{map-append, length-replicate, take-append-drop, drop-drop}
-use Rattle.std.proofs.Math.Seq.{take-add}
+use Rattle.std.proofs.lemmas.List.{map-append, drop-drop}
+use Rattle.std.proofs.lemmas.Bool.{cond_both}
+use Rattle.std.proofs.lemmas.List.Folds.{drop_split}
 use Rattle.tbr_model.specs.Run.{Item, items_width}
 use Rattle.tbr_tagged.specs.Elements.{Element, element_items, items_of, text_items}
 use Rattle.tbr_border.specs.Cell.{Cell as Segment, Side, above, joined as joined_cell, character}
@@ -15,14 +16,15 @@ use Rattle.tbr_border.specs.declared.render_line.RenderLine.{RenderLine}
 use Rattle.tbr_border.specs.declared.render_line.RenderLine.TheVariants.{Text, Line}
 use Rattle.tbr_tagged.specs.Padding.{spaces}
 use Rattle.tbr_rows.specs.Cells.{AreSideBySide, end_of, first_line, row_width, separators}
-use Rattle.tbr_rows.specs.CellsShown.{Fills, IsFilled}
-use Rattle.tbr_rows.specs.Borders.{joined, joined_at_each, last_mergeable, merged_with, merged_above}
+use Rattle.tbr_rows.specs.CellsShown.{Fills, IsFilled, HasInColumns}
+use Rattle.tbr_rows.specs.Borders.{joined, last_mergeable, merged_with, merged_above}
 use Rattle.tbr_rows.specs.Gaps.{has_gap, with_element, with_elements}
 use Rattle.tbr_rows.specs.Meant.{IsGapOf, HasGapIf, HasGaps}
-use Rattle.tbr_rows.specs.Rows.{next_under, next_merged}
+use Rattle.tbr_rows.specs.Rows.{cells_under, next_under, next_merged, next_begun}
+use Rattle.tbr_rows.specs.declared.row.RowStyle.{RowStyle}
 use Rattle.tbr_rows.specs.Shown.{DrawsInOne, HolesFill}
 use Rattle.tbr_rows.proofs.CellColumns.{width_append}
-use Rattle.tbr_rows.proofs.FilledCells.{text_columns, spaces_narrow, fill_later, part_width}
+use Rattle.tbr_rows.proofs.FilledCells.{spaces_width, fill_later, part_width}
 use Rattle.tbr_rows.proofs.ColumnsOfRows.{takes}
 
 -- ---- a border that changes is no shorter
@@ -38,49 +40,42 @@ length-opened zero end cells = length-changed _ end cells
 length-opened (suc place) end cells = length-changed _ end _ ∙ length-changed _ place cells
 
 merged_longer : (side : Side) (cells : List Segment) (place : ℕ) (others : List Segment) → length cells ≤ length (merged side cells place others)
-merged_longer side cells place others = go (any_joins side others)
-  where
-    go : (b : Bool) → length cells ≤ length (joined_under side (if b then stretched (place + joins_end side others) cells else cells) place others)
-    go true = omega (arith, length-under side (stretched (place + joins_end side others) cells) place others, length-stretched (place + joins_end side others) cells)
-    go false = omega (arith, length-under side cells place others)
+merged_longer side cells place others =
+    let end : ℕ = place + joins_end side others in
+    cond_both (any_joins side others) (stretched end cells) cells (λ cs. length cells ≤ length (joined_under side cs place others))
+    (λ e. omega (arith, length-under side (stretched end cells) place others, length-stretched end cells))
+    (λ e. omega (arith, length-under side cells place others))
 
 module _ {A : Type 0} where
   -- as long at least, with nothing in front of it either
   abbrev KeepsPlain : Border A → Border A → Type 0
   KeepsPlain b m = (length b.cells ≤ length m.cells) × (b.holes ≡ [] → m.holes ≡ [])
 
-  joins_plain : (side : Side) (xs : List ℕ) (b : Border A) → KeepsPlain b (joined_at_each side b xs)
-  joins_plain side [] b = (omega arith, λ e. e)
-  joins_plain side (x ∷ xs) b =
-      let one : Border A = joined side b x in
-      let later = joins_plain side xs one in
-      (omega (arith, later.0, length-changed (joined_cell side) x (stretched (x + 1) b.cells), length-stretched (x + 1) b.cells), λ e. later.1 e)
-
   merged_plain : (side : Side) (place : ℕ) (b : Border A) (o : Option (Border A)) → KeepsPlain b (merged_with side place b o)
   merged_plain side place b None = (omega arith, λ e. e)
   merged_plain side place b (Some o) = (merged_longer side b.cells place o.cells, λ e. e)
 
-  all_merged_plain : (cs : List (Cell A)) (b : Border A) → KeepsPlain b (fold merged_above b cs)
-  all_merged_plain [] b = (omega arith, λ e. e)
-  all_merged_plain (c ∷ cs) b =
-      let one = merged_plain above c.place b (last_mergeable c.lines) in
-      let later = all_merged_plain cs (merged_above b c) in
-      (omega (arith, one.0, later.0), λ e. later.1 (one.1 e))
+  keeps_all : {X : Type 0} (step : Border A → X → Border A) → ((b : Border A) (x : X) → KeepsPlain b (step b x)) → (b : Border A) (xs : List X) → KeepsPlain b (fold step b xs)
+  keeps_all step keeps b [] = (omega arith, λ e. e)
+  keeps_all step keeps b (x ∷ xs) =
+      let first = keeps b x in
+      let later = keeps_all step keeps (step b x) xs in
+      (omega (arith, first.0, later.0), λ e. later.1 (first.1 e))
 
   -- as a border below a row begins
-  pub begins_plain : (collapses : Bool) (top : Option (Border A)) (cs under : List (Cell A)) (b : Border A) → KeepsPlain b (next_merged collapses under (next_under top cs b))
-  begins_plain collapses top cs under b = go collapses top
+  pub begins_plain : (style : RowStyle) (top : Option (Border A)) (cs : List (Cell A)) (b : Border A) → KeepsPlain b (next_begun style top cs b)
+  begins_plain style top cs b = go style.collapses (joins top)
     where
       joins : (o : Option (Border A)) → KeepsPlain b (next_under o cs b)
       joins None = (omega arith, λ e. e)
-      joins (Some t) = joins_plain above (separators cs) b
+      joins (Some t) =
+          keeps_all (joined above) (λ m x. (omega (arith, length-changed (joined_cell above) x (stretched (x + 1) m.cells), length-stretched (x + 1) m.cells), λ e. e)) b (separators cs)
 
-      go : (x : Bool) (o : Option (Border A)) → KeepsPlain b (next_merged x under (next_under o cs b))
-      go true o =
-          let one = joins o in
-          let later = all_merged_plain under (next_under o cs b) in
+      go : (x : Bool) → KeepsPlain b (next_under top cs b) → KeepsPlain b (next_merged x (cells_under x top cs) (next_under top cs b))
+      go true one =
+          let later = keeps_all merged_above (λ m c. merged_plain above c.place m (last_mergeable c.lines)) (next_under top cs b) (cells_under true top cs) in
           (omega (arith, one.0, later.0), λ e. later.1 (one.1 e))
-      go false o = joins o
+      go false one = one
 
   -- each cell of a row begins within its width
   pub first_within : (at : ℕ) (c : Cell A) (cs : List (Cell A)) → AreSideBySide at (c ∷ cs) → c.place ≤ row_width (c ∷ cs)
@@ -157,20 +152,17 @@ module _ {A : Type 0} (columns : ℕ → Option ℕ) where
 
     -- cut at a column before what is there
     cut : (at p : ℕ) (hs : List (Hole A)) → at ≤ p → BeginAfter p hs → shown_from tag cells at hs ≡ drawn (slice_range cells at p) tag ++ shown_from tag cells p hs
-    cut at p [] h k =
-        let sum : at + (p - at) ≡ p = omega (arith, h) in
-        let parts : drop at cells ≡ slice_range cells at p ++ drop p cells =
-        sym (take-append-drop (p - at) (drop at cells)) ∙ ap (λ ds. slice_range cells at p ++ ds) (drop-drop (p - at) at cells ∙ ap (λ n. drop n cells) sum) in
-        ap (λ ds. drawn ds tag) parts ∙ drawn_two (slice_range cells at p) (drop p cells)
+    cut at p [] h k = ap (λ ds. drawn ds tag) (drop_split cells at p h) ∙ drawn_two (slice_range cells at p) (drop p cells)
     cut at p (g ∷ hs) h k =
         let sum : at + (p - at) ≡ p = omega (arith, h) in
         let far : g.place - at ≡ (p - at) + (g.place - p) = omega (arith, h, k) in
-        let rest : List (Item A) = element_items g.element ++ shown_from tag cells (g.place + g.width) hs in
-        let parts : slice_range cells at g.place ≡ slice_range cells at p ++ slice_range cells p g.place =
-        ap (λ n. take n (drop at cells)) far ∙ take-add (p - at) (g.place - p) (drop at cells)
-        ∙ ap (λ ds. slice_range cells at p ++ take (g.place - p) ds) (drop-drop (p - at) at cells ∙ ap (λ n. drop n cells) sum) in
-        ap (λ ds. drawn ds tag ++ rest) parts ∙ ap (λ is. is ++ rest) (drawn_two (slice_range cells at p) (slice_range cells p g.place))
-        ∙ append_assoc (drawn (slice_range cells at p) tag) (drawn (slice_range cells p g.place) tag) rest
+        rw (
+          far,
+          take-add (p - at) (g.place - p) (drop at cells),
+          drop-drop (p - at) at cells,
+          sum,
+          drawn_two (slice_range cells at p) (slice_range cells p g.place),
+        ) (simp append_assoc)
 
     -- what comes before a column
     pub shown_before : (from : ℕ) (hs : List (Hole A)) (p : ℕ) (more : List (Hole A)) → HolesFill columns from hs p → p ≤ length cells → BeginAfter p more →
@@ -182,7 +174,7 @@ module _ {A : Type 0} (columns : ℕ → Option ℕ) where
         let here : List (Item A) = element_items g.element in
         let within : g.place ≤ length cells = omega (arith, k, later.2) in (
           front ++ (here ++ later.0),
-          ap (λ is. front ++ (here ++ is)) later.1 ∙ ap (λ is. front ++ is) (sym (append_assoc here later.0 (shown_from tag cells p more))) ∙ sym (append_assoc front (here ++ later.0) (shown_from tag cells p more)),
+          rw later.1 (simp append_assoc),
           omega (arith, part_width columns one tag cells from g.place h.0 within, width_append columns front (here ++ later.0), width_append columns here later.0, h.1, later.2),
         )
 
@@ -193,17 +185,9 @@ module _ {A : Type 0} (columns : ℕ → Option ℕ) where
         let width : ℕ = items_width columns (element_items e) in
         let none : at - at ≡ 0 = omega arith in
         let sum : (at + width) + items_width columns (items_of es) ≡ at + items_width columns (items_of (e ∷ es)) = omega (arith, width_append columns (element_items e) (items_of es)) in
-        let later : List (Item A) = element_items e ++ shown_from tag cells (at + width) (holes_from (at + width) es ++ more) in
-        ap (λ n. drawn (take n (drop at cells)) tag ++ later) none
-        ∙ ap (λ is. element_items e ++ is) (shown_here (at + width) es more ∙ ap (λ n. items_of es ++ shown_from tag cells n more) sum)
-        ∙ sym (append_assoc (element_items e) (items_of es) (shown_from tag cells (at + items_width columns (items_of (e ∷ es))) more))
+        rw (none, shown_here (at + width) es more, sum) (sym (append_assoc (element_items e) (items_of es) _))
 
   -- ---- gaps in a border, one after another
-
-  put_order : (place : ℕ) (b : Border A) (es : List (Element A)) (end : ℕ) → HolesFill columns 0 b.holes place → end ≡ place + items_width columns (items_of es) → HolesFill columns 0 (with_elements columns place b es).holes end
-  put_order place b es end h is =
-      let far : max place (span_end b.holes) ≡ place = omega (arith, span_end-is b.holes, ends_before 0 b.holes place h) in
-      subst (λ (hs : List (Hole A)). HolesFill columns 0 hs end) (sym (put_holes place place b es far)) (in_order_more 0 b.holes place es end h is)
 
   after_both : (p : ℕ) (hs ks : List (Hole A)) → BeginAfter p hs → BeginAfter p ks → BeginAfter p (hs ++ ks)
   after_both p [] ks h k = k
@@ -215,91 +199,87 @@ module _ {A : Type 0} (columns : ℕ → Option ℕ) where
 
   module _ (one : DrawsInOne columns) (draws : Bool) (tag : A) where
     -- what is in a gap takes its cell's columns
-    pub gap_width : (width : ℕ) (ls : List (RenderLine A)) (es : List (Element A)) → Each (Fills columns width) ls → IsGapOf tag width (first_line ls) es → items_width columns (items_of es) ≡ width
+    gap_width : (width : ℕ) (ls : List (RenderLine A)) (es : List (Element A)) → Each (Fills columns width) ls → IsGapOf tag width (first_line ls) es →
+        items_width columns (items_of es) ≡ width
     gap_width width [] es h is =
         ap (λ xs. items_width columns (items_of xs)) is ∙ ap (items_width columns) (append-nil (text_items (spaces width) tag))
-        ∙ text_columns columns (spaces width) tag one (spaces_narrow width) ∙ length-replicate {A = ℕ} width 32
+        ∙ spaces_width columns one width tag
     gap_width width (Text line ∷ ls) es h is = ap (λ xs. items_width columns (items_of xs)) is ∙ h.0
     gap_width width (Line b ∷ ls) es h is = ap (items_width columns) is.0 ∙ takes columns one b.tag width (Line b) h.0
 
-    one_gap : (d : Cell A) (g : Bool) (b m : Border A) → HasGapIf g columns tag d b m → IsFilled columns d → HolesFill columns 0 b.holes d.place → HolesFill columns 0 m.holes (end_of d + 1) × (length b.cells ≤ length m.cells)
-    one_gap d false b m h fills k =
-        (subst (λ (x : Border A). HolesFill columns 0 x.holes (end_of d + 1)) (sym h) (fill_later columns 0 b.holes d.place (end_of d + 1) k (omega arith)), omega (arith, ap (λ (x : Border A). length x.cells) h))
-    one_gap d true b m h fills k =
-        let (es, is, put) = h in
-        let wide = gap_width d.width d.lines es fills is in (
-          subst (λ (x : Border A). HolesFill columns 0 x.holes (end_of d + 1)) (sym put)
-              (fill_later columns 0 (with_elements columns d.place b es).holes (end_of d) (end_of d + 1) (put_order d.place b es (end_of d) k (omega (arith, wide))) (omega arith)),
-          omega (arith, ap (λ (x : Border A). length x.cells) put, put_longer d.place b es),
-        )
+    -- what a cell puts in front of a border
+    gap_holes : (g : Bool) (d : Cell A) (b m : Border A) → HasGapIf g columns tag d b m →
+        (es : List (Element A)) × (m.holes ≡ b.holes ++ holes_from (max d.place (span_end b.holes)) es) ×
+        (IsFilled columns d → items_width columns (items_of es) ≤ d.width) × (length b.cells ≤ length m.cells)
+    gap_holes false d b m h = ([], rw h (sym (append-nil b.holes)), λ f. omega arith, omega (arith, ap (λ (x : Border A). length x.cells) h))
+    gap_holes true d b m (es, is, put) = (
+      es,
+      rw put (put_holes d.place _ b es refl),
+      λ f. omega (arith, gap_width d.width d.lines es f is),
+      omega (arith, ap (λ (x : Border A). length x.cells) put, put_longer d.place b es),
+    )
 
     -- Up to one of the cells: the border has gaps before its place alone.
-    pub gaps_in_front : (ds more : List (Cell A)) (at : ℕ) (b full : Border A) → HasGaps draws columns tag (ds ++ more) b full → AreSideBySide at (ds ++ more) → Each (IsFilled columns) ds → HolesFill columns 0 b.holes at →
+    gaps_in_front : (ds more : List (Cell A)) (at : ℕ) (b full : Border A) → HasGaps draws columns tag (ds ++ more) b full → AreSideBySide at (ds ++ more) →
+        Each (IsFilled columns) ds → HolesFill columns 0 b.holes at →
         (m : Border A) × (to : ℕ) × HasGaps draws columns tag more m full × AreSideBySide to more × HolesFill columns 0 m.holes to × (length b.cells ≤ length m.cells)
     gaps_in_front [] more at b full h side fills k = (b, at, h, side, k, omega arith)
-    gaps_in_front (d ∷ ds) more at b full h side fills k =
-        let (m, here, past) = h in
-        let there : HolesFill columns 0 b.holes d.place = subst (λ n. HolesFill columns 0 b.holes n) (sym side.0) k in
-        let step = one_gap d (has_gap draws d) b m here fills.0 there in
-        let (n, to, more_gaps, more_side, order, longer) = gaps_in_front ds more (end_of d + 1) m full past side.1 fills.1 step.0 in
-        (n, to, more_gaps, more_side, order, omega (arith, step.1, longer))
+    gaps_in_front (d ∷ ds) more at b full (m, here, past) side fills k =
+        let (es, put, wide, long) = gap_holes (has_gap draws d) d b m here in
+        let there : HolesFill columns 0 b.holes d.place = rw side.0 k in
+        let far : max d.place (span_end b.holes) ≡ d.place = omega (arith, span_end-is b.holes, ends_before 0 b.holes d.place there) in
+        let end : ℕ = d.place + items_width columns (items_of es) in
+        let order : HolesFill columns 0 m.holes (end_of d + 1) =
+        rw (put, far) (fill_later columns 0 (b.holes ++ holes_from d.place es) end (end_of d + 1) (in_order_more 0 b.holes d.place es end there refl)
+        (omega (arith, wide fills.0))) in
+        let (n, to, more_gaps, more_side, ordered, longer) = gaps_in_front ds more (end_of d + 1) m full past side.1 fills.1 order in
+        (n, to, more_gaps, more_side, ordered, omega (arith, long, longer))
 
     -- and where no cell begins before a place, none of the gaps does
-    pub gaps_after : (p : ℕ) (ds : List (Cell A)) (b full : Border A) → HasGaps draws columns tag ds b full → Each (λ (d : Cell A). p ≤ d.place) ds →
+    gaps_after : (p : ℕ) (ds : List (Cell A)) (b full : Border A) → HasGaps draws columns tag ds b full → Each (λ (d : Cell A). p ≤ d.place) ds →
         (hs : List (Hole A)) × (full.holes ≡ b.holes ++ hs) × BeginAfter p hs × (length b.cells ≤ length full.cells)
-    gaps_after p [] b full h far = ([], ap (λ (x : Border A). x.holes) h ∙ sym (append-nil b.holes), tt, omega (arith, ap (λ (x : Border A). length x.cells) h))
-    gaps_after p (d ∷ ds) b full h far =
-        let (m, here, past) = h in
-        let later = gaps_after p ds m full past far.1 in
-        go (has_gap draws d) m here later
-      where
-        go : (g : Bool) (m : Border A) → HasGapIf g columns tag d b m → ((hs : List (Hole A)) × (full.holes ≡ m.holes ++ hs) × BeginAfter p hs × (length m.cells ≤ length full.cells)) →
-            (hs : List (Hole A)) × (full.holes ≡ b.holes ++ hs) × BeginAfter p hs × (length b.cells ≤ length full.cells)
-        go false m here later = (later.0, later.1 ∙ ap (λ (x : Border A). x.holes ++ later.0) here, later.2, omega (arith, ap (λ (x : Border A). length x.cells) here, later.3))
-        go true m here later =
-            let (es, is, put) = here in
-            let at : ℕ = max d.place (span_end b.holes) in
-            let own : List (Hole A) = holes_from at es in (
-              own ++ later.0,
-              later.1 ∙ ap (λ hs. hs ++ later.0) (ap (λ (x : Border A). x.holes) put ∙ put_holes d.place at b es refl) ∙ append_assoc b.holes own later.0,
-              after_both p own later.0 (from_after p at es (omega (arith, far.0))) later.2,
-              omega (arith, ap (λ (x : Border A). length x.cells) put, put_longer d.place b es, later.3),
-            )
+    gaps_after p [] b full h far = ([], rw h (sym (append-nil b.holes)), tt, omega (arith, ap (λ (x : Border A). length x.cells) h))
+    gaps_after p (d ∷ ds) b full (m, here, past) far =
+        let (hs, more, after, longer) = gaps_after p ds m full past far.1 in
+        let (es, put, wide, long) = gap_holes (has_gap draws d) d b m here in
+        let own : List (Hole A) = holes_from (max d.place (span_end b.holes)) es in (
+          own ++ hs,
+          more ∙ ap (λ ks. ks ++ hs) put ∙ append_assoc b.holes own hs,
+          after_both p own hs (from_after p _ es (omega (arith, far.0))) after,
+          omega (arith, long, longer),
+        )
 
     places_after : (at p : ℕ) (ds : List (Cell A)) → p ≤ at → AreSideBySide at ds → Each (λ (d : Cell A). p ≤ d.place) ds
     places_after at p [] h s = tt
     places_after at p (d ∷ ds) h s = (omega (arith, h, s.0), places_after (end_of d + 1) p ds (omega (arith, h, s.0)) s.1)
 
     -- What a gap shows of its cell is in the cell's columns.
-    pub record GapStands (c : Cell A) (full : Border A) : Type 0 where
-      pub before : List (Item A)
-      pub es : List (Element A)
-      pub after : List (Item A)
-      pub line : shown full.tag full ≡ before ++ items_of es ++ after
-      pub place : items_width columns before ≡ c.place
-      pub is : IsGapOf tag c.width (first_line c.lines) es
-
-    pub gap_stands : (front : List (Cell A)) (c : Cell A) (rest : List (Cell A)) (b full : Border A) → has_gap draws c ≡ true → HasGaps draws columns tag (front ++ c ∷ rest) b full → AreSideBySide 0 (front ++ c ∷ rest) →
-        Each (IsFilled columns) front → b.holes ≡ [] → c.place ≤ length b.cells → GapStands c full
-    gap_stands front c rest b full gap h side fills none within =
-        let begins : HolesFill columns 0 b.holes 0 = subst (λ (hs : List (Hole A)). HolesFill columns 0 hs 0) (sym none) (omega arith) in
-        let (m, to, gaps, more_side, order, longer) = gaps_in_front front (c ∷ rest) 0 b full h side fills begins in
-        let (n, own, others) = gaps in
-        let (es, is, put) = subst (λ (g : Bool). HasGapIf g columns tag c m n) gap own in
+    pub gap_stands : (front : List (Cell A)) (c : Cell A) (rest : List (Cell A)) (b full : Border A) (Is : List (Item A) → Type 0) → has_gap draws c ≡ true →
+        HasGaps draws columns tag (front ++ c ∷ rest) b full →
+        AreSideBySide 0 (front ++ c ∷ rest) → Each (IsFilled columns) front → IsFilled columns c → b.holes ≡ [] → c.place ≤ length b.cells →
+        ((es : List (Element A)) → IsGapOf tag c.width (first_line c.lines) es → Is (items_of es)) →
+        HasInColumns columns (shown full.tag full) c.place c.width Is
+    gap_stands front c rest b full Is gap h side fills own_fills none within shows =
+        let begins : HolesFill columns 0 b.holes 0 = rw none (omega arith) in
+        let (m, to, (n, own, others), more_side, order, longer) = gaps_in_front front (c ∷ rest) 0 b full h side fills begins in
+        let (es, is, put) = rw gap at own in
         let ordered : HolesFill columns 0 m.holes c.place = subst (λ k. HolesFill columns 0 m.holes k) (sym more_side.0) order in
         let far : max c.place (span_end m.holes) ≡ c.place = omega (arith, span_end-is m.holes, ends_before 0 m.holes c.place ordered) in
         let (hs, holes, past, long) = gaps_after c.place rest n full others (places_after (end_of c + 1) c.place rest (omega arith) more_side.1) in
-        let all : full.holes ≡ m.holes ++ (holes_from c.place es ++ hs) =
+        let later : List (Hole A) = holes_from c.place es ++ hs in
+        let all : full.holes ≡ m.holes ++ later =
         holes ∙ ap (λ ks. ks ++ hs) (ap (λ (x : Border A). x.holes) put ∙ put_holes c.place c.place m es far) ∙ append_assoc m.holes (holes_from c.place es) hs in
         let inside : c.place ≤ length full.cells = omega (arith, within, longer, ap (λ (x : Border A). length x.cells) put, put_longer c.place m es, long) in
-        let starts : BeginAfter c.place (holes_from c.place es ++ hs) = after_both c.place (holes_from c.place es) hs (from_after c.place c.place es (omega arith)) past in
-        let front_shown = shown_before one full.tag full.cells 0 m.holes c.place (holes_from c.place es ++ hs) ordered inside starts in
+        let starts : BeginAfter c.place later = after_both c.place (holes_from c.place es) hs (from_after c.place c.place es (omega arith)) past in
+        let front_shown = shown_before one full.tag full.cells 0 m.holes c.place later ordered inside starts in
         record {
           before = front_shown.0;
-          es = es;
+          here = items_of es;
           after = shown_from full.tag full.cells (c.place + items_width columns (items_of es)) hs;
-          line = ap (shown_from full.tag full.cells 0) all ∙ front_shown.1 ∙ ap (λ is. front_shown.0 ++ is) (shown_here one full.tag full.cells c.place es hs)
-              ∙ sym (append_assoc front_shown.0 (items_of es) (shown_from full.tag full.cells (c.place + items_width columns (items_of es)) hs));
+          parts =
+              ap (shown_from full.tag full.cells 0) all ∙ rw (front_shown.1, shown_here one full.tag full.cells c.place es hs)
+              (sym (append_assoc front_shown.0 (items_of es) _));
           place = omega (arith, front_shown.2);
-          is = is;
+          width = gap_width c.width c.lines es own_fills is;
+          is = shows es is;
         }

@@ -1,12 +1,52 @@
--- Cells are in their columns.
-use Rattle.std.proofs.Common.{◌≡◌, ℕ, ◌+◌, Option, List, [], ◌∷◌, ◌++◌, map, refl, ap, sym, ◌∙◌, arith, append_assoc}
-use Rattle.std.specs.List.{AllByRecursion as Each}
+-- The lines of a row, and where its cells are in them.
+use Rattle.std.proofs.Common.{◌≡◌, ℕ, zero, suc, ◌+◌, ◌<◌, inl, inr, Option, Some, List, [], ◌∷◌, ◌++◌, map, drop, length, get_or, refl, ap, sym, ◌∙◌, arith, append_assoc, append-nil}
+use Rattle.std.specs.List.{slice_get, AllByRecursion as Each}
+use Rattle.std.proofs.lemmas.Bool.{cases_lt}
+use Rattle.std.proofs.lemmas.List.{length-append, length-map, get_or_at}
+use Rattle.std.proofs.Math.ListN.{get_or-append}
+use Rattle.std.proofs.lemmas.Option.{slice_get-map, slice_get-get_or, same_Some}
 use Rattle.tbr_model.specs.Run.{Item, item_width, items_width}
 use Rattle.tbr_rows.specs.declared.column.Column.{Column}
 use Rattle.tbr_rows.specs.Cells.{AreSideBySide, end_of}
-use Rattle.tbr_rows.specs.Texts.{cell_text, line_text}
+use Rattle.tbr_rows.specs.Texts.{cell_text, numbers_below, line_text, line_texts}
 use Rattle.tbr_rows.specs.Gaps.{cell_in}
 use Rattle.tbr_rows.specs.Shown.{TakesCellColumns}
+
+-- ---- the numbers below one
+
+length_numbers : (n : ℕ) → length (numbers_below n) ≡ n
+length_numbers zero = refl
+length_numbers (suc n) = length-append (numbers_below n) (n ∷ []) ∙ omega (arith, length_numbers n)
+
+number_at : (n i d : ℕ) → i < n → get_or (numbers_below n) i d ≡ i
+number_at zero i d h = absurd (omega (arith, h))
+number_at (suc n) i d h = elim (cases_lt i n) [
+  | inl less ↦ get_or-append (numbers_below n) (n ∷ []) d i (omega (arith, length_numbers n, less)) ∙ number_at n i d less
+  | inr more ↦ let last : i ≡ n = omega (arith, more, h) in get_or_at (numbers_below n) n [] d i (length_numbers n ∙ sym last) ∙ sym last
+]
+
+-- ---- a row's lines
+
+module _ {A : Type 0} (separator : Item A) (tag : A) where
+  pub line_at : (cs : List (Column A)) (height i : ℕ) → i < height → slice_get (line_texts separator tag cs height) i ≡ Some (line_text separator tag cs i)
+  line_at cs height i h =
+      slice_get-map (line_text separator tag cs) (numbers_below height) i
+      ∙ rw (slice_get-get_or (numbers_below height) i 0 (omega (arith, length_numbers height, h)), number_at height i 0 h) refl
+
+  pub count_lines : (cs : List (Column A)) (height : ℕ) → length (line_texts separator tag cs height) ≡ height
+  count_lines cs height = length-map (numbers_below height) (line_text separator tag cs) ∙ length_numbers height
+
+  -- the first cell's text comes first
+  pub first_text : (c : Column A) (cs : List (Column A)) (i : ℕ) → (after : List (Item A)) × (line_text separator tag (c ∷ cs) i ≡ cell_text tag i c ++ after)
+  first_text c [] i = ([], sym (append-nil (cell_text tag i c)))
+  first_text c (d ∷ cs) i = (separator ∷ line_text separator tag (d ∷ cs) i, refl)
+
+pub drop_at : {X : Type 0} (xs : List X) (i : ℕ) (x : X) → slice_get xs i ≡ Some x → (more : List X) × (drop i xs ≡ x ∷ more)
+drop_at [] i x h = cc
+drop_at (y ∷ xs) zero x h = let same : y ≡ x = same_Some y x h in (xs, ap (λ z. z ∷ xs) same)
+drop_at (y ∷ xs) (suc i) x h = drop_at xs i x h
+
+-- ---- cells in their columns
 
 pub width_append : {A : Type 0} (columns : ℕ → Option ℕ) (is js : List (Item A)) → items_width columns (is ++ js) ≡ items_width columns is + items_width columns js
 width_append columns [] js = omega arith

@@ -1,20 +1,19 @@
 -- A row by what its tags mean is the one that is computed.
-use Rattle.std.proofs.Common.{◌≡◌, ◌↔◌, ℕ, Bool, true, false, if◌then◌else◌, Option, None, Some, List, [], ◌∷◌, fold, ap, sym, ◌∙◌, subst, refl}
-use Rattle.std.specs.Option.{option_map}
-use Rattle.std.specs.Prelude.{replicate}
+use Rattle.std.proofs.Common.{◌≡◌, ◌↔◌, ℕ, Bool, true, false, if◌then◌else◌, Option, None, Some, List, [], ◌∷◌, fold, ap, ◌∙◌, subst, refl, option_map}
 use Rattle.std.proofs.lemmas.Option.{same_Some}
+use Rattle.std.proofs.lemmas.Bool.{cond_both, both_ways}
 use Rattle.tbr_model.specs.Run.{Item, glyph, marker}
 use Rattle.tbr_border.specs.declared.render_line.RenderLine.{RenderLine}
 use Rattle.tbr_border.specs.declared.render_line.RenderLine.TheVariants.{Text, Line}
-use Rattle.tbr_border.specs.Cell.{horizontal}
-use Rattle.tbr_border.specs.Border.{Border, without_holes, shown}
+use Rattle.tbr_border.specs.Border.{Border, shown}
 use Rattle.tbr_tagged.specs.Elements.{Element, piece, marker_element, items_of}
 use Rattle.tbr_rows.specs.declared.line_set.LineSet.{LineSet as Cell}
 use Rattle.tbr_rows.specs.declared.row.RowStyle.{RowStyle}
-use Rattle.tbr_rows.specs.Cells.{first_line, row_width, with_hanging}
+use Rattle.tbr_rows.specs.Cells.{first_line, with_hanging}
 use Rattle.tbr_rows.specs.Gaps.{has_gap, with_elements}
 use Rattle.tbr_rows.specs.Meant.{EndsStretch, AreLongest, IsGapOf, HasGapIf, HasGaps, SeenRow, MeansRow}
-use Rattle.tbr_rows.specs.Computed.{TellsApart, character_before, longest, gap_of, with_gap, shown_of, left_of, border_below, row_under, row_of}
+use Rattle.tbr_rows.specs.Computed.{TellsApart, character_before, longest, gap_of, with_gap, left_of, border_below, row_under, row_of}
+use Rattle.tbr_rows.specs.Rows.{shown_in}
 use Rattle.tbr_rows.proofs.OneRow.{one_row}
 
 module _ {A : Type 0} (same : A → A → Bool) (tells : TellsApart same) where
@@ -23,11 +22,9 @@ module _ {A : Type 0} (same : A → A → Bool) (tells : TellsApart same) where
   items_before : (c : ℕ) (a : A) (es : List (Element A)) → items_of (character_before same c a es) ≡ glyph c a ∷ items_of es
   items_before c a [] = refl
   items_before c a (marker_element name ∷ es) = refl
-  items_before c a (piece cs b ∷ es) = go (same a b) refl
-    where
-      go : (t : Bool) → same a b ≡ t → items_of (if t then piece (c ∷ cs) b ∷ es else piece (c ∷ []) a ∷ piece cs b ∷ es) ≡ glyph c a ∷ items_of (piece cs b ∷ es)
-      go true is = ap (λ (x : A). glyph c x ∷ items_of (piece cs b ∷ es)) (sym ((tells a b).0 is))
-      go false is = refl
+  items_before c a (piece cs b ∷ es) =
+      cond_both (same a b) (piece (c ∷ cs) b ∷ es) (piece (c ∷ []) a ∷ piece cs b ∷ es) (λ ds. items_of ds ≡ glyph c a ∷ items_of (piece cs b ∷ es))
+      (λ is. rw ((tells a b).0 is) refl) (λ is. refl)
 
   pub longest_items : (is : List (Item A)) → items_of (longest same is) ≡ is
   longest_items [] = refl
@@ -43,11 +40,9 @@ module _ {A : Type 0} (same : A → A → Bool) (tells : TellsApart same) where
   before_longest : (c : ℕ) (a : A) (es : List (Element A)) → AreLongest es → AreLongest (character_before same c a es)
   before_longest c a [] h = (tt, tt, tt)
   before_longest c a (marker_element name ∷ es) h = (tt, tt, h)
-  before_longest c a (piece cs b ∷ es) h = go (same a b) refl
-    where
-      go : (t : Bool) → same a b ≡ t → AreLongest (if t then piece (c ∷ cs) b ∷ es else piece (c ∷ []) a ∷ piece cs b ∷ es)
-      go true is = (tt, ends_alike cs (c ∷ cs) b es h.1, h.2)
-      go false is = (tt, λ e. let no : true ≡ false = sym ((tells a b).1 e) ∙ is in absurd (let none : ⊥ = cc in none), h)
+  before_longest c a (piece cs b ∷ es) h =
+      cond_both (same a b) (piece (c ∷ cs) b ∷ es) (piece (c ∷ []) a ∷ piece cs b ∷ es) AreLongest (λ is. (tt, ends_alike cs (c ∷ cs) b es h.1, h.2))
+      (λ is. (tt, λ e. both_ways (same a b) is ((tells a b).1 e), h))
 
   pub longest_are : (is : List (Item A)) → AreLongest (longest same is)
   longest_are [] = tt
@@ -82,11 +77,9 @@ module _ {A : Type 0} (same : A → A → Bool) (tells : TellsApart same) where
         cells = cells;
         seated = seated;
         upper = refl;
-        shown = shown_of same columns style a top cells;
+        shown = shown_in style top cells;
         shown_is = refl;
         texts = refl;
-        plain = without_holes (replicate (row_width cells) horizontal) a;
-        plain_is = refl;
         full = border_below same columns style a top cells;
         gaps = has_gaps (left_of same columns style a top cells) _;
         lower = refl;

@@ -1,20 +1,22 @@
 -- What a row has of a cell takes the cell's columns.
-use Rattle.std.proofs.Common.{◌≡◌, if◌then◌else◌, ℕ, zero, suc, ◌+◌, ◌-◌, ◌<◌, Bool, true, false, Option, None, Some, unwrap_or, List, [], ◌∷◌, ◌++◌, map, take, drop, length, get_or, set, refl, ap, sym, subst, ◌∙◌, arith}
-use Rattle.std.specs.Prelude.{◌≤◌, IsTrue, replicate, slice_range}
+use Rattle.std.proofs.Common.{◌≡◌, ℕ, zero, suc, ◌+◌, ◌-◌, ◌<◌, Bool, true, false, Option, None, Some, unwrap_or, List, [], ◌∷◌, ◌++◌, map, take, drop, length, get_or, set, drop-cons, refl, ap, ◌∙◌, arith, ◌≤◌, IsTrue, slice_range}
 use Rattle.std.specs.List.{AllZip, AllByRecursion as Each}
 use Rattle.tbr_model.specs.Run.{Item, items_width}
 use Rattle.tbr_model.specs.Width.{takes_one_column}
 use Rattle.tbr_border.specs.declared.render_line.RenderLine.{RenderLine}
 use Rattle.tbr_border.specs.declared.render_line.RenderLine.TheVariants.{Text, Line}
-use Rattle.tbr_border.specs.Cell.{Cell as Segment, slash, arms, horizontal, character, is_among, line_above}
+use Rattle.tbr_border.specs.Cell.{Cell as Segment, slash, arms, character, is_among, line_above}
 use Rattle.tbr_border.specs.Border.{Hole, Border, stretched, drawn, shown_from, shown}
 use Rattle.tbr_tagged.specs.declared.padding.CellAlign.{CellAlign}
 use Rattle.tbr_tagged.specs.Elements.{element_items, items_of, text_items}
-use Rattle.tbr_tagged.specs.Padding.{spaces, columns_in_front, columns_missing}
+use Rattle.tbr_tagged.specs.Padding.{spaces, columns_in_front, columns_missing, aligned_items}
 use Rattle.tbr_tagged.proofs.SameItems.{same_width}
 use Rattle.tbr_tagged.proofs.PaddedLines.{front_within}
-use Rattle.std.proofs.lemmas.List.{length-append, length-replicate, length-map, length-drop, length-take-le, get_or-drop, drop-set-lt, drop-drop, take_more, take_more_set}
-use Rattle.std.proofs.lemmas.List.Elements.{AllZip-push}
+use Rattle.std.proofs.lemmas.List.{length-replicate, length-map, length-drop, length-take-le, drop-set-lt, take_more_set}
+use Rattle.std.proofs.lemmas.List.Elements.{all_zip_more}
+use Rattle.std.proofs.lemmas.Bool.{cond_both}
+use Rattle.tbr_border.proofs.JoinedCells.{length-stretched}
+use Rattle.tbr_rows.proofs.Among.{each_drop}
 use Rattle.tbr_rows.specs.declared.column.Column.{Column}
 use Rattle.tbr_rows.specs.Filled.{FillsLine}
 use Rattle.tbr_rows.specs.Texts.{text_of_lines, filler_above}
@@ -22,44 +24,55 @@ use Rattle.tbr_rows.specs.Shown.{DrawsInOne, HolesFill, LineFits, TakesColumns, 
 use Rattle.tbr_rows.proofs.CellColumns.{width_append}
 
 -- characters of one column
-pub text_columns : {A : Type 0} (columns : ℕ → Option ℕ) (cs : List ℕ) (a : A) → DrawsInOne columns → Each (λ c. IsTrue (takes_one_column c)) cs → items_width columns (text_items cs a) ≡ length cs
+text_columns : {A : Type 0} (columns : ℕ → Option ℕ) (cs : List ℕ) (a : A) → DrawsInOne columns → Each (λ c. IsTrue (takes_one_column c)) cs →
+    items_width columns (text_items cs a) ≡ length cs
 text_columns columns [] a one narrow = refl
 text_columns columns (c ∷ cs) a one narrow = omega (arith, ap (λ (o : Option ℕ). unwrap_or o 0) (one c narrow.0), text_columns columns cs a one narrow.1)
 
-pub spaces_narrow : (n : ℕ) → Each (λ c. IsTrue (takes_one_column c)) (spaces n)
+spaces_narrow : (n : ℕ) → Each (λ c. IsTrue (takes_one_column c)) (spaces n)
 spaces_narrow zero = tt
 spaces_narrow (suc n) = (refl, spaces_narrow n)
+
+pub spaces_width : {A : Type 0} (columns : ℕ → Option ℕ) → DrawsInOne columns → (n : ℕ) (a : A) → items_width columns (text_items (spaces n) a) ≡ n
+spaces_width columns one n a = text_columns columns (spaces n) a one (spaces_narrow n) ∙ length-replicate {A = ℕ} n 32
 
 character_narrow : (c : Segment) → IsTrue (takes_one_column (character c))
 character_narrow slash = refl
 character_narrow (arms true true true true) = refl
-character_narrow (arms true true true false) = refl
 character_narrow (arms true true false true) = refl
-character_narrow (arms true true false false) = refl
 character_narrow (arms true false true true) = refl
-character_narrow (arms true false true false) = refl
 character_narrow (arms true false false true) = refl
-character_narrow (arms true false false false) = refl
 character_narrow (arms false true true true) = refl
-character_narrow (arms false true true false) = refl
 character_narrow (arms false true false true) = refl
-character_narrow (arms false true false false) = refl
 character_narrow (arms false false true true) = refl
-character_narrow (arms false false true false) = refl
 character_narrow (arms false false false true) = refl
-character_narrow (arms false false false false) = refl
+character_narrow (arms l r u d) = refl
 
-pub drawn_narrow : (cells : List Segment) → Each (λ c. IsTrue (takes_one_column c)) (map character cells)
+drawn_narrow : (cells : List Segment) → Each (λ c. IsTrue (takes_one_column c)) (map character cells)
 drawn_narrow [] = tt
 drawn_narrow (c ∷ cells) = (character_narrow c, drawn_narrow cells)
 
 above_narrow : (cells : List Segment) → Each (λ c. IsTrue (takes_one_column c)) (map line_above cells)
 above_narrow [] = tt
-above_narrow (c ∷ cells) = (go (is_among (character c) (0x2534 ∷ 0x253C ∷ 0x2514 ∷ 0x2518 ∷ [])), above_narrow cells)
-  where
-    go : (b : Bool) → IsTrue (takes_one_column (if b then 0x2502 else 32))
-    go true = refl
-    go false = refl
+above_narrow (c ∷ cells) = (
+  cond_both (is_among (character c) (0x2534 ∷ 0x253C ∷ 0x2514 ∷ 0x2518 ∷ [])) 0x2502 32 (λ d. IsTrue (takes_one_column d)) (λ e. refl) (λ e. refl),
+  above_narrow cells,
+)
+
+-- a text that is filled up takes so many columns more
+pub aligned_width : {A : Type 0} (columns : ℕ → Option ℕ) → DrawsInOne columns → (align : CellAlign) (is : List (Item A)) (missing : ℕ) (a : A) → items_width columns (aligned_items align is missing a) ≡ items_width columns is + missing
+aligned_width {A} columns one align is missing a =
+    let front : ℕ = columns_in_front align missing in
+    let before : List (Item A) = text_items (spaces front) a in
+    let last : List (Item A) = text_items (spaces (missing - front)) a in
+    omega (
+      arith,
+      width_append columns (before ++ is) last,
+      width_append columns before is,
+      spaces_width columns one front a,
+      spaces_width columns one (missing - front) a,
+      front_within align missing,
+    )
 
 -- ---- borders with text in front
 
@@ -94,44 +107,30 @@ module _ {A : Type 0} (columns : ℕ → Option ℕ) where
 -- a line that fits takes its cell's columns once it is filled
 pub filled_line : {A : Type 0} (columns : ℕ → Option ℕ) (eq : A → A → Bool) (align : CellAlign) (width : ℕ) (a t : A) (l done : RenderLine A) → DrawsInOne columns → LineFits columns width l →
     FillsLine columns eq align width a l done → TakesColumns columns t width done
-filled_line {A} columns eq align width a t (Text es) (Text done) one fits fills =
+filled_line columns eq align width a t (Text es) (Text done) one fits fills =
     let missing : ℕ = columns_missing columns width es in
-    let front : ℕ = columns_in_front align missing in
-    let before : List (Item A) = text_items (spaces front) a in
-    let after : List (Item A) = text_items (spaces (missing - front)) a in
     omega (
       arith,
-      same_width columns eq (items_of done) (before ++ items_of es ++ after) fills.0,
-      width_append columns (before ++ items_of es) after,
-      width_append columns before (items_of es),
-      text_columns columns (spaces front) a one (spaces_narrow front),
-      text_columns columns (spaces (missing - front)) a one (spaces_narrow (missing - front)),
-      length-replicate {A = ℕ} front 32,
-      length-replicate {A = ℕ} (missing - front) 32,
-      front_within align missing,
+      same_width columns eq (items_of done) (aligned_items align (items_of es) missing a) fills.0,
+      aligned_width columns one align (items_of es) missing a,
       fits,
     )
 filled_line {A} columns eq align width a t (Line b) (Line done) one fits fills =
     let cells : List Segment = stretched width b.cells in
-    let full : length cells ≡ width = omega (arith, length-append b.cells (replicate (width - length b.cells) horizontal), length-replicate (width - length b.cells) horizontal, fits.0) in
+    let full : length cells ≡ width = omega (arith, length-stretched width b.cells, fits.0) in
     let inside : HolesFill columns 0 b.holes (length cells) = fill_later columns 0 b.holes (length b.cells) (length cells) fits.1 (omega (arith, full, fits.0)) in
     ap (λ (c : Border A). items_width columns (shown t c)) fills ∙ omega (arith, shown_width columns one t cells 0 b.holes inside, full)
 filled_line columns eq align width a t (Text es) (Line done) one fits fills = absurd fills
 filled_line columns eq align width a t (Line b) (Text done) one fits fills = absurd fills
 
 filler_columns : {A : Type 0} (columns : ℕ → Option ℕ) (a : A) (width : ℕ) (bottom : Option (Border A)) → DrawsInOne columns → FillsBelow width bottom → items_width columns (text_items (filler_above width bottom) a) ≡ width
-filler_columns columns a width None one fills = text_columns columns (spaces width) a one (spaces_narrow width) ∙ length-replicate {A = ℕ} width 32
+filler_columns columns a width None one fills = spaces_width columns one width a
 filler_columns columns a width (Some b) one fills = text_columns columns (map line_above b.cells) a one (above_narrow b.cells) ∙ length-map b.cells line_above ∙ fills
 
 lines_fill : {A : Type 0} (columns : ℕ → Option ℕ) (a : A) (c : Column A) (ls : List (RenderLine A)) → DrawsInOne columns → FillsBelow c.cell.width c.bottom → Each (TakesColumns columns a c.cell.width) ls →
     items_width columns (text_of_lines a c ls) ≡ c.cell.width
 lines_fill columns a c [] one below lines = filler_columns columns a c.cell.width c.bottom one below
 lines_fill columns a c (l ∷ ls) one below lines = lines.0
-
-each_drop : {X : Type 0} (P : X → Type 0) (n : ℕ) (xs : List X) → Each P xs → Each P (drop n xs)
-each_drop P zero xs h = h
-each_drop P (suc n) [] h = tt
-each_drop P (suc n) (x ∷ xs) h = each_drop P n xs h.1
 
 -- a cell whose lines take its columns fills them in each line of the row
 pub cell_fills : {A : Type 0} (columns : ℕ → Option ℕ) (a : A) (i : ℕ) (c : Column A) → DrawsInOne columns → LinesFillCell columns a c → TakesCellColumns columns a i c
@@ -140,12 +139,13 @@ cell_fills columns a i c one fills = lines_fill columns a c (drop i c.cell.lines
 -- one line more of a list is filled where it is
 pub one_more_filled : {A : Type 0} (R : A → A → Type 0) (all now : List A) (i : ℕ) (d y : A) → i < length all → R (get_or now i d) y → AllZip R (take i all) (take i now) → drop i now ≡ drop i all →
     AllZip R (take (i + 1) all) (take (i + 1) (set now i y)) × (drop (i + 1) (set now i y) ≡ drop (i + 1) all)
-one_more_filled {A} R all now i d y in_all fills before left =
+one_more_filled R all now i d y in_all fills before left =
     let below : i < length now = omega (arith, in_all, length-drop i now, length-drop i all, ap length left) in
-    let same : get_or all (i + 0) d ≡ get_or now (i + 0) d = sym (get_or-drop i all 0 d) ∙ ap (λ zs. get_or zs 0 d) (sym left) ∙ get_or-drop i now 0 d in
-    let here : i + 0 ≡ i = omega arith in
-    let whole : take (i + 1) all ≡ take i all ++ get_or now i d ∷ [] = take_more all i d in_all ∙ ap (λ z. take i all ++ z ∷ []) (ap (λ j. get_or all j d) (sym here) ∙ same ∙ ap (λ j. get_or now j d) here) in (
-      subst (AllZip R (take (i + 1) all)) (sym (take_more_set now i y below))
-          (subst (λ (zs : List A). AllZip R zs (take i now ++ y ∷ [])) (sym whole) (AllZip-push R (take i all) (take i now) (get_or now i d) y before fills)),
-      drop-set-lt (i + 1) now i y (omega arith) ∙ sym (drop-drop 1 i now) ∙ ap (drop 1) left ∙ drop-drop 1 i all,
+    let old = drop-cons all i (get_or now i d) in_all in
+    let new = drop-cons now i d below in
+    let first : get_or now i d ≡ get_or all i (get_or now i d) = cc in
+    let others : drop (suc i) now ≡ drop (suc i) all = cc in
+    let next : suc i ≡ i + 1 = omega arith in (
+      rw (take_more_set now i y below) (all_zip_more R all (take i now) i (get_or now i d) y in_all first before fills),
+      drop-set-lt (i + 1) now i y (omega arith) ∙ rw (← next) others,
     )

@@ -1,11 +1,9 @@
 -- Whether overhanging cells find their places.
-use Rattle.std.proofs.Common.{◌≡◌, if◌then◌else◌, ℕ, ◌+◌, ◌<◌, ◌≤◌, Bool, true, false, ◌&&◌, ◌||◌, Option, Some, None, List, [], ◌∷◌, map, refl, ap, sym, ◌∙◌, subst, arith}
-use Rattle.std.specs.Prelude.{is_some}
-use Rattle.std.specs.Option.{option_map}
+use Rattle.std.proofs.Common.{◌≡◌, if◌then◌else◌, ℕ, ◌+◌, ◌<◌, ◌≤◌, Bool, true, false, ◌&&◌, ◌||◌, Option, Some, None, List, [], ◌∷◌, map, refl, subst, arith, is_some, option_map}
 use Rattle.std.specs.List.{list_all, list_any}
 use Rattle.std.proofs.lemmas.Bool.{eqb-true, ne_eqb, leb-true, leb-false, le-leb, and_parts}
 use Rattle.tbr_rows.specs.declared.line_set.LineSet.{LineSet as Cell}
-use Rattle.tbr_rows.specs.Cells.{end_of, AreSideBySide, AreApart, Spot, spot_of, is_left_for, ends_before, row_fits, with_hanging}
+use Rattle.tbr_rows.specs.Cells.{end_of, AreSideBySide, AreApart, Spot, spot_of, spots_from, look, is_left_for, ends_before, row_fits, with_hanging}
 
 -- whether a cell finds its place among others
 abbrev pub finds : {A : Type 0} → List Spot → Cell A → Bool
@@ -19,11 +17,18 @@ left_is h c e =
 pub elsewhere : {A : Type 0} (h : Cell A) (s : Spot) → (h.place ≡ s.place → ⊥) → is_left_for h s ≡ false
 elsewhere h s n = rw (ne_eqb h.place s.place n) refl
 
+pub spots_side_by_side : {A : Type 0} (at : ℕ) (cs : List (Cell A)) → AreSideBySide at cs → map spot_of cs ≡ spots_from at (map look cs)
+spots_side_by_side at [] s = refl
+spots_side_by_side at (c ∷ cs) s = rw (← s.0, spots_side_by_side (end_of c + 1) cs s.1) refl
+
 -- a cell before a place isn't found after it
+pub none_from : {A : Type 0} (h : Cell A) (at : ℕ) (ws : List (ℕ × Bool)) → h.place < at → list_any (is_left_for h) (spots_from at ws) ≡ false
+none_from h at [] before = refl
+none_from h at (w ∷ ws) before =
+    rw (elsewhere h (record { place = at; width = w.0; is_blank = w.1 }) (λ e. let no : ⊥ = omega (arith, before, e) in no)) (none_from h (at + w.0 + 1) ws (omega (arith, before)))
+
 none_after : {A : Type 0} (h : Cell A) (at : ℕ) (cs : List (Cell A)) → h.place < at → AreSideBySide at cs → list_any (is_left_for h) (map spot_of cs) ≡ false
-none_after h at [] before s = refl
-none_after h at (c ∷ cs) before s =
-    rw (elsewhere h (spot_of c) (λ e. let no : ⊥ = omega (arith, before, e, s.0) in no)) (none_after h (end_of c + 1) cs (omega (arith, before, s.0)) s.1)
+none_after h at cs before s = rw (spots_side_by_side at cs s) (none_from h at (map look cs) before)
 
 -- cells after a place need not look at one that ends before it
 pub past : {A : Type 0} (s : Spot) (spots : List Spot) (at : ℕ) (hs : List (Cell A)) → s.place + s.width + 1 ≤ at → AreApart at hs → row_fits hs (s ∷ spots) ≡ row_fits hs spots
@@ -38,7 +43,7 @@ pub all_found : {A : Type 0} (hs : List (Cell A)) → true ≡ row_fits hs []
 all_found [] = refl
 all_found (h ∷ hs) = all_found hs
 
-some_mapped : {X Y : Type 0} (f : X → Y) (o : Option X) → is_some (option_map f o) ≡ is_some o
+pub some_mapped : {X Y : Type 0} (f : X → Y) (o : Option X) → is_some (option_map f o) ≡ is_some o
 some_mapped f None = refl
 some_mapped f (Some x) = refl
 
@@ -60,14 +65,10 @@ found_exactly {A} at (h ∷ hs) (c ∷ cs) s a =
     go true e left before taken kept =
         let is = left_is h c left in
         let same : end_of c + 1 ≡ end_of h + 1 = omega (arith, is.0, is.1) in
-        some_mapped (λ r. h ∷ r) (with_hanging (end_of h + 1) hs cs)
-        ∙ taken (subst (λ n. AreSideBySide n cs) same s.1)
-        ∙ sym (past (spot_of c) spots (end_of h + 1) hs (omega (arith, same)) a.1)
+        rw (some_mapped, taken (subst (λ n. AreSideBySide n cs) same s.1), past (spot_of c) spots (end_of h + 1) hs (omega (arith, same)) a.1) refl
     go false true left before taken kept =
         let ends : end_of c + 1 ≤ h.place = leb-true _ _ before in
-        some_mapped (λ r. c ∷ r) (with_hanging (end_of c + 1) (h ∷ hs) cs)
-        ∙ kept (ends, a.1)
-        ∙ ap (λ b. finds spots h && b) (sym (past (spot_of c) spots (end_of h + 1) hs (omega (arith, ends)) a.1))
+        rw (some_mapped, kept (ends, a.1), past (spot_of c) spots (end_of h + 1) hs (omega (arith, ends)) a.1) refl
     go false false left before taken kept =
         let short : h.place < end_of c + 1 = leb-false _ _ before in
         rw (none_after h (end_of c + 1) cs short s.1) refl

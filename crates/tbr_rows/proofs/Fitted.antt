@@ -1,28 +1,16 @@
 -- Whether a row fits, told cell by cell.
-use Rattle.std.proofs.Common.{◌≡◌, ℕ, ◌+◌, ◌-◌, ◌<◌, ◌≤◌, Bool, true, false, ◌&&◌, ◌||◌, ◌==◌, List, [], ◌∷◌, map, refl, ap, sym, ◌∙◌, arith, inl, inr, take, length, get_or, ◌++◌, append_assoc}
-use Rattle.std.specs.Prelude.{is_none}
+use Rattle.std.proofs.Common.{◌≡◌, ℕ, ◌+◌, ◌-◌, ◌<◌, ◌≤◌, Bool, true, false, ◌&&◌, ◌||◌, ◌==◌, List, [], ◌∷◌, map, refl, ap, sym, ◌∙◌, arith, inl, inr, take, length, get_or, ◌++◌, append_assoc, is_none}
 use Rattle.std.specs.List.{list_all, list_any, AllZip}
-use Rattle.std.proofs.lemmas.Bool.{ne_eqb, eq-eqb, eqb-false, lt-leb, and_parts, and_from, or_cases}
+use Rattle.std.proofs.lemmas.Bool.{ne_eqb, eq-eqb, eqb-false, lt-leb, and_parts, and_from, or_cases, or_left, or_right, and_right}
 use Rattle.tbr_rows.specs.declared.line_set.LineSet.{LineSet as Cell}
 use Rattle.tbr_rows.specs.Cells.{end_of, AreSideBySide, AreApart, Spot, spot_of, spots_from, look, first_line, is_left_for, ends_before, row_fits, stands_first, IsAsFree}
 use Rattle.tbr_border.specs.declared.render_line.RenderLine.{RenderLine}
 use Rattle.std.proofs.lemmas.List.{map_more}
 use Rattle.tbr_rows.specs.Fitting.{Fitting, fits_with}
-use Rattle.tbr_rows.proofs.Fits.{elsewhere, past, all_found, finds}
-
-pub spots_side_by_side : {A : Type 0} (at : ℕ) (cs : List (Cell A)) → AreSideBySide at cs → map spot_of cs ≡ spots_from at (map look cs)
-spots_side_by_side at [] s = refl
-spots_side_by_side {A} at (c ∷ cs) s =
-    ap (λ (spots : List Spot). spot_of c ∷ spots) (spots_side_by_side (end_of c + 1) cs s.1)
-    ∙ ap (λ n. let first : Spot = record { place = n; width = c.width; is_blank = (look c).1 } in first ∷ spots_from (n + c.width + 1) (map look cs)) s.0
+use Rattle.tbr_rows.proofs.Fits.{spots_side_by_side, none_from, elsewhere, past, all_found, finds}
 
 pub spots_are : {A : Type 0} (cs : List (Cell A)) → AreSideBySide 0 cs → map spot_of cs ≡ spots_from 0 (map look cs)
 spots_are cs s = spots_side_by_side 0 cs s
-
-none_from : {A : Type 0} (h : Cell A) (at : ℕ) (ws : List (ℕ × Bool)) → h.place < at → list_any (is_left_for h) (spots_from at ws) ≡ false
-none_from h at [] before = refl
-none_from h at (w ∷ ws) before =
-    rw (elsewhere h (record { place = at; width = w.0; is_blank = w.1 }) (λ e. let no : ⊥ = omega (arith, before, e) in no)) (none_from h (at + w.0 + 1) ws (omega (arith, before)))
 
 -- ---- one more cell
 
@@ -51,12 +39,7 @@ module _ {A : Type 0} (width : ℕ) (blank : Bool) where
       later (k ∷ ks) a = ne_eqb k.place at (λ e. let no : ⊥ = omega (arith, here, a.0, e) in no)
 
       go : (x y z : Bool) → ((x && y) && z) ≡ (x && (((y || false) || false) && z))
-      go true true z = refl
-      go true false z = refl
-      go false y z = refl
-
-  pub untaken : (f : Fitting A) → AreApart f.at f.waiting → stands_first f.waiting f.at ≡ false → IsAsked f f width blank
-  untaken f apart passed = record { apart = apart; passed = passed; same = λ more. refl }
+      go x y z = grind arith
 
   pub next_after : (f : Fitting A) (k : Cell A) (ks : List (Cell A)) (at to : ℕ) (fits : Bool) → IsAsked f (record { waiting = k ∷ ks; at = at; fits = fits }) width blank →
       width < k.place - at → to ≡ at + width + 1 → (more : List (ℕ × Bool)) →
@@ -65,8 +48,7 @@ module _ {A : Type 0} (width : ℕ) (blank : Bool) where
       let spot : Spot = record { place = at; width = width; is_blank = blank } in
       let apart : AreApart (at + width + 1) (k ∷ ks) = (omega (arith, short), asked.apart.1) in
       ap (λ n. fits && row_fits (k ∷ ks) (spots_from n more)) is
-      ∙ ap (λ b. fits && b) (sym (past spot (spots_from (at + width + 1) more) (at + width + 1) (k ∷ ks) (omega arith) apart))
-      ∙ asked.same more
+      ∙ rw (← past spot (spots_from (at + width + 1) more) (at + width + 1) (k ∷ ks) (omega arith) apart) (asked.same more)
 
   pub next_lost : (f : Fitting A) (k : Cell A) (ks : List (Cell A)) (at : ℕ) (fits : Bool) → IsAsked f (record { waiting = k ∷ ks; at = at; fits = fits }) width blank →
       k.place - at ≤ width → (more : List (ℕ × Bool)) → false ≡ fits_with f ((width, blank) ∷ more)
@@ -75,58 +57,41 @@ module _ {A : Type 0} (width : ℕ) (blank : Bool) where
       let short : k.place < at + width + 1 = omega (arith, long, asked.apart.0) in
       let lost : row_fits (k ∷ ks) (spot ∷ spots_from (at + width + 1) more) ≡ false =
       rw (elsewhere k spot (eqb-false k.place at asked.passed), none_from k (at + width + 1) more short, lt-leb (at + width + 1) k.place short) refl in
-      go fits _ lost ∙ asked.same more
-    where
-      go : (x y : Bool) → y ≡ false → false ≡ (x && y)
-      go true y e = sym e
-      go false y e = refl
+      sym (and_right fits _ lost) ∙ asked.same more
 
 -- ---- where fewer cells have lines
 
-or_right : (x y : Bool) → y ≡ true → (x || y) ≡ true
-or_right true y e = refl
-or_right false y e = e
+or_too : (x y u v : Bool) → (x ≡ true → u ≡ true) → (y ≡ true → v ≡ true) → (x || y) ≡ true → (u || v) ≡ true
+or_too x y u v f g e = elim (or_cases x y e) [ inl l ↦ or_left u v (f l) | inr r ↦ or_right u v (g r) ]
 
-or_left : (x y : Bool) → x ≡ true → (x || y) ≡ true
-or_left x y e = rw e refl
+and_too : (x y u v : Bool) → (x ≡ true → u ≡ true) → (y ≡ true → v ≡ true) → (x && y) ≡ true → (u && v) ≡ true
+and_too x y u v f g e = let both = and_parts x y e in and_from u v (f both.0) (g both.1)
 
 left_too : {A : Type 0} (h : Cell A) (s t : Spot) → IsAsFree s t → is_left_for h s ≡ true → is_left_for h t ≡ true
 left_too h s t z e =
-    let parts = and_parts (h.place == s.place) (h.width == s.width && s.is_blank) e in
-    let more = and_parts (h.width == s.width) s.is_blank parts.1 in
-    rw (z.0, z.1) (and_from (h.place == s.place) (h.width == s.width && t.is_blank) parts.0 (and_from (h.width == s.width) t.is_blank more.0 (z.2 more.1)))
-
-ends_too : {A : Type 0} (h : Cell A) (s t : Spot) → IsAsFree s t → ends_before h s ≡ true → ends_before h t ≡ true
-ends_too h s t z e = rw (z.0, z.1) e
+    let same = h.width == s.width in
+    rw (z.0, z.1) (and_too (h.place == s.place) (same && s.is_blank) (h.place == s.place) (same && t.is_blank) (λ k. k)
+    (and_too same s.is_blank same t.is_blank (λ k. k) z.2) e)
 
 any_too : {A : Type 0} (h : Cell A) (spots others : List Spot) → AllZip IsAsFree spots others → list_any (is_left_for h) spots ≡ true → list_any (is_left_for h) others ≡ true
 any_too h [] [] z e = e
-any_too h [] (t ∷ ts) z e = absurd z
-any_too h (s ∷ ss) [] z e = absurd z
 any_too h (s ∷ ss) (t ∷ ts) z e =
-    elim (or_cases (is_left_for h s) (list_any (is_left_for h) ss) e) [
-      | inl l ↦ or_left (is_left_for h t) (list_any (is_left_for h) ts) (left_too h s t z.0 l)
-      | inr r ↦ or_right (is_left_for h t) (list_any (is_left_for h) ts) (any_too h ss ts z.1 r)
-    ]
+    or_too (is_left_for h s) (list_any (is_left_for h) ss) (is_left_for h t) (list_any (is_left_for h) ts) (left_too h s t z.0) (any_too h ss ts z.1) e
+any_too h _ _ z e = absurd z
 
 all_too : {A : Type 0} (h : Cell A) (spots others : List Spot) → AllZip IsAsFree spots others → list_all (ends_before h) spots ≡ true → list_all (ends_before h) others ≡ true
 all_too h [] [] z e = e
-all_too h [] (t ∷ ts) z e = absurd z
-all_too h (s ∷ ss) [] z e = absurd z
 all_too h (s ∷ ss) (t ∷ ts) z e =
-    let parts = and_parts (ends_before h s) (list_all (ends_before h) ss) e in
-    and_from (ends_before h t) (list_all (ends_before h) ts) (ends_too h s t z.0 parts.0) (all_too h ss ts z.1 parts.1)
+    rw (z.0.0, z.0.1) (and_too (ends_before h s) (list_all (ends_before h) ss) (ends_before h s) (list_all (ends_before h) ts) (λ k. k) (all_too h ss ts z.1) e)
+all_too h _ _ z e = absurd z
 
 pub fits_with_fewer_lines : {A : Type 0} (hanging : List (Cell A)) (spots others : List Spot) → AllZip IsAsFree spots others → row_fits hanging spots ≡ true → row_fits hanging others ≡ true
 fits_with_fewer_lines [] spots others z e = e
 fits_with_fewer_lines (h ∷ hs) spots others z e =
-    let parts = and_parts (finds spots h) (row_fits hs spots) e in
-    let one : finds others h ≡ true =
-    elim (or_cases (list_any (is_left_for h) spots) (list_all (ends_before h) spots) parts.0) [
-      | inl l ↦ or_left (list_any (is_left_for h) others) (list_all (ends_before h) others) (any_too h spots others z l)
-      | inr r ↦ or_right (list_any (is_left_for h) others) (list_all (ends_before h) others) (all_too h spots others z r)
-    ] in
-    and_from (finds others h) (row_fits hs others) one (fits_with_fewer_lines hs spots others z parts.1)
+    and_too (finds spots h) (row_fits hs spots) (finds others h) (row_fits hs others)
+    (or_too (list_any (is_left_for h) spots) (list_all (ends_before h) spots) (list_any (is_left_for h) others) (list_all (ends_before h) others)
+    (any_too h spots others z) (all_too h spots others z))
+    (fits_with_fewer_lines hs spots others z) e
 
 -- ---- the cells of a row, told one after another
 
@@ -135,11 +100,7 @@ no_line [] = refl
 no_line (l ∷ ls) = ne_eqb (length (l ∷ ls)) 0 (λ e. let no : ⊥ = omega (arith, e) in no)
 
 pub fits_now : {A : Type 0} (f : Fitting A) → f.fits ≡ fits_with f []
-fits_now f = go f.fits
-  where
-    go : (b : Bool) → b ≡ (b && row_fits f.waiting [])
-    go true = all_found f.waiting
-    go false = refl
+fits_now f = rw (← all_found f.waiting) (grind arith)
 
 -- The cells so far were given, each by its width and whether nothing is in it. Whatever comes next is then asked as of
 -- the whole row.

@@ -1,113 +1,189 @@
--- Rows by what tags mean.
-use Rattle.std.proofs.Common.{◌≡◌, if◌then◌else◌, ℕ, Bool, true, false, Option, None, Some, List, [], ◌∷◌, ◌++◌, ◌-◌, ◌&&◌, map, ap, sym, ◌∙◌, subst, refl}
-use Rattle.std.specs.Prelude.{replicate}
-use Rattle.std.specs.Option.{option_map}
-use Rattle.tbr_model.specs.Run.{Item, glyph, items_width}
-use Rattle.tbr_model.specs.Mapped.{map_item, map_items}
-use Rattle.tbr_border.specs.Cell.{Cell as Segment, horizontal}
-use Rattle.tbr_border.specs.Border.{Hole, Border, without_holes}
+-- Cells, their places, borders and rows by what tags mean.
+use Rattle.std.proofs.Common.{◌≡◌, ℕ, Bool, Option, None, Some, List, [], ◌∷◌, ◌&&◌, map, ap, sym, ◌∙◌, refl, ◌-◌, true, false, take, drop, length, option_map, replicate, is_some, is_none}
+use Rattle.tbr_model.specs.Run.{glyph}
+use Rattle.tbr_border.specs.Border.{Border, without_holes, Hole, has_holes}
+use Rattle.tbr_border.specs.Cell.{horizontal, Side, above, below}
 use Rattle.tbr_tagged.specs.Mapped.{MeansEqual}
 use Rattle.tbr_tagged.specs.declared.padding.CellAlign.{CellAlign}
-use Rattle.tbr_tagged.specs.Elements.{items_of, line_width, text_items}
-use Rattle.tbr_tagged.specs.Padding.{spaces, aligned_items, columns_missing, columns_in_front}
+use Rattle.tbr_tagged.specs.Elements.{items_of}
+use Rattle.tbr_tagged.specs.Padding.{aligned_items, columns_missing}
 use Rattle.tbr_tagged.proofs.MappedTags.{means_same_items}
 use Rattle.tbr_model.proofs.maps.Words.{items_width-map}
-use Rattle.std.proofs.lemmas.List.{map-append}
+use Rattle.std.proofs.lemmas.List.{map-append, length-map, take-map, drop-map}
 use Rattle.std.specs.List.{AllZip}
 use Rattle.tbr_border.specs.declared.render_line.RenderLine.{RenderLine}
 use Rattle.tbr_border.specs.declared.render_line.RenderLine.TheVariants.{Text, Line}
 use Rattle.tbr_rows.specs.declared.line_set.LineSet.{LineSet as Cell}
 use Rattle.tbr_rows.specs.declared.row.Row.{Row}
 use Rattle.tbr_rows.specs.declared.row.RowStyle.{RowStyle}
-use Rattle.tbr_rows.specs.Cells.{row_width, Spot, spot_of, row_fits}
+use Rattle.tbr_rows.specs.declared.column.Column.{Column}
+use Rattle.tbr_rows.specs.Cells.{row_width, Spot, spot_of, row_fits, separators, first_line, with_hanging}
 use Rattle.tbr_rows.specs.Filled.{FillsLine}
-use Rattle.tbr_rows.proofs.Fits.{finds}
+use Rattle.tbr_rows.proofs.Fits.{finds, some_mapped}
 use Rattle.tbr_rows.specs.Texts.{row_height, line_texts}
-use Rattle.tbr_rows.specs.Gaps.{overhang}
-use Rattle.tbr_rows.specs.Rows.{cells_under, next_under, next_merged, columns_shown, cells_left, separator_in, drawn_in, IsPlain, IsRow}
-use Rattle.tbr_rows.specs.Meant.{map_hole, map_border, map_cell, map_column, map_line, map_element, EqualIfMeant, row_meant, HasGaps, MeansRow, MeansFilled}
-use Rattle.tbr_rows.proofs.MeantCells.{spot-map, with_hanging-map, row_width-map, border_above-map, cells_under-map, next_under-map, next_merged-map, columns_shown-map}
+use Rattle.tbr_rows.specs.Rows.{cells_under, next_under, next_begun, shown_in, cells_left, separator_in, IsPlain, IsRow, border_above, next_merged, columns_shown}
+use Rattle.tbr_rows.specs.Meant.{map_border, map_cell, map_column, map_line, EqualIfMeant, row_meant, MeansRow, MeansFilled, map_hole}
 use Rattle.tbr_rows.proofs.MeantTexts.{text-map, items-map, line_texts-map, row_height-map, cells_left-map, overhang-map, gaps_mean, texts_mean}
+use Rattle.tbr_model.proofs.lists.Each.{zip-map}
+use Rattle.tbr_rows.proofs.Squares.{if_both, map_both, fold_both}
+use Rattle.std.proofs.lemmas.Simd.{map-map}
+use Rattle.std.proofs.lemmas.Option.{same_Some}
+use Rattle.tbr_rows.specs.Borders.{joined, joined_at_each, above_row, first_mergeable, last_mergeable, after_mergeable, before_mergeable, merged_with, merged_below, merged_above, without_first_border, with_last_border_apart, whole_column}
+use Rattle.tbr_rows.proofs.Seats.{Seats, rest, apart, next, takes, waits, seats}
 
-module _ {A B : Type 0} (f : A → B) (eq : A → A → Bool) (means : MeansEqual f eq) (told : EqualIfMeant f eq) where
+module _ {A B : Type 0} (f : A → B) where
+  separators-map : (cs : List (Cell A)) → separators (map (map_cell f) cs) ≡ separators cs
+  separators-map cs = simp (length-map, take-map, map-map)
+
+  row_width-map : (cs : List (Cell A)) → row_width (map (map_cell f) cs) ≡ row_width cs
+  row_width-map [] = refl
+  row_width-map (c ∷ []) = refl
+  row_width-map (c ∷ d ∷ cs) = row_width-map (d ∷ cs)
+
+  -- ---- places
+
+  blank-map : (ls : List (RenderLine A)) → is_none (first_line (map (map_line f) ls)) ≡ is_none (first_line ls)
+  blank-map [] = refl
+  blank-map (l ∷ ls) = refl
+
+  none_hangs : (at : ℕ) (cs : List (Cell B)) → with_hanging at [] cs ≡ Some cs
+  none_hangs at [] = refl
+  none_hangs at (c ∷ cs) = refl
+
+  seats-map : {at : ℕ} {hs cs r : List (Cell A)} → Seats A at hs cs r → with_hanging at (map (map_cell f) hs) (map (map_cell f) cs) ≡ Some (map (map_cell f) r)
+  seats-map (rest {at = at} {cs = cs}) = none_hangs at (map (map_cell f) cs)
+  seats-map (apart e w) = rw (e, same_Some _ _ (seats-map w)) refl
+  seats-map (next e w) = rw (e, same_Some _ _ (seats-map w)) refl
+  seats-map (takes {c = c} left w) = rw (blank-map c.lines, left, seats-map w) refl
+  seats-map (waits {c = c} left ends w) = rw (blank-map c.lines, left, ends, seats-map w) refl
+
+  -- ---- borders
+
+  joined-map : (side : Side) (b : Border A) (xs : List ℕ) → joined_at_each side (map_border f b) xs ≡ map_border f (joined_at_each side b xs)
+  joined-map side b [] = refl
+  joined-map side b (x ∷ xs) = joined-map side (joined side b x) xs
+
+  above_row-map : (cs : List (Cell A)) (b : Border A) → above_row (map (map_cell f) cs) (map_border f b) ≡ map_border f (above_row cs b)
+  above_row-map cs b = rw (separators-map cs, row_width-map cs, joined-map below b (separators cs)) refl
+
+  holes-map : (hs : List (Hole A)) → has_holes (map (map_hole f) hs) ≡ has_holes hs
+  holes-map [] = refl
+  holes-map (h ∷ hs) = refl
+
+  first-map : (ls : List (RenderLine A)) → first_mergeable (map (map_line f) ls) ≡ option_map (map_border f) (first_mergeable ls)
+  first-map [] = refl
+  first-map (Text es ∷ ls) = refl
+  first-map (Line b ∷ ls) = rw holes-map (if_both (option_map (map_border f)) (has_holes b.holes) None (Some b))
+
+  last-map : (ls : List (RenderLine A)) → last_mergeable (map (map_line f) ls) ≡ option_map (map_border f) (last_mergeable ls)
+  last-map ls = rw (length-map, drop-map) (first-map (drop (length ls - 1) ls))
+
+  after-map : (ls : List (RenderLine A)) → after_mergeable (map (map_line f) ls) ≡ map (map_line f) (after_mergeable ls)
+  after-map ls = rw (first-map ls, some_mapped, drop-map) (if_both (map (map_line f)) (is_some (first_mergeable ls)) (drop 1 ls) ls)
+
+  before-map : (ls : List (RenderLine A)) → before_mergeable (map (map_line f) ls) ≡ map (map_line f) (before_mergeable ls)
+  before-map ls = rw (last-map ls, some_mapped, length-map, take-map) (if_both (map (map_line f)) (is_some (last_mergeable ls)) (take (length ls - 1) ls) ls)
+
+  merged-map : (side : Side) (place : ℕ) (b : Border A) (o : Option (Border A)) → merged_with side place (map_border f b) (option_map (map_border f) o) ≡ map_border f (merged_with side place b o)
+  merged-map side place b None = refl
+  merged-map side place b (Some o) = refl
+
+  -- ---- the steps of a row
+
+  border_above-map : (collapses : Bool) (cs : List (Cell A)) (top : Option (Border A)) →
+      border_above collapses (map (map_cell f) cs) (option_map (map_border f) top) ≡ option_map (map_border f) (border_above collapses cs top)
+  border_above-map collapses cs None = refl
+  border_above-map true cs (Some b) =
+      rw (above_row-map cs b) (ap Some (fold_both (map_cell f) (map_border f) merged_below merged_below
+      (λ x c. rw (first-map c.lines) (merged-map below c.place x (first_mergeable c.lines))) (above_row cs b) cs))
+  border_above-map false cs (Some b) = rw (above_row-map cs b) refl
+
+  cells_under-map : (collapses : Bool) (top : Option (Border A)) (cs : List (Cell A)) →
+      cells_under collapses (option_map (map_border f) top) (map (map_cell f) cs) ≡ map (map_cell f) (cells_under collapses top cs)
+  cells_under-map collapses None cs = refl
+  cells_under-map true (Some b) cs = map_both (map_cell f) without_first_border without_first_border (map_cell f) (λ c. rw (after-map c.lines) refl) cs
+  cells_under-map false (Some b) cs = refl
+
+  next_under-map : (top : Option (Border A)) (cs : List (Cell A)) (b : Border A) →
+      next_under (option_map (map_border f) top) (map (map_cell f) cs) (map_border f b) ≡ map_border f (next_under top cs b)
+  next_under-map None cs b = refl
+  next_under-map (Some d) cs b = rw (separators-map cs) (joined-map above b (separators cs))
+
+  next_merged-map : (collapses : Bool) (cs : List (Cell A)) (b : Border A) →
+      next_merged collapses (map (map_cell f) cs) (map_border f b) ≡ map_border f (next_merged collapses cs b)
+  next_merged-map true cs b =
+      fold_both (map_cell f) (map_border f) merged_above merged_above (λ x c. rw (last-map c.lines) (merged-map above c.place x (last_mergeable c.lines))) b cs
+  next_merged-map false cs b = refl
+
+  columns_shown-map : (collapses : Bool) (cs : List (Cell A)) → columns_shown collapses (map (map_cell f) cs) ≡ map (map_column f) (columns_shown collapses cs)
+  columns_shown-map true cs =
+      map_both (map_cell f) with_last_border_apart with_last_border_apart (map_column f) (λ c. rw (before-map c.lines, last-map c.lines) refl) cs
+  columns_shown-map false cs = map_both (map_cell f) whole_column whole_column (map_column f) (λ c. refl) cs
+
+-- ---- rows
+
+module _ {A B : Type 0} (f : A → B) (eq : A → A → Bool) (means : MeansEqual f eq) where
   plain_means : (a : A) (width : ℕ) (b : Border A) → IsPlain eq a width b → map_border f b ≡ without_holes (replicate width horizontal) (f a)
-  plain_means a width b p =
-      ap (λ (cells : List Segment). let d : Border B = record { cells = cells; tag = f b.tag; holes = map (map_hole f) b.holes } in d) p.cells
-      ∙ ap (λ (t : B). let d : Border B = record { cells = replicate width horizontal; tag = t; holes = map (map_hole f) b.holes } in d) (means b.tag a p.tag)
-      ∙ ap (λ (hs : List (Hole A)). let d : Border B = record { cells = replicate width horizontal; tag = f a; holes = map (map_hole f) hs } in d) p.holes
+  plain_means a width b p = rw (p.cells, means b.tag a p.tag, p.holes) refl
 
-  drawn_means : (style : RowStyle) (b : Border A) → option_map (map_border f) (drawn_in style b) ≡ drawn_in style (map_border f b)
-  drawn_means style b = go style.draws_borders
-    where
-      go : (d : Bool) → option_map (map_border f) (if d then Some b else None) ≡ (if d then Some (map_border f b) else None)
-      go true = refl
-      go false = refl
-
-  pub row_means : (columns : ℕ → Option ℕ) (style : RowStyle) (a : A) (hanging own : List (Cell A)) (top : Option (Border A)) (row : Row A) → IsRow columns eq style a hanging own top row →
+  pub row_means : EqualIfMeant f eq → (columns : ℕ → Option ℕ) (style : RowStyle) (a : A) (hanging own : List (Cell A)) (top : Option (Border A))
+      (row : Row A) → IsRow columns eq style a hanging own top row →
       MeansRow columns style (f a) (map (map_cell f) hanging) (map (map_cell f) own) (option_map (map_border f) top) (row_meant f row)
-  row_means columns style a hanging own top row r =
+  row_means told columns style a hanging own top row r =
       let collapses : Bool = style.collapses in
       let draws : Bool = style.draws_borders in
       let under : List (Cell A) = cells_under collapses top r.cells in
-      let height : ℕ = row_height r.shown in
-      let left : cells_left (row_height (map (map_column f) r.shown)) (map (map_column f) r.shown) ≡ map (map_cell f) (cells_left height r.shown) =
-      ap (λ n. cells_left n (map (map_column f) r.shown)) (row_height-map f r.shown) ∙ cells_left-map f height r.shown in
-      let base : next_merged collapses (cells_under collapses (option_map (map_border f) top) (map (map_cell f) r.cells)) (next_under (option_map (map_border f) top) (map (map_cell f) r.cells) (map_border f r.plain))
-      ≡ map_border f (next_merged collapses under (next_under top r.cells r.plain)) =
-      ap (λ (b : Border B). next_merged collapses (cells_under collapses (option_map (map_border f) top) (map (map_cell f) r.cells)) b) (next_under-map f top r.cells r.plain)
-      ∙ ap (λ (cs : List (Cell B)). next_merged collapses cs (map_border f (next_under top r.cells r.plain))) (cells_under-map f collapses top r.cells)
-      ∙ next_merged-map f collapses under (next_under top r.cells r.plain) in
+      let shown : List (Column A) = shown_in style top r.cells in
+      let height : ℕ = row_height shown in
       record {
         cells = map (map_cell f) r.cells;
-        seated = with_hanging-map f 0 hanging own ∙ ap (option_map (map (map_cell f))) r.seated;
-        upper = ap (option_map (map_border f)) r.upper ∙ sym (border_above-map f collapses r.cells top);
-        shown = map (map_column f) r.shown;
-        shown_is = ap (map (map_column f)) r.shown_is ∙ sym (columns_shown-map f collapses under) ∙ ap (columns_shown collapses) (sym (cells_under-map f collapses top r.cells));
-        texts = texts_mean f eq means told row.lines.items (line_texts (glyph (separator_in style) a) a r.shown height) r.texts
-            ∙ sym (line_texts-map f (separator_in style) a r.shown height)
-            ∙ ap (line_texts (glyph (separator_in style) (f a)) (f a) (map (map_column f) r.shown)) (sym (row_height-map f r.shown));
-        plain = map_border f r.plain;
-        plain_is = plain_means a (row_width r.cells) r.plain r.plain_is ∙ ap (λ n. without_holes (replicate n horizontal) (f a)) (sym (row_width-map f r.cells));
+        seated = seats-map f (seats 0 hanging own r.cells r.seated);
+        upper = rw (border_above-map f collapses r.cells top) (ap (option_map (map_border f)) r.upper);
+        shown = map (map_column f) shown;
+        shown_is = rw (cells_under-map f collapses top r.cells, columns_shown-map f collapses under) refl;
+        texts =
+            rw (row_height-map f shown, line_texts-map f (separator_in style) a shown height)
+            (texts_mean f eq means told row.lines.items (line_texts (glyph (separator_in style) a) a shown height) r.texts);
         full = map_border f r.full;
-        gaps = subst (λ (b : Border B). HasGaps draws columns (f a) (cells_left (row_height (map (map_column f) r.shown)) (map (map_column f) r.shown)) b (map_border f r.full)) (sym base)
-            (subst (λ (cs : List (Cell B)). HasGaps draws columns (f a) cs (map_border f (next_merged collapses under (next_under top r.cells r.plain))) (map_border f r.full)) (sym left)
-            (gaps_mean f eq means told draws columns a (cells_left height r.shown) (next_merged collapses under (next_under top r.cells r.plain)) r.full r.gaps));
-        lower = ap (option_map (map_border f)) r.lower ∙ drawn_means style r.full;
-        rest = ap (map (map_cell f)) r.rest ∙ sym (overhang-map f draws (cells_left height r.shown)) ∙ ap (overhang draws) (sym left);
+        gaps =
+            rw (
+              row_height-map f shown,
+              cells_left-map f height shown,
+              row_width-map f r.cells,
+              ← plain_means a (row_width r.cells) r.plain r.plain_is,
+              next_under-map f top r.cells r.plain,
+              cells_under-map f collapses top r.cells,
+              next_merged-map f collapses under (next_under top r.cells r.plain),
+            )
+            (gaps_mean f eq means told draws columns a (cells_left height shown) (next_begun style top r.cells r.plain) r.full r.gaps);
+        lower = ap (option_map (map_border f)) r.lower ∙ sym (if_both (option_map (map_border f)) draws (Some r.full) None);
+        rest = rw (row_height-map f shown, cells_left-map f height shown, overhang-map f draws (cells_left height shown)) (ap (map (map_cell f)) r.rest);
       }
 
-module _ {A B : Type 0} (f : A → B) (eq : A → A → Bool) (means : MeansEqual f eq) where
   -- ---- what comes into a row
 
   pub filled_means : (columns : ℕ → Option ℕ) (align : CellAlign) (width : ℕ) (a : A) (l done : RenderLine A) → FillsLine columns eq align width a l done → MeansFilled columns align width (f a) (map_line f l) (map_line f done)
   filled_means columns align width a (Text es) (Text done) h =
-      let missing : ℕ = columns_missing columns width es in
-      let front : ℕ = columns_in_front align missing in
-      let before : List (Item A) = text_items (spaces front) a in
-      let after : List (Item A) = text_items (spaces (missing - front)) a in
-      let same : line_width columns (map (map_element f) es) ≡ line_width columns es = ap (items_width columns) (items-map f es) ∙ items_width-map f columns (items_of es) in
-      items-map f done ∙ means_same_items f eq means (items_of done) (before ++ items_of es ++ after) h.0
-      ∙ map-append (map_item f) (before ++ items_of es) after
-      ∙ ap (λ (is : List (Item B)). is ++ map_items f after) (map-append (map_item f) before (items_of es))
-      ∙ ap (λ (is : List (Item B)). map_items f before ++ map_items f (items_of es) ++ is) (text-map f (spaces (missing - front)) a)
-      ∙ ap (λ (is : List (Item B)). is ++ map_items f (items_of es) ++ text_items (spaces (missing - front)) (f a)) (text-map f (spaces front) a)
-      ∙ ap (λ (is : List (Item B)). text_items (spaces front) (f a) ++ is ++ text_items (spaces (missing - front)) (f a)) (sym (items-map f es))
-      ∙ ap (λ n. aligned_items align (items_of (map (map_element f) es)) (width - n) (f a)) (sym same)
+      rw (
+        items-map f done,
+        items-map f es,
+        items_width-map f columns (items_of es),
+        means_same_items f eq means (items_of done) (aligned_items align (items_of es) (columns_missing columns width es) a) h.0,
+      )
+      (simp (map-append, text-map f))
   filled_means columns align width a (Line b) (Line done) h = ap (map_border f) h
   filled_means columns align width a (Text es) (Line done) h = absurd h
   filled_means columns align width a (Line b) (Text done) h = absurd h
 
   pub lines_mean : (columns : ℕ → Option ℕ) (align : CellAlign) (width : ℕ) (a : A) (ls done : List (RenderLine A)) → AllZip (FillsLine columns eq align width a) ls done →
       AllZip (MeansFilled columns align width (f a)) (map (map_line f) ls) (map (map_line f) done)
-  lines_mean columns align width a [] [] h = tt
-  lines_mean columns align width a [] (d ∷ ds) h = absurd h
-  lines_mean columns align width a (l ∷ ls) [] h = absurd h
-  lines_mean columns align width a (l ∷ ls) (d ∷ ds) h = (filled_means columns align width a l d h.0, lines_mean columns align width a ls ds h.1)
+  lines_mean columns align width a ls done h =
+      zip-map (FillsLine columns eq align width a) _ (map_line f) (map_line f) (filled_means columns align width a) ls done h
 
 module _ {A B : Type 0} (f : A → B) where
   pub spots_mean : (cs : List (Cell A)) → map spot_of (map (map_cell f) cs) ≡ map spot_of cs
   spots_mean [] = refl
-  spots_mean (c ∷ cs) = ap (λ (s : Spot). s ∷ map spot_of (map (map_cell f) cs)) (spot-map f c) ∙ ap (λ (ss : List Spot). spot_of c ∷ ss) (spots_mean cs)
+  spots_mean (c ∷ cs) = rw (blank-map f c.lines, spots_mean cs) refl
 
   pub fits_mean : (hs : List (Cell A)) (spots : List Spot) → row_fits (map (map_cell f) hs) spots ≡ row_fits hs spots
   fits_mean [] spots = refl

@@ -1,122 +1,90 @@
 -- Cells among which overhanging ones have taken their places.
-use Rattle.std.proofs.Common.{◌≡◌, ◌==◌, if◌then◌else◌, ℕ, ◌+◌, ◌-◌, ◌<◌, ◌≤◌, Bool, true, false, Option, Some, None, List, [], ◌∷◌, ◌++◌, map, fold, refl, ap, sym, ◌∙◌, subst, arith, append_assoc, append-nil}
-use Rattle.std.specs.Prelude.{nat_lt, is_some}
-use Rattle.std.specs.Option.{option_map}
-use Rattle.std.proofs.lemmas.Bool.{eqb-true, eq-eqb, leb-true, ltb-true, ltb-false, both_ways}
+use Rattle.std.proofs.Common.{◌≡◌, if◌then◌else◌, ℕ, ◌+◌, ◌-◌, ◌<◌, ◌≤◌, Bool, true, false, Option, Some, None, List, [], ◌∷◌, ◌++◌, map, fold, refl, ap, sym, ◌∙◌, subst, arith, append_assoc, append-nil, nat_lt, is_some, option_map, eq-eqb, ne_eqb, leb-true, ltb-true, ltb-false}
 use Rattle.std.proofs.lemmas.Option.{same_Some}
 use Rattle.tbr_rows.specs.declared.line_set.LineSet.{LineSet as Cell}
-use Rattle.tbr_rows.specs.Cells.{end_of, row_width, next_place, empty_cell, AreSideBySide, AreApart, spot_of, is_left_for, ends_before, row_fits, with_hanging, appended, Seating, seat, seated, append_cell, append_all}
+use Rattle.tbr_rows.specs.Cells.{end_of, row_width, next_place, empty_cell, AreSideBySide, AreApart, spot_of, is_left_for, ends_before, row_fits, with_hanging, appended, Seating, seat, seated, append_all}
 use Rattle.tbr_rows.proofs.Fits.{left_is, found_exactly}
 
-some_of_map : {X Y : Type 0} (f : X → Y) (o : Option X) (y : Y) → option_map f o ≡ Some y → (x : X) × (o ≡ Some x) × (f x ≡ y)
-some_of_map f None y e = absurd (let no : None ≡ Some y = e in cc)
-some_of_map f (Some x) y e = (x, refl, same_Some (f x) y e)
+-- ---- how they come to be, cell by cell
+
+-- No cell overhangs any more, or one comes after all others, takes the place of a cell, or waits for one after it.
+pub data Seats (A : Type 0) : ℕ → List (Cell A) → List (Cell A) → List (Cell A) → Type 0 where
+  rest : {at : ℕ} {cs : List (Cell A)} → Seats A at [] cs cs
+  apart : {at : ℕ} {h : Cell A} {hs r : List (Cell A)} → nat_lt at h.place ≡ true → Seats A (end_of h + 1) hs [] r →
+      Seats A at (h ∷ hs) [] (empty_cell at (h.place - at - 1) ∷ h ∷ r)
+  next : {at : ℕ} {h : Cell A} {hs r : List (Cell A)} → nat_lt at h.place ≡ false → Seats A (end_of h + 1) hs [] r → Seats A at (h ∷ hs) [] (h ∷ r)
+  takes : {at : ℕ} {h c : Cell A} {hs cs r : List (Cell A)} → is_left_for h (spot_of c) ≡ true → Seats A (end_of h + 1) hs cs r →
+      Seats A at (h ∷ hs) (c ∷ cs) (h ∷ r)
+  waits : {at : ℕ} {h c : Cell A} {hs cs r : List (Cell A)} → is_left_for h (spot_of c) ≡ false → ends_before h (spot_of c) ≡ true →
+      Seats A (end_of c + 1) (h ∷ hs) cs r → Seats A at (h ∷ hs) (c ∷ cs) (c ∷ r)
+
+after_all : {A : Type 0} (at : ℕ) (hs : List (Cell A)) → Seats A at hs [] (appended at hs)
+after_all at [] = rest
+after_all {A} at (h ∷ hs) = go (nat_lt at h.place) refl (after_all (end_of h + 1) hs)
+  where
+    go : (b : Bool) → nat_lt at h.place ≡ b → Seats A (end_of h + 1) hs [] (appended (end_of h + 1) hs) →
+        Seats A at (h ∷ hs) [] ((if b then empty_cell at (h.place - at - 1) ∷ [] else []) ++ h ∷ appended (end_of h + 1) hs)
+    go true e later = apart e later
+    go false e later = next e later
+
+pub seats : {A : Type 0} (at : ℕ) (hs cs r : List (Cell A)) → with_hanging at hs cs ≡ Some r → Seats A at hs cs r
+seats {A} at hs [] r e = subst (Seats A at hs []) (same_Some (appended at hs) r e) (after_all at hs)
+seats {A} at [] (c ∷ cs) r e = subst (Seats A at [] (c ∷ cs)) (same_Some (c ∷ cs) r e) rest
+seats {A} at (h ∷ hs) (c ∷ cs) r e =
+    go (is_left_for h (spot_of c)) (ends_before h (spot_of c)) refl refl (with_hanging (end_of h + 1) hs cs) (with_hanging (end_of c + 1) (h ∷ hs) cs)
+    (λ t. seats (end_of h + 1) hs cs t) (λ t. seats (end_of c + 1) (h ∷ hs) cs t) e
+  where
+    go : (l b : Bool) → is_left_for h (spot_of c) ≡ l → ends_before h (spot_of c) ≡ b → (u v : Option (List (Cell A))) →
+        ((t : List (Cell A)) → u ≡ Some t → Seats A (end_of h + 1) hs cs t) → ((t : List (Cell A)) → v ≡ Some t → Seats A (end_of c + 1) (h ∷ hs) cs t) →
+        (if l then option_map (λ t. h ∷ t) u else if b then option_map (λ t. c ∷ t) v else None) ≡ Some r → Seats A at (h ∷ hs) (c ∷ cs) r
+    go true b left ends (Some t) v taken kept k = subst (Seats A at (h ∷ hs) (c ∷ cs)) (same_Some (h ∷ t) r k) (takes left (taken t refl))
+    go false true left ends u (Some t) taken kept k = subst (Seats A at (h ∷ hs) (c ∷ cs)) (same_Some (c ∷ t) r k) (waits left ends (kept t refl))
+    go true b left ends None v taken kept k = cc
+    go false true left ends u None taken kept k = cc
+    go false false left ends u v taken kept k = cc
 
 -- ---- they are side by side
 
-appended_side_by_side : {A : Type 0} (at : ℕ) (hs : List (Cell A)) → AreApart at hs → AreSideBySide at (appended at hs)
-appended_side_by_side at [] a = tt
-appended_side_by_side {A} at (h ∷ hs) a = go (nat_lt at h.place) refl (appended_side_by_side (end_of h + 1) hs a.1)
-  where
-    rest : List (Cell A)
-    rest = appended (end_of h + 1) hs
-
-    go : (b : Bool) → nat_lt at h.place ≡ b → AreSideBySide (end_of h + 1) rest → AreSideBySide at ((if b then empty_cell at (h.place - at - 1) ∷ [] else []) ++ h ∷ rest)
-    go true e more =
-        let free : at < h.place = ltb-true at h.place e in
-        (refl, (omega (arith, free), more))
-    go false e more =
-        let none : h.place ≤ at = ltb-false at h.place e in
-        (omega (arith, none, a.0), more)
+side_by_side : {A : Type 0} {at : ℕ} {hs cs r : List (Cell A)} → Seats A at hs cs r → AreSideBySide at cs → AreApart at hs → AreSideBySide at r
+side_by_side rest s a = s
+side_by_side {at = at} (apart {h = h} e w) s a = let free : at < h.place = ltb-true at h.place e in (refl, (omega (arith, free), side_by_side w tt a.1))
+side_by_side {at = at} (next {h = h} e w) s a = let none : h.place ≤ at = ltb-false at h.place e in (omega (arith, none, a.0), side_by_side w tt a.1)
+side_by_side (takes {h = h} {c = c} {cs = cs} left w) s a =
+    let is = left_is h c left in
+    let same : end_of c + 1 ≡ end_of h + 1 = omega (arith, is.0, is.1) in
+    (omega (arith, is.0, s.0), side_by_side w (subst (λ n. AreSideBySide n cs) same s.1) a.1)
+side_by_side (waits left ends w) s a = (s.0, side_by_side w s.1 (leb-true _ _ ends, a.1))
 
 pub stand_side_by_side : {A : Type 0} (at : ℕ) (hs cs r : List (Cell A)) → AreSideBySide at cs → AreApart at hs → with_hanging at hs cs ≡ Some r → AreSideBySide at r
-stand_side_by_side at hs [] r s a e = subst (AreSideBySide at) (same_Some (appended at hs) r e) (appended_side_by_side at hs a)
-stand_side_by_side at [] (c ∷ cs) r s a e = subst (AreSideBySide at) (same_Some (c ∷ cs) r e) s
-stand_side_by_side {A} at (h ∷ hs) (c ∷ cs) r s a e =
-    go (is_left_for h (spot_of c)) (ends_before h (spot_of c)) refl refl (λ t b k. stand_side_by_side (end_of h + 1) hs cs t b a.1 k) (λ t b k. stand_side_by_side (end_of c + 1) (h ∷ hs) cs t s.1 b k) e
-  where
-    go : (l b : Bool) → is_left_for h (spot_of c) ≡ l → ends_before h (spot_of c) ≡ b →
-        ((t : List (Cell A)) → AreSideBySide (end_of h + 1) cs → with_hanging (end_of h + 1) hs cs ≡ Some t → AreSideBySide (end_of h + 1) t) →
-        ((t : List (Cell A)) → AreApart (end_of c + 1) (h ∷ hs) → with_hanging (end_of c + 1) (h ∷ hs) cs ≡ Some t → AreSideBySide (end_of c + 1) t) →
-        (if l then option_map (λ t. h ∷ t) (with_hanging (end_of h + 1) hs cs) else if b then option_map (λ t. c ∷ t) (with_hanging (end_of c + 1) (h ∷ hs) cs) else None) ≡ Some r →
-        AreSideBySide at r
-    go true b left before taken kept k =
-        let is = left_is h c left in
-        let same : end_of c + 1 ≡ end_of h + 1 = omega (arith, is.0, is.1) in
-        let t = some_of_map (λ t. h ∷ t) (with_hanging (end_of h + 1) hs cs) r k in
-        subst (AreSideBySide at) t.2 (omega (arith, is.0, s.0), taken t.0 (subst (λ n. AreSideBySide n cs) same s.1) t.1)
-    go false true left before taken kept k =
-        let ends : end_of c + 1 ≤ h.place = leb-true _ _ before in
-        let t = some_of_map (λ t. c ∷ t) (with_hanging (end_of c + 1) (h ∷ hs) cs) r k in
-        subst (AreSideBySide at) t.2 (s.0, kept t.0 (ends, a.1) t.1)
-    go false false left before taken kept k = absurd (let no : None ≡ Some r = k in cc)
+stand_side_by_side at hs cs r s a e = side_by_side (seats at hs cs r e) s a
 
 -- ---- they are what the row's own cells and the overhanging ones come to, one after another
 
 place_push : {A : Type 0} (cs : List (Cell A)) (c : Cell A) → next_place (cs ++ c ∷ []) ≡ end_of c + 1
 place_push [] c = refl
-place_push {A} (d ∷ cs) c = ap (λ n. n + 1) (last d cs)
-  where
-    last : (d : Cell A) (cs : List (Cell A)) → row_width (d ∷ (cs ++ c ∷ [])) ≡ end_of c
-    last d [] = refl
-    last d (e ∷ cs) = last e cs
-
-append_all_is : {A : Type 0} (cs hs : List (Cell A)) → append_all cs hs ≡ cs ++ appended (next_place cs) hs
-append_all_is cs [] = sym (append-nil cs)
-append_all_is {A} cs (h ∷ hs) = append_all_is (append_cell cs h) hs ∙ go (nat_lt (next_place cs) h.place)
-  where
-    at : ℕ
-    at = next_place cs
-
-    gap : Cell A
-    gap = empty_cell at (h.place - at - 1)
-
-    rest : List (Cell A)
-    rest = appended (end_of h + 1) hs
-
-    go : (b : Bool) → (let done : List (Cell A) = (if b then cs ++ gap ∷ [] else cs) ++ h ∷ [] in done ++ appended (next_place done) hs) ≡ cs ++ ((if b then gap ∷ [] else []) ++ h ∷ rest)
-    go true = ap (λ n. ((cs ++ gap ∷ []) ++ h ∷ []) ++ appended n hs) (place_push (cs ++ gap ∷ []) h) ∙ append_assoc (cs ++ gap ∷ []) (h ∷ []) rest ∙ append_assoc cs (gap ∷ []) (h ∷ rest)
-    go false = ap (λ n. (cs ++ h ∷ []) ++ appended n hs) (place_push cs h) ∙ append_assoc cs (h ∷ []) rest
+place_push (d ∷ []) c = refl
+place_push (d ∷ e ∷ cs) c = place_push (e ∷ cs) c
 
 none_wait : {A : Type 0} (done cs : List (Cell A)) → fold seat (record { seated = done; waiting = [] }) cs ≡ record { seated = done ++ cs; waiting = [] }
-none_wait {A} done [] = ap (λ (ds : List (Cell A)). let s : Seating A = record { seated = ds; waiting = [] } in s) (sym (append-nil done))
-none_wait {A} done (c ∷ cs) = none_wait (done ++ c ∷ []) cs ∙ ap (λ (ds : List (Cell A)). let s : Seating A = record { seated = ds; waiting = [] } in s) (append_assoc done (c ∷ []) cs)
+none_wait done [] = rw append-nil
+none_wait done (c ∷ cs) = none_wait (done ++ c ∷ []) cs ∙ rw append_assoc
 
 -- Cells in their places are those that the code finds, cell by cell.
-pub seats_are : {A : Type 0} (done : List (Cell A)) (at : ℕ) (hs cs r : List (Cell A)) → at ≡ next_place done → with_hanging at hs cs ≡ Some r →
+seats_are : {A : Type 0} {at : ℕ} {hs cs r : List (Cell A)} → Seats A at hs cs r → (done : List (Cell A)) → at ≡ next_place done →
     (let s : Seating A = fold seat (record { seated = done; waiting = hs }) cs in append_all s.seated s.waiting) ≡ done ++ r
-seats_are {A} done at hs [] r here e = append_all_is done hs ∙ ap (λ n. done ++ appended n hs) (sym here) ∙ ap (λ (t : List (Cell A)). done ++ t) (same_Some (appended at hs) r e)
-seats_are {A} done at [] (c ∷ cs) r here e = ap (λ (s : Seating A). append_all s.seated s.waiting) (none_wait done (c ∷ cs)) ∙ ap (λ (t : List (Cell A)). done ++ t) (same_Some (c ∷ cs) r e)
-seats_are {A} done at (h ∷ hs) (c ∷ cs) r here e =
-    go (is_left_for h (spot_of c)) (ends_before h (spot_of c)) (h.place == c.place) refl refl refl
-    (λ t k. seats_are (done ++ h ∷ []) (end_of h + 1) hs cs t (sym (place_push done h)) k)
-    (λ t k. seats_are (done ++ c ∷ []) (end_of c + 1) (h ∷ hs) cs t (sym (place_push done c)) k)
-    e
-  where
-    built : Seating A → List (Cell A)
-    built s = append_all (fold seat s cs).seated (fold seat s cs).waiting
-
-    go : (l b p : Bool) → is_left_for h (spot_of c) ≡ l → ends_before h (spot_of c) ≡ b → (h.place == c.place) ≡ p →
-        ((t : List (Cell A)) → with_hanging (end_of h + 1) hs cs ≡ Some t → built (record { seated = done ++ h ∷ []; waiting = hs }) ≡ (done ++ h ∷ []) ++ t) →
-        ((t : List (Cell A)) → with_hanging (end_of c + 1) (h ∷ hs) cs ≡ Some t → built (record { seated = done ++ c ∷ []; waiting = h ∷ hs }) ≡ (done ++ c ∷ []) ++ t) →
-        (if l then option_map (λ t. h ∷ t) (with_hanging (end_of h + 1) hs cs) else if b then option_map (λ t. c ∷ t) (with_hanging (end_of c + 1) (h ∷ hs) cs) else None) ≡ Some r →
-        built (record { seated = done ++ (if p then h else c) ∷ []; waiting = if p then hs else h ∷ hs }) ≡ done ++ r
-    go true b true left before stands taken kept k =
-        let t = some_of_map (λ t. h ∷ t) (with_hanging (end_of h + 1) hs cs) r k in
-        taken t.0 t.1 ∙ append_assoc done (h ∷ []) t.0 ∙ ap (λ (u : List (Cell A)). done ++ u) t.2
-    go true b false left before stands taken kept k =
-        absurd (both_ways (h.place == c.place) stands (eq-eqb h.place c.place (left_is h c left).0))
-    go false true false left before stands taken kept k =
-        let t = some_of_map (λ t. c ∷ t) (with_hanging (end_of c + 1) (h ∷ hs) cs) r k in
-        kept t.0 t.1 ∙ append_assoc done (c ∷ []) t.0 ∙ ap (λ (u : List (Cell A)). done ++ u) t.2
-    go false true true left before stands taken kept k =
-        let ends : end_of c + 1 ≤ h.place = leb-true _ _ before in
-        let same : h.place ≡ c.place = eqb-true h.place c.place stands in
-        absurd (let no : ⊥ = omega (arith, ends, same) in no)
-    go false false p left before stands taken kept k = absurd (let no : None ≡ Some r = k in cc)
+seats_are {A} (rest {cs = cs}) done here = ap (λ (s : Seating A). append_all s.seated s.waiting) (none_wait done cs)
+seats_are {at = at} (apart {h = h} e w) done here =
+    let before = done ++ empty_cell at (h.place - at - 1) ∷ [] in
+    rw (← here, e) (seats_are w (before ++ h ∷ []) (sym (place_push before h)) ∙ simp append_assoc)
+seats_are (next {h = h} e w) done here = rw (← here, e) (seats_are w (done ++ h ∷ []) (sym (place_push done h)) ∙ rw append_assoc)
+seats_are (takes {h = h} {c = c} left w) done here =
+    simp (eq-eqb h.place c.place (left_is h c left).0) (seats_are w (done ++ h ∷ []) (sym (place_push done h)) ∙ rw append_assoc)
+seats_are (waits {h = h} {c = c} left ends w) done here =
+    let later : end_of c + 1 ≤ h.place = leb-true _ _ ends in
+    simp (ne_eqb h.place c.place (λ e. let no : ⊥ = omega (arith, later, e) in no)) (seats_are w (done ++ c ∷ []) (sym (place_push done c)) ∙ rw append_assoc)
 
 some_is : {X : Type 0} (o : Option X) → is_some o ≡ true → (x : X) × (o ≡ Some x)
-some_is None e = absurd (let no : false ≡ true = e in cc)
+some_is None e = cc
 some_is (Some x) e = (x, refl)
 
 -- the cells of a row that fits
@@ -124,7 +92,7 @@ pub seats_of_row : {A : Type 0} (hs cs : List (Cell A)) → AreSideBySide 0 cs �
     (with_hanging 0 hs cs ≡ Some (seated hs cs)) × AreSideBySide 0 (seated hs cs)
 seats_of_row {A} hs cs s a fits =
     let r = some_is (with_hanging 0 hs cs) (found_exactly 0 hs cs s a ∙ fits) in
-    let is : seated hs cs ≡ r.0 = seats_are [] 0 hs cs r.0 refl r.1 in
+    let is : seated hs cs ≡ r.0 = seats_are (seats 0 hs cs r.0 r.1) [] refl in
     (r.1 ∙ ap (λ (t : List (Cell A)). Some t) (sym is), subst (AreSideBySide 0) (sym is) (stand_side_by_side 0 hs cs r.0 s a r.1))
 
 -- one more cell after the others

@@ -49,28 +49,29 @@ module _ {A : Type 0} (columns : ℕ → Option ℕ) where
   abbrev pub meeting_in : MadeRow A columns → Meeting
   meeting_in r = meeting r.style.collapses r.top (row_height r.means.shown)
 
-  -- Line i of the row has in the cell's columns what is shown of it: its line i, if it has one.
-  pub record ShowsAt (r : MadeRow A columns) (c : Cell A) (i : ℕ) : Type 0 where
+  -- A line has something in the columns from a place on.
+  pub record HasInColumns (line : List (Item A)) (from wide : ℕ) (Is : List (Item A) → Type 0) : Type 0 where
     pub before : List (Item A)
     pub here : List (Item A)
     pub after : List (Item A)
-    pub line : slice_get r.row.lines i ≡ Some (before ++ here ++ after)
-    pub place : items_width columns before ≡ c.place
-    pub width : items_width columns here ≡ c.width
-    pub shows : (l : RenderLine A) → slice_get (met (meeting_in r) c).lines i ≡ Some l → here ≡ text_in_row r.tag l
+    pub parts : line ≡ before ++ here ++ after
+    pub place : items_width columns before ≡ from
+    pub width : items_width columns here ≡ wide
+    pub is : Is here
+
+  -- Line i of the row has in the cell's columns what is shown of it: its line i, if it has one.
+  abbrev pub ShowsAt : MadeRow A columns → Cell A → ℕ → Type 0
+  ShowsAt r c i =
+      (line : List (Item A)) × (slice_get r.row.lines i ≡ Some line)
+      × HasInColumns line c.place c.width (λ here. (l : RenderLine A) → slice_get (met (meeting_in r) c).lines i ≡ Some l →
+      here ≡ text_in_row r.tag l)
 
   -- The border below the row has in the cell's columns its line after those of the row, if it has one.
-  pub record ShowsBelow (r : MadeRow A columns) (c : Cell A) : Type 0 where
-    pub border : Border A
-    pub is_next : r.row.next ≡ Some border
-    pub before : List (Item A)
-    pub here : List (Item A)
-    pub after : List (Item A)
-    pub line : shown border.tag border ≡ before ++ here ++ after
-    pub place : items_width columns before ≡ c.place
-    pub width : items_width columns here ≡ c.width
-    pub shows : (l : RenderLine A) → slice_get (met (meeting_in r) c).lines (length r.row.lines) ≡ Some l →
-        here ≡ line_items l
+  abbrev pub ShowsBelow : MadeRow A columns → Cell A → Type 0
+  ShowsBelow r c =
+      (b : Border A) × (r.row.next ≡ Some b)
+      × HasInColumns (shown b.tag b) c.place c.width (λ here. (l : RenderLine A) →
+      slice_get (met (meeting_in r) c).lines (length r.row.lines) ≡ Some l → here ≡ line_items l)
 
   -- In each line of the row what is shown of the cell is in its columns. So it is in the border below, if borders are
   -- drawn and the cell spans another row.

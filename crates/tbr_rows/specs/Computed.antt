@@ -1,6 +1,5 @@
 -- A row by what its tags mean, computed where tags can be told apart.
-use Rattle.std.specs.Prelude.{◌≡◌, ◌↔◌, IsTrue, ℕ, Bool, if◌then◌else◌, Option, None, Some, List, [], ◌∷◌, fold, replicate}
-use Rattle.std.specs.Option.{option_map}
+use Rattle.std.specs.Prelude.{◌≡◌, ◌↔◌, IsTrue, ℕ, Bool, if◌then◌else◌, Option, None, Some, List, [], ◌∷◌, fold, replicate, option_map}
 use Rattle.tbr_model.specs.Run.{Item, glyph, marker}
 use Rattle.tbr_border.specs.declared.render_line.RenderLine.{RenderLine}
 use Rattle.tbr_border.specs.declared.render_line.RenderLine.TheVariants.{Text, Line}
@@ -9,12 +8,11 @@ use Rattle.tbr_border.specs.Border.{Border, without_holes, shown}
 use Rattle.tbr_tagged.specs.Elements.{Element, piece, marker_element}
 use Rattle.tbr_tagged.specs.Padding.{spaces}
 use Rattle.tbr_rows.specs.declared.line_set.LineSet.{LineSet as Cell}
-use Rattle.tbr_rows.specs.declared.column.Column.{Column}
 use Rattle.tbr_rows.specs.declared.row.RowStyle.{RowStyle}
 use Rattle.tbr_rows.specs.Cells.{first_line, row_width, with_hanging}
 use Rattle.tbr_rows.specs.Texts.{row_height, line_texts}
 use Rattle.tbr_rows.specs.Gaps.{has_gap, with_elements, overhang}
-use Rattle.tbr_rows.specs.Rows.{border_above, cells_under, next_under, next_merged, columns_shown, cells_left, separator_in, drawn_in}
+use Rattle.tbr_rows.specs.Rows.{border_above, next_begun, shown_in, left_in, separator_in, drawn_in}
 use Rattle.tbr_rows.specs.Meant.{SeenRow}
 
 -- It tells whether two tags are the same.
@@ -51,18 +49,14 @@ module _ {A : Type 0} (same : A → A → Bool) (columns : ℕ → Option ℕ) (
       if has_gap style.draws_borders c then with_elements columns c.place b (gap_of same a c.width (first_line c.lines))
       else b
 
-  -- what a row of these cells under a border shows of them, and what they have left then
-  abbrev pub shown_of : Option (Border A) → List (Cell A) → List (Column A)
-  shown_of top cells = columns_shown style.collapses (cells_under style.collapses top cells)
-
+  -- what a row of these cells under a border leaves of them
   abbrev pub left_of : Option (Border A) → List (Cell A) → List (Cell A)
-  left_of top cells = cells_left (row_height (shown_of top cells)) (shown_of top cells)
+  left_of top cells = left_in style top cells
 
   -- the border below the row
   abbrev pub border_below : Option (Border A) → List (Cell A) → Border A
   border_below top cells =
-      let plain : Border A = without_holes (replicate (row_width cells) horizontal) a in
-      let merged = next_merged style.collapses (cells_under style.collapses top cells) (next_under top cells plain) in
+      let merged = next_begun style top cells (without_holes (replicate (row_width cells) horizontal) a) in
       fold with_gap merged (left_of top cells)
 
   -- ---- the row
@@ -71,7 +65,7 @@ module _ {A : Type 0} (same : A → A → Bool) (columns : ℕ → Option ℕ) (
   abbrev pub row_under : Option (Border A) → List (Cell A) → SeenRow A
   row_under top cells = record {
     above = border_above style.collapses cells top;
-    lines = line_texts (glyph (separator_in style) a) a (shown_of top cells) (row_height (shown_of top cells));
+    lines = line_texts (glyph (separator_in style) a) a (shown_in style top cells) (row_height (shown_in style top cells));
     next = drawn_in style (border_below top cells);
     overhang = overhang style.draws_borders (left_of top cells);
   }

@@ -16,8 +16,7 @@ FillsLine columns eq align width a (Text es) (Text done) =
     SameItems eq (items_of done) (aligned_items align (items_of es) (columns_missing columns width es) a)
     × (IsMerged eq es → IsMerged eq done)
 FillsLine columns eq align width a (Line b) (Line done) = done ≡ with_cells (stretched width b.cells) b
-FillsLine columns eq align width a (Text es) (Line done) = ⊥
-FillsLine columns eq align width a (Line b) (Text done) = ⊥
+FillsLine columns eq align width a _ _ = ⊥
 
 -- a cell after these and a separator
 abbrev pub cell_after : {A : Type 0} → List (Cell A) → ℕ → ℕ → List (RenderLine A) → Cell A

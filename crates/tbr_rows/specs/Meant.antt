@@ -1,13 +1,12 @@
 -- Rows by what tags mean.
-use Rattle.std.specs.Prelude.{◌≡◌, ℕ, Bool, true, false, Option, None, Some, List, [], ◌∷◌, map, replicate, ⊤}
-use Rattle.std.specs.Option.{option_map}
+use Rattle.std.specs.Prelude.{◌≡◌, ℕ, Bool, true, false, Option, None, Some, List, [], ◌∷◌, map, replicate, ⊤, option_map}
 use Rattle.tbr_model.specs.Run.{Item, glyph}
 use Rattle.tbr_model.specs.Mapped.{map_items}
 use Rattle.tbr_border.specs.declared.render_line.RenderLine.{RenderLine}
 use Rattle.tbr_border.specs.declared.render_line.RenderLine.TheVariants.{Text, Line}
 use Rattle.tbr_border.specs.Cell.{horizontal}
 use Rattle.tbr_border.specs.Border.{Hole, Border, without_holes, with_cells, stretched, shown}
-use Rattle.tbr_tagged.specs.Elements.{Element, piece, marker_element, items_of, HasText}
+use Rattle.tbr_tagged.specs.Elements.{Element, piece, items_of, HasText}
 use Rattle.tbr_tagged.specs.Padding.{spaces, aligned_items, columns_missing}
 use Rattle.tbr_tagged.specs.declared.padding.CellAlign.{CellAlign}
 use Rattle.tbr_rows.specs.declared.line_set.LineSet.{LineSet as Cell}
@@ -17,7 +16,7 @@ use Rattle.tbr_rows.specs.declared.row.RowStyle.{RowStyle}
 use Rattle.tbr_rows.specs.Cells.{first_line, row_width, with_hanging}
 use Rattle.tbr_rows.specs.Texts.{row_height, line_texts}
 use Rattle.tbr_rows.specs.Gaps.{has_gap, with_elements, overhang}
-use Rattle.tbr_rows.specs.Rows.{border_above, cells_under, next_under, next_merged, columns_shown, cells_left, separator_in, drawn_in}
+use Rattle.tbr_rows.specs.Rows.{border_above, cells_under, columns_shown, cells_left, next_begun, separator_in, drawn_in}
 pub use Rattle.tbr_tagged.specs.Mapped.{map_element}
 
 -- ---- borders, lines and cells under other tags, each as what a function makes of it
@@ -50,8 +49,7 @@ abbrev pub MeansFilled : {A : Type 0} →
 MeansFilled columns align width a (Text es) (Text done) =
     items_of done ≡ aligned_items align (items_of es) (columns_missing columns width es) a
 MeansFilled columns align width a (Line b) (Line done) = done ≡ with_cells (stretched width b.cells) b
-MeansFilled columns align width a (Text es) (Line done) = ⊥
-MeansFilled columns align width a (Line b) (Text done) = ⊥
+MeansFilled columns align width a _ _ = ⊥
 
 -- ---- rows
 
@@ -75,8 +73,7 @@ row_meant f row = record {
 abbrev pub EndsStretch : {A : Type 0} → Element A → List (Element A) → Type 0
 EndsStretch e [] = ⊤
 EndsStretch (piece cs a) (piece ds b ∷ es) = a ≡ b → ⊥
-EndsStretch (piece cs a) (marker_element name ∷ es) = ⊤
-EndsStretch (marker_element name) (e ∷ es) = ⊤
+EndsStretch e (d ∷ es) = ⊤
 
 -- Pieces have characters, and are the longest stretches of characters under one tag.
 abbrev pub AreLongest : {A : Type 0} → List (Element A) → Type 0
@@ -110,10 +107,8 @@ pub record MeansRow {A : Type 0} (columns : ℕ → Option ℕ) (style : RowStyl
   pub shown : List (Column A)
   pub shown_is : shown ≡ columns_shown style.collapses (cells_under style.collapses top cells)
   pub texts : row.lines ≡ line_texts (glyph (separator_in style) a) a shown (row_height shown)
-  pub plain : Border A
-  pub plain_is : plain ≡ without_holes (replicate (row_width cells) horizontal) a
   pub full : Border A
   pub gaps : HasGaps style.draws_borders columns a (cells_left (row_height shown) shown)
-      (next_merged style.collapses (cells_under style.collapses top cells) (next_under top cells plain)) full
+      (next_begun style top cells (without_holes (replicate (row_width cells) horizontal) a)) full
   pub lower : row.next ≡ drawn_in style full
   pub rest : row.overhang ≡ overhang style.draws_borders (cells_left (row_height shown) shown)

@@ -45,6 +45,19 @@ columns_shown collapses cs = if collapses then map with_last_border_apart cs els
 abbrev pub cells_left : {A : Type 0} → ℕ → List (Column A) → List (Cell A)
 cells_left height columns = map cell_in (map (dropped height) columns)
 
+-- the border below a row of these cells under a border, as it begins, made of a plain one
+abbrev pub next_begun : {A : Type 0} → RowStyle → Option (Border A) → List (Cell A) → Border A → Border A
+next_begun style top cs plain =
+    next_merged style.collapses (cells_under style.collapses top cs) (next_under top cs plain)
+
+-- what the row shows of them
+abbrev pub shown_in : {A : Type 0} → RowStyle → Option (Border A) → List (Cell A) → List (Column A)
+shown_in style top cs = columns_shown style.collapses (cells_under style.collapses top cs)
+
+-- and what they have left then
+abbrev pub left_in : {A : Type 0} → RowStyle → Option (Border A) → List (Cell A) → List (Cell A)
+left_in style top cs = cells_left (row_height (shown_in style top cs)) (shown_in style top cs)
+
 -- ---- rows
 
 -- `│`
@@ -73,16 +86,14 @@ pub record IsRow {A : Type 0} (columns : ℕ → Option ℕ) (eq : A → A → B
   pub seated : with_hanging 0 hanging own ≡ Some cells
   -- the border above it
   pub upper : row.above ≡ border_above style.collapses cells top
-  -- what it shows of its cells, and its lines
-  pub shown : List (Column A)
-  pub shown_is : shown ≡ columns_shown style.collapses (cells_under style.collapses top cells)
-  pub texts : HaveTexts eq row.lines.items (line_texts (glyph (separator_in style) a) a shown (row_height shown))
+  -- its lines
+  pub texts : HaveTexts eq row.lines.items
+      (line_texts (glyph (separator_in style) a) a (shown_in style top cells) (row_height (shown_in style top cells)))
   -- the border below it: as it begins, and as it ends, with lines of spanning cells
   pub plain : Border A
   pub plain_is : IsPlain eq a (row_width cells) plain
   pub full : Border A
-  pub gaps : FillsGaps style.draws_borders columns eq a (cells_left (row_height shown) shown)
-      (next_merged style.collapses (cells_under style.collapses top cells) (next_under top cells plain)) full
+  pub gaps : FillsGaps style.draws_borders columns eq a (left_in style top cells) (next_begun style top cells plain) full
   pub lower : row.next ≡ drawn_in style full
   -- what overhangs
-  pub rest : row.overhang ≡ overhang style.draws_borders (cells_left (row_height shown) shown)
+  pub rest : row.overhang ≡ overhang style.draws_borders (left_in style top cells)

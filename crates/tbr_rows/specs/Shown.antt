@@ -10,7 +10,7 @@ use Rattle.tbr_border.specs.Border.{Hole, Border, has_holes}
 use Rattle.tbr_rows.specs.declared.line_set.LineSet.{LineSet as Cell}
 use Rattle.tbr_rows.specs.declared.column.Column.{Column}
 use Rattle.tbr_rows.specs.Cells.{cell_height}
-use Rattle.tbr_rows.specs.Borders.{first_mergeable, last_mergeable, without_first_border, with_last_border_apart}
+use Rattle.tbr_rows.specs.Borders.{first_mergeable, last_mergeable, after_mergeable, before_mergeable, without_first_border}
 use Rattle.tbr_rows.specs.Texts.{cell_text, text_in_row}
 use Rattle.tbr_rows.specs.Gaps.{has_gap, overhang_of}
 
@@ -39,8 +39,8 @@ pub record Meeting : Type 0 where
 -- the cell without what is merged
 abbrev pub met : {A : Type 0} → Meeting → Cell A → Cell A
 met m c =
-    let under = if m.first then without_first_border c else c in
-    if m.last then (with_last_border_apart under).cell else under
+    let under = if m.first then after_mergeable c.lines else c.lines in
+    record c { lines = if m.last then before_mergeable under else under }
 
 -- the borders that are merged
 abbrev pub merged_first : {A : Type 0} → Meeting → Cell A → List (RenderLine A)

@@ -1,6 +1,8 @@
 use Rattle.std.proofs.Common.{set, ◌≡◌, ◌<◌, length, get_or, ap, ◌∙◌, arith}
 use Rattle.tbr_model.specs.Run.{glyph}
-use Rattle.tbr_rows.proofs.RowTexts.{read_dropped, one_more_dropped, one_more_cell}
+use Rattle.tbr_rows.proofs.RowTexts.{read_dropped, one_more_cell}
+use Rattle.std.proofs.lemmas.List.Edits.{map_over_more}
+use Rattle.tbr_rows.specs.Texts.{dropped}
 use Rattle.tbr_rows.proofs.texts.line_of.Goals as goal
 
 pub loop-i-preserved : goal.loop-i-preserved
@@ -16,5 +18,7 @@ loop-i-preserved g c =
           one_more_cell g.T.PartialEq.eq g.met.T.Eq.laws (glyph c.args.separator c.args.tag.now) c.args.tag.now xs i x c.loop-i.line c.push_separator.new.line c.push_first.new.line below read
           inv.items c.in_ok-push_separator.ensures.items c.in_ok-push_first.ensures.items;
       merged = c.in_ok-push_first.ensures.merged (c.in_ok-push_separator.ensures.merged inv.merged);
-      columns = ap (λ cs. set cs i c.push_first.new.column) inv.columns ∙ one_more_dropped xs i x c.push_first.new.column below read c.in_ok-push_first.ensures.rest;
+      columns =
+          ap (set c.loop-i.columns.items i) c.in_ok-push_first.ensures.rest
+          ∙ map_over_more (dropped 1) xs c.loop-i.columns.items i x below inv.columns c.index_mut.ensures.value;
     })

@@ -1,23 +1,48 @@
-use Rattle.std.proofs.Common.{ap, ◌∙◌, map}
-use Rattle.tbr_model.specs.Run.{glyph}
-use Rattle.tbr_tagged.specs.Elements.{IsMerged}
-use Rattle.tbr_rows.specs.Texts.{dropped}
-use Rattle.tbr_rows.proofs.RowLines.{dropped_none, dropped_more, one_more_line, each_push}
+use Rattle.std.proofs.Common.{◌≡◌, ℕ, ◌+◌, Bool, List, [], ◌∷◌, ◌++◌, map, drop, refl, ap, sym, add-one}
+use Rattle.std.proofs.lemmas.List.{drop-drop, map_push, map-id}
+use Rattle.std.proofs.lemmas.Simd.{map-map}
+use Rattle.tbr_model.specs.Run.{Item, glyph}
+use Rattle.tbr_model.proofs.lists.Each.{each_append}
+use Rattle.tbr_border.specs.declared.render_line.RenderLine.{RenderLine}
+use Rattle.tbr_tagged.specs.Elements.{Element, items_of, SameItems, IsMerged}
+use Rattle.tbr_tagged.proofs.SameItems.{all_zip_append}
+use Rattle.tbr_rows.specs.declared.column.Column.{Column}
+use Rattle.tbr_rows.specs.Texts.{row_text, text_of_lines, cell_text, dropped, line_text, line_texts, HaveTexts}
 use Rattle.tbr_rows.proofs.texts.lines_of.Goals as goal
+
+text_later : {A : Type 0} (a : A) (i : ℕ) (c : Column A) (ls : List (RenderLine A)) → text_of_lines a (dropped i c) ls ≡ text_of_lines a c ls
+text_later a i c [] = refl
+text_later a i c (l ∷ ls) = refl
+
+-- the first line of what is left
+line_later : {A : Type 0} (separator : Item A) (a : A) (i : ℕ) (cs : List (Column A)) →
+    line_text separator a (map (dropped i) cs) 0 ≡ line_text separator a cs i
+line_later separator a i cs =
+    rw (map-map (cell_text a 0) (dropped i) cs) (ap (row_text separator) (λ j. map (λ c. text_later a i c (drop i c.cell.lines) j) cs))
+
+one_more_line : {A : Type 0} (eq : A → A → Bool) (separator : Item A) (a : A) (cs now : List (Column A)) (i : ℕ) (lines : List (List (Element A)))
+    (line : List (Element A)) → HaveTexts eq lines (line_texts separator a cs i) → now ≡ map (dropped i) cs →
+    SameItems eq (items_of line) (line_text separator a now 0) → HaveTexts eq (lines ++ line ∷ []) (line_texts separator a cs (i + 1))
+one_more_line {A} eq separator a cs now i lines line h e k =
+    rw (add-one, map_push)
+    (all_zip_append (λ (es : List (Element A)) (is : List (Item A)). SameItems eq (items_of es) is) lines (line ∷ []) (line_texts separator a cs i)
+    (line_text separator a cs i ∷ []) h (rw (e, line_later separator a i cs) at k, tt))
 
 pub loop-init : goal.loop-init
 loop-init g c = record {
   items = rw c.in_ok-lines.ensures.items tt;
   merged = rw c.in_ok-lines.ensures.items tt;
-  rest = dropped_none c.args.columns.now.items;
+  rest = sym (map-id c.args.columns.now.items);
 }
 
 pub loop-preserved : goal.loop-preserved
 loop-preserved g c =
     let inv = c.loop.invariant in
+    let tag = c.args.tag.now in
     let cells = c.args.columns.now.items in
     rw c.in_ok-push.ensures.items (record {
-      items = one_more_line g.T.PartialEq.eq (glyph c.args.separator c.args.tag.now) c.args.tag.now cells c.loop.columns.items c.loop.counter c.loop.lines.items c.in_ok-line_of.field-0 inv.items inv.rest c.in_ok-line_of.ensures.items;
-      merged = each_push (IsMerged g.T.PartialEq.eq) c.loop.lines.items c.in_ok-line_of.field-0 inv.merged c.in_ok-line_of.ensures.merged;
-      rest = c.in_ok-line_of.ensures.rest ∙ ap (map (dropped 1)) inv.rest ∙ dropped_more cells c.loop.counter;
+      items = one_more_line g.T.PartialEq.eq (glyph c.args.separator tag) tag cells c.loop.columns.items c.loop.counter c.loop.lines.items
+          c.in_ok-line_of.field-0 inv.items inv.rest c.in_ok-line_of.ensures.items;
+      merged = each_append (IsMerged g.T.PartialEq.eq) c.loop.lines.items (c.in_ok-line_of.field-0 ∷ []) inv.merged (c.in_ok-line_of.ensures.merged, tt);
+      rest = rw (c.in_ok-line_of.ensures.rest, inv.rest) (simp (map-map, drop-drop));
     })

@@ -1,5 +1,4 @@
-use Rattle.std.proofs.Common.{◌≡◌, ◌∷◌, ◌++◌, ap, sym, subst, ◌∙◌}
-use Rattle.std.specs.Option.{option_to_list}
+use Rattle.std.proofs.Common.{◌≡◌, ◌∷◌, ◌++◌, ap, sym, subst, ◌∙◌, option_to_list}
 use Rattle.std.proofs.lemmas.Result.{on_ok_weaker}
 use Rattle.tbr_tagged.specs.Elements.{items_of, SameItems}
 use Rattle.tbr_rows.specs.Texts.{text_in_row, text_of_lines, cell_text}

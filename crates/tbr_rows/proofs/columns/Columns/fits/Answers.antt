@@ -1,5 +1,4 @@
-use Rattle.std.proofs.Common.{map, ap, sym, ◌∙◌, [], ◌∷◌, append-nil}
-use Rattle.std.proofs.lemmas.List.{take_all}
+use Rattle.std.proofs.Common.{map, ap, sym, ◌∙◌, [], ◌∷◌, append-nil, take_all}
 use Rattle.tbr_rows.specs.Cells.{look, row_fits, spot_of, spots_from}
 use Rattle.tbr_rows.specs.Fitting.{fits_with}
 use Rattle.tbr_rows.proofs.Fitted.{no_line, one_more_told, spots_are}

@@ -1,23 +1,39 @@
-use Rattle.std.proofs.Common.{ap, ◌∙◌}
-use Rattle.tbr_rows.specs.Cells.{row_width}
+use Rattle.std.proofs.Common.{◌≡◌, map, ap, refl, ◌∙◌}
 use Rattle.tbr_rows.specs.Texts.{row_height}
-use Rattle.tbr_rows.proofs.WholeRow.{is_row, is_apart}
+use Rattle.tbr_rows.specs.Gaps.{cell_in, overhang}
+use Rattle.tbr_rows.specs.Rows.{columns_shown, next_begun, shown_in, left_in}
+use Rattle.tbr_rows.proofs.ColumnsOfRows.{rest_apart}
+use Rattle.tbr_rows.proofs.columns.Columns.lay_out.Goals.{After-drawn}
 use Rattle.tbr_rows.proofs.columns.Columns.lay_out.Goals as goal
+
+shown : (g : _) (c : After-drawn g) → c.in_ok-columns.columns.items ≡ shown_in c.args.style c.args.above c.in_ok-cells.cells.items
+shown g c = c.in_ok-columns.ensures.columns ∙ ap (columns_shown c.args.style.collapses) c.in_ok-above.ensures.cells
+
+height : (g : _) (c : After-drawn g) → c.height-height.result ≡ row_height (shown_in c.args.style c.args.above c.in_ok-cells.cells.items)
+height g c = c.height-height.ensures ∙ ap row_height (c.deref-2.ensures.value ∙ shown g c)
+
+left : (g : _) (c : After-drawn g) → map cell_in c.lines_of.new.columns.items ≡ left_in c.args.style c.args.above c.in_ok-cells.cells.items
+left g c = rw (c.in_ok-lines.ensures.rest, height g c, shown g c) refl
 
 pub of-requires : goal.of-requires
 of-requires g c =
-    is_apart c.args.style.collapses c.args.style.draws_borders c.args.above c.in_ok-cells.cells.items c.in_ok-above.cells.items c.in_ok-columns.columns.items c.lines_of.new.columns.items c.height-height.result c.in_ok-rest.rest
-    c.in_ok-cells.ensures.side_by_side c.in_ok-above.ensures.cells c.in_ok-columns.ensures.columns c.in_ok-lines.ensures.rest c.in_ok-rest.ensures.rest
+    rw (c.in_ok-rest.ensures.rest, left g c) (rest_apart c.args.style.collapses c.args.above _ c.args.style.draws_borders c.in_ok-cells.cells.items
+    c.in_ok-cells.ensures.side_by_side)
 
 pub returns-clause-row : goal.returns-clause-row
 returns-clause-row g c =
-    is_row g.W.CharWidth.columns g.T.PartialEq.eq c.args.style c.args.tag.now c.args.hanging c.args.self c.args.above _
-    c.in_ok-cells.cells.items c.in_ok-above.cells.items c.in_ok-columns.columns.items c.lines_of.new.columns.items c.in_ok-next.next c.meet_above.new.next c.meet_next.new.next c.hang.new.next
-    c.in_ok-row_width.field-0 c.height-height.result c.separator.result
-    c.in_ok-cells.ensures.cells
-    (c.in_ok-row_width.ensures ∙ ap row_width c.deref.ensures.value) c.in_ok-next.ensures
-    c.in_ok-above.ensures.above c.in_ok-above.ensures.cells c.in_ok-above.ensures.next
-    c.in_ok-columns.ensures.columns c.in_ok-columns.ensures.next
-    (c.height-height.ensures ∙ ap row_height c.deref-2.ensures.value) c.separator.ensures c.in_ok-lines.ensures.items c.in_ok-lines.ensures.rest
-    c.in_ok-rest.ensures.gaps c.drawn.ensures
-    (c.of.ensures ∙ c.in_ok-rest.ensures.rest)
+    let d = (goal.at.returns-clause-row g c).After-drawn in
+    let base : c.meet_next.new.next ≡ next_begun c.args.style c.args.above c.in_ok-cells.cells.items c.in_ok-next.next =
+    rw (c.in_ok-columns.ensures.next, c.in_ok-above.ensures.next, c.in_ok-above.ensures.cells) refl in
+    record {
+      cells = c.in_ok-cells.cells.items;
+      seated = c.in_ok-cells.ensures.cells;
+      upper = c.in_ok-above.ensures.above;
+      texts = rw (c.separator.ensures, height g d, shown g d) at c.in_ok-lines.ensures.items;
+      plain = c.in_ok-next.next;
+      plain_is = rw (c.in_ok-row_width.ensures, c.deref.ensures.value) at c.in_ok-next.ensures;
+      full = c.hang.new.next;
+      gaps = rw (left g d, base) at c.in_ok-rest.ensures.gaps;
+      lower = c.drawn.ensures;
+      rest = c.of.ensures ∙ c.in_ok-rest.ensures.rest ∙ ap (overhang c.args.style.draws_borders) (left g d);
+    }
