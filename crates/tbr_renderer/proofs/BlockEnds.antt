@@ -9,7 +9,7 @@ use Rattle.tbr_model.proofs.maps.Words.{items_width-map}
 use Rattle.tbr_annotations.specs.Annotations.{equal_annotations}
 use Rattle.tbr_tagged.specs.Elements.{Element, marker_element, items_of, text_items}
 use Rattle.tbr_tagged.specs.Padding.{spaces}
-use Rattle.tbr_wrap.specs.Block.{Block, Settings, all_lines, left, loose, flushed, without_loose, after_flush, after_taking}
+use Rattle.tbr_wrap.specs.Block.{Block, Settings, settings_of as block_settings, all_lines, left, loose, flushed, without_loose, after_flush, after_taking}
 use Rattle.tbr_tagged.specs.Outcome.{done, refused}
 use Rattle.tbr_wrap.specs.Wrapped.{padding_of}
 use Rattle.tbr_tagged.specs.declared.Error.TheVariants as E
@@ -30,8 +30,7 @@ use Rattle.tbr_renderer.proofs.OutcomeParts.{fitting, not_fitting}
 pub record HasLines {D A M : Type 0} (f : A → M) (columns : ℕ → Option ℕ) (first old : Block (List A)) (r q : Renderer D A (List A)) : Type 0 where
   pub unfailed : q.failure ≡ None
   pub live : old.failure ≡ None
-  pub padding : old.padding ≡ first.padding
-  pub width : old.width ≡ first.width
+  pub same : block_settings old ≡ block_settings first
   pub given : List (List (Item (List A)))
   pub parts : left columns first ≡ given ++ left columns old
   pub meaning : meant f q ≡ fold (with_line columns) (meant f r) (map (line_meant columns f first) given)
@@ -43,13 +42,12 @@ module _ {D A M : Type 0} (eq : A → A → Bool) (f : A → M) (agree : (v w : 
   one_line_more first old new r q s line h one added =
       let same : items_meant f (items_of line) ≡ line_meant columns f first one.text =
       means_same_items (tag_meant f) (equal_annotations eq) agree (items_of line) (one.text ++ padding_of columns old.padding old.width one.text) one.shows.items
-      ∙ ap (λ (o : Option (List A)). items_meant f (one.text ++ padding_of columns o old.width one.text)) h.padding ∙ ap (λ (n : ℕ). items_meant f (one.text ++ padding_of columns first.padding n one.text)) h.width in
+      ∙ ap (λ (k : Settings (List A)). items_meant f (one.text ++ padding_of columns k.padding k.width one.text)) h.same in
       let last : left columns new ≡ one.rest = ap (left columns) one.leaves ∙ left_after old columns ∙ ap (drop 1) one.left_is in
       record {
         unfailed = ap (λ (m : Renderer D M (List M)). m.failure) added ∙ h.unfailed;
         live = ap (λ (b : Block (List A)). b.failure) one.leaves ∙ (handed_keeps old).0 ∙ h.live;
-        padding = ap (λ (b : Block (List A)). b.padding) one.leaves ∙ ap (λ (k : Settings (List A)). k.padding) (handed_keeps old).1 ∙ h.padding;
-        width = ap (λ (b : Block (List A)). b.width) one.leaves ∙ ap (λ (k : Settings (List A)). k.width) (handed_keeps old).1 ∙ h.width;
+        same = ap (λ (b : Block (List A)). block_settings b) one.leaves ∙ (handed_keeps old).1 ∙ h.same;
         given = h.given ++ one.text ∷ [];
         settings = ap settings_of added ∙ h.settings;
         parts = h.parts ∙ ap (λ ls. h.given ++ ls) one.left_is ∙ ap (λ ls. h.given ++ one.text ∷ ls) (sym last) ∙ sym (append_assoc h.given (one.text ∷ []) (left columns new));
@@ -101,7 +99,7 @@ module _ {D A M : Type 0} (f : A → M) (columns : ℕ → Option ℕ) (r : Rend
     all_left : left columns taken_from ≡ all_lines columns b
     all_left =
         ap (left columns) after_is ∙ left_taken columns (flushed columns b) ∙ left_flushed columns b
-        ∙ ap (λ (ls : List (List (Item (List A)))). ls ++ drop b.handed (all_lines columns b)) fresh.ended ∙ ap (λ n. drop n (all_lines columns b)) fresh.handed
+        ∙ ap (λ (s : Block (List A)). s.ended ++ drop s.handed (all_lines columns b)) fresh.is
 
     -- a flush where a block is open
     pub block_flushed : (waiting : List (List ℕ)) (s0 s1 s2 : Renderer D A (List A)) → s0 ≡ record r { block = None } →
@@ -110,7 +108,7 @@ module _ {D A M : Type 0} (f : A → M) (columns : ℕ → Option ℕ) (r : Rend
         let opened : Open (List M) = block_meant f b in
         let fits : fits_at_end columns (meant f r) opened ≡ true = fits_meant f columns r b fresh ∙ flush_allowed columns b after e in
         let padding : taken_from.padding ≡ b.padding = ap (λ (s : Block (List A)). s.padding) after_is in
-        let wide : taken_from.width ≡ block_width r = ap (λ (s : Block (List A)). s.width) after_is ∙ fresh.width_is in
+        let wide : taken_from.width ≡ block_width r = ap (λ (s : Block (List A)). s.width) after_is ∙ ap (λ (s : Block (List A)). s.width) fresh.is in
         let here : map (line_meant columns f taken_from) (left columns taken_from) ≡ block_lines columns (meant f r) opened (lines_at_end columns (meant f r) opened) =
         ap (map (line_meant columns f taken_from)) all_left ∙ lines-map f columns taken_from b.padding (block_width r) (all_lines columns b) padding wide
         ∙ ap (block_lines columns (meant f r) opened) (sym (lines_meant f columns r b fresh)) in
@@ -126,4 +124,4 @@ module _ {D A M : Type 0} (f : A → M) (columns : ℕ → Option ℕ) (r : Rend
   pub block_refused : after_flush columns b ≡ refused E.TooNarrow → flush.after_flush columns (meant f r) ≡ refused E.TooNarrow
   block_refused e =
       subst (λ (o : Option (Open (List A))). after_block columns (meant f r) (option_map (map_open (tag_meant f)) o) ≡ refused E.TooNarrow) seen
-      (not_fitting (fits_at_end columns (meant f r) (block_meant f b)) _ (fits_meant f columns r b fresh ∙ flush_narrow columns b fresh.unfailed e))
+      (not_fitting (fits_at_end columns (meant f r) (block_meant f b)) _ (fits_meant f columns r b fresh ∙ flush_narrow columns b (ap (λ (s : Block (List A)). s.failure) fresh.is) e))

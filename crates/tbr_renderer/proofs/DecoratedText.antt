@@ -17,7 +17,5 @@ pub sub_made : {D A M : Type 0} (f : A → M) (decoration : Decoration D M) (r m
     made ≡ new_renderer width options d → meant f sub ≡ record (meant f made) { annotations = tag_meant f tag } → options ≡ r.options → d ≡ decoration.subblock r.decorator → tag_meant f tag ≡ map f r.annotations →
     meant f sub ≡ sub_renderer decoration width (meant f r)
 sub_made {D} {A} {M} f decoration r made sub width options d tag new is same made_by copied =
-    is ∙ ap (λ (q : Renderer D A (List A)). record (meant f q) { annotations = tag_meant f tag }) new
-    ∙ ap (λ xs. record (new_renderer width options d) { annotations = xs }) copied
-    ∙ ap (λ o. record (new_renderer width o d) { annotations = map f r.annotations }) same
-    ∙ ap (λ e. record (new_renderer width r.options e) { annotations = map f r.annotations }) made_by
+    is ∙ (λ i. record (meant f (new i)) { annotations = copied i })
+    ∙ (λ i. record (new_renderer width (same i) (made_by i)) { annotations = map f r.annotations })

@@ -1,6 +1,8 @@
 -- Text that joins the run of a block.
-use Rattle.std.proofs.Common.{◌≡◌, ℕ, ◌<◌, arith, ◌&&◌, not, Bool, true, false, is_none, Option, None, Some, unwrap_or, List, [], ◌∷◌, ◌++◌, refl, ap, sym, ◌∙◌, subst}
+use Rattle.std.proofs.Common.{◌≡◌, ℕ, ◌<◌, ◌&&◌, not, Bool, true, false, is_none, Option, None, Some, unwrap_or, Result, Err, List, [], ◌∷◌, ◌++◌, refl, ap, sym, ◌∙◌, subst}
+use Rattle.std.specs.Prelude.{OnOk}
 use Rattle.std.specs.Option.{option_map}
+use Rattle.std.proofs.lemmas.Result.{on_ok_weaker}
 use Rattle.std.proofs.lemmas.List.{map-append}
 use Rattle.tbr_model.specs.declared.white_space.WhiteSpace.{WhiteSpace}
 use Rattle.tbr_model.specs.Run.{Entry, character, marker_entry}
@@ -17,9 +19,10 @@ use Rattle.tbr_wrap.specs.Runs.{text_entries}
 use Rattle.tbr_renderer.specs.Renderer.{Open, Renderer, new_block, open_block, open_run, text_annotations, last_mode, entries_under, called, with_more, with_events, block_width, may_overflow}
 use Rattle.tbr_footnotes.specs.Tags.{tag_meant}
 use Rattle.tbr_renderer.specs.Meant.{map_open, meant}
-use Rattle.tbr_renderer.specs.View.{IsFresh, block_seen, block_meant}
-use Rattle.tbr_renderer.specs.Flush.{block_in, fits_grown}
-use Rattle.tbr_renderer.specs.Steps.{at_line_start, block_is_empty}
+use Rattle.tbr_renderer.specs.View.{IsFresh, Writes, block_seen, block_meant}
+use Rattle.tbr_renderer.specs.Flush.{fits_grown}
+use Rattle.tbr_renderer.specs.Steps.{at_line_start, block_is_empty, text_brings, after_joining}
+use Rattle.tbr_renderer.proofs.OutcomeParts.{fitting, not_fitting}
 use Rattle.tbr_renderer.proofs.MappedBlocks.{called-map, fits_grown_meant, line_start_meant, any_line_meant, text_narrow}
 
 pub text_entries-map : {A B : Type 0} (f : A → B) (cs : List ℕ) (a b : A) (mode : WhiteSpace) → map_run f (text_entries cs a b mode) ≡ text_entries cs (f a) (f b) mode
@@ -28,25 +31,14 @@ text_entries-map {A} {B} f (c ∷ cs) a b mode = ap (λ (es : List (Entry B)). c
 
 -- a new block is fresh
 pub fresh_new : {T : Type 0} (columns : ℕ → Option ℕ) (width : ℕ) (overflows : Bool) (b : Block T) (w : ℕ) (may : Bool) (padding : Option T) → b ≡ block.new_block w may padding → w ≡ width → may ≡ overflows → 0 < width → IsFresh columns width overflows b
-fresh_new {T} columns width overflows b w may padding is wide may_is some = record {
-  width_is = ap (λ (s : Block T). s.width) is ∙ wide;
-  may_overflow = ap (λ (s : Block T). s.may_overflow) is ∙ may_is;
-  begun = ap (λ (s : Block T). s.begun) is;
-  ended = ap (λ (s : Block T). s.ended) is;
-  handed = ap (λ (s : Block T). s.handed) is;
-  unfailed = ap (λ (s : Block T). s.failure) is;
-  sound = subst (IsSound columns) (sym is) (sound_new columns w may padding (omega (arith, some, wide)));
-}
+fresh_new {T} columns width overflows b w may padding is wide may_is some =
+    subst (IsFresh columns width overflows) (sym (is ∙ (λ i. block.new_block (wide i) (may_is i) padding)))
+    (record { is = refl; sound = sound_new columns width overflows padding some })
 
 -- a fresh block whose run has grown
 fresh_grown : {T : Type 0} (columns : ℕ → Option ℕ) (width : ℕ) (overflows : Bool) (old new : Block T) (es : List (Event T)) → new ≡ grown old es → IsSound columns new → IsFresh columns width overflows old → IsFresh columns width overflows new
 fresh_grown {T} columns width overflows old new es is sound fresh = record {
-  width_is = ap (λ (b : Block T). b.width) is ∙ fresh.width_is;
-  may_overflow = ap (λ (b : Block T). b.may_overflow) is ∙ fresh.may_overflow;
-  begun = ap (λ (b : Block T). b.begun) is ∙ fresh.begun;
-  ended = ap (λ (b : Block T). b.ended) is ∙ fresh.ended;
-  handed = ap (λ (b : Block T). b.handed) is ∙ fresh.handed;
-  unfailed = ap (λ (b : Block T). b.failure) is ∙ fresh.unfailed;
+  is = is ∙ ap (λ b. grown b es) fresh.is ∙ sym (ap (λ (b : Block T). record (block.new_block width overflows b.padding) { events = b.events }) is);
   sound = sound;
 }
 
@@ -85,7 +77,17 @@ module _ {D A M : Type 0} (f : A → M) (columns : ℕ → Option ℕ) (q : Rend
 
   pub stops : after_text columns cs v w mode old ≡ refused E.TooNarrow → fits_grown columns r (block_meant f old) (called (entries_under preformatted r cs)) ≡ false
   stops e =
-      fits_grown_meant f columns q old fresh (text_events cs v w mode) (called (entries_under preformatted r cs)) events_mean ∙ text_narrow columns old fresh.unfailed cs v w mode e
+      fits_grown_meant f columns q old fresh (text_events cs v w mode) (called (entries_under preformatted r cs)) events_mean ∙ text_narrow columns old (ap (λ (b : Block (List A)). b.failure) fresh.is) cs v w mode e
+
+  -- what is written where a block answers so
+  pub writes : {R : Type 0} (result : Result R Error) (new : Block (List A)) → OnOk result (after_text columns cs v w mode old ≡ done new) →
+      (result ≡ Err E.TooNarrow → after_text columns cs v w mode old ≡ refused E.TooNarrow) →
+      Writes f columns r (called (entries_under preformatted r cs)) old result new
+  writes result new ok narrow = record {
+    written = on_ok_weaker result (written new) ok;
+    goes_on = on_ok_weaker result (goes_on new) ok;
+    too_narrow = λ e. stops (narrow e);
+  }
 
 -- the run of the open block, or of a new one
 pub open_run_is : {D A : Type 0} (r : Renderer D A (List A)) → run_of (open_block r).events ≡ open_run r.block
@@ -115,15 +117,42 @@ block_grown {D} {A} {M} f r taken put old new es emptied before is put_is =
     ap (meant f) put_is ∙ ap (λ (q : Renderer D A (List A)). meant f (record q { block = block_seen (Some new) })) emptied
     ∙ ap (λ (b : Open (List M)). record (meant f r) { block = Some b }) (is ∙ ap (λ b. with_more b es) before)
 
+-- what is written joins the run
+module _ {D A M : Type 0} (f : A → M) (columns : ℕ → Option ℕ) (preformatted : D → Bool → M) (cs : List ℕ) (r taken : Renderer D A (List A)) (old : Block (List A))
+    (emptied : taken ≡ record r { block = None }) (opened : block_meant f old ≡ open_block (meant f r)) where
+  abbrev brings : Renderer D A (List A) → List (Event (List M))
+  brings q = text_brings columns preformatted cs (meant f q)
+
+  fits_here : fits_grown columns (meant f r) (open_block (meant f r)) (brings r) ≡ fits_grown columns (meant f taken) (block_meant f old) (brings taken)
+  fits_here = sym (ap (λ (q : Renderer D A (List A)). fits_grown columns (meant f q) (block_meant f old) (brings q)) emptied
+      ∙ ap (λ (o : Open (List M)). fits_grown columns (meant f r) o (brings r)) opened)
+
+  pub joins : (put : Renderer D A (List A)) (new : Block (List A)) → fits_grown columns (meant f taken) (block_meant f old) (brings taken) ≡ true →
+      block_meant f new ≡ with_more (block_meant f old) (brings taken) → put ≡ record taken { block = block_seen (Some new) } →
+      after_joining columns preformatted cs (meant f r) ≡ done (meant f put)
+  joins put new fits is put_is =
+      fitting _ (with_events (meant f r) (brings r)) (fits_here ∙ fits)
+      ∙ ap (λ s. done s) (sym (block_grown f r taken put old new (brings r) emptied opened
+      (is ∙ ap (λ (q : Renderer D A (List A)). with_more (block_meant f old) (brings q)) emptied) put_is))
+
+  pub never_joins : fits_grown columns (meant f taken) (block_meant f old) (brings taken) ≡ false → after_joining columns preformatted cs (meant f r) ≡ refused E.TooNarrow
+  never_joins narrow = not_fitting _ (with_events (meant f r) (brings r)) (fits_here ∙ narrow)
+
 -- ---- the beginning of a line, and empty blocks
 
-module _ {D A M : Type 0} (f : A → M) (columns : ℕ → Option ℕ) (r : Renderer D A (List A)) (b : Block (List A)) (seen : block_seen (Some b) ≡ r.block) (fresh : IsFresh columns (block_width r) (may_overflow r) b) where
-  pub line_start : (at : Bool) → at ≡ is_none b.failure && takes_no_columns columns b → at ≡ at_line_start columns (meant f r) (option_map (map_open (tag_meant f)) r.block)
-  line_start at asked = subst (λ (o : Option (Open (List A))). at ≡ at_line_start columns (meant f r) (option_map (map_open (tag_meant f)) o)) seen
-      (asked ∙ ap (λ (o : Option Error). is_none o && takes_no_columns columns b) fresh.unfailed ∙ sym (line_start_meant f columns r b fresh))
+module _ {D A M : Type 0} (f : A → M) (columns : ℕ → Option ℕ) (r : Renderer D A (List A)) (b : Block (List A))
+    (opens : (block_seen (Some b) ≡ r.block) × IsFresh columns (block_width r) (may_overflow r) b) where
+  pub line_start : (q : Block (List A)) → q ≡ b → (at : Bool) → at ≡ is_none q.failure && takes_no_columns columns q →
+      at ≡ at_line_start columns (meant f r) (option_map (map_open (tag_meant f)) r.block)
+  line_start q is at asked =
+      asked ∙ ap (λ (s : Block (List A)). is_none s.failure && takes_no_columns columns s) is
+      ∙ ap (λ (o : Option Error). is_none o && takes_no_columns columns b) (ap (λ (s : Block (List A)). s.failure) opens.1.is)
+      ∙ sym (line_start_meant f columns r b opens.1) ∙ ap (λ (o : Option (Open (List A))). at_line_start columns (meant f r) (option_map (map_open (tag_meant f)) o)) opens.0
 
-  pub block_empty : (empty : Bool) → empty ≡ is_none b.failure && (not (any_line columns b) && takes_no_columns columns b) → empty ≡ block_is_empty columns (meant f r) (option_map (map_open (tag_meant f)) r.block)
-  block_empty empty asked = subst (λ (o : Option (Open (List A))). empty ≡ block_is_empty columns (meant f r) (option_map (map_open (tag_meant f)) o)) seen
-      (asked ∙ ap (λ (o : Option Error). is_none o && (not (any_line columns b) && takes_no_columns columns b)) fresh.unfailed
-      ∙ ap (λ any. not any && takes_no_columns columns b) (sym (any_line_meant f columns r b fresh))
-      ∙ ap (λ none. not (any_line columns (block_in (meant f r) (block_meant f b))) && none) (sym (line_start_meant f columns r b fresh)))
+  pub block_empty : (q : Block (List A)) → q ≡ b → (empty : Bool) → empty ≡ is_none q.failure && (not (any_line columns q) && takes_no_columns columns q) →
+      empty ≡ block_is_empty columns (meant f r) (option_map (map_open (tag_meant f)) r.block)
+  block_empty q is empty asked =
+      asked ∙ ap (λ (s : Block (List A)). is_none s.failure && (not (any_line columns s) && takes_no_columns columns s)) is
+      ∙ ap (λ (o : Option Error). is_none o && (not (any_line columns b) && takes_no_columns columns b)) (ap (λ (s : Block (List A)). s.failure) opens.1.is)
+      ∙ (λ i. not (sym (any_line_meant f columns r b opens.1) i) && sym (line_start_meant f columns r b opens.1) i)
+      ∙ ap (λ (o : Option (Open (List A))). block_is_empty columns (meant f r) (option_map (map_open (tag_meant f)) o)) opens.0

@@ -92,20 +92,9 @@ module _ {A M : Type 0} (f : A → M) where
   any_content-map (l ∷ ls) = let first = content-map l in let rest = any_content-map ls in rw (first, rest) refl
 
 module _ {D A M : Type 0} (f : A → M) (columns : ℕ → Option ℕ) (r : Renderer D A (List A)) where
-  abbrev pub Begins : Bool → Renderer D M (List M) → Type 0
-  Begins true s = s ≡ with_empty_line columns (meant f r)
-  Begins false s = s ≡ record (meant f r) { block_ended = false }
-
   -- a block begins
-  pub block_begun : (b : Bool) (s : Renderer D M (List M)) → b ≡ has_content r → Begins b s → s ≡ block_started columns (meant f r)
-  block_begun true s e h = h ∙ sym (go e)
-    where
-      go : true ≡ has_content r → block_started columns (meant f r) ≡ with_empty_line columns (meant f r)
-      go k = rw (any_content-map f r.lines, ← k) refl
-  block_begun false s e h = h ∙ sym (go e)
-    where
-      go : false ≡ has_content r → block_started columns (meant f r) ≡ record (meant f r) { block_ended = false }
-      go k = rw (any_content-map f r.lines, ← k) refl
+  pub block_begun : (b : Bool) → b ≡ has_content r → (if b then with_empty_line columns (meant f r) else record (meant f r) { block_ended = false }) ≡ block_started columns (meant f r)
+  block_begun b e = λ i. if (e ∙ sym (any_content-map f r.lines)) i then with_empty_line columns (meant f r) else record (meant f r) { block_ended = false }
 
 -- ---- blocks that are opened
 

@@ -1,10 +1,11 @@
 -- Rows under what their annotations mean.
-use Rattle.std.proofs.Common.{◌≡◌, ℕ, ◌+◌, zero, suc, ◌-◌, ◌<◌, ◌↔◌, IsTrue, Bool, true, if◌then◌else◌, is_some, is_none, Option, None, Some, unwrap_or, List, [], ◌∷◌, ◌++◌, map, fold, take, drop, length, get_or, refl, ap, sym, ◌∙◌, subst, arith}
+use Rattle.std.proofs.Common.{◌≡◌, ℕ, ◌+◌, ◌-◌, ◌↔◌, IsTrue, Bool, true, if◌then◌else◌, is_some, is_none, Option, None, Some, unwrap_or, List, [], ◌∷◌, ◌++◌, map, fold, take, drop, length, refl, ap, sym, ◌∙◌, subst}
 use Rattle.std.specs.Borrow.{Bor}
 use Rattle.std.specs.Option.{MatchOption, option_copied, option_map}
 use Rattle.std.specs.List.{AllZip, AllByRecursion as Each}
 use Rattle.std.specs.Cmp.Lexicographic.{pointwise}
-use Rattle.std.proofs.lemmas.List.{map-append, length-map, take-map, length-append, take_more, nil_from_length}
+use Rattle.std.proofs.lemmas.List.{map-append, length-map, take-map, length-append, drop-drop, nil_from_length}
+use Rattle.std.proofs.lemmas.Slice.Zip.{AllZip-long, all_zipped_more}
 use Rattle.tbr_model.specs.Run.{Item, items_width}
 use Rattle.tbr_model.specs.Mapped.{map_items}
 use Rattle.tbr_border.specs.Border.{Border}
@@ -59,6 +60,9 @@ module _ {A M : Type 0} (eq : A → A → Bool) (meaning : A → M) (by_meaning 
 
 -- ---- the border above
 
+pub without_last-map : {X Y : Type 0} (f : X → Y) (xs : List X) → without_last (map f xs) ≡ map f (without_last xs)
+without_last-map f xs = ap (λ n. take (n - 1) (map f xs)) (length-map xs f) ∙ take-map f (length xs - 1) xs
+
 module _ {T U : Type 0} (f : T → U) where
   border_in-map : (l : Line T) → border_in (map_line f l) ≡ option_map (map_border f) (border_in l)
   border_in-map (text is) = refl
@@ -70,15 +74,11 @@ module _ {T U : Type 0} (f : T → U) where
   last_border-map (l ∷ m ∷ ls) = last_border-map (m ∷ ls)
 
   pub before_border-map : (ls : List (Line T)) → before_border (map (map_line f) ls) ≡ map (map_line f) (before_border ls)
-  before_border-map ls =
-      ap (λ (o : Option (Border U)). if is_some o then without_last (map (map_line f) ls) else map (map_line f) ls) (last_border-map ls)
-      ∙ ap (λ n. if is_some (option_map (map_border f) (last_border ls)) then take (n - 1) (map (map_line f) ls) else map (map_line f) ls) (length-map ls (map_line f))
-      ∙ ap (λ (ms : List (Line U)). if is_some (option_map (map_border f) (last_border ls)) then ms else map (map_line f) ls) (take-map (map_line f) (length ls - 1) ls)
-      ∙ go (last_border ls)
+  before_border-map ls = ap (λ (o : Option (Border U)). if is_some o then without_last (map (map_line f) ls) else map (map_line f) ls) (last_border-map ls) ∙ go (last_border ls)
     where
-      go : (o : Option (Border T)) → (if is_some (option_map (map_border f) o) then map (map_line f) (without_last ls) else map (map_line f) ls) ≡ map (map_line f) (if is_some o then without_last ls else ls)
+      go : (o : Option (Border T)) → (if is_some (option_map (map_border f) o) then without_last (map (map_line f) ls) else map (map_line f) ls) ≡ map (map_line f) (if is_some o then without_last ls else ls)
       go None = refl
-      go (Some b) = refl
+      go (Some b) = without_last-map (map_line f) ls
 
   pub border_lines-map : (o : Option (Border T)) → map (map_line f) (border_lines o) ≡ border_lines (option_map (map_border f) o)
   border_lines-map None = refl
@@ -141,21 +141,10 @@ module _ {D A : Type 0} (columns : ℕ → Option ℕ) where
 
 -- ---- whether the row fits
 
--- what holds of the first ones, and of the next
-pub each_more : {X : Type 0} (P : X → Type 0) (xs : List X) (i : ℕ) (x : X) → i < length xs → x ≡ get_or xs i x → Each P (take i xs) → P x → Each P (take (i + 1) xs)
-each_more P xs i x below is h one = subst (Each P) (sym (take_more xs i x below ∙ ap (λ y. take i xs ++ y ∷ []) (sym is))) (after (take i xs) h)
-  where
-    after : (ys : List _) → Each P ys → Each P (ys ++ x ∷ [])
-    after [] k = (one, tt)
-    after (y ∷ ys) k = (k.0, after ys k.1)
-
-side_by_side-map : {A B : Type 0} (f : A → B) (at : ℕ) (cells : List (Cell A)) → AreSideBySide at cells → AreSideBySide at (map (map_cell f) cells)
+-- the cells are side by side, whatever their annotations mean
+pub side_by_side-map : {A B : Type 0} (f : A → B) (at : ℕ) (cells : List (Cell A)) → AreSideBySide at cells → AreSideBySide at (map (map_cell f) cells)
 side_by_side-map f at [] h = tt
 side_by_side-map f at (c ∷ cs) h = (h.0, side_by_side-map f (c.place + c.width + 1) cs h.1)
-
--- the cells are side by side, whatever their annotations mean
-pub stand_meant : {A M : Type 0} (f : A → M) (cells : List (Cell (List A))) → AreSideBySide 0 cells → AreSideBySide 0 (map (map_cell (tag_meant f)) cells)
-stand_meant f cells h = side_by_side-map (tag_meant f) 0 cells h
 
 freed : {D A T : Type 0} (columns : ℕ → Option ℕ) (at : ℕ) (cols : List (Renderer D A T × ℕ)) (cells : List (Cell T)) → AllZip (LeavesFree columns) cols cells → AllZip IsAsFree (spots_from at (map (looks columns) cols)) (spots_from at (map look cells))
 freed columns at [] [] h = tt
@@ -199,21 +188,6 @@ module _ {A M : Type 0} (f : A → M) (eq : A → A → Bool) (means : MeansEqua
   lines_fill (l ∷ ls) [] merged h = absurd h
   lines_fill (l ∷ ls) (d ∷ ds) merged h = (line_fills l d merged.0 h.0, lines_fill ls ds merged.1 h.1)
 
-none_mapped : {X Y : Type 0} (f : X → Y) (xs : List X) → map f xs ≡ [] → xs ≡ []
-none_mapped f [] h = refl
-none_mapped f (x ∷ xs) h = cc
-
-none_filled : {X Y : Type 0} (R : X → Y → Type 0) (xs : List X) (ys : List Y) → AllZip R xs ys → xs ≡ [] → ys ≡ []
-none_filled R [] [] h e = refl
-none_filled R [] (y ∷ ys) h e = absurd h
-none_filled R (x ∷ xs) ys h e = absurd (let no : ⊥ = cc in no)
-
-zip_after : {X Y : Type 0} (R : X → Y → Type 0) (xs : List X) (ys : List Y) (x : X) (y : Y) → AllZip R xs ys → R x y → AllZip R (xs ++ x ∷ []) (ys ++ y ∷ [])
-zip_after R [] [] x y h r = (r, tt)
-zip_after R [] (z ∷ ys) x y h r = absurd h
-zip_after R (z ∷ xs) [] x y h r = absurd h
-zip_after R (z ∷ xs) (w ∷ ys) x y h r = (h.0, zip_after R xs ys x y h.1 r)
-
 module _ {D A M : Type 0} (f : A → M) (columns : ℕ → Option ℕ) (aligns : List CellAlign) (tag : List M) where
   -- the cells of some renderers, and the alignments that are left
   pub record HasColumns (cols : List (Renderer D A (List A) × ℕ)) (own : List (Cell (List A))) (left : List CellAlign) : Type 0 where
@@ -238,17 +212,20 @@ module _ {D A M : Type 0} (f : A → M) (columns : ℕ → Option ℕ) (aligns :
       record {
         cells = h.cells ++ cell ∷ [];
         given =
-            given_last (λ r. r.width) (λ r. handed_out columns (meant f r)) cols aligns h.cells (col, span) seen h.given hands
+            given_last (λ r. r.width) (λ r. handed_out columns (meant f r)) cols aligns h.cells (col, span) h.given seen hands
             ∙ ap (λ (a : CellAlign). done (h.cells ++ record { width = col.width; span = span; align = a; lines = seen } ∷ [])) (sym (aligned_by ∙ ap next_align h.left_is));
-        left_is = rest_is ∙ ap (drop 1) h.left_is ∙ dropped (length cols) aligns ∙ ap (λ n. drop n aligns) (let one : suc (length cols) ≡ length (cols ++ (col, span) ∷ []) = omega (arith, length-append cols ((col, span) ∷ [])) in one);
-        come = subst (AllZip (ComesAs columns tag) (h.cells ++ cell ∷ [])) (sym more) (zip_after (ComesAs columns tag) h.cells (map g own) cell (g placed) h.come (refl, refl, fills));
-        free = subst (AllZip (LeavesFree columns) (cols ++ (col, span) ∷ [])) (sym is) (zip_after (LeavesFree columns) cols own (col, span) placed h.free (refl, λ blank. none_mapped (map_row_line (tag_meant f)) filled (none_filled _ seen _ fills (blank_hands_none columns (meant f col) seen (blank_meant f columns col ∙ blank) hands))));
+        left_is =
+            rest_is ∙ ap (drop 1) h.left_is ∙ drop-drop 1 (length cols) aligns ∙ ap (λ n. drop n aligns) (sym (length-append cols ((col, span) ∷ [])));
+        come = subst (AllZip (ComesAs columns tag) (h.cells ++ cell ∷ [])) (sym more) (all_zipped_more (ComesAs columns tag) h.cells (map g own) cell (g placed) h.come (refl, refl, fills));
+        free =
+            subst (AllZip (LeavesFree columns) (cols ++ (col, span) ∷ [])) (sym is)
+            (all_zipped_more (LeavesFree columns) cols own (col, span) placed h.free (
+              refl,
+              λ blank. nil_from_length filled
+                  (sym (length-map filled (map_row_line (tag_meant f))) ∙ AllZip-long _ seen _ fills
+                  ∙ ap length (blank_hands_none columns (meant f col) seen (blank_meant f columns col ∙ blank) hands)),
+            ));
       }
-    where
-      dropped : (n : ℕ) (bs : List CellAlign) → drop 1 (drop n bs) ≡ drop (suc n) bs
-      dropped zero bs = refl
-      dropped (suc n) [] = refl
-      dropped (suc n) (a ∷ bs) = dropped n bs
 
 -- the alignment that comes next
 pub next_taken : {I : Type 0} (get : I → List CellAlign) (it next : I) (o : Option (Bor CellAlign)) (align : CellAlign) → MatchOption o ((length (get it) ≡ 0) × (next ≡ it)) (λ x. get it ≡ x.now ∷ get next) → align ≡ unwrap_or (option_copied o) Left →

@@ -6,9 +6,9 @@ use Rattle.tbr_renderer.proofs.sub.SubRenderer.finish.Goals as goal
 
 pub returns : goal.returns
 returns g c =
-    let tried = c.try_close-done in
+    let kept = c.keep.ensures in
+    let tried = c.try_close-done.ensures in
     record {
-      answers = kept_answers g.D.TextDecorator.meaning g.W.CharWidth.columns (decoration_of g.D.TextDecorator) (finish (end_of c.args.end)) c.args.self.now tried.new.self c.keep.new.self c.keep.result tried.result
-          c.in_ok-refusal.ensures c.keep.ensures.result c.keep.ensures.ok c.keep.ensures.failed tried.ensures.tries tried.ensures.two_columns
-          (on_err tried.result tried.ensures.kept);
+      answers = kept_answers g.D.TextDecorator.meaning g.W.CharWidth.columns (decoration_of g.D.TextDecorator) _ c.in_ok-refusal.ensures kept.result kept.ok kept.failed
+          (finish (end_of c.args.end)) tried.tries tried.two_columns (on_err c.try_close-done.result tried.kept);
     }

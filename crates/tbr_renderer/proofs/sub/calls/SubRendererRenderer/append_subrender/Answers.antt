@@ -9,7 +9,6 @@ use Rattle.tbr_renderer.specs.Renderer.{Renderer, Settings}
 use Rattle.tbr_renderer.specs.Outcomes.{and_then}
 use Rattle.tbr_renderer.specs.Flush.{after_flush}
 use Rattle.tbr_renderer.specs.Appended.{GivesFirst, texts_of, handed_out, after_lines}
-use Rattle.tbr_renderer.specs.Calls.{calls_by}
 use Rattle.tbr_renderer.proofs.KeptRefusals.{on_err, kept_ok, kept_fails}
 use Rattle.tbr_renderer.proofs.sub.calls.SubRendererRenderer.append_subrender.Goals as goal
 
@@ -22,7 +21,7 @@ returns-clause-ok g c =
     (kept_ok (λ (r : Renderer g.row.D.Denot g.row.D-Annotation.Denot (List g.row.D-Annotation.Denot)).
     (lines : List (Line (List g.D.TextDecorator.Meaning))) × (given : List g.row.P.Denot) × (handed_out columns (meant f c.args.other) ≡ done lines) × GivesFirst g.I.Iterator.next_gives (length lines) c.args.prefixes given
     × (after_lines columns (texts_of g.P.AsStr.text given) lines (meant f old) ≡ done (meant f r)))
-    c.keep.result c.try_append_subrender-done.result c.try_append_subrender-done.new.self c.keep.new.self c.keep.ensures.result c.keep.ensures.ok c.try_append_subrender-done.ensures.ok)
+    _ _ c.keep.ensures.result c.keep.ensures.ok c.try_append_subrender-done.ensures.ok)
 
 pub returns-clause-too_narrow : goal.returns-clause-too_narrow
 returns-clause-too_narrow g c = λ is.
@@ -34,5 +33,5 @@ returns-clause-too_narrow g c = λ is.
 
 pub returns-clause-fails : goal.returns-clause-fails
 returns-clause-fails g c =
-    kept_fails (calls_by g.W.CharWidth.columns (decoration_of g.D.TextDecorator) g.D.TextDecorator.meaning) c.args.self.now c.try_append_subrender-done.new.self c.keep.new.self c.keep.result c.in_ok-refusal.ensures c.keep.ensures.failed
-    (on_err c.keep.result (ap (λ (k : Settings g.row.D.Denot g.D.TextDecorator.Meaning). k.kept) c.try_append_subrender-done.ensures.settings))
+    kept_fails g.D.TextDecorator.meaning g.W.CharWidth.columns (decoration_of g.D.TextDecorator) c.try_append_subrender-done.new.self c.in_ok-refusal.ensures c.keep.ensures.result c.keep.ensures.failed
+    (on_err c.try_append_subrender-done.result (ap (λ (k : Settings g.row.D.Denot g.D.TextDecorator.Meaning). k.kept) c.try_append_subrender-done.ensures.settings))

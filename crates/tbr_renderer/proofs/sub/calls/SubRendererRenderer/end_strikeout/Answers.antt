@@ -5,9 +5,9 @@ use Rattle.tbr_renderer.proofs.sub.calls.SubRendererRenderer.end_strikeout.Goals
 
 pub returns : goal.returns
 returns g c =
-    let tried = c.try_end_strikeout-done in
+    let kept = c.keep.ensures in
+    let tried = c.try_end_strikeout-done.ensures in
     record {
-      answers = kept_answers g.D.TextDecorator.meaning g.W.CharWidth.columns (decoration_of g.D.TextDecorator) end_strikeout c.args.self.now tried.new.self c.keep.new.self c.keep.result tried.result
-          c.in_ok-refusal.ensures c.keep.ensures.result c.keep.ensures.ok c.keep.ensures.failed tried.ensures.tries tried.ensures.two_columns
-          tried.ensures.kept;
+      answers = kept_answers g.D.TextDecorator.meaning g.W.CharWidth.columns (decoration_of g.D.TextDecorator) _ c.in_ok-refusal.ensures kept.result kept.ok kept.failed
+          end_strikeout tried.tries tried.two_columns tried.kept;
     }

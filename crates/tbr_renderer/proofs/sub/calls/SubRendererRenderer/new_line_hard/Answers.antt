@@ -1,15 +1,13 @@
-use Rattle.std.proofs.Common.{ap}
 use Rattle.tbr_decor.specs.Decoration.{decoration_of}
-use Rattle.tbr_renderer.specs.Renderer.{Settings}
-use Rattle.tbr_renderer.proofs.KeptRefusals.{on_err, kept_answers}
+use Rattle.tbr_renderer.proofs.KeptRefusals.{settled_answers}
 use Rattle.tbr_renderer.specs.Calls.{new_line_hard}
 use Rattle.tbr_renderer.proofs.sub.calls.SubRendererRenderer.new_line_hard.Goals as goal
 
 pub returns : goal.returns
 returns g c =
-    let tried = c.try_break_line-done in
+    let kept = c.keep.ensures in
+    let tried = c.try_break_line-done.ensures in
     record {
-      answers = kept_answers g.D.TextDecorator.meaning g.W.CharWidth.columns (decoration_of g.D.TextDecorator) new_line_hard c.args.self.now tried.new.self c.keep.new.self c.keep.result tried.result
-          c.in_ok-refusal.ensures c.keep.ensures.result c.keep.ensures.ok c.keep.ensures.failed tried.ensures.tries tried.ensures.two_columns
-          (on_err tried.result (ap (λ (k : Settings g.row.D.Denot g.D.TextDecorator.Meaning). k.kept) tried.ensures.settings));
+      answers = settled_answers g.D.TextDecorator.meaning g.W.CharWidth.columns (decoration_of g.D.TextDecorator) _ c.in_ok-refusal.ensures kept.result kept.ok kept.failed
+          new_line_hard tried.tries tried.two_columns tried.settings;
     }
