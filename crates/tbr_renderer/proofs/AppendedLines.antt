@@ -26,20 +26,13 @@ use Rattle.std.specs.List.{AllByRecursion as Each}
 
 -- ---- prefixes
 
-prefixed-last : {T : Type 0} (tag : T) (prefixes : List (List ℕ)) (prefix : List ℕ) (lines : List (Line T)) (line : Line T) → length prefixes ≡ length lines →
-    prefixed tag (prefixes ++ prefix ∷ []) (lines ++ line ∷ []) ≡ prefixed tag prefixes lines ++ (text_items prefix tag ++ as_text tag line) ∷ []
-prefixed-last tag [] prefix [] line same = refl
-prefixed-last tag [] prefix (l ∷ lines) line same = cc
-prefixed-last tag (p ∷ prefixes) prefix [] line same = cc
-prefixed-last tag (p ∷ prefixes) prefix (l ∷ lines) line same =
-    ap (λ ts. (text_items p tag ++ as_text tag l) ∷ ts) (prefixed-last tag prefixes prefix lines line (omega (arith, same)))
-
--- lines without a prefix are dropped
-prefixed-front : {T : Type 0} (tag : T) (prefixes : List (List ℕ)) (lines more : List (Line T)) → length prefixes ≡ length lines → prefixed tag prefixes (lines ++ more) ≡ prefixed tag prefixes lines
-prefixed-front tag [] [] more same = refl
-prefixed-front tag [] (l ∷ lines) more same = refl
-prefixed-front tag (p ∷ prefixes) [] more same = cc
-prefixed-front tag (p ∷ prefixes) (l ∷ lines) more same = ap (λ ts. (text_items p tag ++ as_text tag l) ∷ ts) (prefixed-front tag prefixes lines more (omega (arith, same)))
+prefixed-append : {T : Type 0} (tag : T) (prefixes more : List (List ℕ)) (lines others : List (Line T)) → length prefixes ≡ length lines →
+    prefixed tag (prefixes ++ more) (lines ++ others) ≡ prefixed tag prefixes lines ++ prefixed tag more others
+prefixed-append tag [] more [] others same = refl
+prefixed-append tag [] more (l ∷ lines) others same = cc
+prefixed-append tag (p ∷ prefixes) more [] others same = cc
+prefixed-append tag (p ∷ prefixes) more (l ∷ lines) others same =
+    ap (λ ts. (text_items p tag ++ as_text tag l) ∷ ts) (prefixed-append tag prefixes more lines others (omega (arith, same)))
 
 -- an empty prefix shows nothing
 pub no_prefix : {T : Type 0} (prefix : List ℕ) (tag : T) (is : List (Item T)) → (length prefix == 0) ≡ true → is ≡ text_items (chars prefix) tag ++ is
@@ -107,10 +100,8 @@ module _ {A M : Type 0} (f : A → M) (eq : List A → List A → Bool) (tag : L
         let texts = prefixed tag (texts_of read h.given) (seen f (take count all)) in
         let shown = text_items (chars (read prefix)) tag ++ as_text tag old_seen in
         let all_put : texts ++ shown ∷ [] ≡ prefixed tag (texts_of read (h.given ++ prefix ∷ [])) (seen f (take (count + 1) all)) =
-        sym (ap (λ ls. prefixed tag (texts_of read (h.given ++ prefix ∷ [])) (seen f ls)) whole
-        ∙ ap (λ ps. prefixed tag ps (seen f (take count all ++ old ∷ []))) (map-append (λ x. chars (read x)) h.given (prefix ∷ []))
-        ∙ ap (prefixed tag (texts_of read h.given ++ chars (read prefix) ∷ [])) (seen-append f (take count all) (old ∷ []))
-        ∙ prefixed-last tag (texts_of read h.given) (chars (read prefix)) (seen f (take count all)) old_seen (same_length h.given count h.as_many h.within)) in record {
+        sym ((λ i. prefixed tag (map-append (λ x. chars (read x)) h.given (prefix ∷ []) i) ((ap (seen f) whole ∙ seen-append f (take count all) (old ∷ [])) i))
+        ∙ prefixed-append tag (texts_of read h.given) (chars (read prefix) ∷ []) (seen f (take count all)) (old_seen ∷ []) (same_length h.given count h.as_many h.within)) in record {
           can_go_on = able;
           given = h.given ++ prefix ∷ [];
           yields = Yields-more gives it h.given left prefix next h.yields came;
@@ -142,8 +133,8 @@ module _ {A M : Type 0} (f : A → M) (eq : List A → List A → Bool) (tag : L
     ran_out count left end now h below none = (
       h.given,
       (left, h.yields, inr (omega (arith, h.as_many, below), (end, none))),
-      h.put ∙ ap (map text) (sym (ap (λ ls. prefixed tag (texts_of read h.given) (seen f ls)) (sym (take-append-drop count all)) ∙ ap (prefixed tag (texts_of read h.given)) (seen-append f (take count all) (drop count all))
-          ∙ prefixed-front tag (texts_of read h.given) (seen f (take count all)) (seen f (drop count all)) (same_length h.given count h.as_many h.within))),
+      h.put ∙ ap (map text) (sym ((λ i. prefixed tag (sym (append-nil (texts_of read h.given)) i) ((ap (seen f) (sym (take-append-drop count all)) ∙ seen-append f (take count all) (drop count all)) i))
+          ∙ prefixed-append tag (texts_of read h.given) [] (seen f (take count all)) (seen f (drop count all)) (same_length h.given count h.as_many h.within) ∙ append-nil _)),
       h.merged,
     )
 

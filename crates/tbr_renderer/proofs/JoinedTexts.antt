@@ -56,9 +56,7 @@ module _ {D A M : Type 0} (f : A → M) (columns : ℕ → Option ℕ) (q : Rend
   r = meant f q
 
   text_means : map_run (tag_meant f) (text_entries cs v w mode) ≡ entries_under preformatted r cs
-  text_means =
-      text_entries-map (tag_meant f) cs v w mode ∙ ap (λ a. text_entries cs a (tag_meant f w) mode) main
-      ∙ ap (λ b. text_entries cs (text_annotations preformatted false r) b mode) continued ∙ ap (text_entries cs (text_annotations preformatted false r) (text_annotations preformatted true r)) is_mode
+  text_means = text_entries-map (tag_meant f) cs v w mode ∙ (λ i. text_entries cs (main i) (continued i) (is_mode i))
 
   events_mean : map_events (tag_meant f) (text_events cs v w mode) ≡ called (entries_under preformatted r cs)
   events_mean = called-map f columns q (text_entries cs v w mode) (entries_under preformatted r cs) text_means

@@ -1,4 +1,3 @@
-pub mod WrittenLines
 pub mod KeptRefusals
 pub mod OutcomeParts
 pub mod Images
@@ -7,14 +6,11 @@ pub mod MeantLines
 pub mod MappedBlocks
 pub mod FlushedBlocks
 pub mod CallParts
-pub mod MeantBorders
 pub mod LineTexts
 pub mod AppendedLines
 pub mod Fields
-pub mod SameLines
 pub mod Lines
 pub mod Footnotes
-pub mod LinesAsTheyAre
 pub mod BlockEnds
 pub mod BlankRenderers
 pub mod MeantRows

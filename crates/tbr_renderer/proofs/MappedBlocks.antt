@@ -2,6 +2,7 @@
 use Rattle.std.proofs.Common.{◌≡◌, ℕ, ◌<◌, ◌&&◌, ◌||◌, ◌==◌, not, nat_le, true, false, Option, None, Some, List, [], ◌∷◌, ◌++◌, map, refl, ap, sym, ◌∙◌}
 use Rattle.std.specs.Option.{option_map}
 use Rattle.std.proofs.lemmas.List.{map-append}
+use Rattle.std.proofs.lemmas.Simd.{map-map}
 use Rattle.tbr_model.specs.Run.{Entry, Item, glyph, marker, items_width, has_character}
 use Rattle.tbr_model.specs.Rule.{Event, call, entry, run_of, Progress, finished, waiting}
 use Rattle.tbr_model.specs.Laid.{Laid}
@@ -115,11 +116,7 @@ module _ {A B : Type 0} (f : A → B) (columns : ℕ → Option ℕ) where
 
 module _ {D A M : Type 0} (f : A → M) (columns : ℕ → Option ℕ) (r : Renderer D A (List A)) where
   pub called-map : (es : List (Entry (List A))) (fs : List (Entry (List M))) → map_run (tag_meant f) es ≡ fs → map_events (tag_meant f) (called es) ≡ called fs
-  called-map es fs e = ap (λ gs. call ∷ gs) (entries es) ∙ ap called e
-    where
-      entries : (es : List (Entry (List A))) → map_events (tag_meant f) (map entry es) ≡ map entry (map_run (tag_meant f) es)
-      entries [] = refl
-      entries (e ∷ es) = ap (λ gs. entry (map_entry (tag_meant f) e) ∷ gs) (entries es)
+  called-map es fs e = ap (λ gs. call ∷ gs) (map-map (map_event (tag_meant f)) entry es ∙ sym (map-map entry (map_entry (tag_meant f)) es)) ∙ ap called e
 
   module _ (b : Block (List A)) (fresh : IsFresh columns (block_width r) (may_overflow r) b) where
     abbrev pub opened : Open (List M)

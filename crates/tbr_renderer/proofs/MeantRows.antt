@@ -1,5 +1,5 @@
 -- Rows under what their annotations mean.
-use Rattle.std.proofs.Common.{◌≡◌, ℕ, ◌+◌, ◌-◌, ◌↔◌, IsTrue, Bool, true, if◌then◌else◌, is_some, is_none, Option, None, Some, unwrap_or, List, [], ◌∷◌, ◌++◌, map, fold, take, drop, length, refl, ap, sym, ◌∙◌, subst}
+use Rattle.std.proofs.Common.{◌≡◌, ℕ, ◌+◌, ◌-◌, ◌↔◌, IsTrue, Bool, true, if◌then◌else◌, is_some, is_none, ◌&&◌, Option, None, Some, unwrap_or, List, [], ◌∷◌, ◌++◌, map, fold, take, drop, length, refl, ap, sym, ◌∙◌, subst}
 use Rattle.std.specs.Borrow.{Bor}
 use Rattle.std.specs.Option.{MatchOption, option_copied, option_map}
 use Rattle.std.specs.List.{AllZip, AllByRecursion as Each}
@@ -46,14 +46,11 @@ use Rattle.tbr_renderer.proofs.BlankRenderers.{blank_hands_none, blank_meant}
 module _ {A M : Type 0} (eq : A → A → Bool) (meaning : A → M) (by_meaning : (a b : A) → IsTrue (eq a b) ↔ (meaning a ≡ meaning b)) where
   lists_told : (xs ys : List A) → map meaning xs ≡ map meaning ys → pointwise eq xs ys ≡ true
   lists_told [] [] h = refl
-  lists_told [] (y ∷ ys) h = absurd (let no : ⊥ = cc in no)
-  lists_told (x ∷ xs) [] h = absurd (let no : ⊥ = cc in no)
+  lists_told [] (y ∷ ys) h = cc
+  lists_told (x ∷ xs) [] h = cc
   lists_told (x ∷ xs) (y ∷ ys) h =
-      let first : meaning x ≡ meaning y = cc in
-      let rest : map meaning xs ≡ map meaning ys = cc in
-      let one : eq x y ≡ true = (by_meaning x y).1 first in
-      let all = lists_told xs ys rest in
-      rw (one, all) refl
+      let both : (meaning x ≡ meaning y) × (map meaning xs ≡ map meaning ys) = (cc, cc) in
+      λ i. (by_meaning x y).1 both.0 i && lists_told xs ys both.1 i
 
   pub tags_told : EqualIfMeant (tag_meant meaning) (equal_annotations eq)
   tags_told v w same = lists_told v w same
@@ -95,19 +92,15 @@ module _ {D A M : Type 0} (f : A → M) (columns : ℕ → Option ℕ) where
       meant f s3 ≡ with_row_after columns (meant f r) row
   row_put r s0 s1 s2 s3 above next texts overhang row put hung lines last is =
       let top : meant f s1 ≡ record (meant f r) { lines = (meant f r).lines ++ border_lines (option_map (map_border (tag_meant f)) above); hanging = map (map_cell (tag_meant f)) overhang } =
-      ap (meant f) hung ∙ ap (λ (q : Renderer D A (List A)). meant f (record q { hanging = overhang })) put
-      ∙ ap (λ (ls : List (Line (List M))). record (meant f r) { lines = ls; hanging = map (map_cell (tag_meant f)) overhang })
-      (map-append (map_line (tag_meant f)) r.lines (border_lines above) ∙ ap (λ ls. map (map_line (tag_meant f)) r.lines ++ ls) (border_lines-map (tag_meant f) above)) in
-      last ∙ ap (λ (q : Renderer D M (List M)). with_next columns q (option_map (map_border (tag_meant f)) next)) (lines ∙ ap (λ (q : Renderer D M (List M)). fold (with_line columns) q texts) top)
-      ∙ ap (with_row_after columns (meant f r)) (sym is)
+      ap (meant f) hung ∙ (λ i. meant f (record (put i) { hanging = overhang }))
+      ∙ (λ i. record (meant f r) { lines = (map-append (map_line (tag_meant f)) r.lines (border_lines above) ∙ ap (λ ls. map (map_line (tag_meant f)) r.lines ++ ls) (border_lines-map (tag_meant f) above)) i; hanging = map (map_cell (tag_meant f)) overhang }) in
+      last ∙ (λ i. with_next columns ((lines ∙ ap (λ q. fold (with_line columns) q texts) top) i) (option_map (map_border (tag_meant f)) next)) ∙ ap (with_row_after columns (meant f r)) (sym is)
 
   -- in the place of the border above
   pub row_placed : (r s0 s1 s2 : Renderer D A (List A)) (row : SeenRow (List M)) → s0 ≡ record r { hanging = [] } → s1 ≡ record s0 { lines = before_border s0.lines } → meant f s2 ≡ with_row_after columns (meant f s1) row → meant f s2 ≡ with_row columns (meant f r) row
   row_placed r s0 s1 s2 row taken cut put =
-      let before : meant f s1 ≡ record (meant f r) { lines = before_border (meant f r).lines; hanging = [] } =
-      ap (meant f) cut ∙ ap (λ (q : Renderer D A (List A)). meant f (record q { lines = before_border q.lines })) taken
-      ∙ ap (λ (ls : List (Line (List M))). record (meant f r) { lines = ls; hanging = [] }) (sym (before_border-map (tag_meant f) r.lines)) in
-      put ∙ ap (λ (q : Renderer D M (List M)). with_row_after columns q row) before
+      put ∙ (λ i. with_row_after columns (meant f (cut i)) row) ∙ (λ i. with_row_after columns (meant f (record (taken i) { lines = before_border (taken i).lines })) row)
+      ∙ (λ i. with_row_after columns (record (meant f r) { lines = sym (before_border-map (tag_meant f) r.lines) i; hanging = [] }) row)
 
 -- a row that was laid out
 module _ {D A M : Type 0} (f : A → M) (eq : A → A → Bool) (means : MeansEqual (tag_meant f) (equal_annotations eq)) (told : EqualIfMeant (tag_meant f) (equal_annotations eq)) (columns : ℕ → Option ℕ) where
@@ -119,15 +112,10 @@ module _ {D A M : Type 0} (f : A → M) (eq : A → A → Bool) (means : MeansEq
   row_laid r s0 s1 s2 row hanging own above style tag collapses hung taken top cut style_is tag_is is put =
       let g = tag_meant f in
       let seen : SeenRow (List M) = row_meant g row in
-      let cells : List (Cell (List M)) = map (map_cell g) own in
       let border_is : option_map (map_border g) above ≡ last_border (map (map_line g) r.lines) =
       ap (option_map (map_border g)) (top ∙ ap (λ (q : Renderer D A (List A)). last_border q.lines) taken) ∙ sym (last_border-map g r.lines) in
       let laid = row_means g (equal_annotations eq) means told columns style tag hanging own above row is in
-      let styled = subst (λ (t : RowStyle). MeansRow columns t (g tag) (map (map_cell g) hanging) cells (option_map (map_border g) above) seen) style_is laid in
-      let tagged = subst (λ (a : List M). MeansRow columns (style_in r collapses) a (map (map_cell g) hanging) cells (option_map (map_border g) above) seen) tag_is styled in
-      let hanged = subst (λ (hs : List (Cell (List A))). MeansRow columns (style_in r collapses) (map f r.annotations) (map (map_cell g) hs) cells (option_map (map_border g) above) seen) hung tagged in
-      let topped = subst (λ (o : Option (Border (List M))). MeansRow columns (style_in r collapses) (map f r.annotations) (map (map_cell g) r.hanging) cells o seen) border_is hanged in
-      (seen, topped, row_placed f columns r s0 s1 s2 seen taken cut put)
+      (seen, subst (λ (T : Type 0). T) (λ i. MeansRow columns (style_is i) (tag_is i) (map (map_cell g) (hung i)) (map (map_cell g) own) (border_is i) seen) laid, row_placed f columns r s0 s1 s2 seen taken cut put)
 
 -- ---- what a flush leaves of the overhanging cells
 

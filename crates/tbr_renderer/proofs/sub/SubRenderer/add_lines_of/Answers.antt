@@ -1,4 +1,4 @@
-use Rattle.tbr_renderer.proofs.LinesAsTheyAre.{added_at_once, texts_mean}
+use Rattle.tbr_renderer.proofs.MeantLines.{added_at_once, texts_mean}
 use Rattle.tbr_footnotes.proofs.Tags.{tags_mean}
 use Rattle.tbr_renderer.proofs.sub.SubRenderer.add_lines_of.Goals as goal
 

@@ -11,7 +11,7 @@ use Rattle.tbr_renderer.specs.Renderer.{Renderer}
 use Rattle.tbr_renderer.specs.View.{names_of}
 use Rattle.tbr_renderer.specs.Appended.{texts_of, prefixed, with_cell}
 use Rattle.tbr_renderer.proofs.AppendedLines.{Prefixes, seen, cell_of_texts, written_over}
-use Rattle.tbr_renderer.proofs.LinesAsTheyAre.{added_at_once}
+use Rattle.tbr_renderer.proofs.MeantLines.{added_at_once}
 use Rattle.tbr_renderer.proofs.sub.SubRenderer.add_prefixed.Goals as goal
 
 pub push_lines-requires : goal.push_lines-requires
