@@ -85,6 +85,3 @@ returns-clause-free g c =
     let all = c.into_iter-col-iterator.result in
     let whole = sym c.into_iter-col-iterator.ensures.into_iter_gives.0 ∙ items_taken all all c.loop-col.col-iterator c.next.new.self c.loop-col.yielded refl c.loop-col.yielded_by c.in-None.ensures.steps in
     subst (λ cols. AllZip (LeavesFree g.W.CharWidth.columns) cols c.loop-col.columns) (sym whole) c.loop-col.invariant.0.free
-
-pub returns-clause-side_by_side : goal.returns-clause-side_by_side
-returns-clause-side_by_side g c = c.loop-col.invariant.1

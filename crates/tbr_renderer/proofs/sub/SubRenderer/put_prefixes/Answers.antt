@@ -1,7 +1,7 @@
 use Rattle.std.proofs.Common.{◌≡◌, ℕ, Ok, List, ◌+◌, ◌∙◌, [], get_or, set, map, refl, ap, sym, subst, arith}
 use Rattle.std.proofs.lemmas.List.{set-get_or}
 use Rattle.tbr_annotations.specs.Annotations.{equal_annotations}
-use Rattle.tbr_renderer.proofs.AppendedLines.{Prefixes, one_prefix_more, all_prefixed, ran_out, left_merged}
+use Rattle.tbr_renderer.proofs.AppendedLines.{Prefixes, one_prefix_more, ran_out}
 use Rattle.tbr_renderer.proofs.sub.SubRenderer.put_prefixes.Goals as goal
 
 pub loop-line-init : goal.loop-line-init
@@ -9,14 +9,6 @@ loop-line-init g c = record {
   count = refl;
   put = record { can_go_on = c.requires.prefixes; given = []; yields = refl; as_many = refl; within = omega arith; put = refl; merged = tt; rest = refl };
 }
-
-pub put_next-requires : goal.put_next-requires
-put_next-requires g c =
-    let inv = c.loop-line.invariant.put in
-    record {
-      merged = left_merged (equal_annotations g.D.Annotation.PartialEq.eq) c.args.lines.now c.loop-line.lines c.loop-line.line-index c.line-item.result c.requires.merged c.loop-line-test.true inv.rest;
-      prefixes = inv.can_go_on;
-    }
 
 pub loop-line-preserved : goal.loop-line-preserved
 loop-line-preserved g c =
@@ -48,13 +40,3 @@ returns-then-not-branch g c =
     subst (λ ls. Prefixes f eq tag it.can_next it.next_gives g.P.AsStr.text c.args.prefixes c.args.lines.now c.loop-line.count ls) (sym same)
     (subst (λ n. Prefixes f eq tag it.can_next it.next_gives g.P.AsStr.text c.args.prefixes c.args.lines.now n c.loop-line.lines) (sym inv.count)
     (ran_out f eq tag it.can_next it.next_gives g.P.AsStr.text c.args.prefixes c.args.lines.now c.loop-line.line-index c.loop-line.prefixes c.put_next.new.prefixes c.loop-line.lines inv.put c.loop-line-test.true none.0))
-
-pub returns : goal.returns
-returns g c =
-    let f = g.D.TextDecorator.meaning in
-    let it = g.I.Iterator in
-    let eq = equal_annotations g.D.Annotation.PartialEq.eq in
-    let tag = map f c.args.self.now.annotations in
-    let inv = c.loop-line.invariant in
-    subst (λ n. Prefixes f eq tag it.can_next it.next_gives g.P.AsStr.text c.args.prefixes c.args.lines.now n c.loop-line.lines) (sym inv.count)
-    (all_prefixed f eq tag it.can_next it.next_gives g.P.AsStr.text c.args.prefixes c.args.lines.now c.loop-line.line-index c.loop-line.prefixes c.loop-line.lines inv.put (omega (arith, c.loop-line-test.false)))

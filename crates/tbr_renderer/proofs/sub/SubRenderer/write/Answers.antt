@@ -14,12 +14,3 @@ returns-then-self-eq0-clause-writes g c =
     let depth = ap (λ (q : Renderer g.row.D.Denot g.row.D-Annotation.Denot (List g.row.D-Annotation.Denot)). q.strikeouts) (sym c.self.view_is) ∙ c.if-self-eq0.true in
     subst (λ (ds : List ℕ). Writes f columns (meant f r) (called (entries_under g.D.TextDecorator.preformatted (meant f r) ds)) c.args.block.now c.write_plain.result c.write_plain.new.block)
     (sym (ap (λ (n : ℕ). struck columns n cs) depth ∙ struck_none columns cs)) c.write_plain.ensures.writes
-
-pub returns-clause-writes : goal.returns-clause-writes
-returns-clause-writes g c =
-    let f = g.D.TextDecorator.meaning in
-    let columns = g.W.CharWidth.columns in
-    let r = c.args.self.now in
-    let depth = ap (λ (q : Renderer g.row.D.Denot g.row.D-Annotation.Denot (List g.row.D-Annotation.Denot)). q.strikeouts) c.self.view_is in
-    subst (λ (ds : List ℕ). Writes f columns (meant f r) (called (entries_under g.D.TextDecorator.preformatted (meant f r) ds)) c.args.block.now c.write_plain-2.result c.write_plain-2.new.block)
-    (ap chars c.as_str.ensures.value ∙ c.in_ok-struck.ensures ∙ ap (λ (n : ℕ). struck columns n (chars c.args.text.now)) depth) c.write_plain-2.ensures.writes

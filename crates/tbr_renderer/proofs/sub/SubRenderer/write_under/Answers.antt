@@ -1,20 +1,12 @@
 use Rattle.std.proofs.Common.{List, ap, chars, refl, arith}
-use Rattle.std.proofs.lemmas.Result.{on_ok_weaker}
 use Rattle.tbr_wrap.specs.Block.{Block}
 use Rattle.tbr_wrap.proofs.runs.BlockLaws.{text_in_two}
 use Rattle.tbr_footnotes.proofs.Tags.{copies_are_equal}
-use Rattle.tbr_renderer.proofs.JoinedTexts.{fresh_written, writes}
+use Rattle.tbr_renderer.proofs.JoinedTexts.{writes}
 use Rattle.tbr_renderer.proofs.sub.SubRenderer.write_under.Goals as goal
 
 pub add_text-requires : goal.add_text-requires
 add_text-requires g c = copies_are_equal g.D.Annotation.PartialEq.eq g.D.TextDecorator.meaning g.met.D.TextDecorator.equal_by_meaning
-
-pub returns-clause-fresh : goal.returns-clause-fresh
-returns-clause-fresh g c =
-    on_ok_weaker c.add_text.result
-    (λ e. fresh_written g.D.TextDecorator.meaning g.W.CharWidth.columns c.args.self.now c.args.block.now c.requires.fresh (chars c.args.text.now) c.args.main.now
-    c.args.continued.now c.mode.result g.D.TextDecorator.preformatted c.requires.main c.requires.continued c.mode.ensures c.add_text.new.self e)
-    c.add_text.ensures.answers.ok
 
 pub returns-clause-writes : goal.returns-clause-writes
 returns-clause-writes g c =

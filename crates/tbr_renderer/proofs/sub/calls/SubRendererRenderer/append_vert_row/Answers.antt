@@ -1,7 +1,7 @@
 use Rattle.tbr_tagged.proofs.Outcomes.{live_goes}
 use Rattle.tbr_decor.specs.Decoration.{decoration_of}
 use Rattle.tbr_renderer.specs.Appended.{after_cells}
-use Rattle.tbr_renderer.proofs.KeptRefusals.{settled_takes, refused_takes}
+use Rattle.tbr_renderer.proofs.KeptRefusals.{settled_takes}
 use Rattle.tbr_renderer.proofs.sub.calls.SubRendererRenderer.append_vert_row.Goals as goal
 
 pub returns : goal.returns
@@ -12,8 +12,3 @@ returns g c =
       takes = settled_takes g.D.TextDecorator.meaning g.W.CharWidth.columns (decoration_of g.D.TextDecorator) c.try_append_vert_row-done.new.self c.in_ok-refusal.ensures kept.result kept.ok kept.failed
           (after_cells g.W.CharWidth.columns) (λ x. live_goes c.args.self.now.failure _ c.in_ok-refusal.ensures) tried.ok tried.too_narrow tried.two_columns tried.settings;
     }
-
-pub returns-in_err-refusal : goal.returns-in_err-refusal
-returns-in_err-refusal g c = record {
-  takes = refused_takes g.D.TextDecorator.meaning g.W.CharWidth.columns (decoration_of g.D.TextDecorator) c.in_err-refusal.ensures c.from_residual.ensures.1;
-}

@@ -1,9 +1,0 @@
-use Rattle.tbr_renderer.proofs.Fields.{boxed_opens}
-use Rattle.tbr_renderer.proofs.BlankRenderers.{block_asked}
-use Rattle.tbr_renderer.proofs.sub.SubRenderer.has_blank_block.Goals as goal
-
-pub returns-in-Some : goal.returns-in-Some
-returns-in-Some g c =
-    block_asked g.W.CharWidth.columns c.args.self.now c.in-Some.block.value
-    (boxed_opens g.W.CharWidth.columns c.self.inside c.args.self.now c.in-Some.block c.self.invariant c.self.view_is c.requires c.in-Some.is)
-    _ c.deref.ensures c.is_blank.result c.is_blank.ensures
