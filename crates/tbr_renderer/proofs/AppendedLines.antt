@@ -1,5 +1,5 @@
 -- Lines of other renderers, one after another.
-use Rattle.std.proofs.Common.{◌≡◌, inl, inr, ℕ, arith, ◌+◌, ◌≤◌, ◌<◌, Bool, Option, None, Some, List, [], ◌∷◌, ◌++◌, map, fold, take, drop, get_or, set, length, refl, ap, sym, ◌∙◌, subst, append-nil, drop_of_length-le}
+use Rattle.std.proofs.Common.{◌≡◌, inr, ℕ, arith, ◌+◌, ◌≤◌, ◌<◌, Bool, Option, None, Some, List, [], ◌∷◌, ◌++◌, map, fold, take, drop, get_or, set, length, refl, ap, sym, ◌∙◌, subst, append-nil, drop_of_length-le}
 use Rattle.std.specs.Prelude.{chars, ◌==◌, true}
 use Rattle.std.specs.Iterator.{Yields}
 use Rattle.std.proofs.iter.Next.{Yields-more}
@@ -18,7 +18,7 @@ use Rattle.tbr_tagged.specs.Elements.{text_items}
 use Rattle.tbr_footnotes.specs.Tags.{tag_meant}
 use Rattle.tbr_renderer.specs.Meant.{map_line, meant}
 use Rattle.tbr_kept_lines.specs.Line.{Line, text, line_seen}
-use Rattle.tbr_kept_lines.proofs.KeptParts.{each_after, each_get_or}
+use Rattle.tbr_kept_lines.proofs.KeptParts.{each_after}
 use Rattle.tbr_renderer.specs.Renderer.{Renderer, KeepsSettings, with_line}
 use Rattle.tbr_border.specs.Cell.{slash}
 use Rattle.tbr_renderer.specs.Appended.{GivesFirst, texts_of, as_text, prefixed, handed_out, with_divider, with_cell, with_cell_below}
@@ -119,15 +119,6 @@ module _ {A M : Type 0} (f : A → M) (eq : List A → List A → Bool) (tag : L
         × (seen f (take count now) ≡ map text (prefixed tag (texts_of read given) (seen f all)))
         × Each (IsMergedText eq) (take count now)
 
-    -- all have one
-    pub all_prefixed : (count : ℕ) (left : S) (now : List (RenderLine (List A))) → HasPrefixes count left now → length all ≤ count → Prefixes count now
-    all_prefixed count left now h over = (
-      h.given,
-      (left, h.yields, inl (omega (arith, h.as_many, h.within, over))),
-      h.put ∙ ap (λ ls. map text (prefixed tag (texts_of read h.given) (seen f ls))) (take_all count all over),
-      h.merged,
-    )
-
     -- the prefixes ran out before a line
     pub ran_out : (count : ℕ) (left end : S) (now : List (RenderLine (List A))) → HasPrefixes count left now → count < length all → gives left None end → Prefixes count now
     ran_out count left end now h below none = (
@@ -137,11 +128,6 @@ module _ {A M : Type 0} (f : A → M) (eq : List A → List A → Bool) (tag : L
           ∙ prefixed-append tag (texts_of read h.given) [] (seen f (take count all)) (seen f (drop count all)) (same_length h.given count h.as_many h.within) ∙ append-nil _)),
       h.merged,
     )
-
--- a line that is as it was
-pub left_merged : {A : Type 0} (eq : List A → List A → Bool) (all now : List (RenderLine (List A))) (i : ℕ) (d : RenderLine (List A)) → Each (IsMergedText eq) all → i < length all → drop i now ≡ drop i all → IsMergedText eq (get_or now i d)
-left_merged eq all now i d merged below rest =
-    subst (IsMergedText eq) (still_there all now i d rest) (each_get_or (IsMergedText eq) all i d below merged)
 
 -- ---- texts that are added at once
 

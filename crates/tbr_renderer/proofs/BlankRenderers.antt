@@ -1,13 +1,13 @@
 -- Renderers with nothing in them.
-use Rattle.std.proofs.Common.{◌≡◌, ℕ, ◌&&◌, not, Bool, true, is_none, Option, None, Some, List, [], ◌∷◌, map, refl, ap, ◌∙◌}
+use Rattle.std.proofs.Common.{◌≡◌, ℕ, ◌&&◌, not, true, is_none, Option, None, Some, List, [], ◌∷◌, map, refl, ap, ◌∙◌}
 use Rattle.std.specs.Option.{option_map}
 use Rattle.std.proofs.lemmas.Bool.{and_parts}
 use Rattle.tbr_model.specs.Run.{Item}
 use Rattle.tbr_wrap.specs.Runs.{is_some_list}
-use Rattle.tbr_wrap.specs.Block.{Block, lines, any_line, has_no_character}
+use Rattle.tbr_wrap.specs.Block.{lines, any_line, has_no_character}
 use Rattle.tbr_wrap.proofs.runs.BlockLaws.{none_ended}
 use Rattle.tbr_kept_lines.specs.Line.{Line}
-use Rattle.tbr_renderer.specs.Renderer.{Open, Renderer, block_width, may_overflow}
+use Rattle.tbr_renderer.specs.Renderer.{Open, Renderer}
 use Rattle.tbr_tagged.specs.Outcome.{done}
 use Rattle.tbr_tagged.proofs.Outcomes.{live_done}
 use Rattle.tbr_renderer.specs.Appended.{handed_out}
@@ -16,22 +16,12 @@ use Rattle.tbr_renderer.proofs.OutcomeParts.{one_done, done_before}
 use Rattle.tbr_renderer.proofs.FlushedBlocks.{block_ended}
 use Rattle.tbr_footnotes.specs.Tags.{tag_meant}
 use Rattle.tbr_renderer.specs.Meant.{map_line, map_open, meant}
-use Rattle.tbr_renderer.specs.View.{IsFresh, block_seen}
 use Rattle.tbr_renderer.specs.Rows.{block_is_blank, is_blank}
 use Rattle.tbr_renderer.proofs.MappedBlocks.{some-map, any_line-map, has_no_character-map}
 
 none_of_not : {X : Type 0} (xs : List X) → not (is_some_list xs) ≡ true → xs ≡ []
 none_of_not [] h = refl
 none_of_not (x ∷ xs) h = cc
-
--- ---- what a block answers
-
-module _ {D A : Type 0} (columns : ℕ → Option ℕ) (r : Renderer D A (List A)) (b : Block (List A))
-    (opens : (block_seen (Some b) ≡ r.block) × IsFresh columns (block_width r) (may_overflow r) b) where
-  pub block_asked : (q : Block (List A)) → q ≡ b → (blank : Bool) → blank ≡ is_none q.failure && (not (any_line columns q) && has_no_character columns q) → blank ≡ block_is_blank columns r r.block
-  block_asked q is blank asked =
-      asked ∙ ap (λ (s : Block (List A)). is_none s.failure && (not (any_line columns s) && has_no_character columns s)) (is ∙ opens.1.is)
-      ∙ ap (block_is_blank columns r) opens.0
 
 -- ---- what its annotations mean doesn't matter
 

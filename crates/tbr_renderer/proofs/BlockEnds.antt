@@ -1,5 +1,5 @@
 -- Lines of a block that join those of a renderer.
-use Rattle.std.proofs.Common.{◌≡◌, ℕ, ◌-◌, Bool, true, Option, None, Some, List, [], ◌∷◌, ◌++◌, map, fold, drop, refl, ap, sym, ◌∙◌, subst, append_assoc, append-nil}
+use Rattle.std.proofs.Common.{◌≡◌, ℕ, ◌-◌, Bool, true, Option, None, Some, List, [], ◌∷◌, ◌++◌, map, fold, drop, refl, ap, sym, ◌∙◌, subst, append_assoc}
 use Rattle.std.proofs.lemmas.List.{map-append}
 use Rattle.std.proofs.lemmas.Simd.{map-map}
 use Rattle.std.proofs.lemmas.Grind.{fold-append}
@@ -54,12 +54,6 @@ module _ {D A M : Type 0} (eq : A → A → Bool) (f : A → M) (agree : (v w : 
             ∙ sym (fold-append (with_line columns) (meant f r) (map (line_meant columns f first) h.given) (line_meant columns f first one.text ∷ []))
             ∙ ap (fold (with_line columns) (meant f r)) (sym (map-append (line_meant columns f first) h.given (one.text ∷ [])));
       }
-
--- no line is left
-pub no_more_lines : {D A M : Type 0} (f : A → M) (columns : ℕ → Option ℕ) (first old : Block (List A)) (r q : Renderer D A (List A)) → HasLines f columns first old r q → left columns old ≡ [] →
-    meant f q ≡ fold (with_line columns) (meant f r) (map (line_meant columns f first) (left columns first))
-no_more_lines f columns first old r q h none =
-    h.meaning ∙ ap (λ ls. fold (with_line columns) (meant f r) (map (line_meant columns f first) ls)) (sym (append-nil h.given) ∙ ap (λ ls. h.given ++ ls) (sym none) ∙ sym h.parts)
 
 -- ---- the end of a run
 

@@ -1,5 +1,5 @@
 -- Text that joins the run of a block.
-use Rattle.std.proofs.Common.{◌≡◌, ℕ, ◌<◌, ◌&&◌, not, Bool, true, false, is_none, Option, None, Some, unwrap_or, Result, Err, List, [], ◌∷◌, ◌++◌, refl, ap, sym, ◌∙◌, subst}
+use Rattle.std.proofs.Common.{◌≡◌, ℕ, ◌&&◌, not, Bool, true, false, is_none, Option, None, Some, unwrap_or, Result, Err, List, [], ◌∷◌, ◌++◌, refl, ap, sym, ◌∙◌, subst}
 use Rattle.std.specs.Prelude.{OnOk}
 use Rattle.std.specs.Option.{option_map}
 use Rattle.std.proofs.lemmas.Result.{on_ok_weaker}
@@ -9,7 +9,7 @@ use Rattle.tbr_model.specs.Run.{Entry, character, marker_entry}
 use Rattle.tbr_model.specs.Rule.{Event, entry, run_of}
 use Rattle.tbr_model.specs.Mapped.{map_run, map_event, map_events}
 use Rattle.tbr_model.proofs.rule.HardLines.{run_of-append}
-use Rattle.tbr_wrap.proofs.runs.BlockLaws.{text_leaves, marker_leaves, sound_new, sound_text, sound_marked}
+use Rattle.tbr_wrap.proofs.runs.BlockLaws.{text_leaves, marker_leaves, sound_text, sound_marked}
 use Rattle.tbr_tagged.specs.declared.Error.{Error}
 use Rattle.tbr_tagged.specs.declared.Error.TheVariants as E
 use Rattle.tbr_wrap.specs.Block.{Block, any_line, lines, takes_no_columns, allows, text_events, grown, after_text, after_marker, IsSound}
@@ -21,19 +21,12 @@ use Rattle.tbr_footnotes.specs.Tags.{tag_meant}
 use Rattle.tbr_renderer.specs.Meant.{map_open, meant}
 use Rattle.tbr_renderer.specs.View.{IsFresh, Writes, block_seen, block_meant}
 use Rattle.tbr_renderer.specs.Flush.{fits_grown}
-use Rattle.tbr_renderer.specs.Steps.{at_line_start, block_is_empty, text_brings, after_joining}
-use Rattle.tbr_renderer.proofs.OutcomeParts.{fitting, not_fitting}
+use Rattle.tbr_renderer.specs.Steps.{at_line_start, block_is_empty}
 use Rattle.tbr_renderer.proofs.MappedBlocks.{called-map, fits_grown_meant, line_start_meant, any_line_meant, text_narrow}
 
 pub text_entries-map : {A B : Type 0} (f : A → B) (cs : List ℕ) (a b : A) (mode : WhiteSpace) → map_run f (text_entries cs a b mode) ≡ text_entries cs (f a) (f b) mode
 text_entries-map f [] a b mode = refl
 text_entries-map {A} {B} f (c ∷ cs) a b mode = ap (λ (es : List (Entry B)). character c (f a) (f b) mode ∷ es) (text_entries-map f cs a b mode)
-
--- a new block is fresh
-pub fresh_new : {T : Type 0} (columns : ℕ → Option ℕ) (width : ℕ) (overflows : Bool) (b : Block T) (w : ℕ) (may : Bool) (padding : Option T) → b ≡ block.new_block w may padding → w ≡ width → may ≡ overflows → 0 < width → IsFresh columns width overflows b
-fresh_new {T} columns width overflows b w may padding is wide may_is some =
-    subst (IsFresh columns width overflows) (sym (is ∙ (λ i. block.new_block (wide i) (may_is i) padding)))
-    (record { is = refl; sound = sound_new columns width overflows padding some })
 
 -- a fresh block whose run has grown
 fresh_grown : {T : Type 0} (columns : ℕ → Option ℕ) (width : ℕ) (overflows : Bool) (old new : Block T) (es : List (Event T)) → new ≡ grown old es → IsSound columns new → IsFresh columns width overflows old → IsFresh columns width overflows new
@@ -62,9 +55,6 @@ module _ {D A M : Type 0} (f : A → M) (columns : ℕ → Option ℕ) (q : Rend
   events_mean = called-map f columns q (text_entries cs v w mode) (entries_under preformatted r cs) text_means
 
   module _ (new : Block (List A)) (e : after_text columns cs v w mode old ≡ done new) where
-    pub fresh_written : IsFresh columns (block_width q) (may_overflow q) new
-    fresh_written = fresh_grown columns (block_width q) (may_overflow q) old new (text_events cs v w mode) (text_leaves columns old new cs v w mode e) (sound_text columns old fresh.sound new cs v w mode e) fresh
-
     pub written : block_meant f new ≡ with_more (block_meant f old) (called (entries_under preformatted r cs))
     written = grown_means f columns old new (text_events cs v w mode) (called (entries_under preformatted r cs)) (text_leaves columns old new cs v w mode e) events_mean
 
@@ -114,27 +104,6 @@ pub block_grown : {D A M : Type 0} (f : A → M) (r taken put : Renderer D A (Li
 block_grown {D} {A} {M} f r taken put old new es emptied before is put_is =
     ap (meant f) put_is ∙ ap (λ (q : Renderer D A (List A)). meant f (record q { block = block_seen (Some new) })) emptied
     ∙ ap (λ (b : Open (List M)). record (meant f r) { block = Some b }) (is ∙ ap (λ b. with_more b es) before)
-
--- what is written joins the run
-module _ {D A M : Type 0} (f : A → M) (columns : ℕ → Option ℕ) (preformatted : D → Bool → M) (cs : List ℕ) (r taken : Renderer D A (List A)) (old : Block (List A))
-    (emptied : taken ≡ record r { block = None }) (opened : block_meant f old ≡ open_block (meant f r)) where
-  abbrev brings : Renderer D A (List A) → List (Event (List M))
-  brings q = text_brings columns preformatted cs (meant f q)
-
-  fits_here : fits_grown columns (meant f r) (open_block (meant f r)) (brings r) ≡ fits_grown columns (meant f taken) (block_meant f old) (brings taken)
-  fits_here = sym (ap (λ (q : Renderer D A (List A)). fits_grown columns (meant f q) (block_meant f old) (brings q)) emptied
-      ∙ ap (λ (o : Open (List M)). fits_grown columns (meant f r) o (brings r)) opened)
-
-  pub joins : (put : Renderer D A (List A)) (new : Block (List A)) → fits_grown columns (meant f taken) (block_meant f old) (brings taken) ≡ true →
-      block_meant f new ≡ with_more (block_meant f old) (brings taken) → put ≡ record taken { block = block_seen (Some new) } →
-      after_joining columns preformatted cs (meant f r) ≡ done (meant f put)
-  joins put new fits is put_is =
-      fitting _ (with_events (meant f r) (brings r)) (fits_here ∙ fits)
-      ∙ ap (λ s. done s) (sym (block_grown f r taken put old new (brings r) emptied opened
-      (is ∙ ap (λ (q : Renderer D A (List A)). with_more (block_meant f old) (brings q)) emptied) put_is))
-
-  pub never_joins : fits_grown columns (meant f taken) (block_meant f old) (brings taken) ≡ false → after_joining columns preformatted cs (meant f r) ≡ refused E.TooNarrow
-  never_joins narrow = not_fitting _ (with_events (meant f r) (brings r)) (fits_here ∙ narrow)
 
 -- ---- the beginning of a line, and empty blocks
 

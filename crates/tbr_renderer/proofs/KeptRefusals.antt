@@ -1,18 +1,17 @@
 -- What a call ensures once its refusal is kept.
-use Rattle.std.proofs.Common.{◌≡◌, ◌≢◌, ◌≤◌, ℕ, Option, None, Some, Result, Ok, Err, List, refl, ap, ◌∙◌, sym, subst}
+use Rattle.std.proofs.Common.{◌≡◌, ◌≢◌, ◌≤◌, ℕ, Option, None, Some, Result, Ok, Err, List, ap, ◌∙◌, sym, subst}
 use Rattle.std.specs.Prelude.{OnOk, OnErr, IfErr}
-use Rattle.std.specs.Result.{IsErrAnd}
 use Rattle.std.proofs.lemmas.Result.{on_ok_weaker}
 use Rattle.tbr_tagged.specs.declared.Error.{Error}
 use Rattle.tbr_tagged.specs.declared.Error.TheVariants as E
-use Rattle.tbr_tagged.specs.Outcome.{Outcome, done, refused, if_live}
+use Rattle.tbr_tagged.specs.Outcome.{Outcome, done, refused}
 use Rattle.tbr_tagged.proofs.Outcomes.{live_goes}
 use Rattle.tbr_decor.specs.Decoration.{Decoration}
 use Rattle.tbr_renderer.specs.Meant.{meant}
 use Rattle.tbr_renderer.specs.Flush.{after_flush}
 use Rattle.tbr_renderer.specs.Renderer.{Renderer, Settings, KeepsSettings, kept_of, block_width}
-use Rattle.tbr_renderer.specs.Outcomes.{and_then, taking, Tries}
-use Rattle.tbr_renderer.specs.Calls.{Call, new_line, made, after, calls_by, Takes, Answers, Fails}
+use Rattle.tbr_renderer.specs.Outcomes.{and_then, taking}
+use Rattle.tbr_renderer.specs.Calls.{new_line, after, calls_by, Takes, Fails}
 use Rattle.tbr_renderer.proofs.OutcomeParts.{taking_none}
 
 pub on_err : {X E P : Type 0} (r : Result X E) → P → OnErr r P
@@ -37,21 +36,6 @@ module _ {D A M R : Type 0} (f : A → M) (columns : ℕ → Option ℕ) (decora
 
   module _ {old new : Renderer D A (List A)} (mid : Renderer D A (List A)) {result tried : Result R Error} (live : old.failure ≡ None) (same : result ≡ tried)
       (is : OnOk result (new ≡ mid)) (failed : IfErr result (λ e. (new.failure ≡ Some e) × (kept_of new ≡ kept_of mid))) where
-    -- and what it answers
-    pub kept_answers : (call : Call (List M)) → Tries (meant f) (made columns decoration call) old tried mid → (2 ≤ block_width old → tried ≢ Err E.TooNarrow) →
-        OnErr tried (kept_of mid ≡ kept_of old) → Answers (calls_by columns decoration f) call old result new
-    kept_answers call tries two stay =
-        let makes = live_goes old.failure (made columns decoration call (meant f old)) live in record {
-          ok = kept_ok (λ s. after columns decoration call (meant f old) ≡ done (meant f s)) mid new same is (on_ok_weaker tried (λ (e : made columns decoration call (meant f old) ≡ done (meant f mid)). makes ∙ e) tries.ok);
-          too_narrow = λ e. makes ∙ tries.too_narrow (sym same ∙ e);
-          two_columns = λ wide e. two wide.1 (sym same ∙ e);
-          fails = kept_fails mid live same failed stay;
-        }
-
-    pub settled_answers : (call : Call (List M)) → Tries (meant f) (made columns decoration call) old tried mid → (2 ≤ block_width old → tried ≢ Err E.TooNarrow) →
-        KeepsSettings (meant f old) (meant f mid) → Answers (calls_by columns decoration f) call old result new
-    settled_answers call tries two settings = kept_answers call tries two (on_err tried (ap (λ (k : Settings D M). k.kept) settings))
-
     -- and so where it takes what others give
     pub settled_takes : {X : Type 0} {given : Outcome X} {wide : Type 0} {take : X → Renderer D M (List M) → Outcome (Renderer D M (List M))}
         (make : X → Renderer D M (List M) → Outcome (Renderer D M (List M))) → ((x : X) → take x (meant f old) ≡ make x (meant f old)) →
@@ -68,19 +52,3 @@ module _ {D A M R : Type 0} (f : A → M) (columns : ℕ → Option ℕ) (decora
           two_columns = λ broad others e. two broad.1 others (sym same ∙ e);
           fails = kept_fails mid live same failed (on_err tried (ap (λ (k : Settings D M). k.kept) settings));
         }
-
-  -- what one that had failed answers
-  pub refused_takes : {X : Type 0} {given : Outcome X} {wide : Type 0} {take : X → Renderer D M (List M) → Outcome (Renderer D M (List M))}
-      {old : Renderer D A (List A)} {e : Error} {result : Result R Error} → old.failure ≡ Some e → IsErrAnd result (λ x. x ≡ e) →
-      Takes (calls_by columns decoration f) given wide take old result old
-  refused_takes {result = Ok x} was same = absurd same
-  refused_takes {given = given} {take = take} {old = old} {e = e} {result = Err x} was same = record {
-    ok = tt;
-    too_narrow = λ is. taking_none (after columns decoration new_line) given take (meant f old) E.TooNarrow
-        (ap (λ o. and_then (if_live o (after_flush columns (meant f old))) (λ _. given)) was ∙ ap (λ d. refused d) (sym same ∙ (let told : x ≡ E.TooNarrow = cc is in told)));
-    two_columns = λ broad others is. (let no : Some e ≡ None = sym was ∙ broad.0 in cc);
-    fails = record {
-      refusal = (was ∙ ap Some (sym same), λ d is. ((let other : Some e ≡ Some d = sym was ∙ is in let alike : x ≡ e = same in cc), refl));
-      kept = refl;
-    };
-  }

@@ -1,7 +1,6 @@
 pub mod KeptRefusals
 pub mod OutcomeParts
 pub mod Images
-pub mod DecoratedText
 pub mod MeantLines
 pub mod MappedBlocks
 pub mod FlushedBlocks

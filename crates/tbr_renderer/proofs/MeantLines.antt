@@ -14,13 +14,13 @@ use Rattle.tbr_tagged.specs.Padding.{spaces}
 use Rattle.tbr_model.specs.declared.white_space.WhiteSpace.{WhiteSpace}
 use Rattle.tbr_wrap.specs.Block.{Block}
 use Rattle.tbr_kept_lines.specs.Line.{Line, text, border, line_has_content, SameSeen, line_seen, text_lines}
-use Rattle.tbr_renderer.specs.Renderer.{Renderer, has_content, line_padding, with_filled, with_line, new_block, last_mode}
+use Rattle.tbr_renderer.specs.Renderer.{Renderer, has_content, line_padding, with_filled, with_line, last_mode}
 use Rattle.tbr_renderer.specs.Steps.{with_empty_line, block_started}
 use Rattle.tbr_rows.specs.Meant.{map_hole, map_border}
 use Rattle.tbr_footnotes.specs.Tags.{tag_meant, items_meant, vector_meant}
 use Rattle.tbr_footnotes.proofs.Tags.{text_items-map}
 use Rattle.tbr_renderer.specs.Meant.{map_line, meant}
-use Rattle.tbr_renderer.specs.View.{names_of, AreMarkers, block_meant}
+use Rattle.tbr_renderer.specs.View.{names_of, AreMarkers}
 use Rattle.tbr_tagged.proofs.MappedTags.{means_same_items}
 use Rattle.std.specs.Global.{Vec}
 use Rattle.tbr_tagged.specs.Mapped.{MapsElement, map_element}
@@ -75,11 +75,6 @@ module _ {D A M : Type 0} (f : A → M) where
       ap (meant f) pushed ∙ ap (λ (ls : List (Line (List M))). record (meant f r) { lines = ls })
       (map-append (map_line (tag_meant f)) r.lines (text full ∷ []) ∙ ap (λ (is : List (Item (List M))). map (map_line (tag_meant f)) r.lines ++ text is ∷ []) fills)
 
-  -- where no marker waits
-  pub line_alone : (columns : ℕ → Option ℕ) (r : Renderer D M (List M)) (is : List (Item (List M))) → r.waiting ≡ [] → with_filled columns r is ≡ with_line columns r is
-  line_alone columns r is none =
-      (λ i. record (with_filled columns r is) { waiting = none i }) ∙ (λ i. with_filled columns (record r { waiting = [] }) (marker_items (sym none i) ++ is))
-
   -- after the markers that waited
   pub line_after : (columns : ℕ → Option ℕ) (r a b : Renderer D A (List A)) (es : List (Element (List A))) (whole line : List (Item (List A))) →
       AreMarkers es → names_of es ≡ r.waiting → a ≡ record r { waiting = [] } → items_meant f whole ≡ items_meant f (items_of es ++ line) →
@@ -106,14 +101,6 @@ module _ {D A M : Type 0} (f : A → M) (columns : ℕ → Option ℕ) (r : Rend
   -- a block begins
   pub block_begun : (b : Bool) → b ≡ has_content r → (if b then with_empty_line columns (meant f r) else record (meant f r) { block_ended = false }) ≡ block_started columns (meant f r)
   block_begun b e = λ i. if (e ∙ sym (any_content-map f r.lines)) i then with_empty_line columns (meant f r) else record (meant f r) { block_ended = false }
-
--- ---- blocks that are opened
-
-module _ {D A M : Type 0} (f : A → M) (r : Renderer D A (List A)) where
-  pub opened_new : (columns : ℕ → Option ℕ) (v : List A) (pads : Bool) (b : Block (List A)) (width : ℕ) (overflows : Bool) → pads ≡ r.options.pad_block_width → tag_meant f v ≡ map f r.annotations → b ≡ block.new_block width overflows (if pads then Some v else None) →
-      block_meant f b ≡ new_block (meant f r)
-  opened_new columns v true b width overflows pads under is = ap (block_meant f) is ∙ rw (← pads) (ap (λ (xs : List M). record { padding = Some xs; events = [] }) under)
-  opened_new columns v false b width overflows pads under is = ap (block_meant f) is ∙ rw (← pads) refl
 
 -- ---- modes
 

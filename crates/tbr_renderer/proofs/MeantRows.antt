@@ -37,7 +37,7 @@ use Rattle.tbr_tagged.specs.Outcome.{done}
 use Rattle.tbr_renderer.specs.Flush.{after_flush}
 use Rattle.tbr_renderer.specs.Appended.{handed_out}
 use Rattle.tbr_renderer.proofs.FlushedBlocks.{flush_keeps}
-use Rattle.tbr_renderer.specs.Rows.{is_blank, looks, spots_of, LeavesFree, GivenCell, FillsCell, ComesAs, next_align, cells_meant, border_lines, style_in, with_next, with_row_after, with_row}
+use Rattle.tbr_renderer.specs.Rows.{is_blank, looks, spots_of, LeavesFree, GivenCell, FillsCell, ComesAs, next_align, cells_meant, border_lines, style_in, with_row_after, with_row}
 use Rattle.tbr_renderer.proofs.GivenCells.{given_last}
 use Rattle.tbr_renderer.proofs.BlankRenderers.{blank_hands_none, blank_meant}
 
@@ -84,18 +84,6 @@ module _ {T U : Type 0} (f : T → U) where
 -- ---- a row that is put
 
 module _ {D A M : Type 0} (f : A → M) (columns : ℕ → Option ℕ) where
-  -- after the lines
-  pub row_put : (r s0 s1 s2 s3 : Renderer D A (List A)) (above next : Option (Border (List A))) (texts : List (List (Item (List M)))) (overhang : List (Cell (List A))) (row : SeenRow (List M)) →
-      s0 ≡ record r { lines = r.lines ++ border_lines above } → s1 ≡ record s0 { hanging = overhang } → meant f s2 ≡ fold (with_line columns) (meant f s1) texts →
-      meant f s3 ≡ with_next columns (meant f s2) (option_map (map_border (tag_meant f)) next) →
-      row ≡ record { above = option_map (map_border (tag_meant f)) above; lines = texts; next = option_map (map_border (tag_meant f)) next; overhang = map (map_cell (tag_meant f)) overhang } →
-      meant f s3 ≡ with_row_after columns (meant f r) row
-  row_put r s0 s1 s2 s3 above next texts overhang row put hung lines last is =
-      let top : meant f s1 ≡ record (meant f r) { lines = (meant f r).lines ++ border_lines (option_map (map_border (tag_meant f)) above); hanging = map (map_cell (tag_meant f)) overhang } =
-      ap (meant f) hung ∙ (λ i. meant f (record (put i) { hanging = overhang }))
-      ∙ (λ i. record (meant f r) { lines = (map-append (map_line (tag_meant f)) r.lines (border_lines above) ∙ ap (λ ls. map (map_line (tag_meant f)) r.lines ++ ls) (border_lines-map (tag_meant f) above)) i; hanging = map (map_cell (tag_meant f)) overhang }) in
-      last ∙ (λ i. with_next columns ((lines ∙ ap (λ q. fold (with_line columns) q texts) top) i) (option_map (map_border (tag_meant f)) next)) ∙ ap (with_row_after columns (meant f r)) (sym is)
-
   -- in the place of the border above
   pub row_placed : (r s0 s1 s2 : Renderer D A (List A)) (row : SeenRow (List M)) → s0 ≡ record r { hanging = [] } → s1 ≡ record s0 { lines = before_border s0.lines } → meant f s2 ≡ with_row_after columns (meant f s1) row → meant f s2 ≡ with_row columns (meant f r) row
   row_placed r s0 s1 s2 row taken cut put =

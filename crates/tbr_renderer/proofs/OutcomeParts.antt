@@ -2,7 +2,6 @@
 use Rattle.std.proofs.Common.{◌≡◌, ◌⊎◌, inl, inr, Result, Ok, Err, Bool, true, false, if◌then◌else◌, List, [], ◌∷◌, ◌++◌, refl, ap, sym, ◌∙◌, subst}
 use Rattle.std.specs.Prelude.{IfErr}
 use Rattle.std.specs.Result.{IsErrAnd}
-use Rattle.std.proofs.lemmas.Result.{on_ok_weaker}
 use Rattle.tbr_tagged.specs.Outcome.{Outcome, done, refused}
 use Rattle.tbr_tagged.specs.declared.Error.{Error}
 use Rattle.tbr_tagged.specs.declared.Error.TheVariants as E
@@ -72,13 +71,6 @@ module _ {S V R : Type 0} (state : S → V) (make : V → Outcome V) (old new : 
   pub tries_err : (result : Result R Error) (e : Error) → IsErrAnd result (λ x. x ≡ e) → (e ≡ E.TooNarrow → make (state old) ≡ refused E.TooNarrow) → Tries state make old result new
   tries_err (Ok x) e is narrow = absurd is
   tries_err (Err x) e is narrow = record { ok = tt; too_narrow = λ same. narrow (let one : x ≡ e = is in cc) }
-
--- a first step is done, and then another one is tried
-pub tries_then : {S V R : Type 0} (state : S → V) (first next : V → Outcome V) (old m new : S) (result : Result R Error) → first (state old) ≡ done (state m) → Tries state next m result new → Tries state (λ v. and_then (first v) next) old result new
-tries_then state first next old m new result is tries = record {
-  ok = on_ok_weaker result (λ e. ap (λ o. and_then o next) is ∙ e) tries.ok;
-  too_narrow = λ e. ap (λ o. and_then o next) is ∙ tries.too_narrow e;
-}
 
 -- ---- what all give
 

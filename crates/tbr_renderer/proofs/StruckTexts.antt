@@ -1,7 +1,6 @@
 -- Texts with strokes.
-use Rattle.std.proofs.Common.{◌≡◌, ℕ, if◌then◌else◌, nat_lt, Option, unwrap_or, List, [], ◌∷◌, ◌++◌, replicate, refl, ap, sym, ◌∙◌, arith, append_assoc, append-nil}
+use Rattle.std.proofs.Common.{◌≡◌, ℕ, if◌then◌else◌, nat_lt, Option, unwrap_or, List, [], ◌∷◌, ◌++◌, replicate, refl, ap, sym, ◌∙◌, arith, append_assoc}
 use Rattle.std.proofs.lemmas.Bool.{lt-ltb, cond_both}
-use Rattle.std.proofs.lemmas.List.Concat.{flat_map-append}
 use Rattle.tbr_renderer.specs.Renderer.{stroke, struck_character, struck}
 
 module _ (columns : ℕ → Option ℕ) (depth c : ℕ) (old mid new : List ℕ) (n : ℕ) (is : n ≡ unwrap_or (columns c) 0) (pushed : mid ≡ old ++ c ∷ []) where
@@ -15,10 +14,6 @@ module _ (columns : ℕ → Option ℕ) (depth c : ℕ) (old mid new : List ℕ)
       let test = lt-ltb 0 (unwrap_or (columns c) 0) (omega (arith, is, some)) in
       more ∙ ap (λ cs. cs ++ replicate depth stroke) pushed ∙ append_assoc old (c ∷ []) (replicate depth stroke)
       ∙ ap (λ b. old ++ c ∷ (if b then replicate depth stroke else [])) (sym test)
-
--- one character more
-pub struck_more : (columns : ℕ → Option ℕ) (depth : ℕ) (cs : List ℕ) (c : ℕ) → struck columns depth cs ++ struck_character columns depth c ≡ struck columns depth (cs ++ c ∷ [])
-struck_more columns depth cs c = sym (flat_map-append (struck_character columns depth) cs (c ∷ []) ∙ ap (λ ds. struck columns depth cs ++ ds) (append-nil (struck_character columns depth c)))
 
 -- outside strikeouts a text is as it is
 pub struck_none : (columns : ℕ → Option ℕ) (cs : List ℕ) → struck columns 0 cs ≡ cs
