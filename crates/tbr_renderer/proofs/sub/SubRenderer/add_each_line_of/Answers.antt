@@ -18,6 +18,9 @@ one g c =
 pub next_line-requires : goal.next_line-requires
 next_line-requires g c = copies_are_equal g.D.Annotation.PartialEq.eq g.D.TextDecorator.meaning g.met.D.TextDecorator.equal_by_meaning
 
+pub add_line-requires-clause-merged : goal.add_line-requires-clause-merged
+add_line-requires-clause-merged g c = (one g (goal.at.add_line-requires-clause-merged g c).In-Some).shows.merged
+
 pub loop-block-preserved : goal.loop-block-preserved
 loop-block-preserved g c =
     let agree = tags_mean g.D.Annotation.PartialEq.eq g.D.TextDecorator.meaning g.met.D.TextDecorator.equal_by_meaning in

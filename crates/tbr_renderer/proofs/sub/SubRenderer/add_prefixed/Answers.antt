@@ -14,6 +14,11 @@ use Rattle.tbr_renderer.proofs.AppendedLines.{Prefixes, seen, cell_of_texts, wri
 use Rattle.tbr_renderer.proofs.MeantLines.{added_at_once}
 use Rattle.tbr_renderer.proofs.sub.SubRenderer.add_prefixed.Goals as goal
 
+pub add_cell-requires-clause-merged : goal.add_cell-requires-clause-merged
+add_cell-requires-clause-merged g c =
+    let kept = c.truncate.ensures.items ∙ ap (take c.in_ok-count.count) (written_over c.args.lines.items c.put_prefixes.new.lines c.args.lines.len c.args.lines.ok.0 (c.put_prefixes.auto.lines ∙ ap length c.deref_mut.ensures.value)) in
+    subst (Each (IsMergedText (equal_annotations g.D.Annotation.PartialEq.eq))) (sym kept) c.in_ok-count.ensures.3
+
 pub push_lines-requires : goal.push_lines-requires
 push_lines-requires g c =
     let kept = c.truncate.ensures.items ∙ ap (take c.in_ok-count.count) (written_over c.args.lines.items c.put_prefixes.new.lines c.args.lines.len c.args.lines.ok.0 (c.put_prefixes.auto.lines ∙ ap length c.deref_mut.ensures.value)) in
