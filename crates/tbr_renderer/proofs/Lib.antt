@@ -8,8 +8,6 @@ pub mod CallParts
 pub mod LineTexts
 pub mod AppendedLines
 pub mod Fields
-pub mod Lines
-pub mod Footnotes
 pub mod BlockEnds
 pub mod BlankRenderers
 pub mod MeantRows
