@@ -37,7 +37,7 @@ use Rattle.tbr_tagged.specs.Outcome.{done}
 use Rattle.tbr_renderer.specs.Flush.{after_flush}
 use Rattle.tbr_renderer.specs.Appended.{handed_out}
 use Rattle.tbr_renderer.proofs.FlushedBlocks.{flush_keeps}
-use Rattle.tbr_renderer.specs.Rows.{is_blank, looks, spots_of, LeavesFree, GivenCell, FillsCell, ComesAs, next_align, cells_meant, border_lines, style_in, with_row_after, with_row}
+use Rattle.tbr_renderer.specs.Rows.{is_blank, looks, spots_of, LeavesFree, GivenCell, FillsCell, ComesAs, next_align, cells_meant, style_in, with_row_after, with_row}
 use Rattle.tbr_renderer.proofs.GivenCells.{given_last}
 use Rattle.tbr_renderer.proofs.BlankRenderers.{blank_hands_none, blank_meant}
 
@@ -76,10 +76,6 @@ module _ {T U : Type 0} (f : T → U) where
       go : (o : Option (Border T)) → (if is_some (option_map (map_border f) o) then without_last (map (map_line f) ls) else map (map_line f) ls) ≡ map (map_line f) (if is_some o then without_last ls else ls)
       go None = refl
       go (Some b) = without_last-map (map_line f) ls
-
-  pub border_lines-map : (o : Option (Border T)) → map (map_line f) (border_lines o) ≡ border_lines (option_map (map_border f) o)
-  border_lines-map None = refl
-  border_lines-map (Some b) = refl
 
 -- ---- a row that is put
 
