@@ -1,15 +1,14 @@
 -- Lines of other renderers, one after another.
-use Rattle.std.proofs.Common.{◌≡◌, inl, inr, if◌then◌else◌, ℕ, arith, ◌+◌, ◌≤◌, ◌<◌, Bool, false, Option, None, Some, Result, Err, List, [], ◌∷◌, ◌++◌, map, fold, take, drop, get_or, set, length, refl, ap, sym, ◌∙◌, subst, append_assoc, append-nil, drop_of_length-le}
+use Rattle.std.proofs.Common.{◌≡◌, inr, ℕ, arith, ◌+◌, ◌≤◌, ◌<◌, Bool, Option, None, Some, List, [], ◌∷◌, ◌++◌, map, fold, take, drop, get_or, set, length, refl, ap, sym, ◌∙◌, subst, append-nil, drop_of_length-le}
 use Rattle.std.specs.Prelude.{chars, ◌==◌, true}
 use Rattle.std.specs.Iterator.{Yields}
-use Rattle.std.specs.Result.{IsErrAnd}
 use Rattle.std.proofs.iter.Next.{Yields-more}
 use Rattle.std.proofs.lemmas.Bool.{eqb-true}
 use Rattle.std.proofs.lemmas.Str.{chars-nil}
-use Rattle.std.proofs.lemmas.List.{map-append, length-append, length-map, length-take-le, length-drop, get_or-drop, drop-set-lt, drop-drop, take_all, take-append-drop, take_more, take_more_set}
+use Rattle.std.proofs.lemmas.Simd.{map-map}
+use Rattle.std.proofs.lemmas.List.{map-id, map-append, length-append, length-map, length-take-le, length-drop, get_or-drop, drop-set-lt, drop-drop, take_all, take-append-drop, take_more, take_more_set}
 use Rattle.std.proofs.lemmas.Grind.{fold-append}
 use Rattle.tbr_model.specs.Run.{Item}
-use Rattle.tbr_tagged.specs.declared.Error.{Error}
 use Rattle.tbr_tagged.specs.Outcome.{Outcome, done}
 use Rattle.tbr_renderer.specs.Outcomes.{gathered}
 use Rattle.tbr_renderer.proofs.OutcomeParts.{gathered_last}
@@ -19,30 +18,21 @@ use Rattle.tbr_tagged.specs.Elements.{text_items}
 use Rattle.tbr_footnotes.specs.Tags.{tag_meant}
 use Rattle.tbr_renderer.specs.Meant.{map_line, meant}
 use Rattle.tbr_kept_lines.specs.Line.{Line, text, line_seen}
-use Rattle.tbr_kept_lines.proofs.KeptParts.{each_after, each_get_or}
-use Rattle.tbr_renderer.specs.Renderer.{Renderer, Settings, KeepsSettings, with_line}
-use Rattle.tbr_model.specs.Markers.{marker_items}
-use Rattle.tbr_wrap.specs.Wrapped.{padding_of}
+use Rattle.tbr_kept_lines.proofs.KeptParts.{each_after}
+use Rattle.tbr_renderer.specs.Renderer.{Renderer, KeepsSettings, with_line}
 use Rattle.tbr_border.specs.Cell.{slash}
 use Rattle.tbr_renderer.specs.Appended.{GivesFirst, texts_of, as_text, prefixed, handed_out, with_divider, with_cell, with_cell_below}
 use Rattle.std.specs.List.{AllByRecursion as Each}
 
 -- ---- prefixes
 
-prefixed-last : {T : Type 0} (tag : T) (prefixes : List (List ℕ)) (prefix : List ℕ) (lines : List (Line T)) (line : Line T) → length prefixes ≡ length lines →
-    prefixed tag (prefixes ++ prefix ∷ []) (lines ++ line ∷ []) ≡ prefixed tag prefixes lines ++ (text_items prefix tag ++ as_text tag line) ∷ []
-prefixed-last tag [] prefix [] line same = refl
-prefixed-last tag [] prefix (l ∷ lines) line same = cc
-prefixed-last tag (p ∷ prefixes) prefix [] line same = cc
-prefixed-last tag (p ∷ prefixes) prefix (l ∷ lines) line same =
-    ap (λ ts. (text_items p tag ++ as_text tag l) ∷ ts) (prefixed-last tag prefixes prefix lines line (omega (arith, same)))
-
--- lines without a prefix are dropped
-prefixed-front : {T : Type 0} (tag : T) (prefixes : List (List ℕ)) (lines more : List (Line T)) → length prefixes ≡ length lines → prefixed tag prefixes (lines ++ more) ≡ prefixed tag prefixes lines
-prefixed-front tag [] [] more same = refl
-prefixed-front tag [] (l ∷ lines) more same = refl
-prefixed-front tag (p ∷ prefixes) [] more same = cc
-prefixed-front tag (p ∷ prefixes) (l ∷ lines) more same = ap (λ ts. (text_items p tag ++ as_text tag l) ∷ ts) (prefixed-front tag prefixes lines more (omega (arith, same)))
+prefixed-append : {T : Type 0} (tag : T) (prefixes more : List (List ℕ)) (lines others : List (Line T)) → length prefixes ≡ length lines →
+    prefixed tag (prefixes ++ more) (lines ++ others) ≡ prefixed tag prefixes lines ++ prefixed tag more others
+prefixed-append tag [] more [] others same = refl
+prefixed-append tag [] more (l ∷ lines) others same = cc
+prefixed-append tag (p ∷ prefixes) more [] others same = cc
+prefixed-append tag (p ∷ prefixes) more (l ∷ lines) others same =
+    ap (λ ts. (text_items p tag ++ as_text tag l) ∷ ts) (prefixed-append tag prefixes more lines others (omega (arith, same)))
 
 -- an empty prefix shows nothing
 pub no_prefix : {T : Type 0} (prefix : List ℕ) (tag : T) (is : List (Item T)) → (length prefix == 0) ≡ true → is ≡ text_items (chars prefix) tag ++ is
@@ -68,24 +58,19 @@ module _ {D A M : Type 0} (f : A → M) (columns : ℕ → Option ℕ) (first : 
     pub settings : KeepsSettings (meant f first) (meant f now)
     pub lines : meant f now ≡ fold (with_line columns) (meant f first) texts
 
-  put_more : (texts : List (List (Item (List M)))) (shown : List (Item (List M))) (now next : Renderer D A (List A)) → HasPut texts now → meant f next ≡ with_line columns (meant f now) shown → KeepsSettings (meant f now) (meant f next) →
-      HasPut (texts ++ shown ∷ []) next
-  put_more texts shown now next h is kept = record {
-    unfailed = ap (λ (r : Renderer D M (List M)). r.failure) is ∙ h.unfailed;
-    settings = kept ∙ h.settings;
-    lines = is ∙ ap (λ (r : Renderer D M (List M)). with_line columns r shown) h.lines ∙ sym (fold-append (with_line columns) (meant f first) texts (shown ∷ []));
-  }
-
-  -- what text is under
-  pub under : (now : Renderer D A (List A)) → KeepsSettings (meant f first) (meant f now) → map f now.annotations ≡ map f first.annotations
-  under now kept = ap (λ (s : Settings D M). s.annotations) kept
-
   -- ---- a cell
 
   abbrev pub HasCell : List (RenderLine (List A)) → Renderer D A (List A) → Type 0
   HasCell lines now = HasPut (map (as_text (map f first.annotations)) (seen f lines)) now
 
 -- ---- lines after prefixes, one by one
+
+-- an item that is as it was
+still_there : {X : Type 0} (all now : List X) (i : ℕ) (d : X) → drop i now ≡ drop i all → get_or all i d ≡ get_or now i d
+still_there all now i d rest =
+    let zero : i + 0 ≡ i = omega arith in
+    ap (λ j. get_or all j d) (sym zero) ∙ sym (get_or-drop i all 0 d) ∙ ap (λ ls. get_or ls 0 d) (sym rest) ∙ get_or-drop i now 0 d
+    ∙ ap (λ j. get_or now j d) zero
 
 module _ {A M : Type 0} (f : A → M) (eq : List A → List A → Bool) (tag : List M) where
   module _ {S X : Type 0} (can : S → Type 0) (gives : S → Option X → S → Type 0) (read : X → List ℕ) (it : S) (all : List (RenderLine (List A))) where
@@ -110,17 +95,13 @@ module _ {A M : Type 0} (f : A → M) (eq : List A → List A → Bool) (tag : L
         let here : count < length now = omega (arith, below, length-drop count now, length-drop count all, ap length h.rest) in
         let old = get_or now count d in
         let old_seen = map_line (tag_meant f) (line_seen old) in
-        let same : get_or all (count + 0) d ≡ get_or now (count + 0) d = sym (get_or-drop count all 0 d) ∙ ap (λ ls. get_or ls 0 d) (sym h.rest) ∙ get_or-drop count now 0 d in
-        let zero : count + 0 ≡ count = omega arith in
-        let whole : take (count + 1) all ≡ take count all ++ old ∷ [] = take_more all count d below ∙ ap (λ l. take count all ++ l ∷ []) (ap (λ j. get_or all j d) (sym zero) ∙ same ∙ ap (λ j. get_or now j d) zero) in
+        let whole = take_more all count d below ∙ ap (λ l. take count all ++ l ∷ []) (still_there all now count d h.rest) in
         let put_whole = take_more_set now count line here in
         let texts = prefixed tag (texts_of read h.given) (seen f (take count all)) in
         let shown = text_items (chars (read prefix)) tag ++ as_text tag old_seen in
         let all_put : texts ++ shown ∷ [] ≡ prefixed tag (texts_of read (h.given ++ prefix ∷ [])) (seen f (take (count + 1) all)) =
-        sym (ap (λ ls. prefixed tag (texts_of read (h.given ++ prefix ∷ [])) (seen f ls)) whole
-        ∙ ap (λ ps. prefixed tag ps (seen f (take count all ++ old ∷ []))) (map-append (λ x. chars (read x)) h.given (prefix ∷ []))
-        ∙ ap (prefixed tag (texts_of read h.given ++ chars (read prefix) ∷ [])) (seen-append f (take count all) (old ∷ []))
-        ∙ prefixed-last tag (texts_of read h.given) (chars (read prefix)) (seen f (take count all)) old_seen (same_length h.given count h.as_many h.within)) in record {
+        sym ((λ i. prefixed tag (map-append (λ x. chars (read x)) h.given (prefix ∷ []) i) ((ap (seen f) whole ∙ seen-append f (take count all) (old ∷ [])) i))
+        ∙ prefixed-append tag (texts_of read h.given) (chars (read prefix) ∷ []) (seen f (take count all)) (old_seen ∷ []) (same_length h.given count h.as_many h.within)) in record {
           can_go_on = able;
           given = h.given ++ prefix ∷ [];
           yields = Yields-more gives it h.given left prefix next h.yields came;
@@ -136,80 +117,31 @@ module _ {A M : Type 0} (f : A → M) (eq : List A → List A → Bool) (tag : L
     Prefixes count now =
         (given : List X) × GivesFirst gives (length all) it given
         × (seen f (take count now) ≡ map text (prefixed tag (texts_of read given) (seen f all)))
-
-    -- all have one
-    pub all_prefixed : (count : ℕ) (left : S) (now : List (RenderLine (List A))) → HasPrefixes count left now → length all ≤ count → Prefixes count now
-    all_prefixed count left now h over = (
-      h.given,
-      (left, h.yields, inl (omega (arith, h.as_many, h.within, over))),
-      h.put ∙ ap (λ ls. map text (prefixed tag (texts_of read h.given) (seen f ls))) (take_all count all over),
-    )
+        × Each (IsMergedText eq) (take count now)
 
     -- the prefixes ran out before a line
     pub ran_out : (count : ℕ) (left end : S) (now : List (RenderLine (List A))) → HasPrefixes count left now → count < length all → gives left None end → Prefixes count now
     ran_out count left end now h below none = (
       h.given,
       (left, h.yields, inr (omega (arith, h.as_many, below), (end, none))),
-      h.put ∙ ap (map text) (sym (ap (λ ls. prefixed tag (texts_of read h.given) (seen f ls)) (sym (take-append-drop count all)) ∙ ap (prefixed tag (texts_of read h.given)) (seen-append f (take count all) (drop count all))
-          ∙ prefixed-front tag (texts_of read h.given) (seen f (take count all)) (seen f (drop count all)) (same_length h.given count h.as_many h.within))),
+      h.put ∙ ap (map text) (sym ((λ i. prefixed tag (sym (append-nil (texts_of read h.given)) i) ((ap (seen f) (sym (take-append-drop count all)) ∙ seen-append f (take count all) (drop count all)) i))
+          ∙ prefixed-append tag (texts_of read h.given) [] (seen f (take count all)) (seen f (drop count all)) (same_length h.given count h.as_many h.within) ∙ append-nil _)),
+      h.merged,
     )
-
--- a line that is as it was
-pub left_merged : {A : Type 0} (eq : List A → List A → Bool) (all now : List (RenderLine (List A))) (i : ℕ) (d : RenderLine (List A)) → Each (IsMergedText eq) all → i < length all → drop i now ≡ drop i all → IsMergedText eq (get_or now i d)
-left_merged eq all now i d merged below rest =
-    let zero : i + 0 ≡ i = omega arith in
-    let same : get_or all i d ≡ get_or now i d =
-    ap (λ j. get_or all j d) (sym zero) ∙ sym (get_or-drop i all 0 d) ∙ ap (λ ls. get_or ls 0 d) (sym rest) ∙ get_or-drop i now 0 d ∙ ap (λ j. get_or now j d) zero in
-    subst (IsMergedText eq) same (each_get_or (IsMergedText eq) all i d below merged)
 
 -- ---- texts that are added at once
 
-as_texts : {T : Type 0} (tag : T) (texts : List (List (Item T))) → map (as_text tag) (map text texts) ≡ texts
-as_texts tag [] = refl
-as_texts tag (is ∷ texts) = ap (λ ts. is ∷ ts) (as_texts tag texts)
-
-module _ {D A : Type 0} (columns : ℕ → Option ℕ) where
+module _ {D A : Type 0} (columns : ℕ → Option ℕ) (r : Renderer D A (List A)) (texts : List (List (Item (List A)))) where
   -- as a cell
-  pub cell_of_texts : (r : Renderer D A (List A)) (texts : List (List (Item (List A)))) → with_cell columns r (map text texts) ≡ fold (with_line columns) r texts
-  cell_of_texts r texts = ap (fold (with_line columns) r) (as_texts r.annotations texts)
-
-  line_as_it_is : (r : Renderer D A (List A)) (is : List (Item (List A))) → r.waiting ≡ [] → r.options.pad_block_width ≡ false → with_line columns r is ≡ record r { lines = r.lines ++ text is ∷ [] }
-  line_as_it_is r is none plain =
-      ap (λ ms. record r { waiting = []; lines = r.lines ++ text ((marker_items ms ++ is) ++ padding_of columns (if r.options.pad_block_width then Some r.annotations else None) r.width (marker_items ms ++ is)) ∷ [] }) none
-      ∙ ap (λ (pads : Bool). record r { waiting = []; lines = r.lines ++ text (is ++ padding_of columns (if pads then Some r.annotations else None) r.width is) ∷ [] }) plain
-      ∙ ap (λ js. record r { waiting = []; lines = r.lines ++ text js ∷ [] }) (append-nil is) ∙ ap (λ ms. record r { waiting = ms; lines = r.lines ++ text is ∷ [] }) (sym none)
-
-  -- where no marker waits, and lines aren't padded
-  pub lines_as_they_are : (r : Renderer D A (List A)) (texts : List (List (Item (List A)))) → r.waiting ≡ [] → r.options.pad_block_width ≡ false → fold (with_line columns) r texts ≡ record r { lines = r.lines ++ map text texts }
-  lines_as_they_are r [] none plain = ap (λ ls. record r { lines = ls }) (sym (append-nil r.lines))
-  lines_as_they_are r (is ∷ texts) none plain =
-      let s : Renderer D A (List A) = record r { lines = r.lines ++ text is ∷ [] } in
-      ap (λ q. fold (with_line columns) q texts) (line_as_it_is r is none plain) ∙ lines_as_they_are s texts none plain ∙ ap (λ ls. record r { lines = ls }) (append_assoc r.lines (text is ∷ []) (map text texts))
+  pub cell_of_texts : with_cell columns r (map text texts) ≡ fold (with_line columns) r texts
+  cell_of_texts = ap (fold (with_line columns) r) (map-map (as_text r.annotations) text texts ∙ map-id texts)
 
 -- what is written over all of a vector is what it holds
 pub written_over : {X : Type 0} (items new : List X) (len : ℕ) → len ≡ length items → length new ≡ length items → take len (new ++ drop (length new) items) ≡ new
 written_over items new len whole same =
     ap (λ ls. take len (new ++ ls)) (drop_of_length-le items {i = length new} (omega (arith, same))) ∙ ap (take len) (append-nil new) ∙ take_all len new (omega (arith, whole, same))
 
--- lines that mean these texts are added as they are
-pub texts_at_once : {D A M : Type 0} (f : A → M) (columns : ℕ → Option ℕ) (r s : Renderer D A (List A)) (lines : List (RenderLine (List A))) (texts : List (List (Item (List M)))) → seen f lines ≡ map text texts →
-    r.waiting ≡ [] → r.options.pad_block_width ≡ false → s ≡ record r { lines = r.lines ++ map line_seen lines } → meant f s ≡ fold (with_line columns) (meant f r) texts
-texts_at_once {D} {A} {M} f columns r s lines texts shown none plain is =
-    ap (meant f) is
-    ∙ ap (λ (ls : List (Line (List M))). record (meant f r) { lines = ls }) (map-append (map_line (tag_meant f)) r.lines (map line_seen lines) ∙ ap (λ (ls : List (Line (List M))). map (map_line (tag_meant f)) r.lines ++ ls) shown)
-    ∙ sym (lines_as_they_are columns (meant f r) texts none plain)
-
--- ---- what a renderer hands out
-
--- a refusal that is passed on is the one that came
-pub passed_on : {X Y : Type 0} (result : Result X Error) (inner : Result Y Error) (e f : Error) → result ≡ Err f → IsErrAnd result (λ x. x ≡ e) → inner ≡ Err e → inner ≡ Err f
-passed_on result inner e f is same came = came ∙ ap Err (sym (subst (λ (r : Result _ Error). IsErrAnd r (λ x. x ≡ e)) is same))
-
 -- ---- cells below one another
-
-pub each_at : {S : Type 0} (P : S → Type 0) (before : List S) (one : S) (after : List S) → Each P (before ++ one ∷ after) → P one
-each_at P [] one after h = h.0
-each_at P (s ∷ before) one after h = each_at P before one after h.1
 
 module _ {D A M : Type 0} (f : A → M) (columns : ℕ → Option ℕ) (first : Renderer D A (List A)) where
   abbrev pub hands : Renderer D A (List A) → Outcome (List (Line (List M)))

@@ -1,14 +1,13 @@
 -- Renderers with nothing in them.
-use Rattle.std.proofs.Common.{◌≡◌, ℕ, ◌&&◌, not, Bool, true, is_none, Option, None, Some, List, [], ◌∷◌, map, refl, ap, sym, ◌∙◌}
+use Rattle.std.proofs.Common.{◌≡◌, ℕ, ◌&&◌, not, true, is_none, Option, None, Some, List, [], ◌∷◌, map, refl, ap, ◌∙◌}
 use Rattle.std.specs.Option.{option_map}
 use Rattle.std.proofs.lemmas.Bool.{and_parts}
 use Rattle.tbr_model.specs.Run.{Item}
 use Rattle.tbr_wrap.specs.Runs.{is_some_list}
-use Rattle.tbr_wrap.specs.Block.{Block, lines, any_line, has_no_character}
-use Rattle.tbr_tagged.specs.declared.Error.{Error}
+use Rattle.tbr_wrap.specs.Block.{lines, any_line, has_no_character}
 use Rattle.tbr_wrap.proofs.runs.BlockLaws.{none_ended}
 use Rattle.tbr_kept_lines.specs.Line.{Line}
-use Rattle.tbr_renderer.specs.Renderer.{Open, Renderer, block_width, may_overflow}
+use Rattle.tbr_renderer.specs.Renderer.{Open, Renderer}
 use Rattle.tbr_tagged.specs.Outcome.{done}
 use Rattle.tbr_tagged.proofs.Outcomes.{live_done}
 use Rattle.tbr_renderer.specs.Appended.{handed_out}
@@ -17,42 +16,16 @@ use Rattle.tbr_renderer.proofs.OutcomeParts.{one_done, done_before}
 use Rattle.tbr_renderer.proofs.FlushedBlocks.{block_ended}
 use Rattle.tbr_footnotes.specs.Tags.{tag_meant}
 use Rattle.tbr_renderer.specs.Meant.{map_line, map_open, meant}
-use Rattle.tbr_renderer.specs.View.{IsFresh, open_seen, block_seen}
 use Rattle.tbr_renderer.specs.Rows.{block_is_blank, is_blank}
-use Rattle.tbr_renderer.proofs.MappedBlocks.{any_line-map, has_no_character-map}
+use Rattle.tbr_renderer.proofs.MappedBlocks.{some-map, any_line-map, has_no_character-map}
 
 none_of_not : {X : Type 0} (xs : List X) → not (is_some_list xs) ≡ true → xs ≡ []
 none_of_not [] h = refl
 none_of_not (x ∷ xs) h = cc
 
--- ---- what a block answers
-
-module _ {D A : Type 0} (columns : ℕ → Option ℕ) (r : Renderer D A (List A)) (b : Block (List A)) (fresh : IsFresh columns (block_width r) (may_overflow r) b) where
-  -- a fresh block by what a contract sees of it
-  block_seen_is : block_in r (open_seen b) ≡ b
-  block_seen_is i = record {
-    width = sym fresh.width_is i;
-    may_overflow = sym fresh.may_overflow i;
-    padding = b.padding;
-    failure = sym fresh.unfailed i;
-    begun = sym fresh.begun i;
-    ended = sym fresh.ended i;
-    events = b.events;
-    handed = sym fresh.handed i;
-  }
-
-  pub block_asked : (blank : Bool) → block_seen (Some b) ≡ r.block → blank ≡ is_none b.failure && (not (any_line columns b) && has_no_character columns b) → blank ≡ block_is_blank columns r r.block
-  block_asked blank seen asked =
-      asked ∙ ap (λ (o : Option Error). is_none o && (not (any_line columns b) && has_no_character columns b)) fresh.unfailed
-      ∙ ap (λ (s : Block (List A)). not (any_line columns s) && has_no_character columns s) (sym block_seen_is) ∙ ap (block_is_blank columns r) seen
-
 -- ---- what its annotations mean doesn't matter
 
 module _ {D A M : Type 0} (f : A → M) (columns : ℕ → Option ℕ) (r : Renderer D A (List A)) where
-  some-map : (ls : List (Line (List A))) → is_some_list (map (map_line (tag_meant f)) ls) ≡ is_some_list ls
-  some-map [] = refl
-  some-map (l ∷ ls) = refl
-
   block-map : (o : Option (Open (List A))) → block_is_blank columns (meant f r) (option_map (map_open (tag_meant f)) o) ≡ block_is_blank columns r o
   block-map None = refl
   block-map (Some b) =
@@ -63,7 +36,7 @@ module _ {D A M : Type 0} (f : A → M) (columns : ℕ → Option ℕ) (r : Rend
   pub blank_meant : is_blank columns (meant f r) ≡ is_blank columns r
   blank_meant =
       ap (λ block. is_none r.failure && (block && not (is_some_list (map (map_line (tag_meant f)) r.lines)))) (block-map r.block)
-      ∙ ap (λ some. is_none r.failure && (block_is_blank columns r r.block && not some)) (some-map r.lines)
+      ∙ ap (λ some. is_none r.failure && (block_is_blank columns r r.block && not some)) (some-map (map_line (tag_meant f)) r.lines)
 
 -- ---- it hands out no line
 

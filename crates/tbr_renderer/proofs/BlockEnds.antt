@@ -1,15 +1,14 @@
 -- Lines of a block that join those of a renderer.
-use Rattle.std.proofs.Common.{◌≡◌, ℕ, ◌-◌, Bool, true, Option, None, Some, List, [], ◌∷◌, ◌++◌, map, fold, drop, refl, ap, sym, ◌∙◌, subst, append_assoc, append-nil}
+use Rattle.std.proofs.Common.{◌≡◌, ℕ, ◌-◌, Bool, true, Option, None, Some, List, [], ◌∷◌, ◌++◌, map, fold, drop, refl, ap, sym, ◌∙◌, subst, append_assoc}
 use Rattle.std.proofs.lemmas.List.{map-append}
+use Rattle.std.proofs.lemmas.Simd.{map-map}
 use Rattle.std.proofs.lemmas.Grind.{fold-append}
 use Rattle.std.specs.Option.{option_map}
-use Rattle.tbr_model.specs.Run.{Item, items_width}
+use Rattle.tbr_model.specs.Run.{Item}
 use Rattle.tbr_model.specs.Mapped.{map_item, map_lines}
-use Rattle.tbr_model.proofs.maps.Words.{items_width-map}
 use Rattle.tbr_annotations.specs.Annotations.{equal_annotations}
-use Rattle.tbr_tagged.specs.Elements.{Element, marker_element, items_of, text_items}
-use Rattle.tbr_tagged.specs.Padding.{spaces}
-use Rattle.tbr_wrap.specs.Block.{Block, Settings, all_lines, left, loose, flushed, without_loose, after_flush, after_taking}
+use Rattle.tbr_tagged.specs.Elements.{Element, marker_element, items_of}
+use Rattle.tbr_wrap.specs.Block.{Block, Settings, settings_of as block_settings, all_lines, left, loose, flushed, without_loose, after_flush, after_taking}
 use Rattle.tbr_tagged.specs.Outcome.{done, refused}
 use Rattle.tbr_wrap.specs.Wrapped.{padding_of}
 use Rattle.tbr_tagged.specs.declared.Error.TheVariants as E
@@ -19,19 +18,18 @@ use Rattle.tbr_renderer.specs.Renderer.{KeepsSettings, settings_of, Open, Render
 use Rattle.tbr_footnotes.specs.Tags.{tag_meant, items_meant}
 use Rattle.tbr_renderer.specs.Meant.{map_open, meant}
 use Rattle.tbr_renderer.specs.View.{block_seen, block_meant, names_of, AreMarkers, IsFresh}
-use Rattle.tbr_renderer.specs.Flush.{line_meant, block_lines, lines_at_end, names_at_end, fits_at_end, after_block}
+use Rattle.tbr_renderer.specs.Flush.{line_meant, block_lines, lines_at_end, fits_at_end, after_block}
 use Rattle.tbr_renderer.specs.Flush as flush
-use Rattle.tbr_footnotes.proofs.Tags.{text_items-map}
 use Rattle.tbr_tagged.proofs.MappedTags.{means_same_items}
 use Rattle.tbr_renderer.proofs.MappedBlocks.{lines_meant, names_meant, fits_meant, flush_narrow}
+use Rattle.tbr_renderer.proofs.MeantLines.{padding-map}
 use Rattle.tbr_renderer.proofs.OutcomeParts.{fitting, not_fitting}
 
 -- The lines of a block that a renderer has: given ones, and the block has the others left.
 pub record HasLines {D A M : Type 0} (f : A → M) (columns : ℕ → Option ℕ) (first old : Block (List A)) (r q : Renderer D A (List A)) : Type 0 where
   pub unfailed : q.failure ≡ None
   pub live : old.failure ≡ None
-  pub padding : old.padding ≡ first.padding
-  pub width : old.width ≡ first.width
+  pub same : block_settings old ≡ block_settings first
   pub given : List (List (Item (List A)))
   pub parts : left columns first ≡ given ++ left columns old
   pub meaning : meant f q ≡ fold (with_line columns) (meant f r) (map (line_meant columns f first) given)
@@ -43,13 +41,12 @@ module _ {D A M : Type 0} (eq : A → A → Bool) (f : A → M) (agree : (v w : 
   one_line_more first old new r q s line h one added =
       let same : items_meant f (items_of line) ≡ line_meant columns f first one.text =
       means_same_items (tag_meant f) (equal_annotations eq) agree (items_of line) (one.text ++ padding_of columns old.padding old.width one.text) one.shows.items
-      ∙ ap (λ (o : Option (List A)). items_meant f (one.text ++ padding_of columns o old.width one.text)) h.padding ∙ ap (λ (n : ℕ). items_meant f (one.text ++ padding_of columns first.padding n one.text)) h.width in
+      ∙ ap (λ (k : Settings (List A)). items_meant f (one.text ++ padding_of columns k.padding k.width one.text)) h.same in
       let last : left columns new ≡ one.rest = ap (left columns) one.leaves ∙ left_after old columns ∙ ap (drop 1) one.left_is in
       record {
         unfailed = ap (λ (m : Renderer D M (List M)). m.failure) added ∙ h.unfailed;
         live = ap (λ (b : Block (List A)). b.failure) one.leaves ∙ (handed_keeps old).0 ∙ h.live;
-        padding = ap (λ (b : Block (List A)). b.padding) one.leaves ∙ ap (λ (k : Settings (List A)). k.padding) (handed_keeps old).1 ∙ h.padding;
-        width = ap (λ (b : Block (List A)). b.width) one.leaves ∙ ap (λ (k : Settings (List A)). k.width) (handed_keeps old).1 ∙ h.width;
+        same = ap (λ (b : Block (List A)). block_settings b) one.leaves ∙ (handed_keeps old).1 ∙ h.same;
         given = h.given ++ one.text ∷ [];
         settings = ap settings_of added ∙ h.settings;
         parts = h.parts ∙ ap (λ ls. h.given ++ ls) one.left_is ∙ ap (λ ls. h.given ++ one.text ∷ ls) (sym last) ∙ sym (append_assoc h.given (one.text ∷ []) (left columns new));
@@ -58,29 +55,17 @@ module _ {D A M : Type 0} (eq : A → A → Bool) (f : A → M) (agree : (v w : 
             ∙ ap (fold (with_line columns) (meant f r)) (sym (map-append (line_meant columns f first) h.given (one.text ∷ [])));
       }
 
--- no line is left
-pub no_more_lines : {D A M : Type 0} (f : A → M) (columns : ℕ → Option ℕ) (first old : Block (List A)) (r q : Renderer D A (List A)) → HasLines f columns first old r q → left columns old ≡ [] →
-    meant f q ≡ fold (with_line columns) (meant f r) (map (line_meant columns f first) (left columns first))
-no_more_lines f columns first old r q h none =
-    h.meaning ∙ ap (λ ls. fold (with_line columns) (meant f r) (map (line_meant columns f first) ls)) (sym (append-nil h.given) ∙ ap (λ ls. h.given ++ ls) (sym none) ∙ sym h.parts)
-
 -- ---- the end of a run
 
 module _ {A M : Type 0} (f : A → M) (columns : ℕ → Option ℕ) where
-  padding-map : (o : Option (List A)) (width : ℕ) (is : List (Item (List A))) → items_meant f (padding_of columns o width is) ≡ padding_of columns (option_map (tag_meant f) o) width (items_meant f is)
-  padding-map None width is = refl
-  padding-map (Some v) width is = text_items-map (tag_meant f) (spaces (width - items_width columns is)) v ∙ ap (λ n. text_items (spaces (width - n)) (tag_meant f v)) (sym (items_width-map (tag_meant f) columns is))
+  line-map : (b : Block (List A)) (is : List (Item (List A))) → line_meant columns f b is ≡ items_meant f is ++ padding_of columns (option_map (tag_meant f) b.padding) b.width (items_meant f is)
+  line-map b is = map-append (map_item (tag_meant f)) is (padding_of columns b.padding b.width is) ∙ ap (λ js. items_meant f is ++ js) (padding-map f columns b.padding b.width is)
 
-  lines-map : (b : Block (List A)) (o : Option (List A)) (width : ℕ) (texts : List (List (Item (List A)))) → b.padding ≡ o → b.width ≡ width →
-      map (line_meant columns f b) texts ≡ map (λ is. is ++ padding_of columns (option_map (tag_meant f) o) width is) (map_lines (tag_meant f) texts)
-  lines-map b o width [] padding wide = refl
-  lines-map b o width (t ∷ ts) padding wide =
-      let first : line_meant columns f b t ≡ items_meant f t ++ padding_of columns (option_map (tag_meant f) o) width (items_meant f t) =
-      map-append (map_item (tag_meant f)) t (padding_of columns b.padding b.width t) ∙ ap (λ is. items_meant f t ++ is) (padding-map b.padding b.width t)
-      ∙ ap (λ (p : Option (List A)). items_meant f t ++ padding_of columns (option_map (tag_meant f) p) b.width (items_meant f t)) padding
-      ∙ ap (λ (n : ℕ). items_meant f t ++ padding_of columns (option_map (tag_meant f) o) n (items_meant f t)) wide in
-      let rest = lines-map b o width ts padding wide in
-      cc
+  lines-map : (b : Block (List A)) (texts : List (List (Item (List A)))) →
+      map (line_meant columns f b) texts ≡ map (λ is. is ++ padding_of columns (option_map (tag_meant f) b.padding) b.width is) (map_lines (tag_meant f) texts)
+  lines-map b texts =
+      (λ i. map (λ is. line-map b is i) texts)
+      ∙ sym (map-map (λ is. is ++ padding_of columns (option_map (tag_meant f) b.padding) b.width is) (items_meant f) texts)
 
 names_of_markers : (T : Type 0) (names : List (List ℕ)) → names_of (map (λ n. let e : Element T = marker_element n in e) names) ≡ names
 names_of_markers T [] = refl
@@ -101,29 +86,26 @@ module _ {D A M : Type 0} (f : A → M) (columns : ℕ → Option ℕ) (r : Rend
     all_left : left columns taken_from ≡ all_lines columns b
     all_left =
         ap (left columns) after_is ∙ left_taken columns (flushed columns b) ∙ left_flushed columns b
-        ∙ ap (λ (ls : List (List (Item (List A)))). ls ++ drop b.handed (all_lines columns b)) fresh.ended ∙ ap (λ n. drop n (all_lines columns b)) fresh.handed
+        ∙ ap (λ (s : Block (List A)). s.ended ++ drop s.handed (all_lines columns b)) fresh.is
 
     -- a flush where a block is open
     pub block_flushed : (waiting : List (List ℕ)) (s0 s1 s2 : Renderer D A (List A)) → s0 ≡ record r { block = None } →
         meant f s1 ≡ fold (with_line columns) (meant f s0) (map (line_meant columns f taken_from) (left columns taken_from)) → waiting ≡ loose columns after → s2 ≡ record s1 { waiting = s1.waiting ++ waiting } → flush.after_flush columns (meant f r) ≡ done (meant f s2)
     block_flushed waiting s0 s1 s2 emptied lines names_are waits =
         let opened : Open (List M) = block_meant f b in
-        let fits : fits_at_end columns (meant f r) opened ≡ true = fits_meant f columns r b fresh ∙ flush_allowed columns b after e in
-        let padding : taken_from.padding ≡ b.padding = ap (λ (s : Block (List A)). s.padding) after_is in
-        let wide : taken_from.width ≡ block_width r = ap (λ (s : Block (List A)). s.width) after_is ∙ fresh.width_is in
+        let kept = ap (λ (s : Block (List A)). block_settings s) after_is ∙ ap (λ (s : Block (List A)). block_settings s) fresh.is in
         let here : map (line_meant columns f taken_from) (left columns taken_from) ≡ block_lines columns (meant f r) opened (lines_at_end columns (meant f r) opened) =
-        ap (map (line_meant columns f taken_from)) all_left ∙ lines-map f columns taken_from b.padding (block_width r) (all_lines columns b) padding wide
-        ∙ ap (block_lines columns (meant f r) opened) (sym (lines_meant f columns r b fresh)) in
+        ap (map (line_meant columns f taken_from)) all_left ∙ lines-map f columns taken_from (all_lines columns b)
+        ∙ (λ i. map (λ is. is ++ padding_of columns (option_map (tag_meant f) (kept i).padding) (kept i).width is) (sym (lines_meant f columns r b fresh) i)) in
         let after_lines : meant f s1 ≡ fold (with_line columns) (record (meant f r) { block = None }) (block_lines columns (meant f r) opened (lines_at_end columns (meant f r) opened)) =
-        lines ∙ ap (λ (q : Renderer D A (List A)). fold (with_line columns) (meant f q) (map (line_meant columns f taken_from) (left columns taken_from))) emptied ∙ ap (fold (with_line columns) (record (meant f r) { block = None })) here in
-        let is : meant f s2 ≡ flush.flushed columns (meant f r) (block_lines columns (meant f r) opened (lines_at_end columns (meant f r) opened)) (names_at_end columns (meant f r) opened) =
-        ap (meant f) waits ∙ ap (λ ns. record (meant f s1) { waiting = s1.waiting ++ ns }) (names_are ∙ waiting_loose columns b after e ∙ sym (names_meant f columns r b fresh))
-        ∙ ap (λ (m : Renderer D M (List M)). record m { waiting = m.waiting ++ names_at_end columns (meant f r) opened }) after_lines in
-        let ended : after_block columns (meant f r) (Some opened) ≡ done (meant f s2) = fitting (fits_at_end columns (meant f r) opened) _ fits ∙ ap (λ m. done m) (sym is) in
-        subst (λ (o : Option (Open (List A))). after_block columns (meant f r) (option_map (map_open (tag_meant f)) o) ≡ done (meant f s2)) seen ended
+        lines ∙ (λ i. fold (with_line columns) (meant f (emptied i)) (here i)) in
+        let names = names_are ∙ waiting_loose columns b after e ∙ sym (names_meant f columns r b fresh) in
+        subst (λ (o : Option (Open (List A))). after_block columns (meant f r) (option_map (map_open (tag_meant f)) o) ≡ done (meant f s2)) seen
+        (fitting (fits_at_end columns (meant f r) opened) _ (fits_meant f columns r b fresh ∙ flush_allowed columns b after e)
+        ∙ sym (ap (λ m. done m) (ap (meant f) waits ∙ (λ i. record (after_lines i) { waiting = (after_lines i).waiting ++ names i }))))
 
   -- and where it is refused
   pub block_refused : after_flush columns b ≡ refused E.TooNarrow → flush.after_flush columns (meant f r) ≡ refused E.TooNarrow
   block_refused e =
       subst (λ (o : Option (Open (List A))). after_block columns (meant f r) (option_map (map_open (tag_meant f)) o) ≡ refused E.TooNarrow) seen
-      (not_fitting (fits_at_end columns (meant f r) (block_meant f b)) _ (fits_meant f columns r b fresh ∙ flush_narrow columns b fresh.unfailed e))
+      (not_fitting (fits_at_end columns (meant f r) (block_meant f b)) _ (fits_meant f columns r b fresh ∙ flush_narrow columns b (ap (λ (s : Block (List A)). s.failure) fresh.is) e))

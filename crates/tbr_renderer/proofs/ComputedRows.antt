@@ -1,9 +1,9 @@
 -- What a row leaves is what is computed, where annotations can be told apart.
-use Rattle.std.proofs.Common.{◌≡◌, ◌↔◌, ℕ, ◌+◌, ◌-◌, Bool, true, false, ◌&&◌, Option, None, Some, List, [], ◌∷◌, map, ap, sym, ◌∙◌, subst, refl}
+use Rattle.std.proofs.Common.{◌≡◌, ◌↔◌, ℕ, ◌+◌, ◌-◌, Bool, Option, None, Some, List, [], ◌∷◌, map, ap, sym, ◌∙◌, subst, refl}
 use Rattle.std.specs.Option.{option_map}
 use Rattle.std.specs.List.{AllZip}
 use Rattle.std.proofs.lemmas.Option.{same_Some}
-use Rattle.std.proofs.lemmas.Bool.{false≢true}
+use Rattle.std.proofs.lemmas.List.{map-id}
 use Rattle.std.specs.Cmp.Lexicographic.{pointwise}
 use Rattle.tbr_tagged.specs.declared.CellAlign.{CellAlign}
 use Rattle.tbr_border.specs.declared.RenderLine.{RenderLine}
@@ -17,6 +17,7 @@ use Rattle.tbr_rows.specs.Computed.{TellsApart, row_of}
 use Rattle.tbr_rows.specs.declared.LineSet.{LineSet as Cell}
 use Rattle.tbr_rows.proofs.OneRow.{longest_same}
 use Rattle.tbr_rows.proofs.ComputedRow.{longest_items, longest_are, computed}
+use Rattle.tbr_footnotes.proofs.Tags.{lists_mean, copies_are_equal}
 use Rattle.tbr_kept_lines.specs.Line.{Line, text, border}
 use Rattle.tbr_kept_lines.specs.LastBorder.{last_border}
 use Rattle.tbr_renderer.specs.Renderer.{Renderer}
@@ -29,21 +30,10 @@ use Rattle.tbr_renderer.proofs.OutcomeParts.{one_done, done_first}
 
 -- where tags can be told apart, lists of them can
 pub lists_apart : {A : Type 0} (same : A → A → Bool) → TellsApart same → TellsApart (pointwise same)
-lists_apart same tells [] [] = (λ _. refl, λ _. refl)
-lists_apart same tells [] (y ∷ ys) = (λ h. absurd (false≢true h), λ e. absurd (let no : ⊥ = cc in no))
-lists_apart same tells (x ∷ xs) [] = (λ h. absurd (false≢true h), λ e. absurd (let no : ⊥ = cc in no))
-lists_apart {A} same tells (x ∷ xs) (y ∷ ys) = (
-  λ h. let (first, rest) = both_true (same x y) (pointwise same xs ys) h in
-      ap (λ (z : A). z ∷ xs) ((tells x y).0 first) ∙ ap (λ (zs : List A). y ∷ zs) ((lists_apart same tells xs ys).0 rest),
-  λ e. let first : same x y ≡ true = (tells x y).1 (let one : x ≡ y = cc in one) in
-      let rest : pointwise same xs ys ≡ true = (lists_apart same tells xs ys).1 (let others : xs ≡ ys = cc in others) in
-      rw (first, rest) refl,
+lists_apart same tells xs ys = (
+  λ h. sym (map-id xs) ∙ lists_mean same (λ x. x) tells xs ys h ∙ map-id ys,
+  λ e. copies_are_equal same (λ x. x) tells xs ys (sym e),
 )
-  where
-    both_true : (s t : Bool) → (s && t) ≡ true → (s ≡ true) × (t ≡ true)
-    both_true true true h = (refl, refl)
-    both_true true false h = cc
-    both_true false t h = cc
 
 -- ---- the same cells
 

@@ -1,13 +1,14 @@
 -- What the fields of a renderer hold after they change.
-use Rattle.std.proofs.Common.{◌≡◌, ℕ, Option, List, [], ◌∷◌, ◌++◌, map, refl, ap, sym, ◌∙◌, subst}
-use Rattle.std.specs.Global.{Vec}
+use Rattle.std.proofs.Common.{◌≡◌, ℕ, Option, None, Some, List, [], ◌∷◌, ◌++◌, map, refl, ap, sym, ◌∙◌, subst}
+use Rattle.std.specs.Global.{Box, Vec}
+use Rattle.tbr_wrap.specs.Block.{Block}
 use Rattle.std.proofs.lemmas.List.{map-append}
 use Rattle.tbr_tagged.specs.Elements.{Element, piece, marker_element}
 use Rattle.tbr_tagged.specs.View.{element_of}
 use Rattle.tbr_tagged.specs.declared.TaggedLineElement.{TaggedLineElement}
 use Rattle.tbr_renderer.specs.declared.sub.SubRenderer.TheInside.{Inside}
-use Rattle.tbr_renderer.specs.Renderer.{Renderer}
-use Rattle.tbr_renderer.specs.View.{names_of, AreMarkers, renderer_of, HoldsRenderer}
+use Rattle.tbr_renderer.specs.Renderer.{Renderer, block_width, may_overflow}
+use Rattle.tbr_renderer.specs.View.{unboxed, block_seen, names_of, AreMarkers, IsFresh, IsOpened, renderer_of, HoldsRenderer}
 
 -- ---- markers
 
@@ -39,3 +40,16 @@ module _ {D W A : Type 0} (columns : ℕ → Option ℕ) (r : Inside D W A) (mor
   waiting_seen s view =
       ap (λ ns. record (renderer_of r) { waiting = ns }) (ap names_of elements ∙ names_append (map element_of r.waiting.items) (map element_of more))
       ∙ ap (λ (q : Renderer D A (List A)). record q { waiting = q.waiting ++ names_of (map element_of more) }) view
+
+-- ---- the open block
+
+-- the block that is in the box is the open one, and fresh
+pub boxed_opens : {D W A : Type 0} (columns : ℕ → Option ℕ) (inside : Inside D W A) (r : Renderer D A (List A)) (boxed : Box (Block (List A))) →
+    HoldsRenderer columns inside → renderer_of inside ≡ r → r.failure ≡ None → inside.wrapping ≡ Some boxed →
+    (block_seen (Some boxed.value) ≡ r.block) × IsFresh columns (block_width r) (may_overflow r) boxed.value
+boxed_opens {D} {W} {A} columns inside r boxed holds view live is =
+    let fresh = holds.fresh (ap (λ (q : Renderer D A (List A)). q.failure) view ∙ live) in (
+      ap (λ o. block_seen (unboxed o)) (sym is) ∙ ap (λ (q : Renderer D A (List A)). q.block) view,
+      subst (λ (q : Renderer D A (List A)). IsFresh columns (block_width q) (may_overflow q) boxed.value) view
+          (subst (λ o. IsOpened columns (block_width (renderer_of inside)) (may_overflow (renderer_of inside)) (unboxed o)) is fresh.opened),
+    )

@@ -3,7 +3,7 @@ use Rattle.std.proofs.Common.{◌≡◌, ℕ, ◌==◌, Bool, true, false, ◌||
 use Rattle.std.specs.List.{list_any}
 use Rattle.std.specs.Str.{IsUtf8, IsCharBoundary, NonePass, NoCharPasses}
 use Rattle.std.specs.Str.Pattern.{RFindsChar}
-use Rattle.std.proofs.lemmas.Bool.{false≢true}
+use Rattle.std.proofs.lemmas.Bool.{false≢true, or_right}
 use Rattle.std.proofs.lemmas.List.{take-append-drop}
 use Rattle.std.proofs.Math.Seq.{take-append_seam}
 use Rattle.std.proofs.lemmas.Str.{chars_from_encodes, chars-append, chars_past_char, chars-nil, encodes-chars, encode_ascii, IsUtf8-drop, IsUtf8-take, IsCharBoundary-at_seam}
@@ -24,10 +24,6 @@ either_false : (a b : Bool) → a || b ≡ false → (a ≡ false) × (b ≡ fal
 either_false true b h = absurd (false≢true (sym h))
 either_false false b h = (refl, h)
 
-either_true : (a b : Bool) → b ≡ true → a || b ≡ true
-either_true true b h = refl
-either_true false b h = h
-
 whole_name : (cs : List ℕ) → list_any is_slash cs ≡ false → file_name cs ≡ cs
 whole_name [] h = refl
 whole_name (c ∷ cs) h =
@@ -36,7 +32,7 @@ whole_name (c ∷ cs) h =
 
 has_slash : (cs name : List ℕ) → list_any is_slash (cs ++ 47 ∷ name) ≡ true
 has_slash [] name = refl
-has_slash (c ∷ cs) name = either_true (is_slash c) (list_any is_slash (cs ++ 47 ∷ name)) (has_slash cs name)
+has_slash (c ∷ cs) name = or_right (is_slash c) (list_any is_slash (cs ++ 47 ∷ name)) (has_slash cs name)
 
 last_name : (cs name : List ℕ) → list_any is_slash name ≡ false → file_name (cs ++ 47 ∷ name) ≡ name
 last_name [] name h = rw h refl

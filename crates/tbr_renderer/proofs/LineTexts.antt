@@ -1,10 +1,10 @@
 -- The text of lines doesn't depend on tags.
-use Rattle.std.proofs.Common.{◌≡◌, List, [], ◌∷◌, ◌++◌, map, refl, ap, sym, ◌∙◌}
+use Rattle.std.proofs.Common.{◌≡◌, List, [], ◌∷◌, ◌++◌, map, refl, ap, ◌∙◌}
 use Rattle.tbr_model.specs.Codes.{newline_character}
 use Rattle.tbr_model.specs.Run.{Item, glyph, marker}
 use Rattle.tbr_model.specs.Mapped.{map_items}
 use Rattle.tbr_border.specs.Border.{shown}
-use Rattle.tbr_renderer.proofs.MeantBorders.{shown-map}
+use Rattle.tbr_rows.proofs.MeantTexts.{shown-map}
 use Rattle.tbr_tagged.specs.Walks.{item_characters}
 use Rattle.tbr_renderer.specs.Meant.{map_line}
 use Rattle.tbr_kept_lines.specs.Line.{Line, text, border}
@@ -18,7 +18,7 @@ module _ {T U : Type 0} (f : T → U) where
 
   line_same : (line : Line T) → line_text (map_line f line) ≡ line_text line
   line_same (text is) = ap (λ cs. cs ++ newline_character ∷ []) (items_same is)
-  line_same (border b) = ap (λ cs. cs ++ newline_character ∷ []) (ap item_characters (sym (shown-map f b.tag b)) ∙ items_same (shown b.tag b))
+  line_same (border b) = ap (λ cs. cs ++ newline_character ∷ []) (ap item_characters (shown-map f b.tag b) ∙ items_same (shown b.tag b))
 
   -- lines under other tags have the same text
   pub lines_same : (lines : List (Line T)) → lines_text (map (map_line f) lines) ≡ lines_text lines

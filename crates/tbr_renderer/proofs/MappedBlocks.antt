@@ -2,6 +2,7 @@
 use Rattle.std.proofs.Common.{◌≡◌, ℕ, ◌<◌, ◌&&◌, ◌||◌, ◌==◌, not, nat_le, true, false, Option, None, Some, List, [], ◌∷◌, ◌++◌, map, refl, ap, sym, ◌∙◌}
 use Rattle.std.specs.Option.{option_map}
 use Rattle.std.proofs.lemmas.List.{map-append}
+use Rattle.std.proofs.lemmas.Simd.{map-map}
 use Rattle.tbr_model.specs.Run.{Entry, Item, glyph, marker, items_width, has_character}
 use Rattle.tbr_model.specs.Rule.{Event, call, entry, run_of, Progress, finished, waiting}
 use Rattle.tbr_model.specs.Laid.{Laid}
@@ -65,6 +66,10 @@ map_block f b = record {
   handed = b.handed;
 }
 
+pub some-map : {X Y : Type 0} (f : X → Y) (xs : List X) → is_some_list (map f xs) ≡ is_some_list xs
+some-map f [] = refl
+some-map f (x ∷ xs) = refl
+
 module _ {A B : Type 0} (f : A → B) (columns : ℕ → Option ℕ) where
   names-map : (is : List (Item A)) → names_in_items (map_items f is) ≡ names_in_items is
   names-map [] = refl
@@ -75,10 +80,6 @@ module _ {A B : Type 0} (f : A → B) (columns : ℕ → Option ℕ) where
   fit-map width [] = refl
   fit-map width (l ∷ ls) =
       ap (λ n. nat_le n width && lines_fit columns width (map_lines f ls)) (items_width-map f columns l) ∙ ap (λ b. nat_le (items_width columns l) width && b) (fit-map width ls)
-
-  some-map : (ls : List (List (Item A))) → is_some_list (map_lines f ls) ≡ is_some_list ls
-  some-map [] = refl
-  some-map (l ∷ ls) = refl
 
   module _ (b : Block A) where
     lines-map : lines columns (map_block f b) ≡ map_lines f (lines columns b)
@@ -109,17 +110,13 @@ module _ {A B : Type 0} (f : A → B) (columns : ℕ → Option ℕ) where
         ∙ ap (λ c. not (has_character (progress_of columns b).laid.line) && not c) (has_character-map f columns (progress_of columns b).word)
 
     pub any_line-map : any_line columns (map_block f b) ≡ any_line columns b
-    any_line-map = ap (λ ls. b.begun || is_some_list ls) lines-map ∙ ap (λ some. b.begun || some) (some-map (lines columns b))
+    any_line-map = ap (λ ls. b.begun || is_some_list ls) lines-map ∙ ap (λ some. b.begun || some) (some-map (map_items f) (lines columns b))
 
 -- ---- the open block of a renderer
 
 module _ {D A M : Type 0} (f : A → M) (columns : ℕ → Option ℕ) (r : Renderer D A (List A)) where
   pub called-map : (es : List (Entry (List A))) (fs : List (Entry (List M))) → map_run (tag_meant f) es ≡ fs → map_events (tag_meant f) (called es) ≡ called fs
-  called-map es fs e = ap (λ gs. call ∷ gs) (entries es) ∙ ap called e
-    where
-      entries : (es : List (Entry (List A))) → map_events (tag_meant f) (map entry es) ≡ map entry (map_run (tag_meant f) es)
-      entries [] = refl
-      entries (e ∷ es) = ap (λ gs. entry (map_entry (tag_meant f) e) ∷ gs) (entries es)
+  called-map es fs e = ap (λ gs. call ∷ gs) (map-map (map_event (tag_meant f)) entry es ∙ sym (map-map entry (map_entry (tag_meant f)) es)) ∙ ap called e
 
   module _ (b : Block (List A)) (fresh : IsFresh columns (block_width r) (may_overflow r) b) where
     abbrev pub opened : Open (List M)
@@ -127,16 +124,7 @@ module _ {D A M : Type 0} (f : A → M) (columns : ℕ → Option ℕ) (r : Rend
 
     -- it is the fresh block by what its annotations mean
     block_is : map_block (tag_meant f) b ≡ block_in (meant f r) opened
-    block_is i = record {
-      width = fresh.width_is i;
-      may_overflow = fresh.may_overflow i;
-      padding = option_map (tag_meant f) b.padding;
-      failure = fresh.unfailed i;
-      begun = fresh.begun i;
-      ended = map_lines (tag_meant f) (fresh.ended i);
-      events = map_events (tag_meant f) b.events;
-      handed = fresh.handed i;
-    }
+    block_is = ap (map_block (tag_meant f)) fresh.is
 
     pub lines_meant : lines_at_end columns (meant f r) opened ≡ map_lines (tag_meant f) (all_lines columns b)
     lines_meant = ap (all_lines columns) (sym block_is) ∙ all_lines-map (tag_meant f) columns b

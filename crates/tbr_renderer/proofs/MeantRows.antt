@@ -1,10 +1,11 @@
 -- Rows under what their annotations mean.
-use Rattle.std.proofs.Common.{◌≡◌, ℕ, ◌+◌, zero, suc, ◌-◌, ◌<◌, ◌↔◌, IsTrue, Bool, true, if◌then◌else◌, is_some, is_none, Option, None, Some, unwrap_or, List, [], ◌∷◌, ◌++◌, map, fold, take, drop, length, get_or, refl, ap, sym, ◌∙◌, subst, arith}
+use Rattle.std.proofs.Common.{◌≡◌, ℕ, ◌+◌, ◌-◌, ◌↔◌, IsTrue, Bool, true, if◌then◌else◌, is_some, is_none, ◌&&◌, Option, None, Some, unwrap_or, List, [], ◌∷◌, ◌++◌, map, fold, take, drop, length, refl, ap, sym, ◌∙◌, subst}
 use Rattle.std.specs.Borrow.{Bor}
 use Rattle.std.specs.Option.{MatchOption, option_copied, option_map}
 use Rattle.std.specs.List.{AllZip, AllByRecursion as Each}
 use Rattle.std.specs.Cmp.Lexicographic.{pointwise}
-use Rattle.std.proofs.lemmas.List.{map-append, length-map, take-map, length-append, take_more, nil_from_length}
+use Rattle.std.proofs.lemmas.List.{map-append, length-map, take-map, length-append, drop-drop, nil_from_length}
+use Rattle.std.proofs.lemmas.Slice.Zip.{AllZip-long, all_zipped_more}
 use Rattle.tbr_model.specs.Run.{Item, items_width}
 use Rattle.tbr_model.specs.Mapped.{map_items}
 use Rattle.tbr_border.specs.Border.{Border}
@@ -36,7 +37,7 @@ use Rattle.tbr_tagged.specs.Outcome.{done}
 use Rattle.tbr_renderer.specs.Flush.{after_flush}
 use Rattle.tbr_renderer.specs.Appended.{handed_out}
 use Rattle.tbr_renderer.proofs.FlushedBlocks.{flush_keeps}
-use Rattle.tbr_renderer.specs.Rows.{is_blank, looks, spots_of, LeavesFree, GivenCell, FillsCell, ComesAs, next_align, cells_meant, border_lines, style_in, with_next, with_row_after, with_row}
+use Rattle.tbr_renderer.specs.Rows.{is_blank, looks, spots_of, LeavesFree, GivenCell, FillsCell, ComesAs, next_align, cells_meant, style_in, with_row_after, with_row}
 use Rattle.tbr_renderer.proofs.GivenCells.{given_last}
 use Rattle.tbr_renderer.proofs.BlankRenderers.{blank_hands_none, blank_meant}
 
@@ -45,19 +46,19 @@ use Rattle.tbr_renderer.proofs.BlankRenderers.{blank_hands_none, blank_meant}
 module _ {A M : Type 0} (eq : A → A → Bool) (meaning : A → M) (by_meaning : (a b : A) → IsTrue (eq a b) ↔ (meaning a ≡ meaning b)) where
   lists_told : (xs ys : List A) → map meaning xs ≡ map meaning ys → pointwise eq xs ys ≡ true
   lists_told [] [] h = refl
-  lists_told [] (y ∷ ys) h = absurd (let no : ⊥ = cc in no)
-  lists_told (x ∷ xs) [] h = absurd (let no : ⊥ = cc in no)
+  lists_told [] (y ∷ ys) h = cc
+  lists_told (x ∷ xs) [] h = cc
   lists_told (x ∷ xs) (y ∷ ys) h =
-      let first : meaning x ≡ meaning y = cc in
-      let rest : map meaning xs ≡ map meaning ys = cc in
-      let one : eq x y ≡ true = (by_meaning x y).1 first in
-      let all = lists_told xs ys rest in
-      rw (one, all) refl
+      let both : (meaning x ≡ meaning y) × (map meaning xs ≡ map meaning ys) = (cc, cc) in
+      λ i. (by_meaning x y).1 both.0 i && lists_told xs ys both.1 i
 
   pub tags_told : EqualIfMeant (tag_meant meaning) (equal_annotations eq)
   tags_told v w same = lists_told v w same
 
 -- ---- the border above
+
+pub without_last-map : {X Y : Type 0} (f : X → Y) (xs : List X) → without_last (map f xs) ≡ map f (without_last xs)
+without_last-map f xs = ap (λ n. take (n - 1) (map f xs)) (length-map xs f) ∙ take-map f (length xs - 1) xs
 
 module _ {T U : Type 0} (f : T → U) where
   border_in-map : (l : Line T) → border_in (map_line f l) ≡ option_map (map_border f) (border_in l)
@@ -70,44 +71,20 @@ module _ {T U : Type 0} (f : T → U) where
   last_border-map (l ∷ m ∷ ls) = last_border-map (m ∷ ls)
 
   pub before_border-map : (ls : List (Line T)) → before_border (map (map_line f) ls) ≡ map (map_line f) (before_border ls)
-  before_border-map ls =
-      ap (λ (o : Option (Border U)). if is_some o then without_last (map (map_line f) ls) else map (map_line f) ls) (last_border-map ls)
-      ∙ ap (λ n. if is_some (option_map (map_border f) (last_border ls)) then take (n - 1) (map (map_line f) ls) else map (map_line f) ls) (length-map ls (map_line f))
-      ∙ ap (λ (ms : List (Line U)). if is_some (option_map (map_border f) (last_border ls)) then ms else map (map_line f) ls) (take-map (map_line f) (length ls - 1) ls)
-      ∙ go (last_border ls)
+  before_border-map ls = ap (λ (o : Option (Border U)). if is_some o then without_last (map (map_line f) ls) else map (map_line f) ls) (last_border-map ls) ∙ go (last_border ls)
     where
-      go : (o : Option (Border T)) → (if is_some (option_map (map_border f) o) then map (map_line f) (without_last ls) else map (map_line f) ls) ≡ map (map_line f) (if is_some o then without_last ls else ls)
+      go : (o : Option (Border T)) → (if is_some (option_map (map_border f) o) then without_last (map (map_line f) ls) else map (map_line f) ls) ≡ map (map_line f) (if is_some o then without_last ls else ls)
       go None = refl
-      go (Some b) = refl
-
-  pub border_lines-map : (o : Option (Border T)) → map (map_line f) (border_lines o) ≡ border_lines (option_map (map_border f) o)
-  border_lines-map None = refl
-  border_lines-map (Some b) = refl
+      go (Some b) = without_last-map (map_line f) ls
 
 -- ---- a row that is put
 
 module _ {D A M : Type 0} (f : A → M) (columns : ℕ → Option ℕ) where
-  -- after the lines
-  pub row_put : (r s0 s1 s2 s3 : Renderer D A (List A)) (above next : Option (Border (List A))) (texts : List (List (Item (List M)))) (overhang : List (Cell (List A))) (row : SeenRow (List M)) →
-      s0 ≡ record r { lines = r.lines ++ border_lines above } → s1 ≡ record s0 { hanging = overhang } → meant f s2 ≡ fold (with_line columns) (meant f s1) texts →
-      meant f s3 ≡ with_next columns (meant f s2) (option_map (map_border (tag_meant f)) next) →
-      row ≡ record { above = option_map (map_border (tag_meant f)) above; lines = texts; next = option_map (map_border (tag_meant f)) next; overhang = map (map_cell (tag_meant f)) overhang } →
-      meant f s3 ≡ with_row_after columns (meant f r) row
-  row_put r s0 s1 s2 s3 above next texts overhang row put hung lines last is =
-      let top : meant f s1 ≡ record (meant f r) { lines = (meant f r).lines ++ border_lines (option_map (map_border (tag_meant f)) above); hanging = map (map_cell (tag_meant f)) overhang } =
-      ap (meant f) hung ∙ ap (λ (q : Renderer D A (List A)). meant f (record q { hanging = overhang })) put
-      ∙ ap (λ (ls : List (Line (List M))). record (meant f r) { lines = ls; hanging = map (map_cell (tag_meant f)) overhang })
-      (map-append (map_line (tag_meant f)) r.lines (border_lines above) ∙ ap (λ ls. map (map_line (tag_meant f)) r.lines ++ ls) (border_lines-map (tag_meant f) above)) in
-      last ∙ ap (λ (q : Renderer D M (List M)). with_next columns q (option_map (map_border (tag_meant f)) next)) (lines ∙ ap (λ (q : Renderer D M (List M)). fold (with_line columns) q texts) top)
-      ∙ ap (with_row_after columns (meant f r)) (sym is)
-
   -- in the place of the border above
   pub row_placed : (r s0 s1 s2 : Renderer D A (List A)) (row : SeenRow (List M)) → s0 ≡ record r { hanging = [] } → s1 ≡ record s0 { lines = before_border s0.lines } → meant f s2 ≡ with_row_after columns (meant f s1) row → meant f s2 ≡ with_row columns (meant f r) row
   row_placed r s0 s1 s2 row taken cut put =
-      let before : meant f s1 ≡ record (meant f r) { lines = before_border (meant f r).lines; hanging = [] } =
-      ap (meant f) cut ∙ ap (λ (q : Renderer D A (List A)). meant f (record q { lines = before_border q.lines })) taken
-      ∙ ap (λ (ls : List (Line (List M))). record (meant f r) { lines = ls; hanging = [] }) (sym (before_border-map (tag_meant f) r.lines)) in
-      put ∙ ap (λ (q : Renderer D M (List M)). with_row_after columns q row) before
+      put ∙ (λ i. with_row_after columns (meant f (cut i)) row) ∙ (λ i. with_row_after columns (meant f (record (taken i) { lines = before_border (taken i).lines })) row)
+      ∙ (λ i. with_row_after columns (record (meant f r) { lines = sym (before_border-map (tag_meant f) r.lines) i; hanging = [] }) row)
 
 -- a row that was laid out
 module _ {D A M : Type 0} (f : A → M) (eq : A → A → Bool) (means : MeansEqual (tag_meant f) (equal_annotations eq)) (told : EqualIfMeant (tag_meant f) (equal_annotations eq)) (columns : ℕ → Option ℕ) where
@@ -119,15 +96,10 @@ module _ {D A M : Type 0} (f : A → M) (eq : A → A → Bool) (means : MeansEq
   row_laid r s0 s1 s2 row hanging own above style tag collapses hung taken top cut style_is tag_is is put =
       let g = tag_meant f in
       let seen : SeenRow (List M) = row_meant g row in
-      let cells : List (Cell (List M)) = map (map_cell g) own in
       let border_is : option_map (map_border g) above ≡ last_border (map (map_line g) r.lines) =
       ap (option_map (map_border g)) (top ∙ ap (λ (q : Renderer D A (List A)). last_border q.lines) taken) ∙ sym (last_border-map g r.lines) in
       let laid = row_means g (equal_annotations eq) means told columns style tag hanging own above row is in
-      let styled = subst (λ (t : RowStyle). MeansRow columns t (g tag) (map (map_cell g) hanging) cells (option_map (map_border g) above) seen) style_is laid in
-      let tagged = subst (λ (a : List M). MeansRow columns (style_in r collapses) a (map (map_cell g) hanging) cells (option_map (map_border g) above) seen) tag_is styled in
-      let hanged = subst (λ (hs : List (Cell (List A))). MeansRow columns (style_in r collapses) (map f r.annotations) (map (map_cell g) hs) cells (option_map (map_border g) above) seen) hung tagged in
-      let topped = subst (λ (o : Option (Border (List M))). MeansRow columns (style_in r collapses) (map f r.annotations) (map (map_cell g) r.hanging) cells o seen) border_is hanged in
-      (seen, topped, row_placed f columns r s0 s1 s2 seen taken cut put)
+      (seen, subst (λ (T : Type 0). T) (λ i. MeansRow columns (style_is i) (tag_is i) (map (map_cell g) (hung i)) (map (map_cell g) own) (border_is i) seen) laid, row_placed f columns r s0 s1 s2 seen taken cut put)
 
 -- ---- what a flush leaves of the overhanging cells
 
@@ -141,21 +113,10 @@ module _ {D A : Type 0} (columns : ℕ → Option ℕ) where
 
 -- ---- whether the row fits
 
--- what holds of the first ones, and of the next
-pub each_more : {X : Type 0} (P : X → Type 0) (xs : List X) (i : ℕ) (x : X) → i < length xs → x ≡ get_or xs i x → Each P (take i xs) → P x → Each P (take (i + 1) xs)
-each_more P xs i x below is h one = subst (Each P) (sym (take_more xs i x below ∙ ap (λ y. take i xs ++ y ∷ []) (sym is))) (after (take i xs) h)
-  where
-    after : (ys : List _) → Each P ys → Each P (ys ++ x ∷ [])
-    after [] k = (one, tt)
-    after (y ∷ ys) k = (k.0, after ys k.1)
-
-side_by_side-map : {A B : Type 0} (f : A → B) (at : ℕ) (cells : List (Cell A)) → AreSideBySide at cells → AreSideBySide at (map (map_cell f) cells)
+-- the cells are side by side, whatever their annotations mean
+pub side_by_side-map : {A B : Type 0} (f : A → B) (at : ℕ) (cells : List (Cell A)) → AreSideBySide at cells → AreSideBySide at (map (map_cell f) cells)
 side_by_side-map f at [] h = tt
 side_by_side-map f at (c ∷ cs) h = (h.0, side_by_side-map f (c.place + c.width + 1) cs h.1)
-
--- the cells are side by side, whatever their annotations mean
-pub stand_meant : {A M : Type 0} (f : A → M) (cells : List (Cell (List A))) → AreSideBySide 0 cells → AreSideBySide 0 (map (map_cell (tag_meant f)) cells)
-stand_meant f cells h = side_by_side-map (tag_meant f) 0 cells h
 
 freed : {D A T : Type 0} (columns : ℕ → Option ℕ) (at : ℕ) (cols : List (Renderer D A T × ℕ)) (cells : List (Cell T)) → AllZip (LeavesFree columns) cols cells → AllZip IsAsFree (spots_from at (map (looks columns) cols)) (spots_from at (map look cells))
 freed columns at [] [] h = tt
@@ -199,21 +160,6 @@ module _ {A M : Type 0} (f : A → M) (eq : A → A → Bool) (means : MeansEqua
   lines_fill (l ∷ ls) [] merged h = absurd h
   lines_fill (l ∷ ls) (d ∷ ds) merged h = (line_fills l d merged.0 h.0, lines_fill ls ds merged.1 h.1)
 
-none_mapped : {X Y : Type 0} (f : X → Y) (xs : List X) → map f xs ≡ [] → xs ≡ []
-none_mapped f [] h = refl
-none_mapped f (x ∷ xs) h = cc
-
-none_filled : {X Y : Type 0} (R : X → Y → Type 0) (xs : List X) (ys : List Y) → AllZip R xs ys → xs ≡ [] → ys ≡ []
-none_filled R [] [] h e = refl
-none_filled R [] (y ∷ ys) h e = absurd h
-none_filled R (x ∷ xs) ys h e = absurd (let no : ⊥ = cc in no)
-
-zip_after : {X Y : Type 0} (R : X → Y → Type 0) (xs : List X) (ys : List Y) (x : X) (y : Y) → AllZip R xs ys → R x y → AllZip R (xs ++ x ∷ []) (ys ++ y ∷ [])
-zip_after R [] [] x y h r = (r, tt)
-zip_after R [] (z ∷ ys) x y h r = absurd h
-zip_after R (z ∷ xs) [] x y h r = absurd h
-zip_after R (z ∷ xs) (w ∷ ys) x y h r = (h.0, zip_after R xs ys x y h.1 r)
-
 module _ {D A M : Type 0} (f : A → M) (columns : ℕ → Option ℕ) (aligns : List CellAlign) (tag : List M) where
   -- the cells of some renderers, and the alignments that are left
   pub record HasColumns (cols : List (Renderer D A (List A) × ℕ)) (own : List (Cell (List A))) (left : List CellAlign) : Type 0 where
@@ -238,17 +184,20 @@ module _ {D A M : Type 0} (f : A → M) (columns : ℕ → Option ℕ) (aligns :
       record {
         cells = h.cells ++ cell ∷ [];
         given =
-            given_last (λ r. r.width) (λ r. handed_out columns (meant f r)) cols aligns h.cells (col, span) seen h.given hands
+            given_last (λ r. r.width) (λ r. handed_out columns (meant f r)) cols aligns h.cells (col, span) h.given seen hands
             ∙ ap (λ (a : CellAlign). done (h.cells ++ record { width = col.width; span = span; align = a; lines = seen } ∷ [])) (sym (aligned_by ∙ ap next_align h.left_is));
-        left_is = rest_is ∙ ap (drop 1) h.left_is ∙ dropped (length cols) aligns ∙ ap (λ n. drop n aligns) (let one : suc (length cols) ≡ length (cols ++ (col, span) ∷ []) = omega (arith, length-append cols ((col, span) ∷ [])) in one);
-        come = subst (AllZip (ComesAs columns tag) (h.cells ++ cell ∷ [])) (sym more) (zip_after (ComesAs columns tag) h.cells (map g own) cell (g placed) h.come (refl, refl, fills));
-        free = subst (AllZip (LeavesFree columns) (cols ++ (col, span) ∷ [])) (sym is) (zip_after (LeavesFree columns) cols own (col, span) placed h.free (refl, λ blank. none_mapped (map_row_line (tag_meant f)) filled (none_filled _ seen _ fills (blank_hands_none columns (meant f col) seen (blank_meant f columns col ∙ blank) hands))));
+        left_is =
+            rest_is ∙ ap (drop 1) h.left_is ∙ drop-drop 1 (length cols) aligns ∙ ap (λ n. drop n aligns) (sym (length-append cols ((col, span) ∷ [])));
+        come = subst (AllZip (ComesAs columns tag) (h.cells ++ cell ∷ [])) (sym more) (all_zipped_more (ComesAs columns tag) h.cells (map g own) cell (g placed) h.come (refl, refl, fills));
+        free =
+            subst (AllZip (LeavesFree columns) (cols ++ (col, span) ∷ [])) (sym is)
+            (all_zipped_more (LeavesFree columns) cols own (col, span) placed h.free (
+              refl,
+              λ blank. nil_from_length filled
+                  (sym (length-map filled (map_row_line (tag_meant f))) ∙ AllZip-long _ seen _ fills
+                  ∙ ap length (blank_hands_none columns (meant f col) seen (blank_meant f columns col ∙ blank) hands)),
+            ));
       }
-    where
-      dropped : (n : ℕ) (bs : List CellAlign) → drop 1 (drop n bs) ≡ drop (suc n) bs
-      dropped zero bs = refl
-      dropped (suc n) [] = refl
-      dropped (suc n) (a ∷ bs) = dropped n bs
 
 -- the alignment that comes next
 pub next_taken : {I : Type 0} (get : I → List CellAlign) (it next : I) (o : Option (Bor CellAlign)) (align : CellAlign) → MatchOption o ((length (get it) ≡ 0) × (next ≡ it)) (λ x. get it ≡ x.now ∷ get next) → align ≡ unwrap_or (option_copied o) Left →

@@ -1,8 +1,7 @@
 -- What the outcome of calls one after another is made of.
-use Rattle.std.proofs.Common.{◌≡◌, ◌⊎◌, inl, inr, Result, Ok, Err, Bool, true, false, if◌then◌else◌, List, [], ◌∷◌, ◌++◌, refl, ap, sym, ◌∙◌}
-use Rattle.std.specs.List.{AllZip}
+use Rattle.std.proofs.Common.{◌≡◌, ◌⊎◌, inl, inr, Result, Ok, Err, Bool, true, false, if◌then◌else◌, List, [], ◌∷◌, ◌++◌, refl, ap, sym, ◌∙◌, subst}
+use Rattle.std.specs.Prelude.{IfErr}
 use Rattle.std.specs.Result.{IsErrAnd}
-use Rattle.std.proofs.lemmas.Result.{on_ok_weaker}
 use Rattle.tbr_tagged.specs.Outcome.{Outcome, done, refused}
 use Rattle.tbr_tagged.specs.declared.Error.{Error}
 use Rattle.tbr_tagged.specs.declared.Error.TheVariants as E
@@ -28,13 +27,6 @@ run_on after call calls s m o h k = ap (λ first. and_then first (run after call
 -- and a last one
 pub run_last : {C S : Type 0} (after : C → S → Outcome S) (call : C) (s t : S) → after call s ≡ done t → run after (call ∷ []) s ≡ done t
 run_last after call s t h = ap (λ first. and_then first (λ x. done x)) h
-
--- an outcome is one state or one refusal
-pub once : {S : Type 0} (o : Outcome S) (s t : S) → o ≡ done s → o ≡ done t → t ≡ s
-once o s t h k = one_done s t (sym h ∙ k)
-
-pub done_or_refused : {S : Type 0} (o : Outcome S) (s : S) (e : Error) → o ≡ done s → o ≡ refused e → ⊥
-done_or_refused o s e h k = let no : done s ≡ refused e = sym h ∙ k in cc
 
 pub refused_before : {S T : Type 0} (change : S → T) (o : Outcome S) (e : Error) → changed change o ≡ refused e → o ≡ refused e
 refused_before change (done s) e h = absurd (let no : ⊥ = cc in no)
@@ -62,6 +54,16 @@ not_fitting fits s e = ap (λ b. if b then done s else refused E.TooNarrow) e
 
 -- ---- what is tried
 
+-- a refusal that is passed on is the one that came
+pub passed_on : {X Y : Type 0} {result : Result X Error} {inner : Result Y Error} {e f : Error} →
+    result ≡ Err f → IsErrAnd result (λ x. x ≡ e) → inner ≡ Err e → inner ≡ Err f
+passed_on {X = X} {e = e} is same came = came ∙ ap Err (sym (subst (λ (r : Result X Error). IsErrAnd r (λ x. x ≡ e)) is same))
+
+-- where memory alone is refused nothing is too narrow
+pub never_narrow : {X : Type 0} {result : Result X Error} → IfErr result (λ e. e ≡ E.OutOfMemory) → result ≡ Err E.TooNarrow → ⊥
+never_narrow {result = Ok x} memory is = cc
+never_narrow {result = Err e} memory is = let same : e ≡ E.OutOfMemory = memory in cc
+
 module _ {S V R : Type 0} (state : S → V) (make : V → Outcome V) (old new : S) where
   pub tries_ok : (x : R) → make (state old) ≡ done (state new) → Tries state make old (Ok x) new
   tries_ok x is = record { ok = is; too_narrow = λ e. absurd (let no : ⊥ = cc in no) }
@@ -69,13 +71,6 @@ module _ {S V R : Type 0} (state : S → V) (make : V → Outcome V) (old new : 
   pub tries_err : (result : Result R Error) (e : Error) → IsErrAnd result (λ x. x ≡ e) → (e ≡ E.TooNarrow → make (state old) ≡ refused E.TooNarrow) → Tries state make old result new
   tries_err (Ok x) e is narrow = absurd is
   tries_err (Err x) e is narrow = record { ok = tt; too_narrow = λ same. narrow (let one : x ≡ e = is in cc) }
-
--- a first step is done, and then another one is tried
-pub tries_then : {S V R : Type 0} (state : S → V) (first next : V → Outcome V) (old m new : S) (result : Result R Error) → first (state old) ≡ done (state m) → Tries state next m result new → Tries state (λ v. and_then (first v) next) old result new
-tries_then state first next old m new result is tries = record {
-  ok = on_ok_weaker result (λ e. ap (λ o. and_then o next) is ∙ e) tries.ok;
-  too_narrow = λ e. ap (λ o. and_then o next) is ∙ tries.too_narrow e;
-}
 
 -- ---- what all give
 
@@ -85,44 +80,28 @@ module _ {X Y : Type 0} (give : X → Outcome Y) where
   gathered_last (z ∷ xs) ys x y e h =
       let (first, gives, rest) = done_first (give z) (λ w. changed (λ ws. w ∷ ws) (gathered give xs)) ys e in
       let (others, give_others, is) = done_before (λ ws. first ∷ ws) (gathered give xs) ys rest in
-      ap (λ o. and_then o (λ w. changed (λ ws. w ∷ ws) (gathered give (xs ++ x ∷ [])))) gives
-      ∙ ap (changed (λ ws. first ∷ ws)) (gathered_last xs others x y give_others h) ∙ ap (λ zs. done (zs ++ y ∷ [])) (sym is)
+      rw (gives, gathered_last xs others x y give_others h) (ap (λ zs. done (zs ++ y ∷ [])) (sym is))
 
   pub gathered_stops : (xs : List X) (ys : List Y) (x : X) (more : List X) (e : Error) → gathered give xs ≡ done ys → give x ≡ refused e → gathered give (xs ++ x ∷ more) ≡ refused e
   gathered_stops [] ys x more e h r = ap (λ o. and_then o (λ w. changed (λ ws. w ∷ ws) (gathered give more))) r
   gathered_stops (z ∷ xs) ys x more e h r =
       let (first, gives, rest) = done_first (give z) (λ w. changed (λ ws. w ∷ ws) (gathered give xs)) ys h in
       let (others, give_others, is) = done_before (λ ws. first ∷ ws) (gathered give xs) ys rest in
-      ap (λ o. and_then o (λ w. changed (λ ws. w ∷ ws) (gathered give (xs ++ x ∷ more)))) gives
-      ∙ ap (changed (λ ws. first ∷ ws)) (gathered_stops xs others x more e give_others r)
-
-  pub all_give : (xs : List X) (ys : List Y) → AllZip (λ x y. give x ≡ done y) xs ys → gathered give xs ≡ done ys
-  all_give [] [] h = refl
-  all_give [] (y ∷ ys) h = absurd h
-  all_give (x ∷ xs) [] h = absurd h
-  all_give (x ∷ xs) (y ∷ ys) h = ap (λ o. and_then o (λ w. changed (λ ws. w ∷ ws) (gathered give xs))) h.0 ∙ ap (changed (λ ws. y ∷ ws)) (all_give xs ys h.1)
+      rw (gives, gathered_stops xs others x more e give_others r) refl
 
 -- ---- what takes what others give
 
+in_order : {S T U : Type 0} (o : Outcome S) (f : S → Outcome T) (g : T → Outcome U) →
+    and_then (and_then o f) g ≡ and_then o (λ s. and_then (f s) g)
+in_order (done s) f g = refl
+in_order (refused e) f g = refl
+
 module _ {V X : Type 0} (flush : V → Outcome V) (given : Outcome X) (take : X → V → Outcome V) (v : V) where
-  pub taking_refused : (e : Error) → flush v ≡ refused e → taking flush given take v ≡ refused e
-  taking_refused e h = ap (λ o. and_then o (λ _. and_then given (λ x. take x v))) h
-
-  pub taking_on : (m : V) → flush v ≡ done m → taking flush given take v ≡ and_then given (λ x. take x v)
-  taking_on m h = ap (λ o. and_then o (λ _. and_then given (λ x. take x v))) h
-
   pub taking_done : (m : V) (x : X) → flush v ≡ done m → given ≡ done x → taking flush given take v ≡ take x v
-  taking_done m x h k = taking_on m h ∙ ap (λ o. and_then o (λ y. take y v)) k
-
-  pub taking_stops : (m : V) (e : Error) → flush v ≡ done m → given ≡ refused e → taking flush given take v ≡ refused e
-  taking_stops m e h k = taking_on m h ∙ ap (λ o. and_then o (λ y. take y v)) k
+  taking_done m x h k = rw (h, k) refl
 
   pub taking_none : (e : Error) → and_then (flush v) (λ _. given) ≡ refused e → taking flush given take v ≡ refused e
-  taking_none e h = go (refused_first (flush v) (λ _. given) e h)
-    where
-      go : (flush v ≡ refused e) ⊎ ((m : V) × (flush v ≡ done m) × (given ≡ refused e)) → taking flush given take v ≡ refused e
-      go (inl refuses) = taking_refused e refuses
-      go (inr stops) = taking_stops stops.0 e stops.1 stops.2
+  taking_none e h = sym (in_order (flush v) (λ _. given) (λ x. take x v)) ∙ ap (λ o. and_then o (λ x. take x v)) h
 
   pub taken : (s : V) → taking flush given take v ≡ done s → (m : V) × (x : X) × (flush v ≡ done m) × (given ≡ done x) × (take x v ≡ done s)
   taken s h =

@@ -1,5 +1,6 @@
 -- What text and the end of a block leave of the settings and of the kept refusal.
 use Rattle.std.proofs.Common.{◌≡◌, ℕ, Bool, true, false, if◌then◌else◌, Option, None, List, [], ◌∷◌, fold, refl, ap, ◌∙◌}
+use Rattle.std.proofs.lemmas.Bool.{cond_both}
 use Rattle.tbr_model.specs.Run.{Item}
 use Rattle.tbr_decor.specs.End.{End}
 use Rattle.tbr_decor.specs.Decoration.{Decoration}
@@ -35,11 +36,7 @@ module _ {D A : Type 0} (columns : ℕ → Option ℕ) where
       ap (λ (q : Renderer D A (List A)). steady q) is ∙ flushed_alike r m flushes
 
   begun : (r : Renderer D A (List A)) → steady (block_started columns r) ≡ steady r
-  begun r = go (has_content r) refl
-    where
-      go : (b : Bool) → has_content r ≡ b → steady (block_started columns r) ≡ steady r
-      go true e = rw e refl
-      go false e = rw e refl
+  begun r = cond_both (has_content r) _ _ (λ (q : Renderer D A (List A)). steady q ≡ steady r) (λ _. refl) (λ _. refl)
 
   pub started_alike : (r s : Renderer D A (List A)) → after_block_start columns r ≡ done s → steady s ≡ steady r
   started_alike r s h =

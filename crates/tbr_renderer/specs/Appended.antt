@@ -41,11 +41,6 @@ GivesFirst {S} gives count it xs =
 abbrev pub texts_of : {S : Type 0} → (S → List ℕ) → List S → List (List ℕ)
 texts_of read ss = map (λ s. chars (read s)) ss
 
--- One refuses, and all before it hand out their lines.
-abbrev pub FirstToRefuse : {S X : Type 0} → (S → X → Type 0) → (S → Type 0) → List S → Type 0
-FirstToRefuse gives refuses [] = ⊥
-FirstToRefuse {S} {X} gives refuses (s ∷ ss) = refuses s ⊎ ((x : X) × gives s x × FirstToRefuse gives refuses ss)
-
 -- ---- lines of other renderers
 
 -- a line as text: a border's cells are under the tag, and its holes keep theirs

@@ -1,13 +1,16 @@
 -- What the fields of a renderer mean.
-use Rattle.std.specs.Prelude.{◌≡◌, ◌<◌, ℕ, Bool, false, ⊤, Option, Some, None, List, [], ◌∷◌, map, chars}
+use Rattle.std.specs.Prelude.{◌≡◌, ◌<◌, ℕ, Bool, true, false, ⊤, Option, Some, None, Result, Err, OnOk, List, [], ◌∷◌, map, chars}
 use Rattle.std.specs.Option.{option_map}
 use Rattle.std.specs.Global.{Box}
+use Rattle.tbr_model.specs.Rule.{Event}
 use Rattle.tbr_tagged.specs.View.{element_of}
+use Rattle.tbr_tagged.specs.declared.Error.{Error}
+use Rattle.tbr_tagged.specs.declared.Error.TheVariants.{TooNarrow}
 use Rattle.tbr_footnotes.specs.Tags.{tag_meant}
 use Rattle.tbr_renderer.specs.Meant.{map_open}
 use Rattle.tbr_renderer.specs.declared.sub.SubRenderer.TheInside.{Inside}
 use Rattle.tbr_tagged.specs.Elements.{Element, piece, marker_element}
-use Rattle.tbr_wrap.specs.Block.{Block, IsSound}
+use Rattle.tbr_wrap.specs.Block.{Block, new_block, IsSound}
 use Rattle.tbr_decor.specs.Start as start
 use Rattle.tbr_decor.specs.End as end
 use Rattle.tbr_decor.specs.Ground as ground
@@ -17,7 +20,8 @@ use Rattle.tbr_renderer.specs.declared.sub.decorated.End.{End as Closed}
 use Rattle.tbr_renderer.specs.declared.sub.decorated.End.TheVariants as closed
 use Rattle.tbr_renderer.specs.declared.sub.decorated.Start.{Start as Opened}
 use Rattle.tbr_renderer.specs.declared.sub.decorated.Start.TheVariants as opened
-use Rattle.tbr_renderer.specs.Renderer.{Open, Renderer, least, overflows}
+use Rattle.tbr_renderer.specs.Renderer.{Open, Renderer, least, overflows, with_more}
+use Rattle.tbr_renderer.specs.Flush.{fits_grown}
 
 -- an open block as a contract sees it
 abbrev pub open_seen : {T : Type 0} → Block T → Open T
@@ -47,13 +51,15 @@ AreMarkers es = map marker_element (names_of es) ≡ es
 
 -- a sound block of which no line was handed out, and that has had no run before
 pub record IsFresh {T : Type 0} (columns : ℕ → Option ℕ) (width : ℕ) (overflows : Bool) (b : Block T) : Type 0 where
-  pub width_is : b.width ≡ width
-  pub may_overflow : b.may_overflow ≡ overflows
-  pub begun : b.begun ≡ false
-  pub ended : b.ended ≡ []
-  pub handed : b.handed ≡ 0
-  pub unfailed : b.failure ≡ None
+  pub is : b ≡ record (new_block width overflows b.padding) { events = b.events }
   pub sound : IsSound columns b
+
+-- What writing into a block does: these events join its run, unless a line that has ended is too wide then.
+pub record Writes {D A M R : Type 0} (meaning : A → M) (columns : ℕ → Option ℕ) (r : Renderer D M (List M))
+    (es : List (Event (List M))) (old : Block (List A)) (result : Result R Error) (new : Block (List A)) : Type 0 where
+  pub written : OnOk result (block_meant meaning new ≡ with_more (block_meant meaning old) es)
+  pub goes_on : OnOk result (fits_grown columns r (block_meant meaning old) es ≡ true)
+  pub too_narrow : result ≡ Err TooNarrow → fits_grown columns r (block_meant meaning old) es ≡ false
 
 -- The open block is fresh, if there is one.
 abbrev pub IsOpened : {T : Type 0} → (ℕ → Option ℕ) → ℕ → Bool → Option (Block T) → Type 0

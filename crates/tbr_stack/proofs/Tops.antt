@@ -11,7 +11,7 @@ use Rattle.tbr_renderer.specs.Renderer.{Renderer}
 use Rattle.tbr_renderer.specs.Meant.{meant}
 use Rattle.tbr_stack.specs.Stack.{Level, Stack, first_renderer, top_of, in_first, with_top}
 use Rattle.tbr_stack.specs.Top.{failure_of_first, failure_of, in_top_of, in_top, ChangesTop, level_meant, stack_meant}
-use Rattle.tbr_stack.specs.Links.{opened, closed, with_link, without_open_link}
+use Rattle.tbr_stack.specs.Links.{opened, with_link}
 
 -- ---- the top
 
@@ -63,9 +63,6 @@ module _ {D A M : Type 0} (f : A → M) where
   pub linked_meant : (target : List ℕ) (s : Stack (Renderer D A (List A))) → stack_meant f (with_link target s) ≡ with_link target (stack_meant f s)
   linked_meant target s =
       ap (λ levels. record { levels = levels; links = s.links ++ target ∷ []; table_depth = s.table_depth }) (changed_meant (opened _) (opened _) (λ l. refl) s.levels)
-
-  pub closed_meant : (s : Stack (Renderer D A (List A))) → stack_meant f (without_open_link s) ≡ without_open_link (stack_meant f s)
-  closed_meant s = ap (λ levels. record { levels = levels; links = s.links; table_depth = s.table_depth }) (changed_meant closed closed (λ l. refl) s.levels)
 
   pub with_top_meant : (s : Stack (Renderer D A (List A))) (q : Renderer D A (List A)) → stack_meant f (with_top s q) ≡ with_top (stack_meant f s) (meant f q)
   with_top_meant s q =

@@ -119,13 +119,12 @@ impl<D: TextDecorator, W: CharWidth> SubRenderer<D, W> {
     ) -> Result<usize, OutOfMemory>
         requires merged { Each (IsMergedText (equal_annotations D.Annotation.eq)) lines.old }
         requires prefixes { I.can_next prefixes }
-        ensures lines { IfOk result (λ count. (given : List P)
+        ensures { IfOk result (λ count. (given : List P)
             × GivesFirst I.next_gives (length lines.old) prefixes given
             × (map (map_line (tag_meant D.meaning)) (map line_seen (take count lines.new))
             ≡ map text (prefixed (map D.meaning self.now.annotations) (texts_of P.text given)
-            (map (map_line (tag_meant D.meaning)) (map line_seen lines.old))))) }
-        ensures merged { IfOk result (λ count.
-            Each (IsMergedText (equal_annotations D.Annotation.eq)) (take count lines.new)) }
+            (map (map_line (tag_meant D.meaning)) (map line_seen lines.old))))
+            × Each (IsMergedText (equal_annotations D.Annotation.eq)) (take count lines.new)) }
     {
         let mut count = 0usize;
         for line in lines.iter_mut() {

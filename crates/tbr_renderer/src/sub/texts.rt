@@ -2,11 +2,10 @@
 ghost use Rattle.std.specs.Prelude.{◌≡◌, ◌≢◌, ◌≤◌, ◌++◌, ◌∷◌, [], None, Err, true, false, map, chars, IfOk, IfErr, OnOk, replicate};
 ghost use Rattle.tbr_tagged.specs.View.{chars_of};
 ghost use Rattle.tbr_tagged.specs.declared.Error.TheVariants as E;
-ghost use Rattle.tbr_renderer.specs.Renderer.{KeepsSettings, block_width, may_overflow, last_mode, struck, struck_character, open_block, new_block, stroke, text_annotations, entries_under, entries_of, called, with_more, with_events, is_white, ignores};
-ghost use Rattle.tbr_renderer.specs.View.{IsFresh, block_meant};
+ghost use Rattle.tbr_renderer.specs.Renderer.{KeepsSettings, block_width, may_overflow, last_mode, struck, struck_character, open_block, new_block, stroke, text_annotations, entries_under, entries_of, called, with_events, is_white, ignores};
+ghost use Rattle.tbr_renderer.specs.View.{IsFresh, Writes, block_meant};
 ghost use Rattle.tbr_footnotes.specs.Tags.{tag_meant};
 ghost use Rattle.tbr_renderer.specs.Meant.{meant};
-ghost use Rattle.tbr_renderer.specs.Flush.{fits_grown};
 ghost use Rattle.tbr_renderer.specs.Steps.{after_joining, after_first_text, after_text};
 ghost use Rattle.tbr_renderer.specs.Outcomes.{Tries};
 ghost use Rattle.tbr_model.specs.Rule.{entry};
@@ -105,15 +104,9 @@ impl<D: TextDecorator, W: CharWidth> SubRenderer<D, W> {
         requires continued { tag_meant D.meaning continued.now
             ≡ text_annotations D.preformatted true (meant D.meaning self.now) }
         ensures fresh { OnOk result (IsFresh W.columns (block_width self.now) (may_overflow self.now) block.new) }
-        ensures written { let es = entries_under D.preformatted (meant D.meaning self.now) (chars text.now) in
-            OnOk result (block_meant D.meaning block.new
-            ≡ with_more (block_meant D.meaning block.old) (called es)) }
-        ensures goes_on { let es = entries_under D.preformatted (meant D.meaning self.now) (chars text.now) in
-            OnOk result (fits_grown W.columns (meant D.meaning self.now) (block_meant D.meaning block.old)
-            (called es) ≡ true) }
-        ensures too_narrow { let es = entries_under D.preformatted (meant D.meaning self.now) (chars text.now) in
-            result ≡ Err E.TooNarrow → fits_grown W.columns (meant D.meaning self.now)
-            (block_meant D.meaning block.old) (called es) ≡ false }
+        ensures writes { let r = meant D.meaning self.now in
+            let es = entries_under D.preformatted r (chars text.now) in
+            Writes D.meaning W.columns r (called es) block.old result block.new }
         ensures two_columns { 2 ≤ block_width self.now → result ≢ Err E.TooNarrow }
     {
         block.add_text(text, self.mode(), main, continued)
@@ -127,15 +120,9 @@ impl<D: TextDecorator, W: CharWidth> SubRenderer<D, W> {
     ) -> Result<(), Error>
         requires fresh { IsFresh W.columns (block_width self.now) (may_overflow self.now) block.old }
         ensures fresh { OnOk result (IsFresh W.columns (block_width self.now) (may_overflow self.now) block.new) }
-        ensures written { let es = entries_under D.preformatted (meant D.meaning self.now) (chars text.now) in
-            OnOk result (block_meant D.meaning block.new
-            ≡ with_more (block_meant D.meaning block.old) (called es)) }
-        ensures goes_on { let es = entries_under D.preformatted (meant D.meaning self.now) (chars text.now) in
-            OnOk result (fits_grown W.columns (meant D.meaning self.now) (block_meant D.meaning block.old)
-            (called es) ≡ true) }
-        ensures too_narrow { let es = entries_under D.preformatted (meant D.meaning self.now) (chars text.now) in
-            result ≡ Err E.TooNarrow → fits_grown W.columns (meant D.meaning self.now)
-            (block_meant D.meaning block.old) (called es) ≡ false }
+        ensures writes { let r = meant D.meaning self.now in
+            let es = entries_under D.preformatted r (chars text.now) in
+            Writes D.meaning W.columns r (called es) block.old result block.new }
         ensures two_columns { 2 ≤ block_width self.now → result ≢ Err E.TooNarrow }
     {
         if self.preformatted == 0 {
@@ -155,15 +142,9 @@ impl<D: TextDecorator, W: CharWidth> SubRenderer<D, W> {
     ) -> Result<(), Error>
         requires fresh { IsFresh W.columns (block_width self.now) (may_overflow self.now) block.old }
         ensures fresh { OnOk result (IsFresh W.columns (block_width self.now) (may_overflow self.now) block.new) }
-        ensures written { let es = entries_of W.columns D.preformatted (meant D.meaning self.now) (chars text.now) in
-            OnOk result (block_meant D.meaning block.new
-            ≡ with_more (block_meant D.meaning block.old) (called es)) }
-        ensures goes_on { let es = entries_of W.columns D.preformatted (meant D.meaning self.now) (chars text.now) in
-            OnOk result (fits_grown W.columns (meant D.meaning self.now) (block_meant D.meaning block.old)
-            (called es) ≡ true) }
-        ensures too_narrow { let es = entries_of W.columns D.preformatted (meant D.meaning self.now) (chars text.now) in
-            result ≡ Err E.TooNarrow → fits_grown W.columns (meant D.meaning self.now)
-            (block_meant D.meaning block.old) (called es) ≡ false }
+        ensures writes { let r = meant D.meaning self.now in
+            let es = entries_of W.columns D.preformatted r (chars text.now) in
+            Writes D.meaning W.columns r (called es) block.old result block.new }
         ensures two_columns { 2 ≤ block_width self.now → result ≢ Err E.TooNarrow }
     {
         if self.strikeouts == 0 {

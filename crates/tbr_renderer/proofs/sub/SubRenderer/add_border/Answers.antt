@@ -7,7 +7,7 @@ use Rattle.tbr_tagged.proofs.MappedTags.{means_same_items}
 use Rattle.tbr_footnotes.specs.Tags.{tag_meant}
 use Rattle.tbr_renderer.specs.Renderer.{Renderer}
 use Rattle.tbr_footnotes.proofs.Tags.{tags_mean, copies_are_equal}
-use Rattle.tbr_renderer.proofs.MeantBorders.{border_drawn}
+use Rattle.tbr_renderer.proofs.MeantLines.{border_drawn}
 use Rattle.tbr_renderer.proofs.sub.SubRenderer.add_border.Goals as goal
 
 pub into_tagged_line-requires : goal.into_tagged_line-requires

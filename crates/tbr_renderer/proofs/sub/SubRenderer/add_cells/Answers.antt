@@ -1,39 +1,13 @@
-use Rattle.std.proofs.Common.{◌≡◌, ◌∙◌, ◌∷◌, ap, sym, subst, map, fold}
-use Rattle.std.specs.List.{AllByRecursion as Each}
+use Rattle.std.proofs.Common.{◌≡◌, ◌∙◌, ◌∷◌, ap, sym, map, fold}
 use Rattle.std.specs.Vec.Iter.{into_iter_items}
 use Rattle.std.proofs.lemmas.Result.{on_ok_weaker}
-use Rattle.tbr_tagged.specs.declared.Error.TheVariants.{TooNarrow}
 use Rattle.tbr_footnotes.specs.Tags.{tag_meant}
 use Rattle.tbr_renderer.specs.Meant.{map_line}
 use Rattle.tbr_kept_lines.specs.Line.{line_seen}
 use Rattle.tbr_renderer.specs.Outcomes.{and_then, changed, gathered}
 use Rattle.tbr_renderer.specs.Appended.{with_cell_below}
-use Rattle.tbr_renderer.proofs.AppendedLines.{hands, passed_on}
+use Rattle.tbr_renderer.proofs.AppendedLines.{hands}
 use Rattle.tbr_renderer.proofs.sub.SubRenderer.add_cells.Goals as goal
-
-pub returns-in_err-lines-clause-too_narrow : goal.returns-in_err-lines-clause-too_narrow
-returns-in_err-lines-clause-too_narrow g c = λ is.
-    let give = hands g.D.TextDecorator.meaning g.W.CharWidth.columns c.args.self.now in
-    let others = into_iter_items c.next.new.self in
-    let e = passed_on c.from_residual.result c.into_shared_lines.result c.in_err-lines.field-0.0 TooNarrow is c.from_residual.ensures.1 c.in_err-lines.was in
-    let whole : c.args.cols.items ≡ c.in-Some.first ∷ others = sym c.into_iter-cols.ensures.rest ∙ c.in-Some.ensures.items in
-    ap (gathered give) whole ∙ ap (λ o. and_then o (λ lines. changed (λ cells. lines ∷ cells) (gathered give others))) (c.into_shared_lines.ensures.too_narrow e)
-
-pub returns-clause-too_narrow : goal.returns-clause-too_narrow
-returns-clause-too_narrow g c = λ is.
-    let f = g.D.TextDecorator.meaning in
-    let give = hands f g.W.CharWidth.columns c.args.self.now in
-    let others = into_iter_items c.next.new.self in
-    let seen = map (map_line (tag_meant f)) (map line_seen c.in_ok-lines.lines.items) in
-    let whole : c.args.cols.items ≡ c.in-Some.first ∷ others = sym c.into_iter-cols.ensures.rest ∙ c.in-Some.ensures.items in
-    ap (gathered give) whole ∙ ap (λ o. and_then o (λ lines. changed (λ cells. lines ∷ cells) (gathered give others))) c.in_ok-lines.ensures.lines
-    ∙ ap (changed (λ cells. seen ∷ cells)) (c.add_cells_below.ensures.too_narrow is)
-
-pub returns-clause-two_columns : goal.returns-clause-two_columns
-returns-clause-two_columns g c = λ wide is.
-    let whole : c.args.cols.items ≡ c.in-Some.first ∷ into_iter_items c.next.new.self = sym c.into_iter-cols.ensures.rest ∙ c.in-Some.ensures.items in
-    let here = subst (Each _) whole wide in
-    c.add_cells_below.ensures.two_columns here.1 is
 
 pub returns-clause-ok : goal.returns-clause-ok
 returns-clause-ok g c =

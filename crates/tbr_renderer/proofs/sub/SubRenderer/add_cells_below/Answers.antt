@@ -6,8 +6,9 @@ use Rattle.tbr_footnotes.specs.Tags.{tag_meant}
 use Rattle.tbr_renderer.specs.Meant.{map_line}
 use Rattle.tbr_kept_lines.specs.Line.{line_seen}
 use Rattle.tbr_renderer.specs.Outcomes.{gathered}
-use Rattle.tbr_renderer.proofs.OutcomeParts.{gathered_stops}
-use Rattle.tbr_renderer.proofs.AppendedLines.{hands, no_cells, cells_go_on, each_at, passed_on}
+use Rattle.tbr_renderer.proofs.OutcomeParts.{passed_on, gathered_stops}
+use Rattle.tbr_renderer.proofs.AppendedLines.{hands, no_cells, cells_go_on}
+use Rattle.tbr_kept_lines.proofs.KeptParts.{each_at}
 use Rattle.tbr_kept_lines.proofs.ItemsLeft.{items_left, items_taken}
 use Rattle.tbr_renderer.proofs.sub.SubRenderer.add_cells_below.Goals as goal
 
@@ -18,7 +19,7 @@ pub returns-in_err-lines-clause-too_narrow : goal.returns-in_err-lines-clause-to
 returns-in_err-lines-clause-too_narrow g c = λ is.
     let f = g.D.TextDecorator.meaning in
     let columns = g.W.CharWidth.columns in
-    let e = passed_on c.from_residual-in_err-lines.result c.into_shared_lines.result c.in_err-lines.field-0.0 TooNarrow is c.from_residual-in_err-lines.ensures.1 c.in_err-lines.was in
+    let e = passed_on is c.from_residual-in_err-lines.ensures.1 c.in_err-lines.was in
     let whole = items_left c.args.cols c.into_iter-col-iterator.result c.loop-col.col-iterator c.next.new.self c.loop-col.yielded c.in-Some.col c.into_iter-col-iterator.ensures.into_iter_gives c.loop-col.yielded_by c.in-Some.ensures.steps.0 in
     let give = hands f columns c.args.self.now in
     ap (gathered give) whole
@@ -26,7 +27,7 @@ returns-in_err-lines-clause-too_narrow g c = λ is.
 
 pub returns-in_err-lines-clause-two_columns : goal.returns-in_err-lines-clause-two_columns
 returns-in_err-lines-clause-two_columns g c = λ wide is.
-    let e = passed_on c.from_residual-in_err-lines.result c.into_shared_lines.result c.in_err-lines.field-0.0 TooNarrow is c.from_residual-in_err-lines.ensures.1 c.in_err-lines.was in
+    let e = passed_on is c.from_residual-in_err-lines.ensures.1 c.in_err-lines.was in
     let whole = items_left c.args.cols c.into_iter-col-iterator.result c.loop-col.col-iterator c.next.new.self c.loop-col.yielded c.in-Some.col c.into_iter-col-iterator.ensures.into_iter_gives c.loop-col.yielded_by c.in-Some.ensures.steps.0 in
     let here = each_at _ c.loop-col.yielded c.in-Some.col (into_iter_items c.next.new.self) (subst (Each _) whole wide) in
     c.into_shared_lines.ensures.two_columns here.0 here.1 e

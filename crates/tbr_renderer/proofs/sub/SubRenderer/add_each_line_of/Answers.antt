@@ -2,9 +2,9 @@ use Rattle.std.proofs.Common.{List, length, drop, ap, ◌∙◌, subst, arith}
 use Rattle.tbr_annotations.specs.Annotations.{equal_annotations}
 use Rattle.tbr_wrap.specs.Block.{Block, left, HandsOutFirst}
 use Rattle.tbr_wrap.proofs.runs.LinesLeft.{left_after}
-use Rattle.tbr_wrap.proofs.runs.BlockLaws.{HandsOne, one_handed, none_handed}
+use Rattle.tbr_wrap.proofs.runs.BlockLaws.{HandsOne, one_handed}
 use Rattle.tbr_footnotes.proofs.Tags.{tags_mean, copies_are_equal}
-use Rattle.tbr_renderer.proofs.BlockEnds.{one_line_more, no_more_lines}
+use Rattle.tbr_renderer.proofs.BlockEnds.{one_line_more}
 use Rattle.tbr_renderer.proofs.sub.SubRenderer.add_each_line_of.Given.{Over}
 use Rattle.tbr_renderer.proofs.sub.SubRenderer.add_each_line_of.Goals.{In-Some}
 use Rattle.tbr_renderer.proofs.sub.SubRenderer.add_each_line_of.Goals as goal
@@ -32,9 +32,3 @@ loop-block-smaller g c =
     let columns = g.W.CharWidth.columns in let f = one g (goal.at.loop-block-smaller g c).In-Some in
     let gone = ap (λ (b : Block (List g.row.D-Annotation.Denot)). length (left columns b)) f.leaves ∙ ap length (left_after c.loop-block.block columns ∙ ap (drop 1) f.left_is) in
     omega (arith, ap length f.left_is, gone)
-
-pub returns-clause-lines : goal.returns-clause-lines
-returns-clause-lines g c =
-    let columns = g.W.CharWidth.columns in let eq = equal_annotations g.D.Annotation.PartialEq.eq in let block = c.loop-block.block in
-    let none = none_handed columns eq block c.next_line.new.self c.in_ok-line.ensures.answers.ok (subst (λ o. HandsOutFirst columns eq block (left columns block) o) c.in_default.is c.in_ok-line.ensures.line) in
-    no_more_lines g.D.TextDecorator.meaning columns c.args.block block c.args.self.now c.loop-block.self c.loop-block.invariant none.0

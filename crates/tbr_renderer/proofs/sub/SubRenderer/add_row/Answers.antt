@@ -1,6 +1,5 @@
-use Rattle.std.proofs.Common.{List, map, ap, ◌∙◌}
+use Rattle.std.proofs.Common.{List, ap}
 use Rattle.std.proofs.lemmas.Result.{on_ok_weaker}
-use Rattle.tbr_rows.specs.Cells.{row_fits, spot_of}
 use Rattle.tbr_renderer.specs.Renderer.{Renderer}
 use Rattle.tbr_renderer.specs.Rows.{style_in}
 use Rattle.tbr_footnotes.proofs.Tags.{tags_mean, copies_are_equal}
@@ -9,9 +8,6 @@ use Rattle.tbr_renderer.proofs.sub.SubRenderer.add_row.Goals as goal
 
 pub lay_out-requires-clause-copies : goal.lay_out-requires-clause-copies
 lay_out-requires-clause-copies g c = copies_are_equal g.D.Annotation.PartialEq.eq g.D.TextDecorator.meaning g.met.D.TextDecorator.equal_by_meaning
-
-pub lay_out-requires-clause-fits : goal.lay_out-requires-clause-fits
-lay_out-requires-clause-fits g c = ap (λ hs. row_fits hs (map spot_of c.args.columns)) c.take_hanging-hanging.ensures.cells ∙ c.requires.fits
 
 pub returns-clause-row : goal.returns-clause-row
 returns-clause-row g c =

@@ -10,7 +10,7 @@ use Rattle.tbr_renderer.specs.Meant.{map_line}
 use Rattle.tbr_renderer.specs.Appended.{as_text}
 use Rattle.tbr_kept_lines.specs.Line.{line_seen}
 use Rattle.tbr_footnotes.proofs.Tags.{tags_mean, copies_are_equal}
-use Rattle.tbr_renderer.proofs.MeantBorders.{shown-map}
+use Rattle.tbr_rows.proofs.MeantTexts.{shown-map}
 use Rattle.tbr_renderer.proofs.sub.SubRenderer.as_text.Goals as goal
 
 pub into_tagged_line_with-requires : goal.into_tagged_line_with-requires
@@ -25,6 +25,6 @@ returns-in_ok-tag-in-Line-clause-items g c =
     let tag = c.in_ok-tag-in-Line.tag in
     IfOk-weaker c.into_tagged_line_with.result _ _
     (λ text same. means_same_items (tag_meant f) (equal_annotations eq) agree (items_of text) (shown tag border) same
-    ∙ shown-map (tag_meant f) tag border ∙ ap (λ t. shown t (map_border (tag_meant f) border)) c.in_ok-tag-in-Line.ensures
+    ∙ sym (shown-map (tag_meant f) tag border) ∙ ap (λ t. shown t (map_border (tag_meant f) border)) c.in_ok-tag-in-Line.ensures
     ∙ ap (λ line. as_text (map f c.args.self.now.annotations) (map_line (tag_meant f) (line_seen line))) (sym c.in-Line.is))
     c.into_tagged_line_with.ensures.items

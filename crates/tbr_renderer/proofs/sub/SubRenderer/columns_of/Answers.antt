@@ -14,7 +14,8 @@ use Rattle.tbr_renderer.specs.Appended.{handed_out}
 use Rattle.tbr_renderer.proofs.GivenCells.{given_stops}
 use Rattle.tbr_footnotes.proofs.Tags.{tags_mean, copies_are_equal}
 use Rattle.tbr_kept_lines.proofs.ItemsLeft.{items_left, items_taken}
-use Rattle.tbr_renderer.proofs.AppendedLines.{each_at, passed_on}
+use Rattle.tbr_kept_lines.proofs.KeptParts.{each_at}
+use Rattle.tbr_renderer.proofs.OutcomeParts.{passed_on}
 use Rattle.tbr_renderer.proofs.MeantRows.{HasColumns, tags_told, no_columns, columns_go_on, next_taken, lines_fill}
 use Rattle.tbr_renderer.proofs.sub.SubRenderer.columns_of.Goals as goal
 
@@ -31,16 +32,16 @@ pub returns-in_err-lines-clause-too_narrow : goal.returns-in_err-lines-clause-to
 returns-in_err-lines-clause-too_narrow g c = λ is.
     let f = g.D.TextDecorator.meaning in
     let columns = g.W.CharWidth.columns in
-    let e = passed_on c.from_residual-in_err-lines.result c.into_shared_lines.result c.in_err-lines.field-0.0 TooNarrow is c.from_residual-in_err-lines.ensures.1 c.in_err-lines.was in
+    let e = passed_on is c.from_residual-in_err-lines.ensures.1 c.in_err-lines.was in
     let all = c.into_iter-col-iterator.result in
     let whole = sym c.into_iter-col-iterator.ensures.into_iter_gives.0 ∙ items_left all all c.loop-col.col-iterator c.next.new.self c.loop-col.yielded (c.in-Some.col, c.in-Some.span) refl c.loop-col.yielded_by c.in-Some.ensures.steps.0 in
     let inv = c.loop-col.invariant.0 in
     ap (λ cols. cells_meant columns f cols c.args.aligns.now) whole
-    ∙ given_stops (λ r. r.width) (λ r. handed_out columns (meant f r)) c.loop-col.yielded c.args.aligns.now inv.cells (c.in-Some.col, c.in-Some.span) (into_iter_items c.next.new.self) TooNarrow inv.given (c.into_shared_lines.ensures.too_narrow e)
+    ∙ given_stops (λ r. r.width) (λ r. handed_out columns (meant f r)) c.loop-col.yielded c.args.aligns.now inv.cells (c.in-Some.col, c.in-Some.span) inv.given (into_iter_items c.next.new.self) TooNarrow (c.into_shared_lines.ensures.too_narrow e)
 
 pub returns-in_err-lines-clause-two_columns : goal.returns-in_err-lines-clause-two_columns
 returns-in_err-lines-clause-two_columns g c = λ wide is.
-    let e = passed_on c.from_residual-in_err-lines.result c.into_shared_lines.result c.in_err-lines.field-0.0 TooNarrow is c.from_residual-in_err-lines.ensures.1 c.in_err-lines.was in
+    let e = passed_on is c.from_residual-in_err-lines.ensures.1 c.in_err-lines.was in
     let all = c.into_iter-col-iterator.result in
     let whole = sym c.into_iter-col-iterator.ensures.into_iter_gives.0 ∙ items_left all all c.loop-col.col-iterator c.next.new.self c.loop-col.yielded (c.in-Some.col, c.in-Some.span) refl c.loop-col.yielded_by c.in-Some.ensures.steps.0 in
     let here = each_at _ c.loop-col.yielded (c.in-Some.col, c.in-Some.span) (into_iter_items c.next.new.self) (subst (Each _) whole wide) in
@@ -84,6 +85,3 @@ returns-clause-free g c =
     let all = c.into_iter-col-iterator.result in
     let whole = sym c.into_iter-col-iterator.ensures.into_iter_gives.0 ∙ items_taken all all c.loop-col.col-iterator c.next.new.self c.loop-col.yielded refl c.loop-col.yielded_by c.in-None.ensures.steps in
     subst (λ cols. AllZip (LeavesFree g.W.CharWidth.columns) cols c.loop-col.columns) (sym whole) c.loop-col.invariant.0.free
-
-pub returns-clause-side_by_side : goal.returns-clause-side_by_side
-returns-clause-side_by_side g c = c.loop-col.invariant.1

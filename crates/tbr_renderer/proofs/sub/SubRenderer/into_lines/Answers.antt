@@ -1,7 +1,7 @@
 use Rattle.std.proofs.Common.{ap, sym, ◌∙◌}
 use Rattle.tbr_tagged.specs.Outcome.{done}
 use Rattle.tbr_footnotes.proofs.Tags.{tags_mean}
-use Rattle.tbr_renderer.proofs.WrittenLines.{written_mean}
+use Rattle.tbr_renderer.proofs.MeantLines.{written_mean}
 use Rattle.tbr_renderer.proofs.sub.SubRenderer.into_lines.Goals as goal
 
 pub returns-clause-lines : goal.returns-clause-lines

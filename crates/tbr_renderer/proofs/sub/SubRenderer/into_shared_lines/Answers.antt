@@ -3,7 +3,7 @@ use Rattle.tbr_tagged.specs.Outcome.{done}
 use Rattle.tbr_annotations.specs.Annotations.{equal_annotations}
 use Rattle.tbr_footnotes.specs.Tags.{tag_meant}
 use Rattle.tbr_kept_lines.specs.Line.{line_seen}
-use Rattle.tbr_renderer.proofs.SameLines.{same_meant}
+use Rattle.tbr_renderer.proofs.MeantLines.{same_meant}
 use Rattle.tbr_footnotes.proofs.Tags.{tags_mean, copies_are_equal}
 use Rattle.tbr_renderer.proofs.sub.SubRenderer.into_shared_lines.Goals as goal
 

@@ -1,15 +1,9 @@
-use Rattle.std.proofs.Common.{List, ap, sym, ◌∙◌, subst}
-use Rattle.tbr_renderer.specs.Renderer.{Renderer, block_width, may_overflow}
-use Rattle.tbr_renderer.specs.View.{unboxed, block_seen, IsOpened}
+use Rattle.tbr_renderer.proofs.Fields.{boxed_opens}
 use Rattle.tbr_renderer.proofs.JoinedTexts.{line_start}
 use Rattle.tbr_renderer.proofs.sub.SubRenderer.is_at_line_start.Goals as goal
 
 pub returns-in-Some : goal.returns-in-Some
 returns-in-Some g c =
-    let R = Renderer g.row.D.Denot g.row.D-Annotation.Denot (List g.row.D-Annotation.Denot) in
-    let columns = g.W.CharWidth.columns in
-    let live = ap (λ (r : R). r.failure) c.self.view_is ∙ c.requires in
-    let seen = ap (λ o. block_seen (unboxed o)) (sym c.in-Some.is) ∙ ap (λ (r : R). r.block) c.self.view_is in
-    let opened = subst (λ (r : R). IsOpened columns (block_width r) (may_overflow r) (unboxed c.self.inside.wrapping)) c.self.view_is (c.self.invariant.fresh live).opened in
-    let fresh = subst (λ o. IsOpened columns (block_width c.args.self.now) (may_overflow c.args.self.now) (unboxed o)) c.in-Some.is opened in
-    line_start g.D.TextDecorator.meaning columns c.args.self.now c.in-Some.block.value seen fresh c.at_line_start.result (rw c.deref.ensures at c.at_line_start.ensures)
+    line_start g.D.TextDecorator.meaning g.W.CharWidth.columns c.args.self.now c.in-Some.block.value
+    (boxed_opens g.W.CharWidth.columns c.self.inside c.args.self.now c.in-Some.block c.self.invariant c.self.view_is c.requires c.in-Some.is)
+    _ c.deref.ensures c.at_line_start.result c.at_line_start.ensures

@@ -1,9 +1,7 @@
-use Rattle.std.proofs.Common.{◌≡◌, ℕ, Ok, List, ◌+◌, ◌∙◌, [], take, get_or, set, map, refl, ap, sym, subst, arith}
+use Rattle.std.proofs.Common.{◌≡◌, ℕ, Ok, List, ◌+◌, ◌∙◌, [], get_or, set, map, refl, ap, sym, subst, arith}
 use Rattle.std.proofs.lemmas.List.{set-get_or}
-use Rattle.std.specs.List.{AllByRecursion as Each}
 use Rattle.tbr_annotations.specs.Annotations.{equal_annotations}
-use Rattle.tbr_border.specs.RenderLine.{IsMergedText}
-use Rattle.tbr_renderer.proofs.AppendedLines.{Prefixes, one_prefix_more, all_prefixed, ran_out, left_merged}
+use Rattle.tbr_renderer.proofs.AppendedLines.{Prefixes, one_prefix_more, ran_out}
 use Rattle.tbr_renderer.proofs.sub.SubRenderer.put_prefixes.Goals as goal
 
 pub loop-line-init : goal.loop-line-init
@@ -11,14 +9,6 @@ loop-line-init g c = record {
   count = refl;
   put = record { can_go_on = c.requires.prefixes; given = []; yields = refl; as_many = refl; within = omega arith; put = refl; merged = tt; rest = refl };
 }
-
-pub put_next-requires : goal.put_next-requires
-put_next-requires g c =
-    let inv = c.loop-line.invariant.put in
-    record {
-      merged = left_merged (equal_annotations g.D.Annotation.PartialEq.eq) c.args.lines.now c.loop-line.lines c.loop-line.line-index c.line-item.result c.requires.merged c.loop-line-test.true inv.rest;
-      prefixes = inv.can_go_on;
-    }
 
 pub loop-line-preserved : goal.loop-line-preserved
 loop-line-preserved g c =
@@ -38,8 +28,8 @@ loop-line-preserved g c =
 left_as_it_was : {X : Type 0} (xs : List X) (i : ℕ) (d x : X) → x ≡ get_or xs i d → set xs i x ≡ xs
 left_as_it_was xs i d x is = ap (set xs i) is ∙ set-get_or xs i d
 
-pub returns-then-not-branch-clause-lines : goal.returns-then-not-branch-clause-lines
-returns-then-not-branch-clause-lines g c =
+pub returns-then-not-branch : goal.returns-then-not-branch
+returns-then-not-branch g c =
     let f = g.D.TextDecorator.meaning in
     let it = g.I.Iterator in
     let eq = equal_annotations g.D.Annotation.PartialEq.eq in
@@ -50,26 +40,3 @@ returns-then-not-branch-clause-lines g c =
     subst (λ ls. Prefixes f eq tag it.can_next it.next_gives g.P.AsStr.text c.args.prefixes c.args.lines.now c.loop-line.count ls) (sym same)
     (subst (λ n. Prefixes f eq tag it.can_next it.next_gives g.P.AsStr.text c.args.prefixes c.args.lines.now n c.loop-line.lines) (sym inv.count)
     (ran_out f eq tag it.can_next it.next_gives g.P.AsStr.text c.args.prefixes c.args.lines.now c.loop-line.line-index c.loop-line.prefixes c.put_next.new.prefixes c.loop-line.lines inv.put c.loop-line-test.true none.0))
-
-pub returns-then-not-branch-clause-merged : goal.returns-then-not-branch-clause-merged
-returns-then-not-branch-clause-merged g c =
-    let IsMerged = IsMergedText (equal_annotations g.D.Annotation.PartialEq.eq) in
-    let inv = c.loop-line.invariant in
-    let none = c.in_ok-put_next.ensures.none (ap Ok c.if-not-branch.true) in
-    let same = left_as_it_was c.loop-line.lines c.loop-line.line-index c.line-item.result c.put_next.new.line none.1 in
-    subst (λ ls. Each IsMerged (take c.loop-line.count ls)) (sym same) (subst (λ n. Each IsMerged (take n c.loop-line.lines)) (sym inv.count) inv.put.merged)
-
-pub returns-clause-lines : goal.returns-clause-lines
-returns-clause-lines g c =
-    let f = g.D.TextDecorator.meaning in
-    let it = g.I.Iterator in
-    let eq = equal_annotations g.D.Annotation.PartialEq.eq in
-    let tag = map f c.args.self.now.annotations in
-    let inv = c.loop-line.invariant in
-    subst (λ n. Prefixes f eq tag it.can_next it.next_gives g.P.AsStr.text c.args.prefixes c.args.lines.now n c.loop-line.lines) (sym inv.count)
-    (all_prefixed f eq tag it.can_next it.next_gives g.P.AsStr.text c.args.prefixes c.args.lines.now c.loop-line.line-index c.loop-line.prefixes c.loop-line.lines inv.put (omega (arith, c.loop-line-test.false)))
-
-pub returns-clause-merged : goal.returns-clause-merged
-returns-clause-merged g c =
-    let inv = c.loop-line.invariant in
-    subst (λ n. Each (IsMergedText (equal_annotations g.D.Annotation.PartialEq.eq)) (take n c.loop-line.lines)) (sym inv.count) inv.put.merged

@@ -1,16 +1,10 @@
-use Rattle.std.proofs.Common.{List, map, ap, ◌∙◌, [], ◌∷◌, append-nil}
+use Rattle.std.proofs.Common.{map, ap, ◌∙◌, [], ◌∷◌, append-nil}
 use Rattle.std.proofs.lemmas.List.{take_all}
 use Rattle.tbr_rows.specs.Cells.{row_fits, spots_from}
 use Rattle.tbr_rows.specs.Fitting.{fits_with}
 use Rattle.tbr_rows.proofs.Fitted.{one_more_told}
 use Rattle.tbr_renderer.specs.Rows.{looks}
-use Rattle.tbr_renderer.specs.Renderer.{Renderer}
 use Rattle.tbr_renderer.proofs.sub.SubRenderer.row_fits.Goals as goal
-
-pub loop-col-init : goal.loop-col-init
-loop-col-init g c =
-    let R = Renderer g.row.D.Denot g.row.D-Annotation.Denot (List g.row.D-Annotation.Denot) in
-    λ more. c.fitting-fitting.ensures more ∙ ap (λ (r : R). row_fits r.hanging (spots_from 0 more)) c.self.view_is
 
 pub loop-col-preserved : goal.loop-col-preserved
 loop-col-preserved g c =

@@ -7,7 +7,7 @@ use Rattle.tbr_renderer.specs.Meant.{meant}
 use Rattle.tbr_renderer.specs.Flush.{after_flush}
 use Rattle.tbr_renderer.specs.Rows.{cells_meant, after_row, AppendsRow}
 use Rattle.tbr_renderer.proofs.ComputedRows.{lists_apart, row_computed}
-use Rattle.tbr_renderer.proofs.MeantRows.{still_fits, stand_meant}
+use Rattle.tbr_renderer.proofs.MeantRows.{still_fits, side_by_side-map}
 use Rattle.tbr_renderer.proofs.OutcomeParts.{taking_done}
 use Rattle.tbr_renderer.proofs.sub.SubRenderer.try_append_columns.Goals as goal
 
@@ -26,6 +26,6 @@ returns-clause-ok g c =
     let (cells, given, come) = c.in_ok-columns.ensures.cells in
     let (row, means, is) = c.in_ok-add_row.ensures.row in
     let appends : AppendsRow columns c.args.collapses cells old (meant f c.add_row.new.self) =
-    (meant f c.try_flush.new.self, live_goes c.args.self.now.failure _ c.requires.unfailed ∙ flushed, record { own = map (map_cell (tag_meant f)) own; come = come; side_by_side = stand_meant f own c.in_ok-columns.ensures.side_by_side; row = row; means = means; is = is }) in
+    (meant f c.try_flush.new.self, live_goes c.args.self.now.failure _ c.requires.unfailed ∙ flushed, record { own = map (map_cell (tag_meant f)) own; come = come; side_by_side = side_by_side-map (tag_meant f) 0 own c.in_ok-columns.ensures.side_by_side; row = row; means = means; is = is }) in
     taking_done (after_flush columns) (cells_meant columns f c.args.cols.items c.args.aligns.now) (after_row same columns c.args.collapses) old (meant f c.try_flush.new.self) cells flushed given
     ∙ (row_computed same (lists_apart g.D.TextDecorator.same g.D.TextDecorator.tells) columns c.args.collapses cells old (meant f c.add_row.new.self)).0 appends

@@ -1,17 +1,14 @@
-use Rattle.std.proofs.Common.{List, ◌≡◌, Some, Result, Err, map, refl, arith, ap, sym, ◌∙◌, subst}
-use Rattle.std.specs.Result.{IsErrAnd}
+use Rattle.std.proofs.Common.{List, ◌≡◌, None, Some, Err, map, refl, arith, ap, sym, ◌∙◌, subst}
 use Rattle.tbr_wrap.specs.Block.{Block, loose}
 use Rattle.tbr_tagged.specs.View.{element_of}
-use Rattle.tbr_tagged.specs.declared.Error.{Error}
-use Rattle.tbr_tagged.specs.declared.Error.TheVariants as E
 use Rattle.tbr_wrap.proofs.runs.BlockLaws.{flush_in_two, flush_leaves, none_open_taken}
 use Rattle.tbr_footnotes.proofs.Tags.{copies_are_equal}
 use Rattle.tbr_renderer.specs.Renderer.{block_width, may_overflow}
 use Rattle.tbr_renderer.specs.View.{block_seen, names_of, IsFresh}
-use Rattle.tbr_renderer.specs.Meant.{meant}
-use Rattle.tbr_renderer.specs.Flush.{after_flush}
-use Rattle.tbr_renderer.proofs.OutcomeParts.{tries_ok, tries_err}
+use Rattle.tbr_renderer.proofs.OutcomeParts.{passed_on, never_narrow, tries_ok, tries_err}
 use Rattle.tbr_renderer.proofs.BlockEnds.{markers_named, are_markers, block_flushed, block_refused}
+use Rattle.tbr_renderer.proofs.sub.SubRenderer.try_flush.Given.{Over}
+use Rattle.tbr_renderer.proofs.sub.SubRenderer.try_flush.Goals.{In_ok-flush}
 use Rattle.tbr_renderer.proofs.sub.SubRenderer.try_flush.Goals as goal
 
 pub flush-requires : goal.flush-requires
@@ -23,28 +20,32 @@ returns-in_err-flush-clause-tries g c =
     let columns = g.W.CharWidth.columns in
     let fresh = subst (λ b. IsFresh columns (block_width c.args.self.now) (may_overflow c.args.self.now) b) (sym c.into_inner-block.ensures) c.in-Some.ensures.opened in
     let seen = ap (λ b. block_seen (Some b)) c.into_inner-block.ensures ∙ c.in-Some.ensures.block in
-    tries_err (meant f) (after_flush columns) c.args.self.now c.take_block.new.self c.from_residual.result c.in_err-flush.field-0.0 c.from_residual.ensures.1
+    tries_err _ _ c.args.self.now c.take_block.new.self c.from_residual.result c.in_err-flush.field-0.0 c.from_residual.ensures.1
     (λ narrow. block_refused f columns c.args.self.now c.into_inner-block.result seen fresh (c.flush.ensures.answers.too_narrow (c.in_err-flush.was ∙ ap Err narrow)))
 
 pub returns-in_err-flush-clause-two_columns : goal.returns-in_err-flush-clause-two_columns
 returns-in_err-flush-clause-two_columns g c = λ two is.
     let k = subst (λ b. IsFresh g.W.CharWidth.columns (block_width c.args.self.now) (may_overflow c.args.self.now) b) (sym c.into_inner-block.ensures) c.in-Some.ensures.opened in
-    let e : c.flush.result ≡ Err E.TooNarrow = c.in_err-flush.was ∙ ap Err (sym (subst (λ (r : Result (Unit {0}) Error). IsErrAnd r (λ x. x ≡ c.in_err-flush.field-0.0)) is c.from_residual.ensures.1)) in
-    flush_in_two g.W.CharWidth.columns (g.met.W.CharWidth.drawn_in_one 32 refl) g.met.W.CharWidth.at_most_two c.into_inner-block.result (omega (arith, two, k.width_is)) k.unfailed (c.flush.ensures.answers.too_narrow e)
+    flush_in_two g.W.CharWidth.columns (g.met.W.CharWidth.drawn_in_one 32 refl) g.met.W.CharWidth.at_most_two c.into_inner-block.result
+    (omega (arith, two, ap (λ (b : Block (List g.row.D-Annotation.Denot)). b.width) k.is)) (ap (λ (b : Block (List g.row.D-Annotation.Denot)). b.failure) k.is)
+    (c.flush.ensures.answers.too_narrow (passed_on is c.from_residual.ensures.1 c.in_err-flush.was))
+
+-- the block that was flushed hasn't failed
+live : (g : Over) (c : In_ok-flush g) → c.flush.new.self.failure ≡ None
+live g c =
+    let fresh = subst (λ b. IsFresh g.W.CharWidth.columns (block_width c.args.self.now) (may_overflow c.args.self.now) b) (sym c.into_inner-block.ensures) c.in-Some.ensures.opened in
+    ap (λ (b : Block (List g.row.D-Annotation.Denot)). b.failure) (flush_leaves g.W.CharWidth.columns c.into_inner-block.result c.flush.new.self c.in_ok-flush.ensures.answers.ok)
+    ∙ ap (λ (b : Block (List g.row.D-Annotation.Denot)). b.failure) fresh.is
 
 pub returns-in_err-markers-clause-tries : goal.returns-in_err-markers-clause-tries
 returns-in_err-markers-clause-tries g c =
-    let fresh = subst (λ b. IsFresh g.W.CharWidth.columns (block_width c.args.self.now) (may_overflow c.args.self.now) b) (sym c.into_inner-block.ensures) c.in-Some.ensures.opened in
-    let live = ap (λ (b : Block (List g.row.D-Annotation.Denot)). b.failure) (flush_leaves g.W.CharWidth.columns c.into_inner-block.result c.flush.new.self c.in_ok-flush.ensures.answers.ok) ∙ fresh.unfailed in
-    tries_err (meant g.D.TextDecorator.meaning) (after_flush g.W.CharWidth.columns) c.args.self.now c.take_block.new.self c.from_residual-in_err-markers.result c.in_err-markers.field-0.0 c.from_residual-in_err-markers.ensures.1
-    (λ narrow. absurd (let e : c.take_trailing_fragments.result ≡ Err E.TooNarrow = c.in_err-markers.was ∙ ap Err narrow in let want = c.take_trailing_fragments.ensures.memory live in let no : E.TooNarrow ≡ E.OutOfMemory = rw e at want in cc))
+    tries_err _ _ c.args.self.now c.take_block.new.self c.from_residual-in_err-markers.result c.in_err-markers.field-0.0 c.from_residual-in_err-markers.ensures.1
+    (λ narrow. absurd (never_narrow (c.take_trailing_fragments.ensures.memory (live g (goal.at.returns-in_err-markers-clause-tries g c).In_ok-flush)) (c.in_err-markers.was ∙ ap Err narrow)))
 
 pub returns-in_err-markers-clause-two_columns : goal.returns-in_err-markers-clause-two_columns
 returns-in_err-markers-clause-two_columns g c = λ two is.
-    let fresh = subst (λ b. IsFresh g.W.CharWidth.columns (block_width c.args.self.now) (may_overflow c.args.self.now) b) (sym c.into_inner-block.ensures) c.in-Some.ensures.opened in
-    let live = ap (λ (b : Block (List g.row.D-Annotation.Denot)). b.failure) (flush_leaves g.W.CharWidth.columns c.into_inner-block.result c.flush.new.self c.in_ok-flush.ensures.answers.ok) ∙ fresh.unfailed in
-    let e : c.take_trailing_fragments.result ≡ Err E.TooNarrow = c.in_err-markers.was ∙ ap Err (sym (subst (λ (r : Result (Unit {0}) Error). IsErrAnd r (λ x. x ≡ c.in_err-markers.field-0.0)) is c.from_residual-in_err-markers.ensures.1)) in
-    let want = c.take_trailing_fragments.ensures.memory live in let no : E.TooNarrow ≡ E.OutOfMemory = rw e at want in cc
+    never_narrow (c.take_trailing_fragments.ensures.memory (live g (goal.at.returns-in_err-markers-clause-two_columns g c).In_ok-flush))
+    (passed_on is c.from_residual-in_err-markers.ensures.1 c.in_err-markers.was)
 
 pub add_lines_of-requires-clause-ended : goal.add_lines_of-requires-clause-ended
 add_lines_of-requires-clause-ended g c =
@@ -58,7 +59,7 @@ returns-clause-tries g c =
     let fresh = subst (λ b. IsFresh g.W.CharWidth.columns (block_width c.args.self.now) (may_overflow c.args.self.now) b) (sym c.into_inner-block.ensures) c.in-Some.ensures.opened in
     let seen = ap (λ b. block_seen (Some b)) c.into_inner-block.ensures ∙ c.in-Some.ensures.block in
     let columns = g.W.CharWidth.columns in
-    tries_ok (meant g.D.TextDecorator.meaning) (after_flush columns) c.args.self.now c.add_waiting.new.self tt
+    tries_ok _ _ c.args.self.now c.add_waiting.new.self tt
     (block_flushed g.D.TextDecorator.meaning columns c.args.self.now c.into_inner-block.result seen fresh c.flush.new.self c.take_trailing_fragments.new.self c.in_ok-flush.ensures.answers.ok c.in_ok-markers.ensures.answers.ok
     (names_of (map element_of c.in_ok-markers.markers.items)) c.take_block.new.self c.add_lines_of.new.self c.add_waiting.new.self c.in-Some.ensures.rest c.in_ok-add_lines_of.ensures.lines
     (markers_named (map element_of c.in_ok-markers.markers.items) (loose columns c.flush.new.self) c.in_ok-markers.ensures.markers) c.in_ok-add_waiting.ensures.waiting)

@@ -1,19 +1,14 @@
-use Rattle.std.proofs.Common.{◌∷◌, ◌++◌, [], List}
 use Rattle.std.proofs.lemmas.Slice.Zip.{all_zipped_more}
-use Rattle.std.specs.List.{AllByRecursion as Each}
+use Rattle.tbr_kept_lines.proofs.KeptParts.{each_after}
 use Rattle.tbr_tagged.specs.Copies.{equal_lists}
 use Rattle.tbr_border.specs.RenderLine.{IsMergedText}
 use Rattle.tbr_annotations.specs.Written.{WritesOut}
 use Rattle.tbr_renderer.proofs.sub.lines.all_written_out.Goals as goal
-
-one_more : {X : Type 0} (P : X → Type 0) (xs : List X) (x : X) → Each P xs → P x → Each P (xs ++ x ∷ [])
-one_more P [] x all one = (one, all)
-one_more P (y ∷ xs) x all one = (all.0, one_more P xs x all.1 one)
 
 pub loop-line-preserved : goal.loop-line-preserved
 loop-line-preserved g c =
     let eq = g.A.PartialEq.eq in
     let out = c.in_ok-written_out.field-0 in
     let zipped = all_zipped_more (WritesOut eq) c.loop-line.yielded c.loop-line.written c.in-Some.line out c.loop-line.invariant.0 c.in_ok-written_out.ensures.written in
-    let merged = one_more (IsMergedText (equal_lists eq)) c.loop-line.written out c.loop-line.invariant.1 c.in_ok-written_out.ensures.merged in
+    let merged = each_after (IsMergedText (equal_lists eq)) c.loop-line.written out c.loop-line.invariant.1 c.in_ok-written_out.ensures.merged in
     rw (c.in_ok-push_back.ensures.items) (zipped, merged)

@@ -1,4 +1,4 @@
-use Rattle.std.proofs.Common.{rules, chars, ap, sym, ◌∙◌, [], ◌∷◌, ◌++◌, replicate, append_assoc, append-nil}
+use Rattle.std.proofs.Common.{rules, chars, ap, ◌∙◌, [], ◌∷◌, ◌++◌, replicate, append_assoc}
 use Rattle.std.specs.String.{string_bytes}
 use Rattle.std.proofs.lemmas.Str.{IsUtf8-string_bytes}
 use Rattle.std.proofs.lemmas.List.{replicate_more}
@@ -6,9 +6,6 @@ use Rattle.tbr_tagged.proofs.TextAfter.{chars_push}
 use Rattle.tbr_tagged.specs.View.{chars_of}
 use Rattle.tbr_renderer.specs.Renderer.{stroke}
 use Rattle.tbr_renderer.proofs.sub.texts.push_strokes.Goals as goal
-
-pub loop-init : goal.loop-init
-loop-init c = sym (append-nil (chars_of c.args.s.now))
 
 pub loop-preserved : goal.loop-preserved
 loop-preserved c =

@@ -1,17 +1,12 @@
-use Rattle.std.proofs.Common.{◌++◌, ap, sym, ◌∙◌, map-id, chars}
+use Rattle.std.proofs.Common.{ap, sym, ◌∙◌, map-id, chars}
 use Rattle.std.proofs.lemmas.Iterator.{YieldsList-from_chars}
 use Rattle.std.proofs.lemmas.Iterator.Consumers.{YieldsList-end}
 use Rattle.std.proofs.lemmas.Str.{chars-nil}
-use Rattle.tbr_renderer.specs.Renderer.{struck, struck_character}
-use Rattle.tbr_renderer.proofs.StruckTexts.{struck_more}
+use Rattle.tbr_renderer.specs.Renderer.{struck}
 use Rattle.tbr_renderer.proofs.sub.texts.struck_text.Goals as goal
 
 pub loop-c-init : goal.loop-c-init
 loop-c-init g c = ap chars c.new-s.ensures.bytes ∙ chars-nil
-
-pub loop-c-preserved : goal.loop-c-preserved
-loop-c-preserved g c =
-    c.in_ok-push_struck.ensures ∙ ap (λ cs. cs ++ struck_character g.W.CharWidth.columns c.args.depth c.in-Some.c) c.loop-c.invariant ∙ struck_more g.W.CharWidth.columns c.args.depth c.loop-c.yielded c.in-Some.c
 
 pub returns : goal.returns
 returns g c =

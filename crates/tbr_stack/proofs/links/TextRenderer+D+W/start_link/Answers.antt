@@ -1,7 +1,7 @@
-use Rattle.std.proofs.Common.{◌≡◌, ◌≤◌, Some, chars, inl, inr, sym, subst, ap, ◌∙◌}
+use Rattle.std.proofs.Common.{◌≡◌, Some, chars, inl, inr, sym, subst, ap, ◌∙◌}
 use Rattle.std.proofs.lemmas.Result.{on_err_weaker}
 use Rattle.tbr_renderer.specs.Meant.{meant}
-use Rattle.tbr_renderer.specs.Renderer.{kept_of, block_width}
+use Rattle.tbr_renderer.specs.Renderer.{kept_of}
 use Rattle.tbr_renderer.proofs.KeptRefusals.{on_err}
 use Rattle.tbr_tagged.specs.declared.Error.TheVariants.{OutOfMemory}
 use Rattle.tbr_decor.specs.Start as start
@@ -9,7 +9,6 @@ use Rattle.tbr_decor.specs.Decoration.{decoration_of}
 use Rattle.tbr_renderer.specs.Calls.{begin, after}
 use Rattle.tbr_stack.specs.Stack.{top_of}
 use Rattle.tbr_stack.specs.Top.{ChangesTop, stack_meant}
-use Rattle.tbr_stack.proofs.Ends.{some_same}
 use Rattle.tbr_stack.proofs.Tops.{failure_of_top, top_linked, changes_linked, tries_linked, step_meant, if_ok, if_err}
 use Rattle.tbr_stack.proofs.links.TextRenderer+D+W.start_link.Goals as goal
 
@@ -25,13 +24,6 @@ returns-clause-tries g c =
     let answers = c.start_link.ensures.answers in
     tries_linked g.D.TextDecorator.meaning (after g.W.CharWidth.columns (decoration_of g.D.TextDecorator) (begin (start.link (chars c.args.target.now)))) (chars c.args.target.now)
     c.args.self.now c.keep.new.self c.top_mut.result.now c.start_link.new.self c.start_link.result is c.top_mut.ensures.top (record { ok = answers.ok; too_narrow = answers.too_narrow })
-
-pub returns-clause-two_columns : goal.returns-clause-two_columns
-returns-clause-two_columns g c unfailed wide refused =
-    let is = (c.in_ok-keep.ensures).ok ∙ if_ok c.open_link-done.result (c.in_ok-keep.ensures).result c.open_link-done.ensures.ok in
-    let top = sym (top_linked (chars c.args.target.now) c.args.self.now) ∙ sym (ap (λ s. top_of s) is) ∙ c.top_mut.ensures.top in
-    let live = sym (failure_of_top c.args.self.now c.top_mut.result.now top) ∙ unfailed in
-    c.start_link.ensures.answers.two_columns (live, subst (λ r. 2 ≤ block_width r) (some_same wide.0 c.top_mut.result.now (sym wide.1 ∙ top)) wide.2) refused
 
 pub returns-clause-left : goal.returns-clause-left
 returns-clause-left g c unfailed =

@@ -1,41 +1,14 @@
-use Rattle.std.proofs.Common.{ap}
-use Rattle.std.specs.List.{AllByRecursion as Each}
 use Rattle.tbr_tagged.proofs.Outcomes.{live_goes}
 use Rattle.tbr_decor.specs.Decoration.{decoration_of}
-use Rattle.tbr_tagged.specs.Outcome.{if_live}
-use Rattle.tbr_renderer.specs.Flush.{after_flush}
-use Rattle.tbr_renderer.specs.Meant.{meant}
-use Rattle.tbr_renderer.specs.Renderer.{Settings}
-use Rattle.tbr_renderer.specs.Outcomes.{and_then, taking, gathered}
-use Rattle.tbr_renderer.specs.Appended.{handed_out, after_cells}
-use Rattle.tbr_renderer.specs.Calls.{append_vert_row, after, calls_by, IsWide}
-use Rattle.tbr_renderer.proofs.KeptRefusals.{on_err, takes_of, refused_takes}
+use Rattle.tbr_renderer.specs.Appended.{after_cells}
+use Rattle.tbr_renderer.proofs.KeptRefusals.{settled_takes}
 use Rattle.tbr_renderer.proofs.sub.calls.SubRendererRenderer.append_vert_row.Goals as goal
 
 pub returns : goal.returns
 returns g c =
-    let f = g.D.TextDecorator.meaning in
-    let columns = g.W.CharWidth.columns in
-    let decoration = decoration_of g.D.TextDecorator in
-    let calls = calls_by columns decoration f in
-    let old = meant f c.args.self.now in
-    let given = gathered (λ col. handed_out columns (meant f col)) c.args.cols.items in
+    let kept = c.keep.ensures in
+    let tried = c.try_append_vert_row-done.ensures in
     record {
-      takes = takes_of calls given (Each (IsWide calls) c.args.cols.items) (λ cells. after columns decoration (append_vert_row cells))
-          (after_flush columns old) (taking (after_flush columns) given (after_cells columns) old) c.args.self.now c.try_append_vert_row-done.new.self c.keep.new.self c.keep.result c.try_append_vert_row-done.result
-          (live_goes c.args.self.now.failure (after_flush columns old) c.in_ok-refusal.ensures) (λ i. and_then (after_flush columns old) (λ _. and_then given (λ cells. live_goes c.args.self.now.failure (after_cells columns cells old) c.in_ok-refusal.ensures i)))
-          c.in_ok-refusal.ensures c.keep.ensures.result c.keep.ensures.ok c.keep.ensures.failed c.try_append_vert_row-done.ensures.ok c.try_append_vert_row-done.ensures.too_narrow c.try_append_vert_row-done.ensures.two_columns
-          (on_err c.try_append_vert_row-done.result (ap (λ (k : Settings g.row.D.Denot g.D.TextDecorator.Meaning). k.kept) c.try_append_vert_row-done.ensures.settings));
-    }
-
-pub returns-in_err-refusal : goal.returns-in_err-refusal
-returns-in_err-refusal g c =
-    let f = g.D.TextDecorator.meaning in
-    let columns = g.W.CharWidth.columns in
-    let decoration = decoration_of g.D.TextDecorator in
-    let calls = calls_by columns decoration f in
-    record {
-      takes = refused_takes calls (gathered (λ col. handed_out columns (meant f col)) c.args.cols.items) (Each (IsWide calls) c.args.cols.items) (λ cells. after columns decoration (append_vert_row cells))
-          c.args.self.now c.in_err-refusal.field-0.0 c.from_residual.result
-          (ap (λ o. if_live o (after_flush columns (meant f c.args.self.now))) c.in_err-refusal.ensures) c.in_err-refusal.ensures c.from_residual.ensures.1;
+      takes = settled_takes g.D.TextDecorator.meaning g.W.CharWidth.columns (decoration_of g.D.TextDecorator) c.try_append_vert_row-done.new.self c.in_ok-refusal.ensures kept.result kept.ok kept.failed
+          (after_cells g.W.CharWidth.columns) (λ x. live_goes c.args.self.now.failure _ c.in_ok-refusal.ensures) tried.ok tried.too_narrow tried.two_columns tried.settings;
     }
