@@ -10,7 +10,7 @@ use Rattle.tbr_model.specs.Markers.{names_in_items}
 use Rattle.tbr_model.proofs.lists.Each.{each_front, each_back}
 use Rattle.tbr_model.proofs.words.Items.{items_width-append, has_character-append}
 use Rattle.tbr_model.proofs.lists.Joined.{cut_twice}
-use Rattle.tbr_tagged.specs.Elements.{SameItems}
+use Rattle.tbr_tagged.specs.Elements.{SameItems, text_items}
 use Rattle.tbr_flat.specs.Flat.{MarkerPlaces, marked, before_last, covered, before_first, shortened, followed}
 use Rattle.tbr_model.proofs.rule.Markers.{names_in_items-append}
 use Rattle.tbr_flat.proofs.RepeatedTags.{take_after}
@@ -18,6 +18,14 @@ use Rattle.tbr_tagged.proofs.SameItems.{same_items_append}
 
 pub markers-append : {A : Type 0} (is js : List (Item A)) → length (names_in_items (is ++ js)) ≡ length (names_in_items is) + length (names_in_items js)
 markers-append is js = ap length (names_in_items-append is js) ∙ length-append (names_in_items is) (names_in_items js)
+
+text_has_none : {A : Type 0} (cs : List ℕ) (a : A) → names_in_items (text_items cs a) ≡ []
+text_has_none [] a = refl
+text_has_none (c ∷ cs) a = text_has_none cs a
+
+-- a text has no marker
+pub text_markers : {A : Type 0} (is : List (Item A)) (cs : List ℕ) (a : A) → length (names_in_items (is ++ text_items cs a)) ≡ length (names_in_items is)
+text_markers is cs a = omega (arith, markers-append is (text_items cs a), ap length (text_has_none cs a))
 
 markers_alone : (A : Type 0) (ms : List (ℕ × List ℕ)) → has_character (marked {A = A} [] ms) ≡ false
 markers_alone A [] = refl

@@ -4,7 +4,7 @@ use Rattle.std.specs.Cmp.{IsEquivalence}
 use Rattle.std.specs.Result.{OnOk, OnErr}
 use Rattle.std.specs.List.{AllByRecursion as Each}
 use Rattle.std.proofs.lemmas.Bool.{or_parts}
-use Rattle.std.proofs.lemmas.List.{length-append, length-take, take-append-drop, take-append-le, take_at, take_all, drop_at}
+use Rattle.std.proofs.lemmas.List.{nil_from_length, length-append, length-take, take-append-drop, take-append-le, take_at, take_all, drop_at}
 use Rattle.tbr_model.specs.Entry.{is_glyph}
 use Rattle.tbr_model.specs.Run.{Item, marker, has_character}
 use Rattle.tbr_model.proofs.lists.Each.{each_front}
@@ -38,6 +38,21 @@ module _ {A : Type 0} where
   characters_pushed f g p w v is n h d e =
       ap (λ (x : Flat A). with_marks x p v) d ∙ ap (λ (m : MarkerPlaces). with_marks (record f { word = f.word ++ is }) p m) e
       ∙ ap (λ js. record { placed = marked f.placed p.markers; word = js }) (marked_more f.word is w.markers (omega (arith, h)))
+
+  -- where there is no item, there is no character and no marker
+  pub unmarked : (is : List (Item A)) (ms : List (ℕ × List ℕ)) → marked is ms ≡ [] → (is ≡ []) × (ms ≡ [])
+  unmarked is [] e = (e, refl)
+  unmarked is ((n, name) ∷ ms) e = absurd (omega (arith, ap length e, length-append (take n is) (marker name ∷ marked (drop n is) ms)))
+
+  pub no_items : (is : List (Item A)) (ms : List (ℕ × List ℕ)) → is ≡ [] → length ms ≡ 0 → marked is ms ≡ []
+  no_items is ms none m = (λ i. marked (none i) (nil_from_length ms m i))
+
+  -- characters are placed where the word has no item
+  pub text_placed : (f g : Flat A) (p w q : MarkerPlaces) (is : List (Item A)) (n : ℕ) → covered p ≡ length f.placed → w.markers ≡ [] → g ≡ record { placed = f.placed ++ is; word = [] } → q ≡ record p { after = p.after + n } →
+      with_marks g q w ≡ record { placed = marked f.placed p.markers ++ is; word = [] }
+  text_placed f g p w q is n h none d e =
+      ap (λ (x : Flat A). with_marks x q w) d ∙ ap (λ (m : MarkerPlaces). with_marks (record { placed = f.placed ++ is; word = [] }) m w) e
+      ∙ (λ i. record { placed = marked_more f.placed is p.markers (omega (arith, h)) i; word = marked [] (none i) })
 
   pub word_placed : (f g : Flat A) (p w q : MarkerPlaces) (none : MarkerPlaces) → covered p ≡ length f.placed → g ≡ record { placed = f.placed ++ f.word; word = [] } → q ≡ followed p w → none ≡ record { markers = []; after = 0 } →
       with_marks g q none ≡ record { placed = marked f.placed p.markers ++ marked f.word w.markers; word = [] }

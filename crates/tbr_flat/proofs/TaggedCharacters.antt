@@ -97,6 +97,14 @@ module _ {A : Type 0} (p w : List ℕ) (ts : List A) (h : length ts ≡ length p
 pub flat_word : {A : Type 0} (p w : List ℕ) (ts : List A) → flat (p ++ w) [] ts ≡ record { placed = (flat p w ts).placed ++ (flat p w ts).word; word = [] }
 flat_word p w ts = rw (glyphs-append p w ts) refl
 
+-- a text is placed where the word has no character
+pub flat_placed_text : {A : Type 0} (p w : List ℕ) (ts : List A) → length ts ≡ length p + length w → (flat p w ts).word ≡ [] → (cs : List ℕ) (n : ℕ) (a : A) → n ≡ length cs →
+    flat (p ++ cs) w (ts ++ replicate n a) ≡ record { placed = (flat p w ts).placed ++ text_items cs a; word = [] }
+flat_placed_text p w ts h none cs n a e =
+    let empty : w ≡ [] = nil_from_length w (sym (flat_word_len p w ts h) ∙ ap length none) in
+    let len : length ts ≡ length p + 0 = omega (arith, h, ap length empty) in
+    rw empty (flat_word p cs (ts ++ replicate n a) ∙ ap (λ (f : Flat _). record { placed = f.placed ++ f.word; word = [] }) (flat_push p [] ts len cs n a e))
+
 pub flat_front : {A : Type 0} (p w : List ℕ) (ts : List A) (n : ℕ) → n ≤ length w →
     flat (p ++ take n w) (drop n w) ts ≡ record { placed = (flat p w ts).placed ++ take n (flat p w ts).word; word = drop n (flat p w ts).word }
 flat_front p w ts n h =

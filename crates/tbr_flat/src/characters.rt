@@ -209,6 +209,26 @@ impl<T: Eq + Clone + Drop> Characters<T> {
         Ok(())
     }
 
+    /// Places a text of `count` characters, where the word has none. The tag is copied only where the one before isn't
+    /// equal to it.
+    ///
+    /// Where memory is refused the characters may be lost.
+    pub fn place_text(&mut self, text: &str, count: usize, tag: &T) -> Result<(), OutOfMemory>
+        requires faithful { CopiesAreEqual T.is_clone T.eq }
+        requires none { self.old.word ≡ [] }
+        requires some { 0 < count }
+        requires count { count ≡ length (chars text.now) }
+        ensures { OnOk result ((a : T) × (T.eq a tag.now ≡ true)
+            × (self.new ≡ record { placed = self.old.placed ++ text_items (chars text.now) a; word = [] })) }
+    {
+        self.tags.push(tag, count)?;
+        if let Err(e) = self.placed.push_str(text, count) {
+            clear(&mut self.placed, &mut self.word, &mut self.tags);
+            return Err(e);
+        }
+        Ok(())
+    }
+
     /// Places `count` spaces before the word. It takes the time of going over the word's stored tags.
     ///
     /// Where the spaces part characters under one stored tag, that is copied, and the word's first characters are under

@@ -1,5 +1,5 @@
 //! Characters under tags and markers.
-ghost use Rattle.std.specs.Prelude.{◌≡◌, ◌<◌, ◌≤◌, ◌+◌, ◌++◌, ◌∷◌, [], true, false, List, length, map, take, drop, chars, string_bytes, MatchOption, OnOk, IfOk};
+ghost use Rattle.std.specs.Prelude.{◌≡◌, ◌<◌, ◌≤◌, ◌+◌, ◌++◌, ◌∷◌, [], true, false, List, length, map, take, drop, chars, string_bytes, MatchOption, OnOk, IfOk, IsTrue, ◌↔◌};
 ghost use Rattle.tbr_tagged.specs.Copies.{CopiesAreEqual};
 ghost use Rattle.tbr_model.specs.Run.{Item, glyph, marker, item_width, items_width, has_character};
 ghost use Rattle.tbr_model.specs.Rule.{spaces, without_leading, without_trailing};
@@ -74,6 +74,13 @@ impl<T> FlatText<T> {
     {
         self.text.holds_characters();
         !self.text.is_word_empty()
+    }
+
+    /// Whether the word has no item.
+    fn is_word_empty(&self) -> bool
+        ensures { IsTrue result ↔ (self.now.word ≡ []) }
+    {
+        self.text.is_word_empty() && self.word.len() == 0
     }
 
     /// Whether a placed item is a character.
@@ -325,6 +332,45 @@ impl<T: Eq + Clone + Drop> FlatText<T> {
     {
         self.word.add_characters(count)?;
         if let Err(e) = self.text.push_text(text, count, tag) {
+            clear(&mut self.text, &mut self.placed, &mut self.word);
+            return Err(e);
+        }
+        Ok(())
+    }
+
+    /// Places the word and then a text of `count` characters, and answers how many markers the word has. The tag is
+    /// copied only where the one before isn't equal to it.
+    ///
+    /// Where memory is refused the items may be lost.
+    pub fn place_with(&mut self, text: &str, count: usize, tag: &T) -> Result<usize, OutOfMemory>
+        requires faithful { CopiesAreEqual T.is_clone T.eq }
+        requires some { 0 < count }
+        requires count { count ≡ length (chars text.now) }
+        ensures markers { IfOk result (λ n. n ≡ length (names_in_items self.old.word)) }
+        ensures placed { OnOk result ((a : T) × (T.eq a tag.now ≡ true) × (self.new ≡ record {
+          placed = self.old.placed ++ (self.old.word ++ text_items (chars text.now) a);
+          word = [];
+        })) }
+    {
+        if !self.is_word_empty() {
+            self.push_text(text, count, tag)?;
+            return self.place_word();
+        }
+        self.place_text(text, count, tag)?;
+        Ok(0)
+    }
+
+    /// Places a text of `count` characters, where the word has no item.
+    fn place_text(&mut self, text: &str, count: usize, tag: &T) -> Result<(), OutOfMemory>
+        requires faithful { CopiesAreEqual T.is_clone T.eq }
+        requires none { self.old.word ≡ [] }
+        requires some { 0 < count }
+        requires count { count ≡ length (chars text.now) }
+        ensures { OnOk result ((a : T) × (T.eq a tag.now ≡ true)
+            × (self.new ≡ record { placed = self.old.placed ++ text_items (chars text.now) a; word = [] })) }
+    {
+        self.placed.add_characters(count)?;
+        if let Err(e) = self.text.place_text(text, count, tag) {
             clear(&mut self.text, &mut self.placed, &mut self.word);
             return Err(e);
         }

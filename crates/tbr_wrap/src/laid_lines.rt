@@ -1,9 +1,9 @@
 //! Lines that are laid.
-ghost use Rattle.std.specs.Prelude.{◌≡◌, ◌≤◌, ◌<◌, ◌+◌, ◌++◌, ◌∷◌, [], ℕ, List, Option, None, Some, true, false, OnOk, IfOk, IfSome, MatchOption, Ok, Err, length, take, drop, Bool};
+ghost use Rattle.std.specs.Prelude.{◌≡◌, ◌≤◌, ◌<◌, ◌+◌, ◌++◌, ◌∷◌, [], ℕ, List, Option, None, Some, true, false, OnOk, IfOk, IfSome, MatchOption, Ok, Err, length, take, drop, chars, Bool};
 ghost use Rattle.std.specs.VecDeque.{deque_len};
 ghost use Rattle.tbr_tagged.specs.Copies.{CopiesAreEqual};
 ghost use Rattle.tbr_model.specs.Run.{Item};
-ghost use Rattle.tbr_tagged.specs.Elements.{SameItems};
+ghost use Rattle.tbr_tagged.specs.Elements.{SameItems, text_items};
 
 use std::alloc::Global;
 use std::collections::VecDeque;
@@ -230,6 +230,39 @@ impl<T: Eq + Clone + Drop> LaidLines<T> {
             return Err(OutOfMemory);
         };
         let markers = self.flat.place_word()?;
+        self.line_len = line_len;
+        self.line_markers += markers;
+        self.line_width += width;
+        Ok(())
+    }
+
+    /// Puts the word, and a text of `count` characters after it, on the open line. Both are of `width` columns.
+    pub fn place_with(
+        &mut self,
+        text: &str,
+        count: usize,
+        width: usize,
+        tag: &T,
+    ) -> Result<(), OutOfMemory>
+        requires faithful { CopiesAreEqual T.is_clone T.eq }
+        requires some { 0 < count }
+        requires count { count ≡ length (chars text.now) }
+        requires room { self.old.line_width + width ≤ self.old.width }
+        ensures placed { (columns : ℕ → Option ℕ) (a : T) (js : List (Item T)) → T.eq tag.now a ≡ true →
+            SameItems T.eq self.old.flat.word js → let is = js ++ text_items (chars text.now) a in
+            items_width columns is ≡ width →
+            LinesFollow columns T.eq self.old self.new result (λ r. extended r is (items_width columns is)) }
+        ensures word { OnOk result (self.new.flat.word ≡ []) }
+        ensures limits { KeepsLimits self.old self.new }
+    {
+        let items = self.flat.word_len()?;
+        let Some(with_word) = self.line_len.checked_add(items) else {
+            return Err(OutOfMemory);
+        };
+        let Some(line_len) = with_word.checked_add(count) else {
+            return Err(OutOfMemory);
+        };
+        let markers = self.flat.place_with(text, count, tag)?;
         self.line_len = line_len;
         self.line_markers += markers;
         self.line_width += width;

@@ -7,7 +7,7 @@
 //!   space that doesn't join is pending before it (`collapse`, `keep_space`).
 //! - The word is *laid* where it ends: here, after what is pending, if both fit the open line (`lay_here`), and else
 //!   afresh, after what is left of that (`wrap_space`, `lay_fresh`).
-//! - Words that a text begins with, and that fit the open line, are laid here as one word would be (`add_words`). Where
+//! - Words that a text begins with, and that fit the open line, are laid there at once (`add_words`). Where
 //!   the first one doesn't fit, and a fresh line has room for all, they are moved to it (`move_words`).
 //! - What fits the open line is *placed* on it (`place_pending`, `place_word`). What may not fit is *put* on it and the
 //!   next ones (`put_pending`, `put_fresh`, `put_tab`).
@@ -367,8 +367,6 @@ impl<T: Eq + Clone + Drop> Wrapper<T> {
         ensures joined { (columns : ℕ → Option ℕ) (a : T) → width ≡ width_of_text columns (chars text.now) →
             T.eq tag.now a ≡ true →
             WrapperFollows columns T.eq self.old self.new result (join_all (chars text.now) a mode) }
-        ensures pending { OnOk result ((self.new.lines.line_width ≡ self.old.lines.line_width)
-            × (self.new.space ≡ self.old.space) × (self.new.word_width ≡ self.old.word_width + width)) }
         ensures limits { KeepsLimits self.old.lines self.new.lines }
     {
         let Some(word_width) = self.word_width.checked_add(width) else {
@@ -721,9 +719,38 @@ impl<T: Eq + Clone + Drop> Wrapper<T> {
     {
         let tag = self.call_tag(main_tag, wrap_tag);
         let words = &text[..text.len() - 1];
-        self.join_text(words, words.len(), words.len(), tag, WhiteSpace::Normal)?;
-        self.lay_here::<W>()?;
+        self.lay_with::<W>(words, words.len(), tag)?;
         self.collapse(' ', tag)
+    }
+
+    /// Puts the word, and a text of `count` characters of one column each after it, on the open line. They come after
+    /// the pending space, where all fit.
+    fn lay_with<W: CharWidth>(
+        &mut self,
+        text: &str,
+        count: usize,
+        tag: &T,
+    ) -> Result<(), OutOfMemory>
+        requires faithful { CopiesAreEqual T.is_clone T.eq }
+        requires some { 0 < count }
+        requires count { count ≡ length (chars text.now) }
+        requires room { self.old.lines.line_width + (held_width self.old.space + (self.old.word_width + count)) ≤
+            self.old.lines.width }
+        ensures laid { (a : T) → count ≡ width_of_text W.columns (chars text.now) → T.eq tag.now a ≡ true →
+            WrapperFollows W.columns T.eq self.old self.new result (λ p.
+            lay_here W.columns (join_all (chars text.now) a Normal p)) }
+        ensures limits { KeepsLimits self.old.lines self.new.lines }
+    {
+        let Some(width) = self.word_width.checked_add(count) else {
+            return Err(OutOfMemory);
+        };
+        let word_mode = self.mode_with(WhiteSpace::Normal);
+        self.place_pending::<W>()?;
+        self.lines.place_with(text, count, width, tag)?;
+        self.word_width = 0;
+        self.word_mode = word_mode;
+        self.continuation_flag = false;
+        Ok(())
     }
 
     /// Whether white space that is pending is dropped where the word after it doesn't fit.

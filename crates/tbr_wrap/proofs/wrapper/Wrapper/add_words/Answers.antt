@@ -11,20 +11,20 @@ use Rattle.tbr_wrap.proofs.words.WordsLaid.{same_held_width}
 use Rattle.tbr_tagged.proofs.SameItems.{same_has}
 use Rattle.tbr_wrap.proofs.wrapper.Wrapper.add_words.Goals as goal
 
-pub join_text-requires-clause-some : goal.join_text-requires-clause-some
-join_text-requires-clause-some g c =
+pub lay_with-requires-clause-some : goal.lay_with-requires-clause-some
+lay_with-requires-clause-some g c =
     let w = c.requires.words in
     omega (arith, ap length (c.range-words.ensures.value ∙ words_front g.W.CharWidth.columns c.args.text.now w), some_read g.W.CharWidth.columns w.front w.read)
 
-pub join_text-requires-clause-count : goal.join_text-requires-clause-count
-join_text-requires-clause-count g c =
+pub lay_with-requires-clause-count : goal.lay_with-requires-clause-count
+lay_with-requires-clause-count g c =
     let w = c.requires.words in let is = c.range-words.ensures.value ∙ words_front g.W.CharWidth.columns c.args.text.now w in
     ap length (is ∙ sym (ap chars is ∙ chars-IsAscii w.front (words_ascii g.W.CharWidth.columns _ w.front _ w.read)))
 
-pub lay_here-requires-clause-room : goal.lay_here-requires-clause-room
-lay_here-requires-clause-room g c =
-    let w = c.requires.words in let k = c.in_ok-join_text.ensures.pending in
-    rw (k.1) (omega (arith, ap length w.is, length-append w.front (32 ∷ []), k.0, k.2, c.in_ok-join_text.ensures.limits.width, c.range-words.ensures.len, c.requires.room))
+pub lay_with-requires-clause-room : goal.lay_with-requires-clause-room
+lay_with-requires-clause-room g c =
+    let w = c.requires.words in
+    omega (arith, ap length w.is, length-append w.front (32 ∷ []), c.range-words.ensures.len, c.requires.room)
 
 pub returns-clause-entered : goal.returns-clause-entered
 returns-clause-entered g c = λ before given p s.
@@ -36,8 +36,7 @@ returns-clause-entered g c = λ before given p s.
     let whole : chars text ≡ w.front ++ 32 ∷ [] = chars-IsAscii text (all_ascii columns text w) ∙ w.is in
     let wide : length c.range-words.result.now ≡ width_of_text columns (chars c.range-words.result.now) = ap length is ∙ sym (words_width columns (g.met.W.CharWidth.drawn_in_one 32 refl) _ w.front _ w.read) ∙ sym (ap (width_of_text columns) words) in
     let same = c.call_tag-tag.ensures columns before given p s in
-    let joined = c.in_ok-join_text.ensures.joined columns t wide same before given p s in
-    let laid = c.in_ok-lay_here.ensures.laid before given (join_all (chars c.range-words.result.now) t Normal p) joined in
+    let laid = c.in_ok-lay_with.ensures.laid t wide same before given p s in
     let collapsed = c.collapse.ensures.after_change columns t same before given (lay_here columns (join_all (chars c.range-words.result.now) t Normal p)) laid in
     let fits : p.laid.width + (pending_width p.space + (items_width columns p.word + length w.front)) ≤ old.lines.width = omega (arith, ap length w.is, length-append w.front (32 ∷ []), c.requires.room, s.word_width, s.lays.holds.width, s.lays.shows.width, same_held_width eq old.space p.space s.space) in
     rw (ap (λ cs. fold (enter columns old.lines.width) p (text_entries cs a b Normal)) whole
