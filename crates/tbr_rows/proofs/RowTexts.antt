@@ -1,10 +1,9 @@
 -- Lines of a row, built text by text.
 use Rattle.std.proofs.Common.{◌≡◌, ℕ, suc, ◌+◌, ◌<◌, Bool, true, List, [], ◌∷◌, ◌++◌, map, take, drop, get_or, length, refl, ap, sym, ◌∙◌, subst, arith, append_assoc, append-nil, drop-cons}
 use Rattle.std.specs.Cmp.{IsEquivalence}
-use Rattle.std.proofs.lemmas.List.{map-append, map_push, length-take-le, length-map, get_or_at}
+use Rattle.std.proofs.lemmas.List.{map-append, map_push, length-take-le, length-map, get_or_at, take_more}
 use Rattle.std.proofs.lemmas.List.Concat.{flat_map-append}
 use Rattle.tbr_model.specs.Run.{Item}
-use Rattle.tbr_model.proofs.lists.Joined.{take_item}
 use Rattle.tbr_tagged.specs.declared.element.TaggedLineElement.{TaggedLineElement}
 use Rattle.tbr_tagged.specs.Elements.{Element, element_items, items_of, text_items, SameItems}
 use Rattle.tbr_tagged.specs.View.{element_of}
@@ -65,5 +64,5 @@ module _ {A : Type 0} (eq : A → A → Bool) (laws : IsEquivalence eq) where
       let bar : List (Item A) = separator_before separator i in
       let text : List (Item A) = cell_text a 0 x in
       let long : length texts ≡ i = length-map (take i xs) (cell_text a 0) ∙ length-take-le i xs (omega (arith, below)) in
-      rw (take_item xs i x below is, map_push, row_text_more, long, ← append_assoc so_far)
+      rw (take_more xs i x below, ← is, map_push, row_text_more, long, ← append_assoc so_far)
       (onto (items_of middle) (so_far ++ bar) text (items_of new) (onto (items_of old) so_far bar (items_of middle) h k) l)
