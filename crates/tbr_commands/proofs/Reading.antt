@@ -183,14 +183,6 @@ written_name name command e =
       | inr other ↦ found IsWritten names (search rules) name command other
     ]
 
--- a name alone has no space
-pub name_is_line : (name : List ℕ) (command : Command) → name_read name ≡ Some command → line_read name ≡ Some command
-name_is_line name command e =
-    elim (either (looked_up endings name) (looked_up names name) command e) [
-      | inl ends ↦ found (λ w c. line_read w ≡ Some c) endings (search rules) name command ends
-      | inr other ↦ found (λ w c. line_read w ≡ Some c) names (search rules) name command other
-    ]
-
 -- what was made of what was read
 from_made : {X Y : Type 0} (make : X → Y) (o : Option X) (P : Y → Type 0) → ((x : X) → o ≡ Some x → P (make x)) → (y : Y) → option_map make o ≡ Some y → P y
 from_made make o P is y e = let (x, reads, whole) = mapped make o y e in subst P (sym whole) (is x reads)
