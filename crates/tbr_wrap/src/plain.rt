@@ -1,9 +1,9 @@
 //! Characters that join a word where they are, and words of them.
-ghost use Rattle.std.specs.Prelude.{◌≡◌, ◌≤◌, ◌<◌, ◌+◌, ◌∷◌, ℕ, List, length, take, drop, IfSome, Some, false};
+ghost use Rattle.std.specs.Prelude.{◌≡◌, ◌≤◌, ◌<◌, ◌+◌, ◌∷◌, ℕ, List, length, take, drop, IfSome, Some, false, fold, nat_lt};
 ghost use Rattle.std.specs.Str.{IsAscii};
 ghost use Rattle.tbr_model.specs.Width.{width_of_text};
 ghost use Rattle.tbr_wrap.specs.Plain as plain;
-ghost use Rattle.tbr_wrap.specs.Plain.{JoinWord, IsStretch, AreWords};
+ghost use Rattle.tbr_wrap.specs.Plain.{JoinWord, IsStretch, AreWords, reads};
 
 use tbr_model::CharWidth;
 use tbr_tagged::is_wordbreak_point;
@@ -87,32 +87,30 @@ pub fn words_in_front<W: CharWidth>(text: &str, room: usize) -> usize
     ensures words { 0 < result → AreWords W.columns (take result text.now) }
 {
     let bytes = text.as_bytes();
+    let most = bytes.len().min(room.saturating_add(1));
     let mut end = 0;
-    let mut count = 0;
-    while count < bytes.len() && count <= room {
-        let Some(inside) = reads::<W>(count > end, bytes[count]) else {
+    while end < most {
+        let after = word_end::<W>(bytes, end, most);
+        if after == end || after == most || bytes[after] != b' ' {
             return end;
-        };
-        count += 1;
-        if !inside {
-            end = count;
         }
+        end = after + 1;
     }
     end
 }
 
-/// Whether a word is under way after one more byte, where narrow words come with one space between two.
-fn reads<W: CharWidth>(inside: bool, byte: u8) -> Option<bool>
-    ensures { result ≡ plain.reads W.columns (Some inside) byte }
+/// Where the narrow characters end that begin at a place, up to another place.
+fn word_end<W: CharWidth>(bytes: &[u8], start: usize, most: usize) -> usize
+    requires { (start ≤ most) × (most ≤ length bytes.now) }
+    ensures within { (start ≤ result) × (result ≤ most) }
+    ensures read { fold (reads W.columns) (Some false) (take start bytes.now) ≡ Some false →
+        fold (reads W.columns) (Some false) (take result bytes.now) ≡ Some (nat_lt start result) }
 {
-    if byte == b' ' {
-        return if inside { Some(false) } else { None };
+    let mut at = start;
+    while at < most && is_narrow::<W>(bytes[at]) {
+        at += 1;
     }
-    if is_narrow::<W>(byte) {
-        Some(true)
-    } else {
-        None
-    }
+    at
 }
 
 /// Whether a byte is a plain character of one column.
