@@ -5,8 +5,8 @@ pub use tbr_border::{BorderHoriz, BorderSegHoriz, RenderLine};
 pub use tbr_model::{CharWidth, WhiteSpace};
 pub use tbr_tagged::{
     CellAlign, Chars, Error, IntoIter, Iter, OutOfMemory, TaggedLine, TaggedLineElement,
-    TaggedString, TaggedStrings, TooNarrow, UnicodeColumns, always_takes_space, is_wordbreak_point,
-    spaces, text_width,
+    TaggedString, TaggedStrings, TooNarrow, UnicodeColumns, always_takes_space, append_spaces,
+    is_wordbreak_point, spaces, text_width,
 };
 pub use tbr_wrap::{EndedLines, WrappedBlock};
 
