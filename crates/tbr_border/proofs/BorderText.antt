@@ -1,5 +1,6 @@
 -- What a border shows.
-use Rattle.std.proofs.Common.{◌≡◌, ℕ, zero, suc, ◌+◌, ◌-◌, ◌<◌, ◌≤◌, Bool, true, false, cond, List, [], ◌∷◌, ◌++◌, map, length, get_or, take, drop, drop-cons, length-drop, subst, refl, ap, sym, ◌∙◌, arith, append_assoc}
+use Rattle.std.proofs.lemmas.Bool.{cond_both}
+use Rattle.std.proofs.Common.{◌≡◌, ℕ, zero, suc, ◌+◌, ◌-◌, ◌<◌, ◌≤◌, Bool, true, false, List, [], ◌∷◌, ◌++◌, map, length, get_or, take, drop, drop-cons, length-drop, subst, refl, ap, sym, ◌∙◌, arith, append_assoc}
 use Rattle.std.specs.List.{slice_range}
 use Rattle.std.specs.Prelude.{replicate}
 use Rattle.std.specs.Char.{IsScalar}
@@ -19,33 +20,22 @@ use Rattle.tbr_tagged.proofs.LineWalks.{text_characters, element_has}
 pub character_scalar : (c : Cell) → IsScalar (character c)
 character_scalar slash = refl
 character_scalar (arms true true true true) = refl
-character_scalar (arms true true true false) = refl
 character_scalar (arms true true false true) = refl
-character_scalar (arms true true false false) = refl
 character_scalar (arms true false true true) = refl
-character_scalar (arms true false true false) = refl
 character_scalar (arms true false false true) = refl
-character_scalar (arms true false false false) = refl
 character_scalar (arms false true true true) = refl
-character_scalar (arms false true true false) = refl
 character_scalar (arms false true false true) = refl
-character_scalar (arms false true false false) = refl
 character_scalar (arms false false true true) = refl
-character_scalar (arms false false true false) = refl
 character_scalar (arms false false false true) = refl
-character_scalar (arms false false false false) = refl
+character_scalar (arms left right up down) = refl
 
 pub line_above_scalar : (c : Cell) → IsScalar (line_above c)
-line_above_scalar c = go (is_among (character c) (0x2534 ∷ 0x253C ∷ 0x2514 ∷ 0x2518 ∷ []))
-  where
-    go : (b : Bool) → IsScalar (cond b 0x2502 32)
-    go true = refl
-    go false = refl
+line_above_scalar c = cond_both (is_among (character c) (0x2534 ∷ 0x253C ∷ 0x2514 ∷ 0x2518 ∷ [])) 0x2502 32 IsScalar (λ _. refl) (λ _. refl)
 
 -- ---- parts of lists
 
 pub map-slice : {X Y : Type 0} (f : X → Y) (xs : List X) (i j : ℕ) → map f (slice_range xs i j) ≡ slice_range (map f xs) i j
-map-slice f xs i j = sym (ap (take (j - i)) (drop-map f i xs) ∙ take-map f (j - i) (drop i xs))
+map-slice f xs i j = rw (drop-map, take-map) refl
 
 pub map-copies : {X Y : Type 0} (f : X → Y) (n : ℕ) (x : X) → map f (replicate n x) ≡ replicate n (f x)
 map-copies f zero x = refl
@@ -65,17 +55,17 @@ pub text_step : {A : Type 0} (tag : A) (cells : List Cell) (at : ℕ) (h : Hole 
 text_step tag cells at h rest text more all e f =
     let between = map character (slice_range cells at h.place) in
     let after = shown_from tag cells (h.place + h.width) rest in
-    let parts : item_characters (shown_from tag cells at (h ∷ rest)) ≡ between ++ (element_characters h.element ++ item_characters after) =
-    flat_map-append item_character (drawn (slice_range cells at h.place) tag) (element_items h.element ++ after)
-    ∙ ap (λ cs. cs ++ item_characters (element_items h.element ++ after)) (text_characters between tag)
-    ∙ ap (λ cs. between ++ cs) (flat_map-append item_character (element_items h.element) after ∙ ap (λ cs. cs ++ item_characters after) (element_has h.element)) in
-    ap (λ cs. cs ++ item_characters after) (f ∙ ap (λ cs. cs ++ element_characters h.element) e)
-    ∙ append_assoc (text ++ between) (element_characters h.element) (item_characters after)
-    ∙ append_assoc text between (element_characters h.element ++ item_characters after)
-    ∙ ap (λ cs. text ++ cs) (sym parts)
+    rw (
+      f,
+      e,
+      flat_map-append item_character (drawn (slice_range cells at h.place) tag) (element_items h.element ++ after),
+      text_characters between tag,
+      flat_map-append item_character (element_items h.element) after,
+      element_has h.element,
+    ) (simp append_assoc)
 
 pub text_end : {A : Type 0} (tag : A) (cells : List Cell) (at : ℕ) (text all : List ℕ) → all ≡ text ++ map character (drop at cells) → all ≡ text ++ item_characters (shown_from tag cells at [])
-text_end tag cells at text all e = e ∙ ap (λ cs. text ++ cs) (sym (text_characters (map character (drop at cells)) tag))
+text_end tag cells at text all e = rw (e, text_characters (map character (drop at cells)) tag) refl
 
 module _ {A : Type 0} (eq : A → A → Bool) (laws : IsEquivalence eq) where
   -- one more hole of the line
@@ -109,4 +99,4 @@ hole_at f xs i x at len below is fit =
 
 -- the cells from a place on
 pub cells_from : {X : Type 0} (cell : X → Cell) (xs : List X) (at : ℕ) → map cell (take (length xs - at) (drop at xs)) ≡ drop at (map cell xs)
-cells_from cell xs at = ap (map cell) (take_all (length xs - at) (drop at xs) (omega (arith, length-drop at xs))) ∙ sym (drop-map cell at xs)
+cells_from cell xs at = rw (take_all (length xs - at) (drop at xs) (omega (arith, length-drop at xs)), drop-map) refl

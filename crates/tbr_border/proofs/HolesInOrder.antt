@@ -1,5 +1,5 @@
 -- Holes in order.
-use Rattle.std.proofs.Common.{◌≡◌, ℕ, suc, ◌+◌, ◌-◌, ◌<◌, ◌≤◌, Bool, List, [], ◌∷◌, ◌++◌, map, length, get_or, refl, sym, ap, ◌∙◌, subst, arith}
+use Rattle.std.proofs.Common.{◌≡◌, ℕ, suc, ◌+◌, ◌-◌, ◌<◌, ◌≤◌, Bool, List, [], ◌∷◌, ◌++◌, map, length, get_or, refl, sym, arith, ◌↔◌}
 use Rattle.std.proofs.lemmas.List.{map_push}
 use Rattle.std.specs.List.{AllZip}
 use Rattle.tbr_border.specs.Border.{Hole, span_end, AreInOrder, SameHole, MapsHole}
@@ -10,9 +10,8 @@ last_end from [] = from
 last_end from (h ∷ hs) = last_end (h.place + h.width) hs
 
 pub span_end-is : {A : Type 0} (hs : List (Hole A)) → span_end hs ≡ last_end 0 hs
-span_end-is [] = refl
-span_end-is (h ∷ []) = refl
 span_end-is (h ∷ k ∷ hs) = span_end-is (k ∷ hs)
+span_end-is _ = refl
 
 pub in_order_push : {A : Type 0} (from : ℕ) (hs : List (Hole A)) (h : Hole A) (end longer : ℕ) → AreInOrder from hs end → last_end from hs ≤ h.place → h.place + h.width ≤ longer → AreInOrder from (hs ++ h ∷ []) longer
 in_order_push from [] h end longer k p q = (p, q)
@@ -20,11 +19,7 @@ in_order_push from (g ∷ hs) h end longer k p q = (k.0, in_order_push (g.place 
 
 -- one more of what holes mean
 pub mapped_push : {A X : Type 0} (f : X → Hole A) (xs more : List X) (x : X) (h : Hole A) (end longer : ℕ) → more ≡ xs ++ x ∷ [] → f x ≡ h → AreInOrder 0 (map f xs) end → last_end 0 (map f xs) ≤ h.place → h.place + h.width ≤ longer → AreInOrder 0 (map f more) longer
-mapped_push {A} f xs more x h end longer e same k p q =
-    subst (λ (hs : List (Hole A)). AreInOrder 0 hs longer) (sym (ap (map f) e ∙ map_push f xs x ∙ ap (λ g. map f xs ++ g ∷ []) same)) (in_order_push 0 (map f xs) h end longer k p q)
-
-pub before_last : {A : Type 0} (seen hs : List (Hole A)) (place : ℕ) → span_end seen ≤ place → hs ≡ seen → last_end 0 hs ≤ place
-before_last seen hs place h e = omega (arith, h, span_end-is hs, ap span_end e)
+mapped_push f xs more x h end longer e same k p q = rw (e, map_push, same) (in_order_push 0 (map f xs) h end longer k p q)
 
 pub in_order_longer : {A : Type 0} (from : ℕ) (hs : List (Hole A)) (end longer : ℕ) → AreInOrder from hs end → end ≤ longer → AreInOrder from hs longer
 in_order_longer from [] end longer h k = omega arith
@@ -43,20 +38,15 @@ span_end-last f (x ∷ y ∷ xs) d h =
     rw e (span_end-last f (y ∷ xs) d (omega arith))
 
 -- holes of the same places are in the same order
+same_places : {A B : Type 0} (R : Hole A → Hole B → Type 0) → ((h : Hole A) (k : Hole B) → R h k → (h.place ≡ k.place) × (h.width ≡ k.width)) →
+    (hs : List (Hole A)) (ks : List (Hole B)) → AllZip R hs ks → (from end : ℕ) → AreInOrder from hs end ↔ AreInOrder from ks end
+same_places R one [] [] p from end = (λ h. h, λ h. h)
+same_places R one (h ∷ hs) (k ∷ ks) p from end =
+    let at = one h k p.0 in let later = same_places R one hs ks p.1 (k.place + k.width) end in rw (at.0, at.1) (λ o. (o.0, later.0 o.1), λ o. (o.0, later.1 o.1))
+same_places R one _ _ p from end = absurd p
+
 pub same_order : {A : Type 0} (eq : A → A → Bool) (from : ℕ) (hs ks : List (Hole A)) (end : ℕ) → AllZip (SameHole eq) hs ks → AreInOrder from ks end → AreInOrder from hs end
-same_order eq from [] [] end p h = h
-same_order eq from [] (k ∷ ks) end p h = absurd p
-same_order eq from (h ∷ hs) [] end p o = absurd p
-same_order eq from (h ∷ hs) (k ∷ ks) end p o =
-    let place : from ≤ h.place = omega (arith, p.0.0, o.0) in
-    let ends : k.place + k.width ≡ h.place + h.width = omega (arith, p.0.0, p.0.1) in
-    (place, subst (λ n. AreInOrder n hs end) ends (same_order eq (k.place + k.width) hs ks end p.1 o.1))
+same_order eq from hs ks end p = (same_places (SameHole eq) (λ h k same. (same.0, same.1)) hs ks p from end).1
 
 pub mapped_order : {A B : Type 0} (gives : A → B → Type 0) (from : ℕ) (hs : List (Hole A)) (ks : List (Hole B)) (end : ℕ) → AllZip (MapsHole gives) hs ks → AreInOrder from hs end → AreInOrder from ks end
-mapped_order gives from [] [] end p h = h
-mapped_order gives from [] (k ∷ ks) end p h = absurd p
-mapped_order gives from (h ∷ hs) [] end p o = absurd p
-mapped_order gives from (h ∷ hs) (k ∷ ks) end p o =
-    let place : from ≤ k.place = omega (arith, p.0.0, o.0) in
-    let ends : h.place + h.width ≡ k.place + k.width = omega (arith, p.0.0, p.0.1) in
-    (place, subst (λ n. AreInOrder n ks end) ends (mapped_order gives (h.place + h.width) hs ks end p.1 o.1))
+mapped_order gives from hs ks end p = (same_places (MapsHole gives) (λ h k maps. (sym maps.0, sym maps.1)) hs ks p from end).0

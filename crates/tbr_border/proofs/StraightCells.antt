@@ -1,5 +1,6 @@
 -- Cells without a join at the beginning of others.
-use Rattle.std.proofs.Common.{◌≡◌, ◌&&◌, ℕ, zero, suc, Bool, true, false, List, [], ◌∷◌, ◌++◌, take, drop, refl, sym, ap, ◌∙◌}
+use Rattle.std.proofs.lemmas.Bool.{and_parts}
+use Rattle.std.proofs.Common.{◌≡◌, ℕ, zero, suc, true, List, [], ◌∷◌, ◌++◌, take, drop, refl, sym}
 use Rattle.std.specs.Prelude.{replicate, chars}
 use Rattle.std.specs.Str.{IsUtf8}
 use Rattle.std.proofs.Math.Utf8.{encodes}
@@ -7,40 +8,26 @@ use Rattle.std.specs.Cmp.Lexicographic.{pointwise}
 use Rattle.std.proofs.lemmas.List.{take-append-drop}
 use Rattle.std.proofs.lemmas.Str.{chars-append, chars-encodes}
 use Rattle.tbr_border.specs.declared.border.cell.BorderSegHoriz.{BorderSegHoriz}
-use Rattle.tbr_border.specs.declared.border.cell.BorderSegHoriz.TheVariants.{Horiz, JoinAbove, JoinBelow, JoinCross, Vert, HorizVert, JoinLeft, JoinRight, CornerTL, CornerTR, CornerBL, CornerBR}
+use Rattle.tbr_border.specs.declared.border.cell.BorderSegHoriz.TheVariants.{Horiz}
 use Rattle.tbr_border.specs.contracts.border.cell.BorderSegHorizPartialEq.TheImpl as cell
 
 is_straight : (x : BorderSegHoriz) → cell.ghosts.eq x Horiz ≡ true → x ≡ Horiz
 is_straight Horiz h = refl
-is_straight JoinAbove h = cc
-is_straight JoinBelow h = cc
-is_straight JoinCross h = cc
-is_straight Vert h = cc
-is_straight HorizVert h = cc
-is_straight JoinLeft h = cc
-is_straight JoinRight h = cc
-is_straight CornerTL h = cc
-is_straight CornerTR h = cc
-is_straight CornerBL h = cc
-is_straight CornerBR h = cc
-
-both_true : (s t : Bool) → s && t ≡ true → (s ≡ true) × (t ≡ true)
-both_true true t h = (refl, h)
-both_true false t h = absurd (cc)
+is_straight _ h = cc
 
 all_straight : (n : ℕ) (xs : List BorderSegHoriz) → pointwise cell.ghosts.eq xs (replicate n Horiz) ≡ true → xs ≡ replicate n Horiz
 all_straight zero [] h = refl
 all_straight zero (x ∷ xs) h = cc
 all_straight (suc n) [] h = cc
 all_straight (suc n) (x ∷ xs) h =
-    let each = both_true (cell.ghosts.eq x Horiz) (pointwise cell.ghosts.eq xs (replicate n Horiz)) h in
-    ap (λ y. y ∷ xs) (is_straight x each.0) ∙ ap (λ ys. Horiz ∷ ys) (all_straight n xs each.1)
+    let each = and_parts (cell.ghosts.eq x Horiz) (pointwise cell.ghosts.eq xs (replicate n Horiz)) h in
+    rw (is_straight x each.0, all_straight n xs each.1) refl
 
 -- eight cells without a join, and the others
 pub straight_first : (cells : List BorderSegHoriz) → pointwise cell.ghosts.eq (take 8 cells) (replicate 8 Horiz) ≡ true →
     cells ≡ replicate 8 Horiz ++ drop 8 cells
-straight_first cells h = sym (take-append-drop 8 cells) ∙ ap (λ xs. xs ++ drop 8 cells) (all_straight 8 (take 8 cells) h)
+straight_first cells h = rw (all_straight 8 (take 8 cells) h) at (sym (take-append-drop 8 cells))
 
 -- their text after another
 pub straight_after : (bs : List ℕ) → IsUtf8 bs → chars (bs ++ encodes (replicate 8 9472)) ≡ chars bs ++ replicate 8 9472
-straight_after bs utf8 = chars-append bs (encodes (replicate 8 9472)) utf8 ∙ ap (λ cs. chars bs ++ cs) (chars-encodes (replicate 8 9472) refl)
+straight_after bs utf8 = rw (chars-append bs (encodes (replicate 8 9472)) utf8, chars-encodes (replicate 8 9472) refl) refl

@@ -1,8 +1,8 @@
 -- Items with markers among them.
-use Rattle.std.proofs.Common.{◌≡◌, ℕ, suc, zero, ◌+◌, ◌-◌, ◌<◌, ◌≤◌, ◌↔◌, inl, inr, Bool, true, false, not, IsTrue, Option, List, [], ◌∷◌, ◌++◌, length, take, drop, refl, ap, sym, ◌∙◌, subst, arith, append_assoc, append-nil}
+use Rattle.std.proofs.Common.{◌≡◌, ℕ, suc, zero, ◌+◌, ◌-◌, ◌<◌, ◌≤◌, ◌↔◌, inl, inr, Bool, true, false, not, IsTrue, Option, List, [], ◌∷◌, ◌++◌, length, take, drop, refl, ap, sym, ◌∙◌, arith, append_assoc, append-nil}
 use Rattle.std.specs.List.{AllByRecursion as Each}
 use Rattle.std.specs.Cmp.{IsEquivalence}
-use Rattle.std.proofs.lemmas.List.{take-append-drop, take-append-le, drop-append-le, take-take, drop-take, drop-drop, take_all, drop_all, drop_at, length-append, length-take, length-drop}
+use Rattle.std.proofs.lemmas.List.{take-append-drop, take-append-le, drop-append-le, take-take, drop-take, drop-drop, drop_at, length-append, length-take, length-drop}
 use Rattle.std.proofs.lemmas.Bool.{true≢false, false≢true, or_parts}
 use Rattle.tbr_model.specs.Run.{Item, glyph, marker, items_width, has_character}
 use Rattle.tbr_model.specs.Entry.{is_glyph}
@@ -17,7 +17,7 @@ use Rattle.tbr_flat.proofs.RepeatedTags.{take_after}
 use Rattle.tbr_tagged.proofs.SameItems.{same_items_append}
 
 pub markers-append : {A : Type 0} (is js : List (Item A)) → length (names_in_items (is ++ js)) ≡ length (names_in_items is) + length (names_in_items js)
-markers-append is js = ap length (names_in_items-append is js) ∙ length-append (names_in_items is) (names_in_items js)
+markers-append is js = rw (names_in_items-append is js, length-append) refl
 
 text_has_none : {A : Type 0} (cs : List ℕ) (a : A) → names_in_items (text_items cs a) ≡ []
 text_has_none [] a = refl
@@ -44,12 +44,7 @@ module _ {A : Type 0} where
   marked_split : (is : List (Item A)) (ms ns : List (ℕ × List ℕ)) → marked is (ms ++ ns) ≡ marked (take (before_last ms) is) ms ++ marked (drop (before_last ms) is) ns
   marked_split is [] ns = refl
   marked_split is ((n, name) ∷ ms) ns =
-      let s = before_last ms in
-      let front : take n (take (n + s) is) ≡ take n is = take-take n (n + s) is (omega arith) in
-      let middle : drop n (take (n + s) is) ≡ take s (drop n is) = drop-take n s is in
-      rw (front, middle)
-      (ap (λ js. take n is ++ marker name ∷ js) (marked_split (drop n is) ms ns ∙ ap (λ js. marked (take s (drop n is)) ms ++ marked js ns) (drop-drop s n is))
-      ∙ sym (append_assoc (take n is) (marker name ∷ marked (take s (drop n is)) ms) (marked (drop (n + s) is) ns)))
+      let s = before_last ms in rw (take-take n (n + s) is (omega arith), drop-take n s is, marked_split (drop n is) ms ns, drop-drop s n is, append_assoc) refl
 
   -- after the last marker
   marked_last : (is : List (Item A)) (ms : List (ℕ × List ℕ)) → marked is ms ≡ marked (take (before_last ms) is) ms ++ drop (before_last ms) is
@@ -59,21 +54,7 @@ module _ {A : Type 0} where
   pub marked_more : (is js : List (Item A)) (ms : List (ℕ × List ℕ)) → before_last ms ≤ length is → marked (is ++ js) ms ≡ marked is ms ++ js
   marked_more is js [] h = refl
   marked_more is js ((n, name) ∷ ms) h =
-      let front : take n (is ++ js) ≡ take n is = take-append-le n is js (omega arith) in
-      let after : drop n (is ++ js) ≡ drop n is ++ js = drop-append-le n is js (omega arith) in
-      rw (front, after)
-      (ap (λ ks. take n is ++ marker name ∷ ks) (marked_more (drop n is) js ms (omega (arith, length-drop n is))) ∙ sym (append_assoc (take n is) (marker name ∷ marked (drop n is) ms) js))
-
-  -- a marker more
-  pub marked_push : (is : List (Item A)) (m : MarkerPlaces) (name : List ℕ) → covered m ≡ length is → marked is (m.markers ++ (m.after, name) ∷ []) ≡ marked is m.markers ++ marker name ∷ []
-  marked_push is m name h =
-      let s = before_last m.markers in let rest = drop s is in
-      let len : length rest ≡ m.after = omega (arith, h, length-drop s is) in
-      let all : take m.after rest ≡ rest = take_all m.after rest (omega (arith, len)) in
-      let none : drop m.after rest ≡ [] = drop_all m.after rest (omega (arith, len)) in
-      marked_split is m.markers ((m.after, name) ∷ []) ∙ ap (λ js. marked (take s is) m.markers ++ (js ++ marker name ∷ drop m.after rest)) all
-      ∙ ap (λ js. marked (take s is) m.markers ++ (rest ++ marker name ∷ js)) none ∙ sym (append_assoc (marked (take s is) m.markers) rest (marker name ∷ []))
-      ∙ ap (λ js. js ++ marker name ∷ []) (sym (marked_last is m.markers))
+      rw (take-append-le n is js (omega arith), drop-append-le n is js (omega arith), marked_more (drop n is) js ms (omega (arith, length-drop n is)), append_assoc) refl
 
   -- characters and markers after others
   pub marked_followed : (is js : List (Item A)) (m n : MarkerPlaces) → covered m ≡ length is → marked (is ++ js) (followed m n).markers ≡ marked is m.markers ++ marked js n.markers
@@ -84,17 +65,20 @@ module _ {A : Type 0} where
       go ((i, name) ∷ ns) k =
           let s = before_last m.markers in let rest = drop s is in
           let len : length rest ≡ m.after = omega (arith, h, length-drop s is) in
-          let front : take s (is ++ js) ≡ take s is = take-append-le s is js (omega (arith, h)) in
-          let after : drop s (is ++ js) ≡ rest ++ js = drop-append-le s is js (omega (arith, h)) in
-          let first : take (m.after + i) (rest ++ js) ≡ rest ++ take i js = take_after rest js i (m.after + i) (omega (arith, len)) in
-          let second : drop (m.after + i) (rest ++ js) ≡ drop i js = sym (drop-drop i m.after (rest ++ js)) ∙ ap (drop i) (drop_at rest js m.after len) in
-          marked_split (is ++ js) m.markers ((m.after + i, name) ∷ ns)
-          ∙ ap (λ ks. marked ks m.markers ++ marked (drop s (is ++ js)) ((m.after + i, name) ∷ ns)) front ∙ ap (λ ks. marked (take s is) m.markers ++ marked ks ((m.after + i, name) ∷ ns)) after
-          ∙ ap (λ ks. marked (take s is) m.markers ++ (ks ++ marker name ∷ marked (drop (m.after + i) (rest ++ js)) ns)) first
-          ∙ ap (λ ks. marked (take s is) m.markers ++ ((rest ++ take i js) ++ marker name ∷ marked ks ns)) second
-          ∙ ap (λ ks. marked (take s is) m.markers ++ ks) (append_assoc rest (take i js) (marker name ∷ marked (drop i js) ns))
-          ∙ sym (append_assoc (marked (take s is) m.markers) rest (marked js ((i, name) ∷ ns)))
-          ∙ ap (λ ks. ks ++ marked js ((i, name) ∷ ns)) (sym (marked_last is m.markers))
+          rw (
+            marked_split (is ++ js) m.markers ((m.after + i, name) ∷ ns),
+            take-append-le s is js (omega (arith, h)),
+            drop-append-le s is js (omega (arith, h)),
+            take_after rest js i (m.after + i) (omega (arith, len)),
+            ← drop-drop i m.after (rest ++ js),
+            drop_at rest js m.after len,
+            marked_last is m.markers,
+          ) (simp append_assoc)
+
+  -- a marker more
+  pub marked_push : (is : List (Item A)) (m : MarkerPlaces) (name : List ℕ) → covered m ≡ length is → marked is (m.markers ++ (m.after, name) ∷ []) ≡ marked is m.markers ++ marker name ∷ []
+  marked_push is m name h =
+      let none : m.after + 0 ≡ m.after = omega arith in rw (append-nil, none) at (marked_followed is [] m (record { markers = (0, name) ∷ []; after = 0 }) h)
 
   -- ---- characters that are taken away in front
 
@@ -107,10 +91,7 @@ module _ {A : Type 0} where
       go ((n, name) ∷ ms) b h e =
           let len : length (take n is) ≡ n = omega (arith, length-take n is) in
           let whole : k + (n - k) ≡ n = omega arith in
-          let front : drop k (take n is) ≡ take (n - k) (drop k is) = ap (λ i. drop k (take i is)) (sym whole) ∙ drop-take k (n - k) is in
-          let after : drop (n - k) (drop k is) ≡ drop n is = drop-drop (n - k) k is ∙ ap (λ i. drop i is) whole in
-          sym (drop-append-le k (take n is) (marker name ∷ marked (drop n is) ms) (omega (arith, len)) ∙ ap (λ js. js ++ marker name ∷ marked (drop n is) ms) front
-          ∙ ap (λ js. take (n - k) (drop k is) ++ marker name ∷ marked js ms) (sym after))
+          rw (drop-append-le k (take n is) (marker name ∷ marked (drop n is) ms) (omega (arith, len)), ← drop-take k (n - k) is, drop-drop (n - k) k is, whole) refl
 
   pub taken_front : (is : List (Item A)) (m : MarkerPlaces) (k : ℕ) → k ≤ before_first m → covered m ≡ length is → take k (marked is m.markers) ≡ take k is
   taken_front is m k = go m.markers m.after
@@ -124,13 +105,8 @@ module _ {A : Type 0} where
   pub items_width-marked : (columns : ℕ → Option ℕ) (is : List (Item A)) (ms : List (ℕ × List ℕ)) → items_width columns (marked is ms) ≡ items_width columns is
   items_width-marked columns is [] = refl
   items_width-marked columns is ((n, name) ∷ ms) =
-      omega (
-        arith,
-        items_width-append columns (take n is) (marker name ∷ marked (drop n is) ms),
-        items_width-marked columns (drop n is) ms,
-        ap (items_width columns) (take-append-drop n is),
-        items_width-append columns (take n is) (drop n is),
-      )
+      let all = rw take-append-drop at (items_width-append columns (take n is) (drop n is)) in
+      omega (arith, items_width-append columns (take n is) (marker name ∷ marked (drop n is) ms), items_width-marked columns (drop n is) ms, all)
 
   -- the first item is a character where no marker comes first
   pub first_marked : (i : Item A) (is : List (Item A)) (m : MarkerPlaces) → 0 < before_first m → marked (i ∷ is) m.markers ≡ i ∷ marked is (shortened 1 m).markers
@@ -144,9 +120,8 @@ module _ {A : Type 0} where
   -- ---- whether there is a character
 
   has_first : (c : ℕ) (a : A) (is : List (Item A)) (ms : List (ℕ × List ℕ)) → has_character (marked (glyph c a ∷ is) ms) ≡ true
-  has_first c a is [] = refl
   has_first c a is ((zero, name) ∷ ms) = has_first c a is ms
-  has_first c a is ((suc n, name) ∷ ms) = refl
+  has_first c a is _ = refl
 
   pub no_character : (is : List (Item A)) (ms : List (ℕ × List ℕ)) → Each (λ i. is_glyph i ≡ true) is → has_character (marked is ms) ≡ false → is ≡ []
   no_character [] ms h e = refl
@@ -168,11 +143,11 @@ module _ {A : Type 0} where
   pub none_at_end : (is : List (Item A)) (m : MarkerPlaces) (before line : List (Item A)) → Each (λ i. is_glyph i ≡ true) is → covered m ≡ length is → marked is m.markers ≡ before ++ line → has_character line ≡ false → 0 < m.after → line ≡ []
   none_at_end is m before line h e parts none some =
       let s = before_last m.markers in let rest = drop s is in
-      let glyphs : Each (λ i. is_glyph i ≡ true) rest = each_back (λ i. is_glyph i ≡ true) (take s is) rest (subst (Each (λ i. is_glyph i ≡ true)) (sym (take-append-drop s is)) h) in
+      let glyphs : Each (λ i. is_glyph i ≡ true) rest = each_back (λ i. is_glyph i ≡ true) (take s is) rest (rw take-append-drop h) in
       elim (cut_twice (marked (take s is) m.markers) rest before line (sym (marked_last is m.markers) ∙ parts)) [
-        | inl (cut, front, back) ↦ no_character line [] (each_back (λ i. is_glyph i ≡ true) cut line (subst (Each (λ i. is_glyph i ≡ true)) back glyphs)) none
+        | inl (cut, front, back) ↦ no_character line [] (each_back (λ i. is_glyph i ≡ true) cut line (rw back at glyphs)) none
         | inr (i, cut, front, back) ↦
-            let alone = (or_parts (has_character (i ∷ cut)) (has_character rest) (sym (has_character-append (i ∷ cut) rest) ∙ sym (ap has_character back) ∙ none)).1 in
+            let alone = (or_parts (has_character (i ∷ cut)) (has_character rest) (sym (has_character-append (i ∷ cut) rest) ∙ ap has_character (sym back) ∙ none)).1 in
             absurd (omega (arith, e, some, length-drop s is, ap length (no_character rest [] glyphs alone)))
       ]
 
@@ -186,13 +161,10 @@ module _ {A : Type 0} where
   pub marked_count : (is : List (Item A)) (ms : List (ℕ × List ℕ)) → Each (λ i. is_glyph i ≡ true) is → length (names_in_items (marked is ms)) ≡ length ms
   marked_count is [] h = characters_alone is h
   marked_count is ((n, name) ∷ ms) h =
-      let parts : Each (λ i. is_glyph i ≡ true) (take n is ++ drop n is) = subst (Each (λ i. is_glyph i ≡ true)) (sym (take-append-drop n is)) h in
-      omega (
-        arith,
-        markers-append (take n is) (marker name ∷ marked (drop n is) ms),
-        characters_alone (take n is) (each_front (λ i. is_glyph i ≡ true) (take n is) (drop n is) parts),
-        marked_count (drop n is) ms (each_back (λ i. is_glyph i ≡ true) (take n is) (drop n is) parts),
-      )
+      let parts : Each (λ i. is_glyph i ≡ true) (take n is ++ drop n is) = rw take-append-drop h in
+      let front = characters_alone (take n is) (each_front (λ i. is_glyph i ≡ true) (take n is) (drop n is) parts) in
+      let back = marked_count (drop n is) ms (each_back (λ i. is_glyph i ≡ true) (take n is) (drop n is) parts) in
+      omega (arith, markers-append (take n is) (marker name ∷ marked (drop n is) ms), front, back)
 
 -- ---- items that are the same up to equal tags
 
@@ -200,16 +172,14 @@ module _ {A : Type 0} (eq : A → A → Bool) (laws : IsEquivalence eq) where
   pub same_take : (n : ℕ) (is js : List (Item A)) → SameItems eq is js → SameItems eq (take n is) (take n js)
   same_take zero is js h = tt
   same_take (suc n) [] [] h = tt
-  same_take (suc n) [] (j ∷ js) h = absurd h
-  same_take (suc n) (i ∷ is) [] h = absurd h
   same_take (suc n) (i ∷ is) (j ∷ js) h = (h.0, same_take n is js h.1)
+  same_take (suc n) _ _ h = absurd h
 
   pub same_drop : (n : ℕ) (is js : List (Item A)) → SameItems eq is js → SameItems eq (drop n is) (drop n js)
   same_drop zero is js h = h
   same_drop (suc n) [] [] h = tt
-  same_drop (suc n) [] (j ∷ js) h = absurd h
-  same_drop (suc n) (i ∷ is) [] h = absurd h
   same_drop (suc n) (i ∷ is) (j ∷ js) h = same_drop n is js h.1
+  same_drop (suc n) _ _ h = absurd h
 
   pub same_marked : (is js : List (Item A)) (ms : List (ℕ × List ℕ)) → SameItems eq is js → SameItems eq (marked is ms) (marked js ms)
   same_marked is js [] h = h

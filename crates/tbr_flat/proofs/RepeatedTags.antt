@@ -38,14 +38,14 @@ module _ {A : Type 0} where
   has_stored xs i h = grind (arith, none_left xs i)
 
   pub runs : (m n : ℕ) (t : A) (rest : List A) → replicate (m + n) t ++ rest ≡ replicate m t ++ (replicate n t ++ rest)
-  runs m n t rest = ap (λ ts. ts ++ rest) (sym (replicate-append-replicate m n t)) ∙ append_assoc (replicate m t) (replicate n t) rest
+  runs m n t rest = rw (← replicate-append-replicate, append_assoc) refl
 
   -- the first of the tags that a stored one repeats, and what is after them
   pub parted : (xs ys : List (RepeatedTag A)) (s : RepeatedTag A) (o p : ℕ) → xs ≡ s ∷ ys → suc s.more ≡ o + p → (take o (tags_of xs) ≡ replicate o s.tag) × (drop o (tags_of xs) ≡ replicate p s.tag ++ tags_of ys)
   parted xs ys s o p at sum =
       let run = replicate o s.tag in let rest = replicate p s.tag ++ tags_of ys in
       let parts : tags_of xs ≡ run ++ rest = ap tags_of at ∙ ap (λ n. replicate n s.tag ++ tags_of ys) sum ∙ runs o p s.tag (tags_of ys) in
-      (ap (take o) parts ∙ take_at run rest o (length-replicate o s.tag), ap (drop o) parts ∙ drop_at run rest o (length-replicate o s.tag))
+      rw parts (take_at run rest o (length-replicate o s.tag), drop_at run rest o (length-replicate o s.tag))
 
   -- the first of the tags that a stored one repeats are taken, or skipped; it is read twice
   pub skip_part : (xs : List (RepeatedTag A)) (i n : ℕ) (r s y : RepeatedTag A) → 0 < n → n ≤ length (tags_of (drop i xs)) → r ≡ get_or xs i r → s ≡ get_or xs i s → n ≤ r.more → y ≡ record s { more = s.more - n } →
@@ -53,15 +53,15 @@ module _ {A : Type 0} where
   skip_part xs i n r s y some within other is less e =
       let h : i < length xs = has_stored xs i (omega arith) in let same : r ≡ s = get_or_read xs i r h other s ∙ sym is in
       let parts = parted (drop i xs) (drop (suc i) xs) s n (suc (s.more - n)) (stored_at xs i s h is) (omega (arith, ap (λ z. z.more) same)) in
-      (parts.0, ap tags_of (drop-set xs i y h ∙ (λ k. e k ∷ drop (add-one i k) xs)) ∙ sym parts.1)
+      (parts.0, rw (drop-set xs i y h, e, parts.1) (rw add-one refl))
 
   -- a stored tag is repeated otherwise
   pub resized : (xs : List (RepeatedTag A)) (i o p q : ℕ) (s y : RepeatedTag A) → i < length xs → s ≡ get_or xs i s → suc s.more ≡ o + p → suc y.more ≡ o + q → y.tag ≡ s.tag →
       tags_of (set xs i y) ≡ (tags_of (take i xs) ++ take o (tags_of (drop i xs))) ++ (replicate q s.tag ++ tags_of (drop (suc i) xs))
   resized xs i o p q s y h is sum more tag =
-      let front = tags_of (take i xs) in let rest = tags_of (drop (suc i) xs) in
-      ap tags_of (set_split xs i y h) ∙ tags_of-append (take i xs) (y ∷ drop (suc i) xs) ∙ (λ k. front ++ (replicate (more k) (tag k) ++ rest)) ∙ ap (λ ts. front ++ ts) (runs o q s.tag rest)
-      ∙ (λ k. front ++ (sym (parted (drop i xs) (drop (suc i) xs) s o p (stored_at xs i s h is) sum).0 k ++ (replicate q s.tag ++ rest))) ∙ sym (append_assoc front (take o (tags_of (drop i xs))) (replicate q s.tag ++ rest))
+      let rest = tags_of (drop (suc i) xs) in
+      let run : replicate (suc y.more) y.tag ++ rest ≡ replicate o s.tag ++ (replicate q s.tag ++ rest) = (λ k. replicate (more k) (tag k) ++ rest) ∙ runs o q s.tag rest in
+      rw (set_split xs i y h, tags_of-append, run, (parted (drop i xs) (drop (suc i) xs) s o p (stored_at xs i s h is) sum).0, append_assoc) refl
 
   pub stored_len : (xs : List (RepeatedTag A)) (i k : ℕ) (s : RepeatedTag A) → k ≡ suc i → k ≤ length xs → s ≡ get_or xs i s → length (tags_of (drop i xs)) ≡ s.more + 1 + length (tags_of (drop k xs))
   stored_len xs i k s e h is =

@@ -1,13 +1,12 @@
 -- Characters beside their tags.
-use Rattle.std.proofs.Common.{◌≡◌, ◌↔◌, IsTrue, ℕ, suc, zero, ◌+◌, ◌-◌, ◌<◌, ◌≤◌, Bool, true, Option, None, Some, List, [], ◌∷◌, ◌++◌, length, take, drop, replicate, refl, ap, sym, ◌∙◌, subst, arith, append_assoc}
+use Rattle.std.proofs.Common.{◌≡◌, ◌↔◌, IsTrue, ℕ, suc, zero, ◌+◌, ◌-◌, ◌<◌, ◌≤◌, Bool, true, Option, None, Some, List, [], ◌∷◌, ◌++◌, length, take, drop, replicate, refl, ap, sym, ◌∙◌, arith, append_assoc}
 use Rattle.std.specs.Option.{MatchOption}
 use Rattle.std.specs.List.{AllZip}
 use Rattle.std.proofs.lemmas.List.{nil_from_length, take-append-drop, drop_at, length-append, length-take, length-take-le, length-drop, length-replicate, drop-append-le, drop-drop}
 use Rattle.tbr_model.specs.Run.{Item, glyph}
 use Rattle.tbr_model.specs.Rule.{spaces}
 use Rattle.tbr_tagged.specs.Elements.{SameItems, text_items}
-use Rattle.tbr_tagged.specs.Walks.{item_character, item_characters}
-use Rattle.std.proofs.lemmas.List.Concat.{flat_map-append}
+use Rattle.tbr_tagged.specs.Walks.{item_characters}
 use Rattle.tbr_flat.specs.Flat.{Flat, flat, glyphs}
 use Rattle.tbr_tagged.proofs.SameItems.{same_items, same_items_trans, same_items_append}
 use Rattle.std.specs.Cmp.{IsEquivalence}
@@ -31,7 +30,7 @@ glyphs_front (c ∷ cs) (t ∷ ts) us h = ap (λ is. glyph c t ∷ is) (glyphs_f
 pub glyphs_kept : {A : Type 0} (cs : List ℕ) (m : ℕ) (ts us : List A) → length cs ≤ m → m ≤ length ts → glyphs cs (take m ts ++ us) ≡ glyphs cs ts
 glyphs_kept cs m ts us h k =
     let enough : length cs ≤ length (take m ts) = omega (arith, h, k, length-take m ts) in
-    glyphs_front cs (take m ts) us enough ∙ sym (glyphs_front cs (take m ts) (drop m ts) enough) ∙ ap (glyphs cs) (take-append-drop m ts)
+    rw (glyphs_front cs (take m ts) us enough, ← glyphs_front cs (take m ts) (drop m ts) enough, take-append-drop) refl
 
 -- characters under one tag
 glyphs_one : {A : Type 0} (cs : List ℕ) (n : ℕ) (a : A) → n ≡ length cs → glyphs cs (replicate n a) ≡ text_items cs a
@@ -41,9 +40,8 @@ glyphs_one (c ∷ cs) (suc n) a h = ap (λ is. glyph c a ∷ is) (glyphs_one cs 
 
 glyphs_push : {A : Type 0} (cs ds : List ℕ) (ts us : List A) → length ts ≡ length cs → glyphs (cs ++ ds) (ts ++ us) ≡ glyphs cs ts ++ glyphs ds us
 glyphs_push [] ds [] us h = refl
-glyphs_push [] ds (t ∷ ts) us h = absurd (omega arith)
-glyphs_push (c ∷ cs) ds [] us h = absurd (omega arith)
 glyphs_push (c ∷ cs) ds (t ∷ ts) us h = ap (λ is. glyph c t ∷ is) (glyphs_push cs ds ts us (omega arith))
+glyphs_push _ ds _ us h = absurd (omega arith)
 
 pub length-glyphs : {A : Type 0} (cs : List ℕ) (ts : List A) → length cs ≤ length ts → length (glyphs cs ts) ≡ length cs
 length-glyphs [] ts h = refl
@@ -51,16 +49,13 @@ length-glyphs (c ∷ cs) [] h = absurd (omega arith)
 length-glyphs (c ∷ cs) (t ∷ ts) h = ap suc (length-glyphs cs ts (omega arith))
 
 pub glyphs-drop : {A : Type 0} (n : ℕ) (cs : List ℕ) (ts : List A) → glyphs (drop n cs) (drop n ts) ≡ drop n (glyphs cs ts)
-glyphs-drop zero cs ts = refl
-glyphs-drop (suc n) [] ts = refl
 glyphs-drop (suc n) (c ∷ cs) [] = glyphs_none (drop n cs)
 glyphs-drop (suc n) (c ∷ cs) (t ∷ ts) = glyphs-drop n cs ts
+glyphs-drop _ _ ts = refl
 
 pub glyphs-take : {A : Type 0} (n : ℕ) (cs : List ℕ) (ts : List A) → glyphs (take n cs) ts ≡ take n (glyphs cs ts)
-glyphs-take zero cs ts = refl
-glyphs-take (suc n) [] ts = refl
-glyphs-take (suc n) (c ∷ cs) [] = refl
 glyphs-take (suc n) (c ∷ cs) (t ∷ ts) = ap (λ is. glyph c t ∷ is) (glyphs-take n cs ts)
+glyphs-take _ _ _ = refl
 
 -- ---- the calls
 
@@ -70,16 +65,18 @@ some_tag zero (t ∷ ts) h = (t, ts, refl)
 some_tag (suc n) (t ∷ ts) h = some_tag n ts (omega arith)
 
 first_glyph : {A : Type 0} (cs rest : List ℕ) (ts : List A) (c : ℕ) (t : A) (us : List A) (n : ℕ) → cs ≡ c ∷ rest → drop n ts ≡ t ∷ us → glyphs cs (drop n ts) ≡ glyph c t ∷ glyphs rest us
-first_glyph cs rest ts c t us n e h = ap (λ ds. glyphs ds (drop n ts)) e ∙ ap (λ vs. glyphs (c ∷ rest) vs) h
+first_glyph cs rest ts c t us n e h = rw (e, h) refl
 
 module _ {A : Type 0} (p w : List ℕ) (ts : List A) (h : length ts ≡ length p + length w) where
   pub flat_push : (cs : List ℕ) (n : ℕ) (a : A) → n ≡ length cs → flat p (w ++ cs) (ts ++ replicate n a) ≡ record (flat p w ts) { word = (flat p w ts).word ++ text_items cs a }
   flat_push cs n a e =
       let us = replicate n a in
-      let front = glyphs_front p ts us (omega (arith, h)) in
-      let after = drop-append-le (length p) ts us (omega (arith, h)) in
-      let word = glyphs_push w cs (drop (length p) ts) us (omega (arith, h, length-drop (length p) ts)) in
-      rw (front, after, word, glyphs_one cs n a e) refl
+      rw (
+        glyphs_front p ts us (omega (arith, h)),
+        drop-append-le (length p) ts us (omega (arith, h)),
+        glyphs_push w cs (drop (length p) ts) us (omega (arith, h, length-drop (length p) ts)),
+        glyphs_one cs n a e,
+      ) refl
 
   pub flat_word_first : (o : Option ℕ) → MatchOption o (w ≡ []) (λ c. (rest : List ℕ) × (w ≡ c ∷ rest)) →
       MatchOption o ((flat p w ts).word ≡ []) (λ c. (a : A) × (rest : List (Item A)) × ((flat p w ts).word ≡ glyph c a ∷ rest))
@@ -108,42 +105,34 @@ flat_placed_text p w ts h none cs n a e =
 pub flat_front : {A : Type 0} (p w : List ℕ) (ts : List A) (n : ℕ) → n ≤ length w →
     flat (p ++ take n w) (drop n w) ts ≡ record { placed = (flat p w ts).placed ++ take n (flat p w ts).word; word = drop n (flat p w ts).word }
 flat_front p w ts n h =
-    let us = drop (length p) ts in
-    let after : drop (length (p ++ take n w)) ts ≡ drop n us =
-    ap (λ k. drop k ts) (omega (arith, length-append p (take n w), length-take-le n w h)) ∙ sym (drop-drop n (length p) ts) in
-    rw (glyphs-append p (take n w) ts, after, glyphs-take n w us, glyphs-drop n w us) refl
+    let len : length (p ++ take n w) ≡ length p + n = omega (arith, length-append p (take n w), length-take-le n w h) in
+    rw (glyphs-append p (take n w) ts, len, ← drop-drop n (length p) ts, glyphs-take, glyphs-drop) refl
 
 pub flat_take : {A : Type 0} (p w : List ℕ) (ts : List A) (n : ℕ) → n ≤ length p → flat (drop n p) w (drop n ts) ≡ record (flat p w ts) { placed = drop n (flat p w ts).placed }
 flat_take p w ts n h =
-    let e : drop (length (drop n p)) (drop n ts) ≡ drop (length p) ts = drop-drop (length (drop n p)) n ts ∙ ap (λ k. drop k ts) (omega (arith, length-drop n p, h)) in
-    rw (glyphs-drop n p ts, e) refl
+    let len : n + length (drop n p) ≡ length p = omega (arith, length-drop n p, h) in rw (glyphs-drop n p ts, drop-drop (length (drop n p)) n ts, len) refl
 
 module _ {A : Type 0} (eq : A → A → Bool) where
   -- what is taken under one tag
   taken_same : (n : ℕ) (cs : List ℕ) (ts : List A) (a b : A) → take n ts ≡ replicate n a → eq b a ≡ true → n ≤ length cs →
       SameItems eq (text_items (take n cs) b) (take n (glyphs cs ts))
-  taken_same zero cs ts a b e h k = tt
-  taken_same (suc n) [] ts a b e h k = tt
   taken_same (suc n) (c ∷ cs) [] a b e h k = let no : [] ≡ a ∷ replicate n a = e in absurd (cc)
   taken_same (suc n) (c ∷ cs) (t ∷ ts) a b e h k =
       let p : t ≡ a = cc in
       let q : take n ts ≡ replicate n a = cc in
-      ((refl, ap (λ x. eq b x) p ∙ h), taken_same n cs ts a b q h (omega arith))
+      ((refl, rw p h), taken_same n cs ts a b q h (omega arith))
+  taken_same _ _ ts a b e h k = tt
 
   -- a piece that is handed out
   pub piece_items : (ds cs : List ℕ) (ts : List A) (n : ℕ) (a b : A) → ds ≡ take n cs → take n ts ≡ replicate n a → eq b a ≡ true → n ≤ length cs →
       (length ds ≡ n) × SameItems eq (text_items ds b) (take n (glyphs cs ts))
-  piece_items ds cs ts n a b e t h k = (
-    omega (arith, ap length e, length-take n cs),
-    subst (λ (xs : List ℕ). SameItems eq (text_items xs b) (take n (glyphs cs ts))) (sym e) (taken_same n cs ts a b t h k),
-  )
+  piece_items ds cs ts n a b e t h k = rw e (omega (arith, length-take n cs), taken_same n cs ts a b t h k)
 
   same_glyphs : (cs : List ℕ) (ts us : List A) → AllZip (λ x y. eq x y ≡ true) ts us → SameItems eq (glyphs cs ts) (glyphs cs us)
   same_glyphs [] ts us h = tt
   same_glyphs (c ∷ cs) [] [] h = tt
-  same_glyphs (c ∷ cs) [] (u ∷ us) h = absurd h
-  same_glyphs (c ∷ cs) (t ∷ ts) [] h = absurd h
   same_glyphs (c ∷ cs) (t ∷ ts) (u ∷ us) h = ((refl, h.0), same_glyphs cs ts us h.1)
+  same_glyphs (c ∷ cs) _ _ h = absurd h
 
   glyphs_spaces : (n : ℕ) (a : A) (after : List A) → glyphs (replicate n 32) (replicate n a ++ after) ≡ spaces n a
   glyphs_spaces zero a after = refl
@@ -159,22 +148,23 @@ module _ {A : Type 0} (eq : A → A → Bool) where
 
     pub space_placed : (flat (p ++ replicate n 32) w parted).placed ≡ (flat p w ts).placed ++ spaces n a
     space_placed =
-        let front : glyphs p parted ≡ glyphs p ts = glyphs_kept p (length ts - k) ts (replicate n a ++ after) (omega (arith, h, e)) (omega (arith, h, e)) in
-        let back : drop (length p) parted ≡ replicate n a ++ after = drop_at (take (length ts - k) ts) (replicate n a ++ after) (length p) len in
-        rw (glyphs-append p (replicate n 32) parted, front, back, glyphs_spaces n a after) refl
+        rw (
+          glyphs-append p (replicate n 32) parted,
+          glyphs_kept p (length ts - k) ts (replicate n a ++ after) (omega (arith, h, e)) (omega (arith, h, e)),
+          drop_at (take (length ts - k) ts) (replicate n a ++ after) (length p) len,
+          glyphs_spaces n a after,
+        ) refl
 
     pub space_word : AllZip (λ x y. eq x y ≡ true) after (drop (length ts - k) ts) → SameItems eq (flat (p ++ replicate n 32) w parted).word (flat p w ts).word
     space_word same =
         let first : length ts - k ≡ length p = omega (arith, h, e) in
         let both : length (take (length ts - k) ts ++ replicate n a) ≡ length (p ++ replicate n 32) =
         omega (arith, len, length-append (take (length ts - k) ts) (replicate n a), length-replicate n a, length-append p (replicate n 32), length-replicate {A = ℕ} n 32) in
-        let back : drop (length (p ++ replicate n 32)) parted ≡ after =
-        ap (drop (length (p ++ replicate n 32))) (sym (append_assoc (take (length ts - k) ts) (replicate n a) after)) ∙ drop_at (take (length ts - k) ts ++ replicate n a) after _ both in
-        subst (λ (us : List A). SameItems eq (glyphs w us) (flat p w ts).word) (sym back)
-        (same_glyphs w after (drop (length p) ts) (subst (λ (i : ℕ). AllZip (λ x y. eq x y ≡ true) after (drop i ts)) first same))
+        let parts : parted ≡ (take (length ts - k) ts ++ replicate n a) ++ after = sym (append_assoc (take (length ts - k) ts) (replicate n a) after) in
+        rw (parts, drop_at (take (length ts - k) ts ++ replicate n a) after _ both) (same_glyphs w after (drop (length p) ts) (rw first at same))
 
 pub placed_len : {A : Type 0} (p w : List ℕ) (ts : List A) (f : Flat A) → length ts ≡ length p + length w → flat p w ts ≡ f → length f.placed ≡ length p
-placed_len p w ts f h e = ap (λ (x : Flat _). length x.placed) (sym e) ∙ flat_placed_len p w ts h
+placed_len p w ts f h e = rw (← e) (flat_placed_len p w ts h)
 
 pub taken_fits : {A : Type 0} (p w : List ℕ) (ts : List A) (n : ℕ) → length ts ≡ length p + length w → n ≤ length p → length (drop n ts) ≡ length (drop n p) + length w
 taken_fits p w ts n h k = omega (arith, h, k, length-drop n ts, length-drop n p)
@@ -183,14 +173,8 @@ module _ {A : Type 0} (eq : A → A → Bool) (laws : IsEquivalence eq) where
   -- the line has the items that are handed out
   pub line_turn : (is js ps qs : List (Item A)) (m n k : ℕ) → k ≡ m + n → qs ≡ drop m ps → SameItems eq is (take m ps) → SameItems eq js (is ++ take n qs) → SameItems eq js (take k ps)
   line_turn is js ps qs m n k e q h j =
-      let f : take m ps ++ take n qs ≡ take k ps = ap (λ xs. take m ps ++ take n xs) q ∙ sym (take-add m n ps) ∙ ap (λ i. take i ps) (sym e) in
-      subst (λ (x : List (Item A)). SameItems eq js x) f
+      rw (e, take-add m n ps, ← q)
       (same_items_trans eq laws js (is ++ take n qs) (take m ps ++ take n qs) j (same_items_append eq laws is (take m ps) (take n qs) (take n qs) h (same_items eq laws (take n qs))))
-
-pub rest_turn : {A : Type 0} (start now next : Flat A) (m n k : ℕ) → k ≡ m + n → now ≡ record start { placed = drop m start.placed } → next ≡ record now { placed = drop n now.placed } →
-    next ≡ record start { placed = drop k start.placed }
-rest_turn {A} start now next m n k e p q =
-    q ∙ ap (λ (f : Flat A). record f { placed = drop n f.placed }) p ∙ ap (λ xs. record start { placed = xs }) (drop-drop n m start.placed ∙ ap (λ i. drop i start.placed) (sym e))
 
 -- ---- the characters that are placed
 
@@ -208,10 +192,3 @@ module _ {A : Type 0} where
 
   pub taken_characters : (p w : List ℕ) (ts : List A) (n : ℕ) → length ts ≡ length p + length w → take n p ≡ item_characters (take n (flat p w ts).placed)
   taken_characters p w ts n h = sym (glyphs_characters (take n p) ts (omega (arith, h, length-take n p))) ∙ ap item_characters (glyphs-take n p ts)
-
-  -- more characters of the first items
-  pub text_turn : (old now next : List ℕ) (ps qs : List (Item A)) (m n k : ℕ) → k ≡ m + n → qs ≡ drop m ps → now ≡ old ++ item_characters (take m ps) → next ≡ now ++ item_characters (take n qs) →
-      next ≡ old ++ item_characters (take k ps)
-  text_turn old now next ps qs m n k e q h j =
-      j ∙ ap (λ cs. cs ++ item_characters (take n qs)) h ∙ append_assoc old (item_characters (take m ps)) (item_characters (take n qs))
-      ∙ ap (λ cs. old ++ cs) (sym (flat_map-append item_character (take m ps) (take n qs)) ∙ ap (λ is. item_characters (take m ps ++ take n is)) q ∙ ap item_characters (sym (take-add m n ps)) ∙ ap (λ i. item_characters (take i ps)) (sym e))

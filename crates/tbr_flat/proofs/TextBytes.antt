@@ -2,11 +2,11 @@
 use Rattle.std.proofs.Common.{◌≡◌, ℕ, suc, zero, ◌+◌, ◌-◌, ◌<◌, ◌≤◌, true, List, [], ◌∷◌, ◌++◌, Option, length, take, drop, encode_utf8, refl, ap, sym, ◌∙◌, subst, arith, append_assoc, append-nil, None, Some, add-one, take-append-drop, length-append, length-take-le, length-drop, replicate}
 use Rattle.std.specs.List.{slice_get}
 use Rattle.std.specs.Option.{MatchOption}
-use Rattle.std.specs.Str.{IsAscii, IsUtf8, is_utf8, chars, IsCharBoundary}
+use Rattle.std.specs.Str.{IsAscii, IsUtf8, chars, IsCharBoundary}
 use Rattle.std.specs.Char.{IsScalar}
 use Rattle.std.proofs.Math.Seq.{take-append_seam}
 use Rattle.std.proofs.lemmas.Bool.{and_parts}
-use Rattle.std.proofs.lemmas.List.{drop_at, drop-drop, drop-append-le, length-replicate}
+use Rattle.std.proofs.lemmas.List.{drop_at, take_at, drop-drop, drop-append-le, length-replicate}
 use Rattle.std.proofs.lemmas.Str.{IsUtf8-append, IsUtf8-nil, IsCharBoundary-from_drop, length-le-encodes, encodes-chars, scalars-chars, chars-encodes, encodes-append, IsCharBoundary-at_seam, IsUtf8-encode, IsUtf8-past_char, is_utf8-from_IsUtf8, IsUtf8-from_is_utf8, chars-append, chars-nil, chars_past_char, IsUtf8-from_ascii, chars-IsAscii, encodes-IsAscii}
 use lib.Utf8.{encodes, scalar, scalars}
 use Rattle.tbr_flat.specs.Flat.{IsLeft}
@@ -20,10 +20,8 @@ pub record IsAfter (bytes : List ℕ) (i n : ℕ) (cs : List ℕ) : Type 0 where
   pub seen : chars (drop i bytes) ≡ cs
 
 pub left_after : (bytes : List ℕ) (i n : ℕ) (rest cs : List ℕ) → i ≤ length bytes → drop i bytes ≡ rest → IsUtf8 rest → n ≡ length cs → chars rest ≡ cs → IsAfter bytes i n cs
-left_after bytes i n rest cs within e u m seen = record {
-  parts = record { within = within; utf8 = ap is_utf8 e ∙ is_utf8-from_IsUtf8 rest u; counts = m ∙ ap length (sym seen ∙ ap chars (sym e)) };
-  seen = ap chars e ∙ seen;
-}
+left_after bytes i n rest cs within e u m seen =
+    record { parts = record { within = within; utf8 = rw e (is_utf8-from_IsUtf8 rest u); counts = rw (e, seen) m }; seen = rw e seen }
 
 pub nothing_after : (bytes : List ℕ) → bytes ≡ [] → IsAfter bytes 0 0 []
 nothing_after bytes e = left_after bytes 0 0 [] [] (omega arith) e IsUtf8-nil refl chars-nil
@@ -50,11 +48,8 @@ next_split (z ∷ xs) ys (suc n) x h = let k = next_split xs ys n x h in (ap (λ
 read_one : (text rest after : List ℕ) (n c : ℕ) → IsRead text rest n → rest ≡ encode_utf8 c ++ after → IsRead text after (suc n)
 read_one text rest after n c h e =
     let k = next_split (chars text) (chars after) n c (h.left ∙ chars_past_char rest after c h.utf8 e) in
-    let front = take n (chars text) in
     record {
-      whole = h.whole ∙ ap (λ bs. encodes front ++ bs) e ∙ sym (append_assoc (encodes front) (encode_utf8 c) after) ∙
-          ap (λ bs. (encodes front ++ bs) ++ after) (sym (append-nil (encode_utf8 c))) ∙ ap (λ bs. bs ++ after) (sym (encodes-append front (c ∷ []))) ∙
-          ap (λ cs. encodes cs ++ after) (sym k.0);
+      whole = rw (k.0, encodes-append, append-nil, append_assoc) (rw e at h.whole);
       left = k.1;
       utf8 = IsUtf8-past_char rest after c h.utf8 e;
     }
@@ -86,12 +81,8 @@ scalars_drop (suc n) [] h = h
 scalars_drop (suc n) (c ∷ cs) h = scalars_drop n cs (and_parts (scalar c) (scalars cs) h).1
 
 pub scalars_take : (n : ℕ) (cs : List ℕ) → scalars cs ≡ true → scalars (take n cs) ≡ true
-scalars_take zero cs h = refl
-scalars_take (suc n) [] h = refl
-scalars_take (suc n) (c ∷ cs) h =
-    let parts = and_parts (scalar c) (scalars cs) h in
-    let q : scalars (take n cs) ≡ true = scalars_take n cs parts.1 in
-    rw (parts.0, q) refl
+scalars_take (suc n) (c ∷ cs) h = let parts = and_parts (scalar c) (scalars cs) h in rw (parts.0, scalars_take n cs parts.1) refl
+scalars_take _ _ h = refl
 
 -- a text parts after its first n characters
 pub record SplitsAt (text cs : List ℕ) (n : ℕ) : Type 0 where
@@ -132,17 +123,15 @@ pub ascii_bytes : (text : List ℕ) (n : ℕ) → n ≤ length text → IsAscii 
 ascii_bytes text n within ascii =
     let front = take n text in
     let long : length front ≡ n = length-take-le n text within in
-    let whole : chars text ≡ front ++ chars (drop n text) =
-    ap chars (sym (take-append-drop n text)) ∙ chars-append front (drop n text) (IsUtf8-from_ascii front ascii) ∙ ap (λ cs. cs ++ chars (drop n text)) (chars-IsAscii front ascii) in
-    let first : take n (chars text) ≡ front = ap (λ cs. take n cs) whole ∙ ap (λ m. take m (front ++ chars (drop n text))) (sym long) ∙ take-append_seam front (chars (drop n text)) in
-    sym long ∙ ap length (sym (encodes-IsAscii front ascii)) ∙ ap (λ cs. length (encodes cs)) (sym first)
+    let parts = ap chars (sym (take-append-drop n text)) in
+    let whole : chars text ≡ front ++ chars (drop n text) = rw (chars-append front (drop n text) (IsUtf8-from_ascii front ascii), chars-IsAscii front ascii) at parts in
+    rw (whole, take_at front (chars (drop n text)) n long, encodes-IsAscii front ascii) (sym long)
 
 -- each takes one where they take as many as they are
 pub bytes_each : (cs : List ℕ) (n : ℕ) → length (encodes cs) ≡ length cs → n ≤ length cs → n ≡ length (encodes (take n cs))
 bytes_each cs n same within =
     let front = take n cs in let back = drop n cs in
-    let parts : length (encodes cs) ≡ length (encodes front) + length (encodes back) =
-    ap (λ ds. length (encodes ds)) (sym (take-append-drop n cs)) ∙ ap length (encodes-append front back) ∙ length-append (encodes front) (encodes back) in
+    let parts : length (encodes cs) ≡ length (encodes front) + length (encodes back) = rw (← length-append, ← encodes-append front back, take-append-drop) refl in
     omega (arith, parts, same, length-le-encodes front, length-le-encodes back, length-take-le n cs within, length-drop n cs)
 
 -- ---- what calls on a text leave
@@ -168,14 +157,14 @@ module _ (bytes : List ℕ) (i n : ℕ) (cs : List ℕ) (h : IsLeft bytes i n) (
 
   pub char_joined : (xs : List ℕ) (c : ℕ) → xs ≡ bytes ++ encode_utf8 c → IsScalar c → IsAfter xs i (n + 1) (cs ++ c ∷ [])
   char_joined xs c e s =
-      let one : chars (encode_utf8 c) ≡ c ∷ [] = chars_push [] c IsUtf8-nil s ∙ ap (λ ds. ds ++ c ∷ []) chars-nil in
-      subst (λ ds. IsAfter xs i (n + 1) (cs ++ ds)) one (joined xs (encode_utf8 c) 1 e (IsUtf8-encode c s) (ap length (sym one)))
+      let one : chars (encode_utf8 c) ≡ c ∷ [] = rw chars-nil at (chars_push [] c IsUtf8-nil s) in
+      rw one at (joined xs (encode_utf8 c) 1 e (IsUtf8-encode c s) (rw one refl))
 
   pub spaces_joined : (xs : List ℕ) (k : ℕ) → xs ≡ bytes ++ replicate k 32 → IsAfter xs i (n + k) (cs ++ replicate k 32)
   spaces_joined xs k e =
-      let seen : chars (replicate k 32) ≡ replicate k 32 = chars-IsAscii (replicate k 32) (spaces_ascii k) in
-      subst (λ ds. IsAfter xs i (n + k) (cs ++ ds)) seen
-      (joined xs (replicate k 32) k e (IsUtf8-from_ascii (replicate k 32) (spaces_ascii k)) (sym (ap length seen ∙ length-replicate k 32)))
+      let ascii = spaces_ascii k in
+      let seen : chars (replicate k 32) ≡ replicate k 32 = chars-IsAscii (replicate k 32) ascii in
+      rw seen at (joined xs (replicate k 32) k e (IsUtf8-from_ascii (replicate k 32) ascii) (rw (seen, length-replicate) refl))
 
   -- the first characters are forgotten
   pub forgotten : (m k : ℕ) → k ≡ length (encodes (take m cs)) → IsAfter bytes (i + k) (n - m) (drop m cs)

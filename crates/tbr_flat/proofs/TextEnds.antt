@@ -1,5 +1,5 @@
 -- What is counted and taken away at the end of a text and at its beginning.
-use Rattle.std.proofs.Common.{◌≡◌, true, ℕ, suc, ◌+◌, ◌-◌, ◌<◌, ◌≤◌, List, ◌∷◌, ◌++◌, length, take, drop, get_or, replicate, refl, ap, sym, ◌∙◌, subst, arith, append_assoc}
+use Rattle.std.proofs.Common.{◌≡◌, true, ℕ, suc, ◌+◌, ◌-◌, ◌<◌, ◌≤◌, List, ◌++◌, length, take, drop, get_or, replicate, refl, ap, sym, ◌∙◌, subst, arith, append_assoc}
 use Rattle.std.specs.Str.{IsUtf8, chars, IsCharBoundary}
 use Rattle.std.proofs.Math.Seq.{take-append_seam, get_or-append_seam}
 use Rattle.std.proofs.lemmas.List.{take-append-drop, take_at, drop_at, length-append, length-take, length-replicate}
@@ -15,16 +15,12 @@ use Rattle.tbr_flat.proofs.TextBytes.{IsAfter, left_after, left_utf8, left_count
 pub end_spaces : (text : List ℕ) (n : ℕ) → IsUtf8 text → n ≤ length text → drop (length text - n) text ≡ replicate n 32 → (front : List ℕ) × (chars text ≡ front ++ replicate n 32)
 end_spaces text n u h e =
     let i = length text - n in
-    let utf8 : IsUtf8 (drop i text) = subst (λ (bs : List ℕ). IsUtf8 bs) (sym e) (IsUtf8-from_ascii (replicate n 32) (spaces_ascii n)) in
-    let front = IsUtf8-take text i u (IsCharBoundary-from_drop text i (omega arith) utf8) in (
-      chars (take i text),
-      ap chars (sym (take-append-drop i text)) ∙ chars-append (take i text) (drop i text) front
-          ∙ ap (λ cs. chars (take i text) ++ cs) (ap chars e ∙ chars-IsAscii (replicate n 32) (spaces_ascii n)),
-    )
+    let utf8 : IsUtf8 (drop i text) = rw e (IsUtf8-from_ascii (replicate n 32) (spaces_ascii n)) in
+    let parts = chars-append (take i text) (drop i text) (IsUtf8-take text i u (IsCharBoundary-from_drop text i (omega arith) utf8)) in
+    (chars (take i text), rw (take-append-drop, e, chars-IsAscii (replicate n 32) (spaces_ascii n)) at parts)
 
 spaces_bytes : (text front : List ℕ) (n : ℕ) → IsUtf8 text → chars text ≡ front ++ replicate n 32 → text ≡ encodes front ++ replicate n 32
-spaces_bytes text front n u e =
-    sym (encodes-chars text u) ∙ ap encodes e ∙ encodes-append front (replicate n 32) ∙ ap (λ bs. encodes front ++ bs) (encodes-IsAscii (replicate n 32) (spaces_ascii n))
+spaces_bytes text front n u e = rw (e, encodes-append, encodes-IsAscii (replicate n 32) (spaces_ascii n)) at (sym (encodes-chars text u))
 
 spaces_short : (text front : List ℕ) (n : ℕ) → text ≡ front ++ replicate n 32 → length text ≡ length front + n
 spaces_short text front n e = omega (arith, ap length e, length-append front (replicate n 32), length-replicate {A = ℕ} n 32)
@@ -35,7 +31,7 @@ more_spaces text front n u e =
     let bytes : text ≡ encodes front ++ replicate (suc n) 32 = spaces_bytes text front (suc n) u e in
     let len : length text ≡ length (encodes front) + suc n = spaces_short text (encodes front) (suc n) bytes in
     let place : length text - 1 - n ≡ length (encodes front) = omega (arith, len) in
-    (omega (arith, len), ap (λ bs. get_or bs (length text - 1 - n) 0) bytes ∙ ap (λ i. get_or (encodes front ++ 32 ∷ replicate n 32) i 0) place ∙ get_or-append_seam (encodes front) 32 (replicate n 32) 0)
+    (omega (arith, len), rw (place, bytes) (get_or-append_seam (encodes front) 32 (replicate n 32) 0))
 
 -- ---- spaces are taken away at the end
 
@@ -45,8 +41,8 @@ module _ (bytes front : List ℕ) (i n m k : ℕ) (cs : List ℕ) (h : IsLeft by
 
   parted : bytes ≡ kept ++ replicate m 32
   parted =
-      sym (take-append-drop i bytes) ∙ ap (λ bs. take i bytes ++ bs) (spaces_bytes (drop i bytes) front m (left_utf8 bytes i n cs h seen) (seen ∙ e))
-      ∙ sym (append_assoc (take i bytes) (encodes front) (replicate m 32))
+      let back = spaces_bytes (drop i bytes) front m (left_utf8 bytes i n cs h seen) (seen ∙ e) in
+      rw (append_assoc, ← back) (sym (take-append-drop i bytes))
 
   pub spaces_within : m ≤ length bytes
   spaces_within = omega (arith, spaces_short bytes kept m parted)
@@ -62,8 +58,7 @@ module _ (bytes front : List ℕ) (i n m k : ℕ) (cs : List ℕ) (h : IsLeft by
   pub spaces_gone : (xs : List ℕ) → xs ≡ take k bytes → IsAfter xs i (n - m) front
   spaces_gone xs is =
       let single : scalars front ≡ true =
-      subst (λ ds. scalars ds ≡ true) (ap (take (length front)) (seen ∙ e) ∙ take-append_seam front (replicate m 32))
-      (scalars_take (length front) (chars (drop i bytes)) (scalars-chars (drop i bytes) (left_utf8 bytes i n cs h seen))) in
+      rw (seen, e, take-append_seam front (replicate m 32)) at (scalars_take (length front) (chars (drop i bytes)) (scalars-chars (drop i bytes) (left_utf8 bytes i n cs h seen))) in
       let whole : xs ≡ kept = is ∙ ap (take k) parted ∙ take_at kept (replicate m 32) k seam in
       let first : length (take i bytes) ≡ i = omega (arith, length-take i bytes, h.within) in
       left_after xs i (n - m) (encodes front) front (omega (arith, ap length whole, length-append (take i bytes) (encodes front), first)) (ap (drop i) whole ∙ drop_at (take i bytes) (encodes front) i first)

@@ -16,9 +16,8 @@ use Rattle.tbr_flat.proofs.RepeatedTags.{take_after}
 module _ {A : Type 0} where
   -- characters alone
   pub all_glyphs : (cs : List ℕ) (ts : List A) → Each (λ i. is_glyph i ≡ true) (glyphs cs ts)
-  all_glyphs [] ts = tt
-  all_glyphs (c ∷ cs) [] = tt
   all_glyphs (c ∷ cs) (t ∷ ts) = (refl, all_glyphs cs ts)
+  all_glyphs _ _ = tt
 
   -- the columns of characters don't depend on their tags
   glyphs_width : (columns : ℕ → Option ℕ) (cs : List ℕ) (ts : List A) → length cs ≤ length ts → width_of_text columns cs ≡ items_width columns (glyphs cs ts)
@@ -29,7 +28,7 @@ module _ {A : Type 0} where
   pub front_columns : (columns : ℕ → Option ℕ) (p w : List ℕ) (ts : List A) (n : ℕ) → length ts ≡ length p + length w → width_of_text columns (take n w) ≡ items_width columns (take n (flat p w ts).word)
   front_columns columns p w ts n h =
       let us = drop (length p) ts in
-      glyphs_width columns (take n w) us (omega (arith, h, length-drop (length p) ts, length-take n w)) ∙ ap (items_width columns) (glyphs-take n w us)
+      rw (← glyphs-take n w us) (glyphs_width columns (take n w) us (omega (arith, h, length-drop (length p) ts, length-take n w)))
 
   pub word_columns : (columns : ℕ → Option ℕ) (p w : List ℕ) (ts : List A) → length ts ≡ length p + length w → width_of_text columns w ≡ items_width columns (flat p w ts).word
   word_columns columns p w ts h = glyphs_width columns w (drop (length p) ts) (omega (arith, h, length-drop (length p) ts))
@@ -54,32 +53,28 @@ module _ {A : Type 0} where
   trailing_left : (mid : List ℕ) (n : ℕ) (us : List A) → length mid + n ≤ length us → ((f : List ℕ) → mid ≡ f ++ 32 ∷ [] → ⊥) →
       without_trailing (glyphs (mid ++ replicate n 32) us) ≡ take (length mid) (glyphs (mid ++ replicate n 32) us)
   trailing_left [] n us h most = trailing_spaces_none n us (omega arith)
-  trailing_left (c ∷ mid) n [] h most = absurd (omega arith)
   trailing_left (c ∷ []) n (u ∷ us) h most =
       trailing_none (glyph c u) (glyphs (replicate n 32) us) false (trailing_spaces_none n us (omega arith)) (ne_eqb c 32 (λ e. most [] (ap (λ d. d ∷ []) e)))
-  trailing_left (c ∷ d ∷ mid) n (u ∷ []) h most = absurd (omega arith)
   trailing_left (c ∷ d ∷ mid) n (u ∷ v ∷ us) h most =
       trailing_some (glyph c u) (glyph d v) (glyphs (d ∷ mid ++ replicate n 32) (v ∷ us)) (take (length mid) (glyphs (mid ++ replicate n 32) us))
       (trailing_left (d ∷ mid) n (v ∷ us) (omega arith) (λ f e. most (c ∷ f) (ap (λ es. c ∷ es) e)))
+  trailing_left _ n _ h most = absurd (omega arith)
 
   -- white space in front is dropped, up to a place
   leading_left : (n : ℕ) (cs : List ℕ) (ts : List A) (front rest : List (Item A)) → Each (λ c. is_whitespace c ≡ true) (take n cs) → n ≤ length front →
       (n < length front → (c : ℕ) → (more : List ℕ) → drop n cs ≡ c ∷ more → is_whitespace c ≡ false) → glyphs cs ts ≡ front ++ rest → without_leading front ≡ drop n front
   leading_left zero cs ts [] rest h within most e = refl
-  leading_left zero [] ts (i ∷ front) rest h within most e = absurd (cc)
-  leading_left zero (c ∷ cs) [] (i ∷ front) rest h within most e = absurd (cc)
   leading_left zero (c ∷ cs) (t ∷ ts) (i ∷ front) rest h within most e =
       let first : i ≡ glyph c t = cc in
       let other : is_white_item i ≡ false = ap is_white_item first ∙ most (omega arith) c cs refl in
       rw other refl
   leading_left (suc n) cs ts [] rest h within most e = absurd (omega arith)
-  leading_left (suc n) [] ts (i ∷ front) rest h within most e = absurd (cc)
-  leading_left (suc n) (c ∷ cs) [] (i ∷ front) rest h within most e = absurd (cc)
   leading_left (suc n) (c ∷ cs) (t ∷ ts) (i ∷ front) rest h within most e =
       let first : i ≡ glyph c t = cc in
       let after : glyphs cs ts ≡ front ++ rest = cc in
       let white : is_white_item i ≡ true = ap is_white_item first ∙ h.0 in
       rw white (leading_left n cs ts front rest h.1 (omega arith) (λ l. most (omega arith)) after)
+  leading_left _ _ _ (i ∷ front) rest h within most e = absurd (cc)
 
   -- Tags are taken out in front of the last k ones.
   module _ (p w : List ℕ) (ts : List A) (n k : ℕ) (h : length ts ≡ length p + length w) where
@@ -93,8 +88,8 @@ module _ {A : Type 0} where
 
       pub spaces_placed : (flat q w left).placed ≡ take (length q) (flat p w ts).placed
       spaces_placed =
-          glyphs_kept q (length ts - (k + n)) ts (drop (length ts - k) ts) (omega (arith, h, count, spaces_len)) (omega arith) ∙ ap (λ cs. glyphs cs ts) (sym (ap (take (length q)) e ∙ take-append_seam q (replicate n 32)))
-          ∙ glyphs-take (length q) p ts
+          let front : take (length q) p ≡ q = ap (take (length q)) e ∙ take-append_seam q (replicate n 32) in
+          rw (glyphs_kept q (length ts - (k + n)) ts (drop (length ts - k) ts) (omega (arith, h, count, spaces_len)) (omega arith), ← glyphs-take (length q) p ts, front) refl
 
     -- the word loses its first characters
     module _ (within : n ≤ length w) (count : k ≡ length w - n) where
@@ -108,7 +103,7 @@ module _ {A : Type 0} where
       blanks_word =
           let len : length (take (length ts - (k + n)) ts) ≡ length p = omega (arith, first, h, length-take (length ts - (k + n)) ts) in
           let second : length ts - k ≡ length p + n = omega (arith, h, within, count) in
-          ap (glyphs (drop n w)) (drop_at (take (length ts - (k + n)) ts) (drop (length ts - k) ts) (length p) len ∙ ap (λ i. drop i ts) second ∙ sym (drop-drop n (length p) ts)) ∙ glyphs-drop n w (drop (length p) ts)
+          rw (drop_at (take (length ts - (k + n)) ts) (drop (length ts - k) ts) (length p) len, second, ← drop-drop n (length p) ts, glyphs-drop) refl
 
   -- a line loses the spaces at its end
   pub line_trimmed : (cs front : List ℕ) (ts : List A) (n most : ℕ) (before line : List (Item A)) → length cs ≤ length ts → n ≤ most → cs ≡ front ++ replicate n 32 →

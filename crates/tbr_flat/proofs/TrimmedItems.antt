@@ -30,12 +30,8 @@ module _ {A : Type 0} where
   ends_in_marker : (is : List (Item A)) (ms : List (ℕ × List ℕ)) → length is ≡ before_last ms → (marked is ms ≡ []) ⊎ ((front : List (Item A)) × (name : List ℕ) × (marked is ms ≡ front ++ marker name ∷ []))
   ends_in_marker is [] h = inl (nil_from_length is h)
   ends_in_marker is ((n, name) ∷ ms) h = elim (ends_in_marker (drop n is) ms (omega (arith, length-drop n is))) [
-    | inl none ↦ inr (take n is, name, ap (λ js. take n is ++ marker name ∷ js) none)
-    | inr (front, last, e) ↦ inr (
-      take n is ++ marker name ∷ front,
-      last,
-      ap (λ js. take n is ++ marker name ∷ js) e ∙ sym (append_assoc (take n is) (marker name ∷ front) (marker last ∷ [])),
-    )
+    | inl none ↦ inr (take n is, name, rw none refl)
+    | inr (front, last, e) ↦ inr (take n is ++ marker name ∷ front, last, rw (e, append_assoc) refl)
   ]
 
   last_part : (front before line : List (Item A)) (name : List ℕ) → front ++ marker name ∷ [] ≡ before ++ line → 0 < length line → (part : List (Item A)) × (line ≡ part ++ marker name ∷ [])
@@ -46,9 +42,7 @@ module _ {A : Type 0} where
   ]
 
   trailing_kept : (line part is : List (Item A)) (name : List ℕ) → line ≡ part ++ marker name ∷ [] → without_trailing (line ++ is) ≡ line ++ without_trailing is
-  trailing_kept line part is name e =
-      ap (λ ks. without_trailing (ks ++ is)) e ∙ ap without_trailing (append_assoc part (marker name ∷ []) is) ∙ trailing_after part name is ∙ sym (append_assoc part (marker name ∷ []) (without_trailing is))
-      ∙ ap (λ ks. ks ++ without_trailing is) (sym e)
+  trailing_kept line part is name e = rw (e, append_assoc, append_assoc, trailing_after) refl
 
   -- a part of a line that reaches over the last marker
   trailing_over : (is before line after : List (Item A)) (ms : List (ℕ × List ℕ)) → length is ≡ before_last ms → marked is ms ≡ before ++ line → without_trailing (line ++ after) ≡ line ++ without_trailing after
@@ -79,25 +73,20 @@ module _ {A : Type 0} where
         let back = drop (length is - last) is in
         let front = take (length is - last) is in
         let front_len : before_last m.markers ≤ length front = omega (arith, length-take (length is - last) is) in
-        let whole : marked front m.markers ++ back ≡ before ++ line = sym (marked_more front back m.markers front_len) ∙ ap (λ js. marked js m.markers) (take-append-drop (length is - last) is) ∙ e in
-        let left : marked new m.markers ≡ marked front m.markers ++ without_trailing back = ap (λ js. marked js m.markers) parted.1 ∙ marked_more front (without_trailing back) m.markers front_len in
+        let whole : marked front m.markers ++ back ≡ before ++ line = rw (← marked_more front back m.markers front_len, take-append-drop) e in
+        rw (parted.1, marked_more front (without_trailing back) m.markers front_len) (
         elim (cases_lt m.after most) [
           | inl over ↦ elim (cut_twice (marked front m.markers) back before line whole) [
             | inl (cut, first, second) ↦ absurd (omega (arith, parted.0, ap length second, length-append cut line))
             | inr (i, cut, first, second) ↦
-                let kept : without_trailing line ≡ (i ∷ cut) ++ without_trailing back =
-                ap without_trailing second ∙ trailing_over front before (i ∷ cut) back m.markers (omega (arith, length-take (length is - last) is)) first in (
-                  left ∙ ap (λ js. js ++ without_trailing back) first ∙ append_assoc before (i ∷ cut) (without_trailing back) ∙ ap (λ js. before ++ js) (sym kept),
-                  omega (arith, parted.0, parted.2, ap length kept, length-append (i ∷ cut) (without_trailing back), ap length second, length-append (i ∷ cut) back),
-                )
+                let kept = trailing_over front before (i ∷ cut) back m.markers (omega (arith, length-take (length is - last) is)) first in
+                rw (second, kept, first) (rw append_assoc refl, omega (arith, parted.0, parted.2, length-append (i ∷ cut) (without_trailing back), length-append (i ∷ cut) back))
           ]
           | inr within ↦
               let same : back ≡ line = same_back (marked front m.markers) back before line whole (omega (arith, parted.0)) in
-              let first : marked front m.markers ≡ before = append_cancel_right (marked front m.markers) before line (ap (λ js. marked front m.markers ++ js) (sym same) ∙ whole) in (
-                left ∙ ap (λ js. js ++ without_trailing back) first ∙ ap (λ js. before ++ without_trailing js) same,
-                omega (arith, parted.2, ap length (ap without_trailing same)),
-              )
-        ]
+              let first : marked front m.markers ≡ before = append_cancel_right (marked front m.markers) before line (rw same at whole) in
+              rw (first, ← same) (refl, omega (arith, parted.0, parted.2))
+        ])
 
   -- ---- at the beginning
 
@@ -134,10 +123,8 @@ module _ {A : Type 0} where
         go [] b h e len =
             let all : take b is ≡ is = take_all b is (omega (arith, h)) in
             let none : drop b is ≡ [] = drop_all b is (omega (arith, h)) in
-            e ∙ ap (λ js. without_leading js ++ drop b is) all ∙ ap (λ js. without_leading is ++ js) none ∙ append-nil (without_leading is)
+            rw (e, all, none, append-nil) refl
         go ((k, name) ∷ ms) b h e len =
             let front = without_leading (take k is) in
             let first : length front ≡ k - n = omega (arith, len) in
-            let taken : take (k - n) new ≡ front = ap (take (k - n)) e ∙ take_at front (drop k is) (k - n) first in
-            let rest : drop (k - n) new ≡ drop k is = ap (drop (k - n)) e ∙ drop_at front (drop k is) (k - n) first in
-            ap (λ js. js ++ marker name ∷ marked (drop (k - n) new) ms) taken ∙ ap (λ js. front ++ marker name ∷ marked js ms) rest ∙ sym (leading_marker (take k is) name (marked (drop k is) ms))
+            rw (e, take_at front (drop k is) (k - n) first, drop_at front (drop k is) (k - n) first, leading_marker (take k is) name (marked (drop k is) ms)) refl

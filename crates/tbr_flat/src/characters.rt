@@ -22,7 +22,6 @@ use tbr_tagged::{OutOfMemory, TaggedString};
 /// A tag is stored once for neighbouring characters, on however many lines and in however many words. Placing and
 /// handing out characters costs their own length. A contract sees the characters that are placed and not handed out
 /// yet, and those of the word.
-/// of the word.
 #[derive(Drop)]
 pub struct Characters<T> {
     placed: TextQueue,

@@ -26,7 +26,7 @@ use Rattle.tbr_kept_lines.specs.declared.kept_lines.Part.{Part}
 
 -- ---- whether there is a line
 
-some_after : {X : Type 0} (xs ys : List X) → is_some_list ys ≡ true → is_some_list (xs ++ ys) ≡ true
+pub some_after : {X : Type 0} (xs ys : List X) → is_some_list ys ≡ true → is_some_list (xs ++ ys) ≡ true
 some_after [] ys h = h
 some_after (x ∷ xs) ys h = refl
 
@@ -34,7 +34,7 @@ text_lines_some : {T : Type 0} (texts : List (List (Item T))) → is_some_list t
 text_lines_some [] h = h
 text_lines_some (is ∷ texts) h = refl
 
-part_some : {T : Type 0} (eq : T → T → Bool) (p : Part T) → HoldsPart eq p → is_some_list (part_seen p) ≡ true
+pub part_some : {T : Type 0} (eq : T → T → Bool) (p : Part T) → HoldsPart eq p → is_some_list (part_seen p) ≡ true
 part_some eq p h = some_after (map line_seen p.before.items) (text_lines p.ended) (text_lines_some p.ended h.some)
 
 some_in_front : {X : Type 0} (xs ys : List X) → is_some_list xs ≡ true → is_some_list (xs ++ ys) ≡ true
@@ -214,7 +214,7 @@ pub record HasPushed {T : Type 0} (eq : T → T → Bool) (before : List (Render
   pub same : AllZip (SameSeen eq) (map line_seen more) (text_lines given)
   pub merged : Each (IsMergedText eq) more
 
-text_lines_append : {T : Type 0} (xs ys : List (List (Item T))) → text_lines (xs ++ ys) ≡ text_lines xs ++ text_lines ys
+pub text_lines_append : {T : Type 0} (xs ys : List (List (Item T))) → text_lines (xs ++ ys) ≡ text_lines xs ++ text_lines ys
 text_lines_append [] ys = refl
 text_lines_append (x ∷ xs) ys = ap (λ ls. text x ∷ ls) (text_lines_append xs ys)
 

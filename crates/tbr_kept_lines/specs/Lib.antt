@@ -1,4 +1,5 @@
 pub mod Line
 pub mod LastBorder
 pub mod Text
+pub mod Prefixed
 pub mod KeptLines

@@ -1,20 +1,23 @@
 //! Lines as a renderer keeps them.
-ghost use Rattle.std.specs.Prelude.{◌≡◌, ◌≢◌, ◌++◌, ◌∷◌, [], List, None, Some, true, not, map, filter, length, IfOk, IfSome, OnErr, OnOk};
+ghost use Rattle.std.specs.Prelude.{◌≡◌, ◌≢◌, ◌+◌, ◌++◌, chars, ◌∷◌, [], List, None, Some, true, not, map, filter, length, IfOk, IfSome, OnErr, OnOk};
 ghost use Rattle.std.specs.List.{AllZip, AllByRecursion as Each, list_any};
 ghost use Rattle.tbr_tagged.specs.Copies.{CopiesAreEqual};
+ghost use Rattle.tbr_tagged.specs.Elements.{SameItems, IsMerged, items_of, text_items};
 ghost use Rattle.tbr_border.specs.RenderLine.{IsMergedText};
 ghost use Rattle.tbr_wrap.specs.Runs.{is_some_list};
 ghost use Rattle.tbr_tagged.specs.View.{chars_of};
 ghost use Rattle.tbr_border.specs.declared.RenderLine.TheVariants.{Line as Rule};
-ghost use Rattle.tbr_kept_lines.specs.Line.{line_seen, line_has_content, text_lines, SameSeen};
-ghost use Rattle.tbr_kept_lines.specs.KeptLines.{parts_seen, HoldsPart};
+ghost use Rattle.tbr_kept_lines.specs.Line.{text, line_seen, line_has_content, text_lines, SameSeen};
+ghost use Rattle.tbr_kept_lines.specs.KeptLines.{part_seen, parts_seen, HoldsPart};
 ghost use Rattle.tbr_kept_lines.specs.LastBorder as model;
 ghost use Rattle.tbr_kept_lines.specs.Text.{line_text, lines_text};
+ghost use Rattle.tbr_kept_lines.specs.Prefixed.{as_text, prefixed_lines, Appends};
 
+use crate::prefixed_lines::{PrefixedLines, put_in_front};
 use std::alloc::Global;
 use std::marker::Model;
 use std::{fmt, mem};
-use tbr_lines::{BorderHoriz, EndedLines, OutOfMemory, RenderLine};
+use tbr_lines::{BorderHoriz, EndedLines, OutOfMemory, RenderLine, TaggedLine};
 
 /// Lines, each kept by itself or, where a block has ended many, in the block's one text. A contract sees their list.
 #[derive(Drop)]
@@ -31,9 +34,9 @@ pub struct KeptLines<T: Eq> {
 
 /// Lines, and after them those that a block has ended.
 #[derive(Drop)]
-pub struct Part<T> {
+pub struct Part<T: Eq> {
     before: Vec<RenderLine<T>>,
-    ended: EndedLines<T>,
+    ended: PrefixedLines<T>,
 }
 
 impl<T: Eq> Model for KeptLines<T> {
@@ -68,6 +71,13 @@ impl<T: Eq> KeptLines<T> {
         ensures { result ≡ not (is_some_list self.now) }
     {
         self.above.is_empty() && self.last.is_empty()
+    }
+
+    /// How many lines there are. It refuses where they pass `usize`.
+    pub fn len(&self) -> Result<usize, OutOfMemory>
+        ensures { IfOk result (λ len. len ≡ length self.now) }
+    {
+        add(count_lines(&self.above)?, self.last.len())
     }
 
     /// Whether a line has content: a text with a character, or a border without holes.
@@ -115,6 +125,14 @@ impl<T: Eq + Drop> KeptLines<T> {
         requires { is_some_list ended ≡ true }
         ensures { OnOk result (self.new ≡ self.old ++ text_lines ended) }
     {
+        self.push_part(PrefixedLines::of(ended))
+    }
+
+    /// Adds lines that a block has ended, at least one, after the others. Where memory is refused lines are lost.
+    fn push_part(&mut self, ended: PrefixedLines<T>) -> Result<(), OutOfMemory>
+        requires { is_some_list ended ≡ true }
+        ensures { OnOk result (self.new ≡ self.old ++ text_lines ended) }
+    {
         let has_content = self.has_content() || ended.has_character();
         let before = mem::replace(&mut self.last, Vec::new(self.alloc));
         self.with_content = 0;
@@ -147,6 +165,72 @@ impl<T: Eq + Drop> KeptLines<T> {
 }
 
 impl<T: Eq + Clone + Drop> KeptLines<T> {
+    /// Adds other lines after these, as texts after prefixes, which are under copies of a tag: the first one after its
+    /// own, and each other one after that of the others. A border's cells are under a copy of the tag too. Where memory
+    /// is refused lines are lost.
+    ///
+    /// Lines in a block's text stay there, and their prefixes are kept beside it.
+    pub fn append_prefixed<'a>(
+        &mut self,
+        other: KeptLines<T>,
+        first: &'a str,
+        others: &'a str,
+        tag: &T,
+    ) -> Result<(), OutOfMemory>
+        requires { CopiesAreEqual T.is_clone T.eq }
+        ensures { let prefixed = prefixed_lines tag.now (chars first.now) (chars others.now) other in
+            OnOk result (Appends T.eq self.old prefixed self.new) }
+    {
+        let KeptLines { above, last, .. } = other;
+        let mut next = first;
+        for part in above {
+            self.append_part(part, next, others, tag)?;
+            next = others;
+        }
+        self.extend_prefixed(last, next, others, tag)
+    }
+
+    /// Adds the lines of a part, as texts after prefixes.
+    fn append_part<'a>(
+        &mut self,
+        part: Part<T>,
+        first: &'a str,
+        others: &'a str,
+        tag: &T,
+    ) -> Result<(), OutOfMemory>
+        requires copies { CopiesAreEqual T.is_clone T.eq }
+        requires part { HoldsPart T.eq part }
+        ensures { let prefixed = prefixed_lines tag.now (chars first.now) (chars others.now) (part_seen part) in
+            OnOk result (Appends T.eq self.old prefixed self.new) }
+    {
+        let next = if part.before.is_empty() {
+            first
+        } else {
+            others
+        };
+        self.extend_prefixed(part.before, first, others, tag)?;
+        let ended = part.ended.put_in_front(self.alloc, next, others, tag)?;
+        self.push_part(ended)
+    }
+
+    /// Adds lines as texts after prefixes.
+    fn extend_prefixed<'a>(
+        &mut self,
+        mut lines: Vec<RenderLine<T>>,
+        first: &'a str,
+        others: &'a str,
+        tag: &T,
+    ) -> Result<(), OutOfMemory>
+        requires copies { CopiesAreEqual T.is_clone T.eq }
+        requires lines { Each (IsMergedText T.eq) lines.items }
+        ensures { let seen = map line_seen lines.items in
+            let prefixed = prefixed_lines tag.now (chars first.now) (chars others.now) seen in
+            OnOk result (Appends T.eq self.old prefixed self.new) }
+    {
+        put_prefixes(self.alloc, &mut lines, first, others, tag)?;
+        self.extend(lines)
+    }
+
     /// All lines, each by itself, of pieces that are the longest stretches under equal tags. Where memory is refused all
     /// are lost.
     pub fn into_vec(self) -> Result<Vec<RenderLine<T>>, OutOfMemory>
@@ -173,6 +257,25 @@ fn count_content<T: Eq>(lines: &[RenderLine<T>]) -> usize
         count += usize::from(line.has_content());
     }
     count
+}
+
+/// How many lines parts have. It refuses where they pass `usize`.
+fn count_lines<T: Eq>(parts: &[Part<T>]) -> Result<usize, OutOfMemory>
+    ensures { IfOk result (λ count. count ≡ length (parts_seen parts.now)) }
+{
+    let mut count = 0usize;
+    for part in parts {
+        count = add(count, part.before.len())?;
+        count = add(count, part.ended.len())?;
+    }
+    Ok(count)
+}
+
+/// The sum of two numbers. It refuses where that passes `usize`.
+fn add(a: usize, b: usize) -> Result<usize, OutOfMemory>
+    ensures { IfOk result (λ sum. sum ≡ a + b) }
+{
+    a.checked_add(b).ok_or(OutOfMemory)
 }
 
 /// Takes the last line, if it is a border.
@@ -219,44 +322,86 @@ fn lines_of<T: Eq + Clone + Drop>(
     let mut lines = Vec::new(alloc);
     for part in parts {
         append_all(&mut lines, part.before)?;
-        push_lines(&mut lines, part.ended)?;
+        part.ended.push_to(&mut lines)?;
     }
     Ok(lines)
 }
 
-/// Adds lines after others. Where there are no others, none is moved. Where memory is refused the others stay.
-fn append_all<T: Drop>(
-    lines: &mut Vec<RenderLine<T>>,
-    mut more: Vec<RenderLine<T>>,
-) -> Result<(), OutOfMemory>
-    ensures ok { OnOk result (lines.new.items ≡ lines.old.items ++ more.items) }
-    ensures err { OnErr result (lines.new.items ≡ lines.old.items) }
+/// Adds items after others. Where there are no others, none is moved. Where memory is refused the others stay.
+fn append_all<X: Drop>(items: &mut Vec<X>, mut more: Vec<X>) -> Result<(), OutOfMemory>
+    ensures ok { OnOk result (items.new.items ≡ items.old.items ++ more.items) }
+    ensures err { OnErr result (items.new.items ≡ items.old.items) }
 {
-    if lines.is_empty() {
-        *lines = more;
+    if items.is_empty() {
+        *items = more;
         return Ok(());
     }
-    lines.append(&mut more)?;
+    items.append(&mut more)?;
     Ok(())
 }
 
-/// Adds the lines that a block has ended, each by itself.
-fn push_lines<T: Eq + Clone + Drop>(
-    lines: &mut Vec<RenderLine<T>>,
-    mut ended: EndedLines<T>,
+/// Puts a prefix in front of the first line, and another one in front of each other line, under copies of the tag.
+fn put_prefixes<'a, T: Eq + Clone + Drop>(
+    alloc: Global,
+    lines: &mut [RenderLine<T>],
+    first: &'a str,
+    others: &'a str,
+    tag: &T,
 ) -> Result<(), OutOfMemory>
-    requires faithful { CopiesAreEqual T.is_clone T.eq }
-    ensures { OnOk result ((more : List (RenderLine T)) × (lines.new.items ≡ lines.old.items ++ more)
-        × AllZip (SameSeen T.eq) (map line_seen more) (text_lines ended) × Each (IsMergedText T.eq) more) }
+    requires copies { CopiesAreEqual T.is_clone T.eq }
+    requires lines { Each (IsMergedText T.eq) lines.old }
+    ensures seen { let seen = map line_seen lines.old in
+        let prefixed = prefixed_lines tag.now (chars first.now) (chars others.now) seen in
+        OnOk result (AllZip (SameSeen T.eq) (map line_seen lines.new) prefixed) }
+    ensures merged { OnOk result (Each (IsMergedText T.eq) lines.new) }
 {
-    while let Some(line) = ended.next_line()? {
-        lines.push(RenderLine::Text(line))?;
+    let mut next = first;
+    for line in lines.iter_mut() {
+        put_prefix(alloc, line, next, tag)?;
+        next = others;
     }
     Ok(())
+}
+
+/// Puts a prefix in front of a line, under a copy of the tag. A border becomes text. Where memory is refused the line is
+/// lost.
+fn put_prefix<T: Eq + Clone + Drop>(
+    alloc: Global,
+    line: &mut RenderLine<T>,
+    prefix: &str,
+    tag: &T,
+) -> Result<(), OutOfMemory>
+    requires copies { CopiesAreEqual T.is_clone T.eq }
+    requires merged { IsMergedText T.eq line.old }
+    ensures seen { let shown = as_text tag.now (line_seen line.old) in
+        OnOk result (SameSeen T.eq (line_seen line.new) (text (text_items (chars prefix.now) tag.now ++ shown))) }
+    ensures merged { OnOk result (IsMergedText T.eq line.new) }
+{
+    if let RenderLine::Text(text) = line {
+        return put_in_front(text, prefix, tag);
+    }
+    let border = mem::replace(line, RenderLine::Text(TaggedLine::new(alloc)));
+    let mut text = text_of(border, tag)?;
+    put_in_front(&mut text, prefix, tag)?;
+    *line = RenderLine::Text(text);
+    Ok(())
+}
+
+/// A line as text: a border's cells are under a copy of the tag.
+fn text_of<T: Eq + Clone + Drop>(line: RenderLine<T>, tag: &T) -> Result<TaggedLine<T>, OutOfMemory>
+    requires copies { CopiesAreEqual T.is_clone T.eq }
+    requires merged { IsMergedText T.eq line }
+    ensures items { IfOk result (λ text. SameItems T.eq (items_of text) (as_text tag.now (line_seen line))) }
+    ensures merged { IfOk result (λ text. IsMerged T.eq text) }
+{
+    match line {
+        RenderLine::Text(text) => Ok(text),
+        RenderLine::Line(border) => border.into_tagged_line_with(tag),
+    }
 }
 
 /// Appends the text of each line of parts, and a newline to each.
-fn append_parts<T: Drop>(text: &mut String, parts: Vec<Part<T>>) -> Result<(), OutOfMemory>
+fn append_parts<T: Eq + Drop>(text: &mut String, parts: Vec<Part<T>>) -> Result<(), OutOfMemory>
     ensures { OnOk result (chars_of text.new ≡ chars_of text.old ++ lines_text (parts_seen parts.items)) }
 {
     for part in parts {

@@ -4,3 +4,4 @@
 pub use kept_lines::KeptLines;
 
 mod kept_lines;
+mod prefixed_lines;

@@ -1,23 +1,18 @@
 -- Of what commands are made that are done, or for which something is too narrow.
-use Rattle.std.proofs.Common.{◌≡◌, ℕ, Bool, true, false, if◌then◌else◌, Option, None, Some, Result, Ok, Err, List, [], ◌∷◌, refl, sym, ap, subst, ◌∙◌}
+use Rattle.std.proofs.Common.{◌≡◌, ℕ, Bool, true, false, if◌then◌else◌, Option, None, Some, Result, Ok, Err, List, [], ◌∷◌, refl, sym, ap, subst, arith}
 use Rattle.tbr_tagged.specs.declared.CellAlign.{CellAlign}
 use Rattle.tbr_tagged.specs.Outcome.{Outcome, done, refused}
-use Rattle.tbr_tagged.specs.declared.Error.TheVariants as E
 use Rattle.tbr_decor.specs.Decoration.{Decoration}
 use Rattle.text_block_renderer.specs.Decorated.{sub_renderer}
 use Rattle.tbr_script.specs.declared.error.RunError.{RunError}
-use Rattle.tbr_script.specs.declared.error.RunError.TheVariants.{TooNarrow, OutOfMemory, NotACommand, NothingToEnd, RowDoesNotFit}
+use Rattle.tbr_script.specs.declared.error.RunError.TheVariants.{TooNarrow, OutOfMemory, NotACommand, NothingToEnd}
 use Rattle.tbr_stack.specs.Stack.{Stack, top_of, pushed, below}
 use Rattle.tbr_program.specs.declared.opened.Opener.{Opener}
 use Rattle.tbr_program.specs.declared.opened.Opener.TheVariants.{Sub, Cell}
-use Rattle.tbr_rows.specs.Cells.{row_fits}
-use Rattle.text_block_renderer.specs.Rows.{spots_of}
-use Rattle.tbr_stack.specs.Top.{in_top}
 use Rattle.tbr_stack.specs.Links.{open_links}
 use Rattle.tbr_commands.specs.Command.{Command, ask, link, end_link, sub, append, cell, end_cell, row, vertical_row}
-use Rattle.tbr_commands.specs.Begun.{ends_nothing, counted}
-use Rattle.tbr_program.specs.Progress.{Pending, Opened, nothing_pending, with_cell, without_cells}
-use Rattle.tbr_program.specs.Commands.{answered, on_top, if_some_are, with_stack, level_opened, ended_as, level_ended, Top, Place, Made, block_joined, joins, waits, request_made, row_made, after_command}
+use Rattle.tbr_program.specs.Progress.{Pending, Opened, nothing_pending, with_cell}
+use Rattle.tbr_program.specs.Commands.{answered, on_top, if_some_are, with_stack, level_opened, ended_as, level_ended, Top, Place, Made, block_joined, joins, waits, after_command}
 
 -- It is done, or something is too narrow for it. What a command asks for first holds then.
 abbrev pub IsLate : {X : Type 0} → Result X RunError → Type 0
@@ -63,22 +58,12 @@ module _ {X : Type 0} where
   answer_done (done y) x is = ap (λ z. done z) (sym (one_ok y x is))
   answer_done (refused e) x is = absurd (let no : ⊥ = cc in no)
 
-  pub answer_narrow : (o : Outcome X) → answered o ≡ Err TooNarrow → o ≡ refused E.TooNarrow
-  answer_narrow (done y) is = absurd (let no : ⊥ = cc in no)
-  answer_narrow (refused E.TooNarrow) is = refl
-  answer_narrow (refused E.OutOfMemory) is = absurd (let no : ⊥ = cc in no)
-
 module _ {D M : Type 0} (columns : ℕ → Option ℕ) (decoration : Decoration D M) where
   -- ---- the stack
 
   pub stack_done : (p : Place columns decoration) (made : Outcome (Stack (Top columns decoration))) (q : Place columns decoration) → with_stack columns decoration p made ≡ Ok q → (s : Stack (Top columns decoration)) × (made ≡ done s) × (q ≡ record p { stack = s })
   stack_done p (done s) q is = (s, refl, one_ok (record p { stack = s }) q is)
   stack_done p (refused e) q is = absurd (let no : ⊥ = cc in no)
-
-  pub stack_narrow : (p : Place columns decoration) (made : Outcome (Stack (Top columns decoration))) → with_stack columns decoration p made ≡ Err TooNarrow → made ≡ refused E.TooNarrow
-  stack_narrow p (done s) is = absurd (let no : ⊥ = cc in no)
-  stack_narrow p (refused E.TooNarrow) is = refl
-  stack_narrow p (refused E.OutOfMemory) is = absurd (let no : ⊥ = cc in no)
 
   -- ---- levels
 
@@ -115,24 +100,14 @@ module _ {D M : Type 0} (columns : ℕ → Option ℕ) (decoration : Decoration 
 
   module _ (number : ℕ) (p : Place columns decoration) (levels : List (Opened D M (List M))) (m : Made columns decoration) (late : IsLate m) where
     pub block_ends : (first others : List ℕ) → level_ended columns decoration number (joins columns decoration first others) p levels ≡ m → Ends (block_joined columns decoration first others) p Sub levels m
-    block_ends first others is =
-        let (by, make, ends, parts) = level_ends number (joins columns decoration first others) p levels m late is in go by make ends parts
-      where
-        go : (by : Opener) (make : Top columns decoration → Place columns decoration → Made columns decoration) → joins columns decoration first others by ≡ Some make → Ends make p by levels m → Ends (block_joined columns decoration first others) p Sub levels m
-        go Sub make ends parts = subst (λ k. Ends k p Sub levels m) (let same : make ≡ block_joined columns decoration first others = cc in same) parts
-        go (Cell span align) make ends parts = absurd (let no : ⊥ = cc in no)
+    block_ends first others is = grind (arith, level_ends)
 
     -- the cell that waits then
     abbrev pub waiting : ℕ → CellAlign → Top columns decoration → Place columns decoration → Made columns decoration
     waiting span align inside q = Ok (record q { pending = with_cell q.pending inside span align })
 
     pub cell_ends : level_ended columns decoration number (waits columns decoration) p levels ≡ m → (span : ℕ) × (align : CellAlign) × Ends (waiting span align) p (Cell span align) levels m
-    cell_ends is =
-        let (by, make, ends, parts) = level_ends number (waits columns decoration) p levels m late is in go by make ends parts
-      where
-        go : (by : Opener) (make : Top columns decoration → Place columns decoration → Made columns decoration) → waits columns decoration by ≡ Some make → Ends make p by levels m → (span : ℕ) × (align : CellAlign) × Ends (waiting span align) p (Cell span align) levels m
-        go Sub make ends parts = absurd (let no : ⊥ = cc in no)
-        go (Cell span align) make ends parts = (span, align, subst (λ k. Ends k p (Cell span align) levels m) (let same : make ≡ waiting span align = cc in same) parts)
+    cell_ends is = grind (arith, level_ends)
 
   -- ---- the number of a line
 
@@ -140,9 +115,7 @@ module _ {D M : Type 0} (columns : ℕ → Option ℕ) (decoration : Decoration 
   module _ (one other : ℕ) (p : Place columns decoration) (m : Made columns decoration) (late : IsLate m) where
     ends_again : (end : Option (Top columns decoration → Place columns decoration → Made columns decoration)) (pending : Pending D M (List M)) (others : List (Opened D M (List M))) → ended_as columns decoration one end p pending others ≡ m → ended_as columns decoration other end p pending others ≡ m
     ends_again None pending others is = absurd (late_as (Err (NothingToEnd one)) m late is)
-    ends_again (Some make) pending others is =
-        let (none, after) = none_are p.pending.cells (NotACommand one) _ m (λ no. no) late is in
-        ap (λ cells. if_some_are cells (Err (NotACommand other)) (on_top (top_of p.stack) (λ inside. make inside (record { stack = below p.stack; pending = pending; opened = others })))) none ∙ after
+    ends_again (Some make) pending others is = grind (arith, none_are)
 
     level_again : (end : Opener → Option (Top columns decoration → Place columns decoration → Made columns decoration)) (levels : List (Opened D M (List M))) → level_ended columns decoration one end p levels ≡ m → level_ended columns decoration other end p levels ≡ m
     level_again end [] is = absurd (late_as (Err (NothingToEnd one)) m late is)
@@ -153,19 +126,12 @@ module _ {D M : Type 0} (columns : ℕ → Option ℕ) (decoration : Decoration 
     link_again (place ∷ places) made is = is
 
     pub any_line : (command : Command) → after_command columns decoration one command p ≡ m → after_command columns decoration other command p ≡ m
-    any_line (ask request) is =
-        let (some, made) = unless (ends_nothing p.pending.begun request) (NothingToEnd one) _ m (λ no. no) late is in
-        ap (λ b. if b then Err (NothingToEnd other) else with_stack columns decoration (record p { pending = record p.pending { begun = counted p.pending.begun request } }) (in_top (request_made columns decoration request) p.stack)) some ∙ made
+    any_line (ask request) is = grind (arith, unless)
     any_line (link target) is = is
     any_line end_link is = link_again (open_links p.stack) _ is
     any_line (sub width) is = is
     any_line (append first others) is = level_again (joins columns decoration first others) p.opened is
     any_line (cell width span align) is = is
     any_line end_cell is = level_again (waits columns decoration) p.opened is
-    any_line (row collapse) is =
-        let (top, there, made) = of_top (top_of p.stack) _ m late is in
-        let (fits, lays) = if_so (row_fits top.hanging (spots_of columns p.pending.cells)) (RowDoesNotFit one) _ m (λ no. no) late made in
-        let laid : Made columns decoration = with_stack columns decoration (record p { pending = without_cells p.pending }) (in_top (row_made columns decoration p.pending collapse) p.stack) in
-        ap (λ o. on_top o (λ (r : Top columns decoration). if row_fits r.hanging (spots_of columns p.pending.cells) then laid else Err (RowDoesNotFit other))) there
-        ∙ ap (λ (b : Bool). if b then laid else Err (RowDoesNotFit other)) fits ∙ lays
+    any_line (row collapse) is = grind (arith, of_top, if_so)
     any_line vertical_row is = is

@@ -1,19 +1,16 @@
 -- Prefixes that an iterator gives, and lines after them.
-use Rattle.std.proofs.Common.{◌≡◌, ◌⊎◌, ◌<◌, ℕ, zero, suc, List, ◌∷◌, map, fold, length, take, replicate, Option, None, chars, refl, sym, ap, ◌∙◌, inl, inr, arith}
+use Rattle.std.proofs.Common.{◌≡◌, ◌⊎◌, ◌<◌, ℕ, zero, suc, List, ◌∷◌, map, length, take, replicate, Option, None, chars, refl, sym, ap, ◌∙◌, inl, inr, arith}
 use Rattle.std.proofs.lemmas.List.{map-id, take-map, take_all}
 use Rattle.std.proofs.lemmas.Iterator.{YieldsList}
 use Rattle.std.proofs.lemmas.Iterator.Consumers.{YieldsList-so_far, YieldsList-end}
 use Rattle.tbr_tagged.specs.Outcome.{done}
 use Rattle.tbr_tagged.proofs.Outcomes.{live_done, live_goes}
 use Rattle.tbr_decor.specs.Decoration.{Decoration}
-use Rattle.tbr_renderer.specs.Outcomes.{changed}
 use Rattle.tbr_renderer.proofs.OutcomeParts.{done_before, taking_done}
-use Rattle.text_block_renderer.specs.Renderer.{Renderer, with_line}
+use Rattle.text_block_renderer.specs.Renderer.{Renderer}
 use Rattle.text_block_renderer.specs.Line.{Line}
-use Rattle.text_block_renderer.specs.Flush.{after_flush}
 use Rattle.text_block_renderer.specs.Appended.{GivesFirst, texts_of, handed_out}
-use Rattle.tbr_renderer.specs.Appended.{prefixed}
-use Rattle.text_block_renderer.specs.Calls.{new_line, append_subrender, after, Does}
+use Rattle.text_block_renderer.specs.Calls.{append_subrender, Does}
 use Rattle.tbr_program.specs.Prefixes.{others, prefixes}
 use Rattle.tbr_program.specs.Commands.{block_made}
 
@@ -46,8 +43,4 @@ module _ {S B : Type 0} {steps : S → Option B → S → Type 0} {s : S} where
 module _ {D M : Type 0} (columns : ℕ → Option ℕ) (decoration : Decoration D M) (first next : List ℕ) (inside r s : Renderer D M (List M)) where
   -- what is appended comes after a flush
   pub block_takes : (lines : List (Line (List M))) → handed_out columns inside ≡ done lines → Does columns decoration (append_subrender (prefixes first next (length lines)) lines) r s → block_made columns decoration first next inside r ≡ done s
-  block_takes lines gives does =
-      let add : Renderer D M (List M) → Renderer D M (List M) = λ m. fold (with_line columns) m (prefixed r.annotations (prefixes first next (length lines)) lines) in
-      let (live, makes) = live_done r.failure (changed add (after_flush columns r)) s does in
-      let (m, flush, is) = done_before add (after_flush columns r) s makes in
-      taking_done (after columns decoration new_line) (handed_out columns inside) (λ given. after columns decoration (append_subrender (prefixes first next (length given)) given)) r m lines (live_goes r.failure (after_flush columns r) live ∙ flush) gives ∙ does
+  block_takes lines gives does = grind (arith, live_done, done_before, taking_done, live_goes)

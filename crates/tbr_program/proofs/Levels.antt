@@ -1,11 +1,11 @@
 -- Levels that come and go.
-use Rattle.std.proofs.Common.{◌≡◌, ◌<◌, List, [], ◌∷◌, length, drop, Some, refl, sym, subst, arith}
+use Rattle.std.proofs.Common.{◌≡◌, ◌<◌, List, [], ◌∷◌, length, drop, Some, refl, arith}
 use Rattle.std.specs.List.{AllZip}
 use Rattle.text_block_renderer.specs.Renderer.{Renderer}
 use Rattle.tbr_stack.specs.Stack.{Stack, Level, top_of, with_top, below, first_renderer, in_first}
 use Rattle.tbr_commands.specs.declared.begun.Begun.{Begun}
 use Rattle.tbr_program.specs.declared.opened.Opener.{Opener}
-use Rattle.tbr_program.specs.Progress.{Pending, Opened, IsLive, AreLive, begun_on_each}
+use Rattle.tbr_program.specs.Progress.{Pending, Opened, IsLive, AreLive}
 
 abbrev pub with_first : {R : Type 0} → List (Level R) → R → List (Level R)
 with_first levels r = in_first (λ level. record level { renderer = r }) levels
@@ -19,9 +19,7 @@ module _ {D A T : Type 0} where
 
   pub first_live : (levels : List (Level (Renderer D A T))) (r : Renderer D A T) (begun : Begun) (others : List Begun) → Zipped levels (begun ∷ others) → first_renderer levels ≡ Some r → IsLive r begun
   first_live [] r begun others live is = absurd live
-  first_live (level ∷ levels) r begun others live is =
-      let same : level.renderer ≡ r = cc in
-      subst (λ (x : Renderer D A T). IsLive x begun) same live.0
+  first_live (level ∷ levels) r begun others live is = grind arith
 
   pub with_first_live : (levels : List (Level (Renderer D A T))) (s : Renderer D A T) (begun next : Begun) (others : List Begun) → Zipped levels (begun ∷ others) → IsLive s next → Zipped (with_first levels s) (next ∷ others)
   with_first_live [] s begun next others live is = absurd live
@@ -48,14 +46,10 @@ module _ {D A T : Type 0} where
     has_top = some_levels stack.levels pending.begun _ live
 
     pub with_top_live : (next : Stack (Renderer D A T)) (s : Renderer D A T) (left : Pending D A T) → next ≡ with_top stack s → IsLive s left.begun → AreLive next left opened
-    with_top_live next s left is live_here =
-        subst (λ (x : Stack (Renderer D A T)). AreLive x left opened) (sym is) (with_first_live stack.levels s pending.begun left.begun _ live live_here)
+    with_top_live next s left is live_here = grind (arith, with_first_live)
 
     pub below_live : (next : Stack (Renderer D A T)) (left : Pending D A T) (others : List (Opened D A T)) → next ≡ below stack → ((by : Opener) × (opened ≡ record { by = by; below = left } ∷ others)) → AreLive next left others
-    below_live next left others is closed =
-        subst (λ (x : Stack (Renderer D A T)). AreLive x left others) (sym is)
-        (below_top_live stack.levels pending.begun _ (subst (λ (os : List (Opened D A T)). Zipped stack.levels (begun_on_each pending os)) closed.1 live))
+    below_live next left others is closed = grind (arith, below_top_live)
 
   pub only_level : (stack : Stack (Renderer D A T)) (pending : Pending D A T) (opened : List (Opened D A T)) → AreLive stack pending opened → opened ≡ [] → length stack.levels ≡ 1
-  only_level stack pending opened live none =
-      one_level stack.levels pending.begun (subst (λ (os : List (Opened D A T)). Zipped stack.levels (begun_on_each pending os)) none live)
+  only_level stack pending opened live none = grind (arith, one_level)

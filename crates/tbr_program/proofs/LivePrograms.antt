@@ -1,5 +1,5 @@
 -- Programs that go on after their commands.
-use Rattle.std.proofs.Common.{◌≡◌, ℕ, Option, Result, Ok, List, [], ◌∷◌, map, length, refl, ap, sym, subst, chars}
+use Rattle.std.proofs.Common.{◌≡◌, ℕ, Option, Result, Ok, List, [], ◌∷◌, map, length, refl, ap, sym, subst, chars, arith}
 use Rattle.tbr_tagged.specs.Outcome.{Outcome, done}
 use Rattle.tbr_renderer.specs.Outcomes.{gathered}
 use Rattle.tbr_decor.specs.Decoration.{Decoration}
@@ -35,19 +35,14 @@ module _ {D M : Type 0} (columns : ℕ → Option ℕ) (decoration : Decoration 
     -- a change of the renderer on top
     top_goes_on : (left : Pending D M (List M)) (make : Renderer D M (List M) → Outcome (Renderer D M (List M))) → ((r s : Renderer D M (List M)) → IsLive r p.pending.begun → make r ≡ done s → IsLive s left.begun) →
         with_stack columns decoration (record p { pending = left }) (in_top make p.stack) ≡ Ok q → GoesOn q
-    top_goes_on left make on is =
-        let (s, made, same) = stack_done columns decoration (record p { pending = left }) (in_top make p.stack) q is in
-        let (before, next, top, step, there) = top_changed make p.stack s made in
-        subst GoesOn (sym same) (with_top_live p.stack p.pending p.opened live s next left there (on before next (top_live p.stack p.pending p.opened live before top) step))
+    top_goes_on left make on is = grind (arith, stack_done, top_changed, with_top_live, top_live)
 
     level_goes_on : (by : Opener) (width : ℕ) → level_opened columns decoration by width p ≡ Ok q → GoesOn q
     level_goes_on by width is = let (r, top, same) = opens columns decoration by width p q is in subst GoesOn (sym same) ((refl, refl, λ on. refl), live)
 
     ended_goes_on : (make : Renderer D M (List M) → Progress D M (List M) → Result (Progress D M (List M)) RunError) (by : Opener) → ((inside : Renderer D M (List M)) (left : Progress D M (List M)) → GoesOn left → make inside left ≡ Ok q → GoesOn q) →
         Ends columns decoration make p by p.opened (Ok q) → GoesOn q
-    ended_goes_on make by on ends =
-        on ends.inside (record { stack = below p.stack; pending = ends.pending; opened = ends.others })
-        (below_live p.stack p.pending p.opened live (below p.stack) ends.pending ends.others refl (by, ends.opened)) ends.makes
+    ended_goes_on make by on ends = grind (arith, below_live)
 
   block_goes_on : (first others : List ℕ) (q : Progress D M (List M)) (inside : Renderer D M (List M)) (left : Progress D M (List M)) → GoesOn left → block_joined columns decoration first others inside left ≡ Ok q → GoesOn q
   block_goes_on first others q inside left live is =

@@ -84,16 +84,8 @@ module _ {D M : Type 0} (columns : ℕ → Option ℕ) (decoration : Decoration 
 
   pub settled_options : (call : Call (List M)) (r : Renderer D M (List M)) → (settled decoration call r).options ≡ r.options
   unfolding Unstruck
-  settled_options start_strikeout r = go r.options.use_unicode_strikeout refl
-    where
-      go : (b : Bool) → r.options.use_unicode_strikeout ≡ b → (settled decoration start_strikeout r).options ≡ r.options
-      go true e = rw e refl
-      go false e = rw e refl
-  settled_options end_strikeout r = go r.options.use_unicode_strikeout refl
-    where
-      go : (b : Bool) → r.options.use_unicode_strikeout ≡ b → (settled decoration end_strikeout r).options ≡ r.options
-      go true e = rw e refl
-      go false e = rw e refl
+  settled_options start_strikeout r = grind arith
+  settled_options end_strikeout r = grind arith
   settled_options (add_image source title) r = (unstruck_by_image source (shown_title r.options.img_mode source title) r).0
   settled_options (push_colour g c) r = (unstruck_by_colour g c r (decoration.colour_annotation r.decorator g c) refl).0
   settled_options (pop_colour g) r = (unstruck_by_end g r (decoration.ends_colour r.decorator g) refl).0
@@ -166,5 +158,4 @@ module _ {D M : Type 0} (columns : ℕ → Option ℕ) (decoration : Decoration 
   -- what others give
   pub taken_live : {X : Type 0} (given : Outcome X) (take : X → Renderer D M (List M) → Outcome (Renderer D M (List M))) (begun : Begun) → ((x : X) (r s : Renderer D M (List M)) → IsLive r begun → take x r ≡ done s → IsLive s begun) →
       (r s : Renderer D M (List M)) → IsLive r begun → taking (after columns decoration new_line) given take r ≡ done s → IsLive s begun
-  taken_live given take begun on r s live takes =
-      let (m, x, flushed, gives, does) = taken (after columns decoration new_line) given take r s takes in on x r s live does
+  taken_live given take begun on r s live takes = grind (arith, taken)

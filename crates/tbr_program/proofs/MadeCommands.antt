@@ -1,5 +1,5 @@
 -- What commands make of a program, by what its renderers leave.
-use Rattle.std.proofs.Common.{◌≡◌, ◌≢◌, ◌⊎◌, inl, inr, ℕ, Bool, true, false, if◌then◌else◌, Option, None, Some, Result, Ok, Err, List, [], ◌∷◌, ◌++◌, map, drop, length, chars, refl, sym, ap, ◌∙◌}
+use Rattle.std.proofs.Common.{◌≡◌, ◌≢◌, ◌⊎◌, ℕ, Bool, true, false, if◌then◌else◌, Option, None, Some, Result, Ok, Err, List, [], ◌∷◌, map, drop, length, chars, refl, sym, ap, ◌∙◌, arith, rules}
 use Rattle.std.specs.Cmp.Lexicographic.{pointwise}
 use Rattle.std.proofs.lemmas.List.{map-append, nil_from_length}
 use Rattle.tbr_tagged.specs.declared.CellAlign.{CellAlign}
@@ -18,7 +18,7 @@ use Rattle.text_block_renderer.specs.Meant.{meant}
 use Rattle.text_block_renderer.specs.Decorated.{sub_renderer}
 use Rattle.text_block_renderer.specs.Appended.{handed_out}
 use Rattle.text_block_renderer.specs.Calls.{new_line, append_vert_row, after, Does, IsTooNarrow}
-use Rattle.text_block_renderer.specs.Rows.{looks, spots_of, GivenCell, next_align, cell_given, cells_given, cells_meant, after_row}
+use Rattle.text_block_renderer.specs.Rows.{looks, spots_of, GivenCell, cells_given, cells_meant, after_row}
 use Rattle.tbr_script.specs.declared.error.RunError.{RunError}
 use Rattle.tbr_script.specs.declared.error.RunError.TheVariants.{TooNarrow, NotACommand, NothingToEnd, RowDoesNotFit}
 use Rattle.tbr_stack.specs.Stack.{Stack, Level, top_of, with_top, pushed, below}
@@ -68,10 +68,7 @@ module _ {D M : Type 0} (columns : ℕ → Option ℕ) (decoration : Decoration 
 
     ends_by : (inside : Top columns decoration) (pending : Pending D M (List M)) (others : List (Opened D M (List M))) → p.pending.cells ≡ [] → top_of p.stack ≡ Some inside →
         ends (record { by = by; below = pending } ∷ others) ≡ make inside (record { stack = below p.stack; pending = pending; opened = others })
-    ends_by inside pending others none top =
-        ends_so (record { by = by; below = pending }) others refl
-        ∙ no_more p.pending.cells _ _ none
-        ∙ ap (λ o. on_top o (λ r. make r (record { stack = below p.stack; pending = pending; opened = others }))) top
+    ends_by inside pending others none top = grind (arith, ends_so, no_more)
 
 -- what others give that are made of these
 gathered_over : {X Y Z : Type 0} (give : Y → Outcome Z) (make : X → Y) (xs : List X) → gathered (λ x. give (make x)) xs ≡ gathered give (map make xs)
@@ -140,8 +137,7 @@ module _ {D A M : Type 0} (meaning : A → M) where
     -- ---- requests that end nothing
 
     pub request_early : (request : Request) → ends_nothing i.pending.begun request ≡ true → makes (ask request) ≡ Err (NothingToEnd number)
-    request_early request none =
-        here (ask request) ∙ ap (λ b. if b then Err (NothingToEnd number) else with_stack columns decoration (record (progress_meant meaning i) { pending = pending_meant meaning (record i.pending { begun = counted i.pending.begun request }) }) (in_top (request_made columns decoration request) (stack_meant meaning i.stack))) none
+    request_early request none = grind (arith, here)
 
     -- ---- the renderer on top
 
@@ -194,18 +190,15 @@ module _ {D A M : Type 0} (meaning : A → M) where
             here vertical_row ∙ led no_cell_waits (vertical_made columns decoration (pending_meant meaning i.pending)) s (stacks (done (meant meaning s)) h) ∙ ap (after_it (with_top i.stack s)) (sym taken)
 
         pub vertical_narrow : stacked all_given ≡ refused E.TooNarrow → makes vertical_row ≡ Err TooNarrow
-        vertical_narrow h =
-            here vertical_row ∙ not_led no_cell_waits (vertical_made columns decoration (pending_meant meaning i.pending)) (stacks (refused E.TooNarrow) h)
+        vertical_narrow h = search (rules, here, not_led, stacks)
 
       looks_meant : (cols : List (Renderer D A (List A) × ℕ)) → map (looks columns) (map (cell_meant meaning) cols) ≡ map (looks columns) cols
       looks_meant [] = refl
-      looks_meant (col ∷ cols) =
-          ap (λ (blank : Bool). (col.0.width, blank) ∷ map (looks columns) (map (cell_meant meaning) cols)) (blank_meant meaning columns col.0) ∙ ap (λ seen. looks columns col ∷ seen) (looks_meant cols)
+      looks_meant (col ∷ cols) = grind (arith, blank_meant, looks_meant cols)
 
       come_meant : (cols : List (Renderer D A (List A) × ℕ)) (aligns : List CellAlign) → cells_given (λ r. r.width) (handed_out columns) (map (cell_meant meaning) cols) aligns ≡ cells_meant columns meaning cols aligns
       come_meant [] aligns = refl
-      come_meant (col ∷ cols) aligns =
-          ap (λ o. and_then (cell_given (λ r. r.width) (handed_out columns) (cell_meant meaning col) (next_align aligns)) (λ x. changed (λ xs. x ∷ xs) o)) (come_meant cols (drop 1 aligns))
+      come_meant (col ∷ cols) aligns = grind (arith, come_meant cols (drop 1 aligns))
 
       module _ (collapse : Bool) (seen : Renderer D A (List A)) (is_seen : top_of i.stack ≡ Some seen) (cols : List (Renderer D A (List A) × ℕ)) (are : cols ≡ i.pending.cells) where
         abbrev laid : Made columns decoration
@@ -241,52 +234,30 @@ module _ {D A M : Type 0} (meaning : A → M) where
     pub level_opens : (by : Opener) (width : ℕ) (r inside : Renderer D A (List A)) (stack : Stack (Renderer D A (List A))) (pending : Pending D A (List A)) (opened : List (Opened D A (List A))) →
         top_of i.stack ≡ Some r → meant meaning inside ≡ sub_renderer decoration width (meant meaning r) → stack ≡ pushed inside i.stack → pending ≡ nothing_pending → opened ≡ record { by = by; below = i.pending } ∷ i.opened →
         level_opened columns decoration by width (progress_meant meaning p) ≡ Ok (progress_meant meaning (record { stack = stack; pending = pending; opened = opened }))
-    level_opens by width r inside stack pending opened top is pushes nothing opens =
-        let level : List (Opened D M (List M)) = record { by = by; below = pending_meant meaning i.pending } ∷ map (opened_meant meaning) i.opened in
-        ap (λ (q : Progress D A (List A)). level_opened columns decoration by width (progress_meant meaning q)) (sym same)
-        ∙ ap (λ o. on_top o (λ (x : Top columns decoration). Ok (record { stack = pushed (sub_renderer decoration width x) (stack_meant meaning i.stack); pending = nothing_pending; opened = level }))) (top_meant meaning i.stack r top)
-        ∙ ap (λ (x : Top columns decoration). Ok (record { stack = pushed x (stack_meant meaning i.stack); pending = nothing_pending; opened = level })) (sym is)
-        ∙ (λ j. Ok (progress_meant meaning (record { stack = sym pushes j; pending = sym nothing j; opened = sym opens j })))
+    level_opens by width r inside stack pending opened top is pushes nothing opens = grind (arith, top_meant)
 
     module _ (end : Opener → Option (Top columns decoration → Place columns decoration → Made columns decoration)) where
       abbrev level_ends : Made columns decoration
       level_ends = level_ended columns decoration number end (progress_meant meaning p) (map (opened_meant meaning) p.opened)
 
       none_ends : ((by : Opener) → opener i.opened ≡ Some by → end by ≡ None) → level_ends ≡ Err (NothingToEnd number)
-      none_ends none =
-          ends_none columns decoration number end (progress_meant meaning p) (map (opened_meant meaning) p.opened)
-          (λ by is. none by (ap (λ (q : Progress D A (List A)). opener q.opened) same ∙ sym (opener_meant p.opened) ∙ is))
+      none_ends none = grind (arith, ends_none, opener_meant)
 
       module _ (by : Opener) (make : Top columns decoration → Place columns decoration → Made columns decoration) (is : end by ≡ Some make) (this : opener i.opened ≡ Some by) where
         opened_by : opener p.opened ≡ Some by
         opened_by = ap (λ (q : Progress D A (List A)). opener q.opened) (sym same) ∙ this
 
         waits_still : i.pending.cells ≢ [] → level_ends ≡ Err (NotACommand number)
-        waits_still some =
-            ends_waiting columns decoration number end (progress_meant meaning p) by make is (map (opened_meant meaning) p.opened) (opener_meant p.opened ∙ opened_by)
-            (λ none. some (ap (λ (q : Progress D A (List A)). q.pending.cells) same ∙ no_cells p.pending.cells none))
+        waits_still some = grind (arith, ends_waiting, opener_meant, opened_by, no_cells)
 
         closes : (inside : Renderer D A (List A)) (next : Progress D A (List A)) → i.pending.cells ≡ [] → Closes p inside next → level_ends ≡ make (meant meaning inside) (progress_meant meaning next)
-        closes inside next none c =
-            let by_it : Some c.by ≡ Some by = sym (ap opener c.opened) ∙ opened_by in
-            let same_by : c.by ≡ by = cc by_it in
-            let waits_none : map (cell_meant meaning) p.pending.cells ≡ [] = ap (λ (q : Progress D A (List A)). map (cell_meant meaning) q.pending.cells) (sym same) ∙ ap (map (cell_meant meaning)) none in
-            let stack : below (stack_meant meaning p.stack) ≡ stack_meant meaning next.stack =
-            sym (ap (stack_meant meaning) c.stack ∙ ap (λ (ls : List (Level (Renderer D M (List M)))). record (stack_meant meaning p.stack) { levels = ls }) (below_top_meant p.stack.levels)) in
-            ap (λ (os : List (Opened D A (List A))). level_ended columns decoration number end (progress_meant meaning p) (map (opened_meant meaning) os)) c.opened
-            ∙ ap (λ b. level_ended columns decoration number end (progress_meant meaning p) (record { by = b; below = pending_meant meaning next.pending } ∷ map (opened_meant meaning) next.opened)) same_by
-            ∙ ends_by columns decoration number end (progress_meant meaning p) by make is (meant meaning inside) (pending_meant meaning next.pending) (map (opened_meant meaning) next.opened) waits_none (top_meant meaning p.stack inside c.top)
-            ∙ ap (λ (s : Stack (Renderer D M (List M))). make (meant meaning inside) (record { stack = s; pending = pending_meant meaning next.pending; opened = map (opened_meant meaning) next.opened })) stack
+        closes inside next none c = grind (arith, opened_by, below_top_meant, ends_by, top_meant)
 
     -- ---- blocks that end
 
     module _ (first others : List ℕ) where
       pub no_block : opener i.opened ≢ Some Sub → makes (append first others) ≡ Err (NothingToEnd number)
-      no_block none = none_ends (joins columns decoration first others) go
-        where
-          go : (by : Opener) → opener i.opened ≡ Some by → joins columns decoration first others by ≡ None
-          go Sub is = absurd (none is)
-          go (Cell span align) is = refl
+      no_block none = grind (arith, none_ends)
 
       pub block_waits : opener i.opened ≡ Some Sub → i.pending.cells ≢ [] → makes (append first others) ≡ Err (NotACommand number)
       block_waits is some = waits_still (joins columns decoration first others) Sub (block_joined columns decoration first others) refl is some
@@ -296,9 +267,7 @@ module _ {D A M : Type 0} (meaning : A → M) where
         joined = block_made columns decoration first others (meant meaning inside)
 
         joining : makes (append first others) ≡ with_stack columns decoration (progress_meant meaning j) (in_top joined (stack_meant meaning j.stack))
-        joining =
-            closes (joins columns decoration first others) Sub (block_joined columns decoration first others) refl is inside next none c
-            ∙ ap (λ (q : Progress D A (List A)). with_stack columns decoration (progress_meant meaning q) (in_top joined (stack_meant meaning q.stack))) (sym left)
+        joining = grind (arith, closes)
 
         pub block_done : (s : Renderer D A (List A)) → joined (meant meaning top) ≡ done (meant meaning s) →
             makes (append first others) ≡ Ok (progress_meant meaning (record { stack = with_top j.stack s; pending = j.pending; opened = j.opened }))
@@ -310,11 +279,7 @@ module _ {D A M : Type 0} (meaning : A → M) where
     -- ---- cells that end
 
     pub no_cell : ((span : ℕ) (align : CellAlign) → opener i.opened ≢ Some (Cell span align)) → makes end_cell ≡ Err (NothingToEnd number)
-    no_cell none = none_ends (waits columns decoration) go
-      where
-        go : (by : Opener) → opener i.opened ≡ Some by → waits columns decoration by ≡ None
-        go Sub is = refl
-        go (Cell span align) is = absurd (none span align is)
+    no_cell none = grind (arith, none_ends)
 
     module _ (span : ℕ) (align : CellAlign) (is : opener i.opened ≡ Some (Cell span align)) where
       abbrev waiting : Top columns decoration → Place columns decoration → Made columns decoration
@@ -325,11 +290,7 @@ module _ {D A M : Type 0} (meaning : A → M) where
 
       pub cell_done : i.pending.cells ≡ [] → (inside : Renderer D A (List A)) (next j : Progress D A (List A)) (pending : Pending D A (List A)) → Closes p inside next → j ≡ next → pending ≡ with_cell j.pending inside span align →
           makes end_cell ≡ Ok (progress_meant meaning (record { stack = j.stack; pending = pending; opened = j.opened }))
-      cell_done none inside next j pending c left now =
-          closes (waits columns decoration) (Cell span align) waiting refl is inside next none c
-          ∙ ap (λ (q : Progress D A (List A)). waiting (meant meaning inside) (progress_meant meaning q)) (sym left)
-          ∙ ap (λ (cells : List (Renderer D M (List M) × ℕ)). Ok (record (progress_meant meaning j) { pending = record (pending_meant meaning j.pending) { cells = cells; aligns = j.pending.aligns ++ align ∷ [] } })) (sym (map-append (cell_meant meaning) j.pending.cells ((inside, span) ∷ [])))
-          ∙ ap (λ (w : Pending D A (List A)). Ok (progress_meant meaning (record { stack = j.stack; pending = w; opened = j.opened }))) (sym now)
+      cell_done none inside next j pending c left now = grind (arith, closes, map-append)
 
     -- ---- the end
 
@@ -340,25 +301,8 @@ module _ {D A M : Type 0} (meaning : A → M) where
     gives_here = ap (λ (q : Progress D A (List A)). ended columns decoration number (progress_meant meaning q)) (sym same)
 
     pub still_open : (i.opened ≢ []) ⊎ (i.pending.cells ≢ []) → gives ≡ Err (NotACommand number)
-    still_open h = gives_here ∙ go h
-      where
-        waits_or_not : (cells : List (Renderer D M (List M) × ℕ)) (text : Result (List ℕ) RunError) → cells ≢ [] → if_some_are cells (Err (NotACommand number)) text ≡ Err (NotACommand number)
-        waits_or_not cells text some = still_some cells (Err (NotACommand number)) text some
-
-        twice : (os : List (Opened D M (List M))) (m : Result (List ℕ) RunError) → m ≡ Err (NotACommand number) → if_some_are os (Err (NotACommand number)) m ≡ Err (NotACommand number)
-        twice [] m e = e
-        twice (o ∷ os) m e = refl
-
-        go : (i.opened ≢ []) ⊎ (i.pending.cells ≢ []) → ended columns decoration number (progress_meant meaning i) ≡ Err (NotACommand number)
-        go (inl some) = still_some (map (opened_meant meaning) i.opened) _ _ (λ none. some (no_opened i.opened none))
-        go (inr some) = twice (map (opened_meant meaning) i.opened) _ (waits_or_not (map (cell_meant meaning) i.pending.cells) _ (λ none. some (no_cells i.pending.cells none)))
+    still_open h = grind (arith, gives_here, still_some, no_opened, no_cells)
 
     pub text_given : (targets : List (List ℕ)) → targets ≡ (let s = i.stack in s.links) → (top : Renderer D A (List A)) → top_of i.stack ≡ Some top → i.opened ≡ [] → i.pending.cells ≡ [] → (o : Outcome (List ℕ)) →
         closed_text columns decoration targets (meant meaning top) ≡ o → gives ≡ answered o
-    text_given targets are top is_top none_open none_wait o h =
-        gives_here
-        ∙ no_more (map (opened_meant meaning) i.opened) _ _ (ap (map (opened_meant meaning)) none_open)
-        ∙ no_more (map (cell_meant meaning) i.pending.cells) _ _ (ap (map (cell_meant meaning)) none_wait)
-        ∙ ap (λ t. on_top t (λ (r : Top columns decoration). answered (closed_text columns decoration (let s = i.stack in s.links) r))) (top_meant meaning i.stack top is_top)
-        ∙ ap (λ ts. answered (closed_text columns decoration ts (meant meaning top))) (sym are)
-        ∙ ap answered h
+    text_given targets are top is_top none_open none_wait o h = grind (arith, gives_here, no_more, top_meant)

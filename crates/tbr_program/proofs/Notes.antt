@@ -1,5 +1,5 @@
 -- The lines at the end of a script.
-use Rattle.std.proofs.Common.{◌≡◌, ◌==◌, ℕ, Bool, true, false, Option, None, List, [], ◌∷◌, fold, flat_map, length, chars, encode_utf8_all, refl, sym, ap, ◌∙◌}
+use Rattle.std.proofs.Common.{◌≡◌, ◌==◌, ℕ, true, false, Option, None, List, [], ◌∷◌, fold, flat_map, length, chars, encode_utf8_all, refl, sym, ap, ◌∙◌, arith}
 use Rattle.std.proofs.lemmas.Bool.{false≢true, eqb-true}
 use Rattle.std.proofs.lemmas.Str.{encodes-chars}
 use Rattle.std.specs.Str.{IsUtf8}
@@ -8,7 +8,7 @@ use Rattle.tbr_tagged.specs.Elements.{Element}
 use Rattle.tbr_decor.specs.Decoration.{Decoration}
 use Rattle.tbr_decor.specs.Meant.{lines_meant}
 use Rattle.tbr_renderer.specs.Footnotes.{footnote_lines, with_footnotes}
-use Rattle.text_block_renderer.specs.Renderer.{Renderer, Open, has_content, with_line}
+use Rattle.text_block_renderer.specs.Renderer.{Renderer, Open, with_line}
 use Rattle.text_block_renderer.specs.Line.{Line}
 use Rattle.text_block_renderer.specs.Steps.{block_started, after_block_start}
 use Rattle.text_block_renderer.specs.Text.{lines_text}
@@ -37,11 +37,7 @@ module _ {D A : Type 0} (columns : ℕ → Option ℕ) where
   lines_failure (t ∷ ts) r = lines_failure ts (with_line columns r t)
 
   begun_block : (r : Renderer D A (List A)) → (let s = block_started columns r in s.block) ≡ r.block
-  begun_block r = go (has_content r) refl
-    where
-      go : (b : Bool) → has_content r ≡ b → (let s = block_started columns r in s.block) ≡ r.block
-      go true e = rw e refl
-      go false e = rw e refl
+  begun_block r = grind arith
 
 -- ---- with footnotes and without
 
@@ -65,9 +61,7 @@ module _ {D M : Type 0} (columns : ℕ → Option ℕ) (decoration : Decoration 
 
   -- the flush that begins the footnotes' block is refused
   pub closing_refused : after columns decoration start_block asked ≡ refused E.TooNarrow → closed columns decoration targets r ≡ refused E.TooNarrow
-  closing_refused h =
-      let narrow = refused_before (block_started columns) (after_flush columns asked) E.TooNarrow (live_refused r.failure (after_block_start columns asked) E.TooNarrow live h) in
-      ap (changed (λ s. let t = with_notes columns (footnotes_of columns decoration targets r) s in t.lines)) narrow
+  closing_refused h = grind (arith, refused_before, live_refused)
 
   module _ {A : Type 0} (f : A → M) (lines : List (List (Element A))) where
     pub closed_without : lines_meant f lines ≡ footnotes_of columns decoration targets r → (length lines == 0) ≡ true → handed_out columns asked ≡ closed columns decoration targets r
@@ -93,5 +87,4 @@ module _ {D M : Type 0} (columns : ℕ → Option ℕ) (decoration : Decoration 
 
 -- nothing has failed
 pub unfailed : {D A M : Type 0} (columns : ℕ → Option ℕ) (f : A → M) (lines : List (List (Element A))) (begun noted : Renderer D M (List M)) → noted ≡ with_footnotes columns begun (lines_meant f lines) → begun.failure ≡ None → noted.failure ≡ None
-unfailed {D} {A} {M} columns f lines begun noted is live =
-    ap (λ (q : Renderer D M (List M)). q.failure) is ∙ lines_failure columns (flat_map (footnote_lines columns begun) (lines_meant f lines)) begun ∙ live
+unfailed {D} {A} {M} columns f lines begun noted is live = grind (arith, lines_failure)

@@ -1,28 +1,25 @@
 -- Lines of other renderers, one after another.
-use Rattle.std.proofs.Common.{◌≡◌, inr, ℕ, arith, ◌+◌, ◌≤◌, ◌<◌, Bool, Option, None, Some, List, [], ◌∷◌, ◌++◌, map, fold, take, drop, get_or, set, length, refl, ap, sym, ◌∙◌, subst, append-nil, drop_of_length-le}
-use Rattle.std.specs.Prelude.{chars, ◌==◌, true}
-use Rattle.std.specs.Iterator.{Yields}
-use Rattle.std.proofs.iter.Next.{Yields-more}
-use Rattle.std.proofs.lemmas.Bool.{eqb-true}
-use Rattle.std.proofs.lemmas.Str.{chars-nil}
-use Rattle.std.proofs.lemmas.Simd.{map-map}
-use Rattle.std.proofs.lemmas.List.{map-id, map-append, length-append, length-map, length-take-le, length-drop, get_or-drop, drop-set-lt, drop-drop, take_all, take-append-drop, take_more, take_more_set}
+use Rattle.std.proofs.Common.{◌≡◌, ℕ, zero, suc, arith, ◌+◌, ◌-◌, ◌<◌, Bool, true, false, Option, None, Result, Ok, Err, List, [], ◌∷◌, ◌++◌, map, fold, take, get_or, replicate, length, refl, ap, sym, ◌∙◌, append-nil, append_assoc}
+use Rattle.std.specs.Prelude.{chars, OnOk}
+use Rattle.std.proofs.lemmas.List.{map-append, length-append, length-map, take_more}
 use Rattle.std.proofs.lemmas.Grind.{fold-append}
 use Rattle.tbr_model.specs.Run.{Item}
+use Rattle.tbr_model.specs.Mapped.{map_item, map_items}
 use Rattle.tbr_tagged.specs.Outcome.{Outcome, done}
 use Rattle.tbr_renderer.specs.Outcomes.{gathered}
 use Rattle.tbr_renderer.proofs.OutcomeParts.{gathered_last}
 use Rattle.tbr_border.specs.declared.RenderLine.{RenderLine}
-use Rattle.tbr_border.specs.RenderLine.{IsMergedText}
 use Rattle.tbr_tagged.specs.Elements.{text_items}
 use Rattle.tbr_footnotes.specs.Tags.{tag_meant}
+use Rattle.tbr_footnotes.proofs.Tags.{text_items-map}
+use Rattle.tbr_rows.proofs.MeantTexts.{shown-map}
 use Rattle.tbr_renderer.specs.Meant.{map_line, meant}
-use Rattle.tbr_kept_lines.specs.Line.{Line, text, line_seen}
-use Rattle.tbr_kept_lines.proofs.KeptParts.{each_after}
-use Rattle.tbr_renderer.specs.Renderer.{Renderer, KeepsSettings, with_line}
+use Rattle.tbr_kept_lines.specs.Line.{Line, text, border, line_seen}
+use Rattle.tbr_kept_lines.specs.Prefixed.{as_text, after_prefixes, prefixed_lines, Appends}
+use Rattle.tbr_renderer.proofs.MeantLines.{same_meant, added_at_once}
+use Rattle.tbr_renderer.specs.Renderer.{Renderer, Settings, KeepsSettings, with_line}
 use Rattle.tbr_border.specs.Cell.{slash}
-use Rattle.tbr_renderer.specs.Appended.{GivesFirst, texts_of, as_text, prefixed, handed_out, with_divider, with_cell, with_cell_below}
-use Rattle.std.specs.List.{AllByRecursion as Each}
+use Rattle.tbr_renderer.specs.Appended.{AreAlike, texts_of, prefixed, handed_out, with_prefixed, with_divider, with_cell, with_cell_below}
 
 -- ---- prefixes
 
@@ -33,11 +30,6 @@ prefixed-append tag [] more (l ∷ lines) others same = cc
 prefixed-append tag (p ∷ prefixes) more [] others same = cc
 prefixed-append tag (p ∷ prefixes) more (l ∷ lines) others same =
     ap (λ ts. (text_items p tag ++ as_text tag l) ∷ ts) (prefixed-append tag prefixes more lines others (omega (arith, same)))
-
--- an empty prefix shows nothing
-pub no_prefix : {T : Type 0} (prefix : List ℕ) (tag : T) (is : List (Item T)) → (length prefix == 0) ≡ true → is ≡ text_items (chars prefix) tag ++ is
-no_prefix [] tag is empty = ap (λ cs. text_items cs tag ++ is) (sym chars-nil)
-no_prefix (b ∷ prefix) tag is empty = let none = eqb-true (length (b ∷ prefix)) 0 empty in absurd (omega (arith, none))
 
 module _ {A M : Type 0} (f : A → M) where
   -- the lines as a contract sees them, by what their annotations mean
@@ -63,83 +55,106 @@ module _ {D A M : Type 0} (f : A → M) (columns : ℕ → Option ℕ) (first : 
   abbrev pub HasCell : List (RenderLine (List A)) → Renderer D A (List A) → Type 0
   HasCell lines now = HasPut (map (as_text (map f first.annotations)) (seen f lines)) now
 
+-- ---- prefixes that are alike
+
+-- one text more that is alike
+pub all_more : {X : Type 0} (read : X → List ℕ) (xs : List X) (i : ℕ) (x : X) (t : List ℕ) → i < length xs → x ≡ get_or xs i x → read x ≡ t → texts_of read (take i xs) ≡ replicate i (chars t) → texts_of read (take (i + 1) xs) ≡ replicate (i + 1) (chars t)
+all_more read xs i x t below is same all =
+    ap (texts_of read) (take_more xs i x below ∙ ap (λ y. take i xs ++ y ∷ []) (sym is)) ∙ map-append (λ y. chars (read y)) (take i xs) (x ∷ [])
+    ∙ (λ k. all k ++ chars (same k) ∷ []) ∙ one_longer i ∙ ap (λ n. replicate n (chars t)) (let more : suc i ≡ i + 1 = omega arith in more)
+  where
+    one_longer : (n : ℕ) → replicate n (chars t) ++ chars t ∷ [] ≡ replicate (suc n) (chars t)
+    one_longer zero = refl
+    one_longer (suc n) = ap (λ ts. chars t ∷ ts) (one_longer n)
+
+module _ {T : Type 0} (tag : T) (first others : List ℕ) where
+  rest_alike : (lines : List (Line T)) → prefixed tag (replicate (length lines) others) lines ≡ map (λ is. text_items others tag ++ is) (map (as_text tag) lines)
+  rest_alike [] = refl
+  rest_alike (l ∷ lines) = ap (λ ts. (text_items others tag ++ as_text tag l) ∷ ts) (rest_alike lines)
+
+  -- lines after them
+  pub prefixed_alike : (prefixes : List (List ℕ)) (lines : List (Line T)) → AreAlike first others prefixes → length prefixes ≡ length lines →
+      map text (prefixed tag prefixes lines) ≡ prefixed_lines tag first others lines
+  prefixed_alike prefixes [] alike same = absurd (omega (arith, same, ap length alike))
+  prefixed_alike prefixes (l ∷ lines) alike same =
+      let count : length prefixes - 1 ≡ length lines = omega (arith, same) in
+      ap (λ ps. map text (prefixed tag ps (l ∷ lines))) (alike ∙ ap (λ n. first ∷ replicate n others) count) ∙ ap (λ ts. map text ((text_items first tag ++ as_text tag l) ∷ ts)) (rest_alike lines)
+
+module _ {T U : Type 0} (f : T → U) where
+  as_text-map : (tag : T) (line : Line T) → map_items f (as_text tag line) ≡ as_text (f tag) (map_line f line)
+  as_text-map tag (text is) = refl
+  as_text-map tag (border b) = sym (shown-map f tag b)
+
+  before-map : (prefix : List (Item T)) (texts : List (List (Item T))) → map (map_items f) (map (λ is. prefix ++ is) texts) ≡ map (λ is. map_items f prefix ++ is) (map (map_items f) texts)
+  before-map prefix [] = refl
+  before-map prefix (is ∷ texts) = λ i. map-append (map_item f) prefix is i ∷ before-map prefix texts i
+
+  after-map : (first others : List (Item T)) (texts : List (List (Item T))) → map (map_items f) (after_prefixes first others texts) ≡ after_prefixes (map_items f first) (map_items f others) (map (map_items f) texts)
+  after-map first others [] = refl
+  after-map first others (is ∷ texts) = λ i. map-append (map_item f) first is i ∷ before-map others texts i
+
+  texts-map : (texts : List (List (Item T))) → map (map_line f) (map text texts) ≡ map text (map (map_items f) texts)
+  texts-map [] = refl
+  texts-map (is ∷ texts) = ap (λ ls. text (map_items f is) ∷ ls) (texts-map texts)
+
+  each_as_text-map : (tag : T) (lines : List (Line T)) → map (map_items f) (map (as_text tag) lines) ≡ map (as_text (f tag)) (map (map_line f) lines)
+  each_as_text-map tag [] = refl
+  each_as_text-map tag (l ∷ lines) = λ i. as_text-map tag l i ∷ each_as_text-map tag lines i
+
+  -- lines after prefixes, under other tags
+  pub prefixed_lines-map : (tag : T) (first others : List ℕ) (lines : List (Line T)) → map (map_line f) (prefixed_lines tag first others lines) ≡ prefixed_lines (f tag) first others (map (map_line f) lines)
+  prefixed_lines-map tag first others lines =
+      let texts = map (as_text tag) lines in
+      texts-map (after_prefixes (text_items first tag) (text_items others tag) texts)
+      ∙ ap (map text) (after-map (text_items first tag) (text_items others tag) texts ∙ λ i. after_prefixes (text_items-map f first tag i) (text_items-map f others tag i) (each_as_text-map tag lines i))
+
 -- ---- lines after prefixes, one by one
 
--- an item that is as it was
-still_there : {X : Type 0} (all now : List X) (i : ℕ) (d : X) → drop i now ≡ drop i all → get_or all i d ≡ get_or now i d
-still_there all now i d rest =
-    let zero : i + 0 ≡ i = omega arith in
-    ap (λ j. get_or all j d) (sym zero) ∙ sym (get_or-drop i all 0 d) ∙ ap (λ ls. get_or ls 0 d) (sym rest) ∙ get_or-drop i now 0 d
-    ∙ ap (λ j. get_or now j d) zero
+module _ {D A M P : Type 0} (f : A → M) (columns : ℕ → Option ℕ) (first : Renderer D A (List A)) (read : P → List ℕ) (all : List (RenderLine (List A))) where
+  abbrev tag : List M
+  tag = map f first.annotations
 
-module _ {A M : Type 0} (f : A → M) (eq : List A → List A → Bool) (tag : List M) where
-  module _ {S X : Type 0} (can : S → Type 0) (gives : S → Option X → S → Type 0) (read : X → List ℕ) (it : S) (all : List (RenderLine (List A))) where
-    -- So many lines have their prefixes, and the others are as they were.
-    pub record HasPrefixes (count : ℕ) (left : S) (now : List (RenderLine (List A))) : Type 0 where
-      pub can_go_on : can left
-      pub given : List X
-      pub yields : Yields gives it given left
-      pub as_many : length given ≡ count
-      pub within : count ≤ length all
-      pub put : seen f (take count now) ≡ map text (prefixed tag (texts_of read given) (seen f (take count all)))
-      pub merged : Each (IsMergedText eq) (take count now)
-      pub rest : drop count now ≡ drop count all
+  -- So many lines have come after their prefixes, and these are left.
+  pub record HasAfter (given : List P) (left : List (RenderLine (List A))) (now : Renderer D A (List A)) : Type 0 where
+    pub taken : List (RenderLine (List A))
+    pub whole : all ≡ taken ++ left
+    pub as_many : length taken ≡ length given
+    pub put : HasPut f columns first (prefixed tag (texts_of read given) (seen f taken)) now
 
-    same_length : (given : List X) (count : ℕ) → length given ≡ count → count ≤ length all → length (texts_of read given) ≡ length (seen f (take count all))
-    same_length given count same within = omega (arith, length-map given (λ x. chars (read x)), same, length-seen f (take count all), length-take-le count all within)
+  same_length : (given : List P) (taken : List (RenderLine (List A))) → length taken ≡ length given → length (texts_of read given) ≡ length (seen f taken)
+  same_length given taken same = omega (arith, same, length-map given (λ x. chars (read x)), length-seen f taken)
 
-    pub one_prefix_more : (count : ℕ) (left next : S) (now : List (RenderLine (List A))) (d line : RenderLine (List A)) (prefix : X) → HasPrefixes count left now → count < length all → can next → gives left (Some prefix) next →
-        map_line (tag_meant f) (line_seen line) ≡ text (text_items (chars (read prefix)) tag ++ as_text tag (map_line (tag_meant f) (line_seen (get_or now count d)))) → IsMergedText eq line →
-        HasPrefixes (count + 1) next (set now count line)
-    one_prefix_more count left next now d line prefix h below able came is merged =
-        let here : count < length now = omega (arith, below, length-drop count now, length-drop count all, ap length h.rest) in
-        let old = get_or now count d in
-        let old_seen = map_line (tag_meant f) (line_seen old) in
-        let whole = take_more all count d below ∙ ap (λ l. take count all ++ l ∷ []) (still_there all now count d h.rest) in
-        let put_whole = take_more_set now count line here in
-        let texts = prefixed tag (texts_of read h.given) (seen f (take count all)) in
-        let shown = text_items (chars (read prefix)) tag ++ as_text tag old_seen in
-        let all_put : texts ++ shown ∷ [] ≡ prefixed tag (texts_of read (h.given ++ prefix ∷ [])) (seen f (take (count + 1) all)) =
-        sym ((λ i. prefixed tag (map-append (λ x. chars (read x)) h.given (prefix ∷ []) i) ((ap (seen f) whole ∙ seen-append f (take count all) (old ∷ [])) i))
-        ∙ prefixed-append tag (texts_of read h.given) (chars (read prefix) ∷ []) (seen f (take count all)) (old_seen ∷ []) (same_length h.given count h.as_many h.within)) in record {
-          can_go_on = able;
-          given = h.given ++ prefix ∷ [];
-          yields = Yields-more gives it h.given left prefix next h.yields came;
-          as_many = length-append h.given (prefix ∷ []) ∙ ap (λ n. n + 1) h.as_many;
-          within = omega (arith, below);
-          put = ap (seen f) put_whole ∙ seen-append f (take count now) (line ∷ []) ∙ ap (λ l. seen f (take count now) ++ l ∷ []) is ∙ ap (λ ls. ls ++ text shown ∷ []) h.put
-              ∙ sym (map-append text texts (shown ∷ [])) ∙ ap (map text) all_put;
-          merged = subst (Each (IsMergedText eq)) (sym put_whole) (each_after (IsMergedText eq) (take count now) line h.merged merged);
-          rest = drop-set-lt (count + 1) now count line (omega arith) ∙ sym (drop-drop 1 count now) ∙ ap (drop 1) h.rest ∙ drop-drop 1 count all;
-        }
+  pub after_more : (given : List P) (left rest : List (RenderLine (List A))) (now next : Renderer D A (List A)) (line : RenderLine (List A)) (p : P) (shown : List (Item (List M))) → HasAfter given left now → left ≡ line ∷ rest →
+      shown ≡ text_items (chars (read p)) (map f now.annotations) ++ as_text (map f now.annotations) (map_line (tag_meant f) (line_seen line)) →
+      meant f next ≡ with_line columns (meant f now) shown → KeepsSettings (meant f now) (meant f next) → next.failure ≡ None → HasAfter (given ++ p ∷ []) rest next
+  after_more given left rest now next line p shown h begins is added kept live =
+      let under : map f now.annotations ≡ tag = ap (λ (s : Settings D M). s.annotations) h.put.settings in
+      let texts = prefixed tag (texts_of read given) (seen f h.taken) in
+      let more = is ∙ ap (λ t. text_items (chars (read p)) t ++ as_text t (map_line (tag_meant f) (line_seen line))) under in
+      let longer : prefixed tag (texts_of read (given ++ p ∷ [])) (seen f (h.taken ++ line ∷ [])) ≡ texts ++ shown ∷ [] =
+      (λ i. prefixed tag (map-append (λ x. chars (read x)) given (p ∷ []) i) (seen-append f h.taken (line ∷ []) i))
+      ∙ prefixed-append tag (texts_of read given) (chars (read p) ∷ []) (seen f h.taken) (seen f (line ∷ [])) (same_length given h.taken h.as_many) ∙ ap (λ t. texts ++ t ∷ []) (sym more) in record {
+        taken = h.taken ++ line ∷ [];
+        whole = h.whole ∙ ap (λ ls. h.taken ++ ls) begins ∙ sym (append_assoc h.taken (line ∷ []) rest);
+        as_many = omega (arith, h.as_many, length-append h.taken (line ∷ []), length-append given (p ∷ []));
+        put = record {
+          unfailed = live;
+          settings = kept ∙ h.put.settings;
+          lines = added ∙ ap (λ (r : Renderer D M (List M)). with_line columns r shown) h.put.lines ∙ sym (fold-append (with_line columns) (meant f first) texts (shown ∷ [])) ∙ ap (fold (with_line columns) (meant f first)) (sym longer);
+        };
+      }
 
-    abbrev pub Prefixes : ℕ → List (RenderLine (List A)) → Type 0
-    Prefixes count now =
-        (given : List X) × GivesFirst gives (length all) it given
-        × (seen f (take count now) ≡ map text (prefixed tag (texts_of read given) (seen f all)))
-        × Each (IsMergedText eq) (take count now)
+  -- the prefixes that were given, or the lines, have ended
+  pub after_all : (given more : List P) (left : List (RenderLine (List A))) (now : Renderer D A (List A)) → HasAfter given left now → prefixed tag (texts_of read more) (seen f left) ≡ [] →
+      meant f now ≡ with_prefixed columns (meant f first) (texts_of read (given ++ more)) (seen f all)
+  after_all given more left now h none =
+      h.put.lines ∙ ap (fold (with_line columns) (meant f first)) (sym ((λ i. prefixed tag (map-append (λ x. chars (read x)) given more i) ((ap (seen f) h.whole ∙ seen-append f h.taken left) i))
+      ∙ prefixed-append tag (texts_of read given) (texts_of read more) (seen f h.taken) (seen f left) (same_length given h.taken h.as_many)
+      ∙ ap (λ ts. prefixed tag (texts_of read given) (seen f h.taken) ++ ts) none ∙ append-nil _))
 
-    -- the prefixes ran out before a line
-    pub ran_out : (count : ℕ) (left end : S) (now : List (RenderLine (List A))) → HasPrefixes count left now → count < length all → gives left None end → Prefixes count now
-    ran_out count left end now h below none = (
-      h.given,
-      (left, h.yields, inr (omega (arith, h.as_many, below), (end, none))),
-      h.put ∙ ap (map text) (sym ((λ i. prefixed tag (sym (append-nil (texts_of read h.given)) i) ((ap (seen f) (sym (take-append-drop count all)) ∙ seen-append f (take count all) (drop count all)) i))
-          ∙ prefixed-append tag (texts_of read h.given) [] (seen f (take count all)) (seen f (drop count all)) (same_length h.given count h.as_many h.within) ∙ append-nil _)),
-      h.merged,
-    )
-
--- ---- texts that are added at once
-
-module _ {D A : Type 0} (columns : ℕ → Option ℕ) (r : Renderer D A (List A)) (texts : List (List (Item (List A)))) where
-  -- as a cell
-  pub cell_of_texts : with_cell columns r (map text texts) ≡ fold (with_line columns) r texts
-  cell_of_texts = ap (fold (with_line columns) r) (map-map (as_text r.annotations) text texts ∙ map-id texts)
-
--- what is written over all of a vector is what it holds
-pub written_over : {X : Type 0} (items new : List X) (len : ℕ) → len ≡ length items → length new ≡ length items → take len (new ++ drop (length new) items) ≡ new
-written_over items new len whole same =
-    ap (λ ls. take len (new ++ ls)) (drop_of_length-le items {i = length new} (omega (arith, same))) ∙ ap (take len) (append-nil new) ∙ take_all len new (omega (arith, whole, same))
+  pub no_line : (more : List P) → prefixed tag (texts_of read more) [] ≡ []
+  no_line [] = refl
+  no_line (p ∷ more) = refl
 
 -- ---- cells below one another
 
@@ -167,3 +182,18 @@ module _ {D A M : Type 0} (f : A → M) (columns : ℕ → Option ℕ) (first : 
     settings = still ∙ kept ∙ h.settings;
     is = puts ∙ ap (λ (r : Renderer D M (List M)). with_cell columns r lines) (divides ∙ ap (with_divider columns slash) h.is) ∙ sym (fold-append (with_cell_below columns) (meant f first) h.cells (lines ∷ []));
   }
+
+-- ---- lines that are kept, after prefixes
+
+module _ {D A M : Type 0} (f : A → M) (eq : List A → List A → Bool) (agree : (v w : List A) → eq v w ≡ true → tag_meant f v ≡ tag_meant f w) (columns : ℕ → Option ℕ) where
+  pub kept_after : {E : Type 0} (r s : Renderer D A (List A)) {X : Type 0} (result : Result X E) (tag : List A) → tag_meant f tag ≡ map f r.annotations → (first others : List ℕ) (prefixes : List (List ℕ)) (lines : List (Line (List A))) →
+      AreAlike first others prefixes → length prefixes ≡ length lines → r.options.pad_block_width ≡ false → r.waiting ≡ [] → OnOk result (s ≡ record r { lines = s.lines }) →
+      OnOk result (Appends eq r.lines (prefixed_lines tag first others lines) s.lines) → OnOk result (meant f s ≡ with_prefixed columns (meant f r) prefixes (map (map_line (tag_meant f)) lines))
+  kept_after r s (Ok u) tag under first others prefixes lines alike same unpadded none rest (more, is, seen) =
+      let under_it = map (map_line (tag_meant f)) in
+      let shown : under_it more ≡ map text (prefixed (map f r.annotations) prefixes (under_it lines)) =
+      same_meant eq (tag_meant f) agree more (prefixed_lines tag first others lines) seen ∙ prefixed_lines-map (tag_meant f) tag first others lines
+      ∙ ap (λ t. prefixed_lines t first others (under_it lines)) under
+      ∙ sym (prefixed_alike (map f r.annotations) first others prefixes (under_it lines) alike (same ∙ sym (length-map lines (map_line (tag_meant f))))) in
+      added_at_once f columns r s more (prefixed (map f r.annotations) prefixes (under_it lines)) shown unpadded none (rest ∙ ap (λ ls. record r { lines = ls }) is)
+  kept_after r s (Err e) tag under first others prefixes lines alike same unpadded none rest appended = tt

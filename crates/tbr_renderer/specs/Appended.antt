@@ -1,11 +1,12 @@
 -- Borders, and the lines of other renderers: prefixed, or one renderer's below another's.
-use Rattle.std.specs.Prelude.{◌≡◌, ℕ, ◌<◌, ◌⊎◌, Option, None, if◌then◌else◌, List, [], ◌∷◌, ◌++◌, map, fold, length, replicate, chars}
+use Rattle.std.specs.Prelude.{◌≡◌, ℕ, ◌-◌, ◌<◌, ◌⊎◌, Option, None, if◌then◌else◌, List, [], ◌∷◌, ◌++◌, map, fold, length, replicate, chars}
 use Rattle.std.specs.Iterator.{Yields}
 use Rattle.tbr_model.specs.Run.{Item}
 use Rattle.tbr_border.specs.Border.{Border, shown, without_holes}
 use Rattle.tbr_border.specs.Cell.{Cell, horizontal, slash}
 use Rattle.tbr_tagged.specs.Elements.{text_items}
 use Rattle.tbr_kept_lines.specs.Line.{Line, text, border}
+pub use Rattle.tbr_kept_lines.specs.Prefixed.{as_text}
 use Rattle.tbr_renderer.specs.Renderer.{Renderer, line_padding, with_line}
 use Rattle.tbr_renderer.specs.Outcomes.{changed}
 use Rattle.tbr_renderer.specs.Flush.{after_flush}
@@ -41,12 +42,11 @@ GivesFirst {S} gives count it xs =
 abbrev pub texts_of : {S : Type 0} → (S → List ℕ) → List S → List (List ℕ)
 texts_of read ss = map (λ s. chars (read s)) ss
 
--- ---- lines of other renderers
+-- from the second one on they are alike
+abbrev pub AreAlike : List ℕ → List ℕ → List (List ℕ) → Type 0
+AreAlike first others prefixes = prefixes ≡ first ∷ replicate (length prefixes - 1) others
 
--- a line as text: a border's cells are under the tag, and its holes keep theirs
-abbrev pub as_text : {T : Type 0} → T → Line T → List (Item T)
-as_text tag (text is) = is
-as_text tag (border b) = shown tag b
+-- ---- lines of other renderers
 
 -- each line as text after its prefix, as long as there are both
 abbrev pub prefixed : {T : Type 0} → T → List (List ℕ) → List (Line T) → List (List (Item T))
@@ -70,6 +70,10 @@ module _ {D A : Type 0} (columns : ℕ → Option ℕ) where
       List (List ℕ) → List (Line (List A)) → Renderer D A (List A) → Outcome (Renderer D A (List A))
   after_lines prefixes lines r =
       changed (λ m. fold (with_line columns) m (prefixed r.annotations prefixes lines)) (after_flush columns r)
+
+  -- so they come, where the open line is ended
+  abbrev pub with_prefixed : Renderer D A (List A) → List (List ℕ) → List (Line (List A)) → Renderer D A (List A)
+  with_prefixed r prefixes lines = fold (with_line columns) r (prefixed r.annotations prefixes lines)
 
   -- ---- cells below one another
 

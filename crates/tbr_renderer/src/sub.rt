@@ -255,19 +255,6 @@ impl<D: TextDecorator, W: CharWidth> SubRenderer<D, W> {
         self.lines.push(line)
     }
 
-    /// Adds lines as they are. Where memory is refused they are lost.
-    fn push_lines(
-        &mut self,
-        lines: Vec<RenderLine<Annotations<D::Annotation>>>,
-    ) -> Result<(), OutOfMemory>
-        requires { Each (IsMergedText (equal_annotations D.Annotation.eq)) lines.items }
-        ensures lines { OnOk result
-            (self.new ≡ record self.old { lines = self.old.lines ++ map line_seen lines.items }) }
-        ensures settings { KeepsSettings (meant D.meaning self.old) (meant D.meaning self.new) }
-    {
-        self.lines.extend(lines)
-    }
-
     /// Fills a line up to the renderer's width, where lines are padded.
     fn fill(&self, line: &mut TaggedLine<Annotations<D::Annotation>>) -> Result<(), OutOfMemory>
         ensures items { OnOk result (items_meant D.meaning (items_of line.new)

@@ -1,12 +1,9 @@
 -- Lines of a row, built text by text.
 use Rattle.std.proofs.Common.{◌≡◌, ℕ, suc, ◌+◌, ◌<◌, Bool, true, List, [], ◌∷◌, ◌++◌, map, take, drop, get_or, length, refl, ap, sym, ◌∙◌, subst, arith, append_assoc, append-nil, drop-cons}
 use Rattle.std.specs.Cmp.{IsEquivalence}
-use Rattle.std.proofs.lemmas.List.{map-append, map_push, length-take-le, length-map, get_or_at, take_more}
-use Rattle.std.proofs.lemmas.List.Concat.{flat_map-append}
+use Rattle.std.proofs.lemmas.List.{map_push, length-take-le, length-map, get_or_at, take_more}
 use Rattle.tbr_model.specs.Run.{Item}
-use Rattle.tbr_tagged.specs.declared.element.TaggedLineElement.{TaggedLineElement}
-use Rattle.tbr_tagged.specs.Elements.{Element, element_items, items_of, text_items, SameItems}
-use Rattle.tbr_tagged.specs.View.{element_of}
+use Rattle.tbr_tagged.specs.Elements.{Element, items_of, text_items, SameItems}
 use Rattle.tbr_tagged.proofs.SameItems.{same_items, same_from_path, same_items_trans, same_items_append, same_texts}
 use Rattle.tbr_rows.specs.declared.column.Column.{Column}
 use Rattle.tbr_rows.specs.Texts.{row_text, separator_before, cell_text, line_text, dropped}
@@ -41,16 +38,6 @@ module _ {A : Type 0} (eq : A → A → Bool) (laws : IsEquivalence eq) where
   -- what equals something, and then more
   onto : (is js more ks : List (Item A)) → SameItems eq is js → SameItems eq ks (is ++ more) → SameItems eq ks (js ++ more)
   onto is js more ks h k = same_items_trans eq laws ks (is ++ more) (js ++ more) k (same_items_append eq laws is js more more h (same_items eq laws more))
-
-  -- one more element comes after a line
-  pub one_more : (first old new : List (Element A)) (es : List (TaggedLineElement A)) (e : TaggedLineElement A) →
-      SameItems eq (items_of old) (items_of first ++ items_of (map element_of es)) → SameItems eq (items_of new) (items_of old ++ element_items (element_of e)) →
-      SameItems eq (items_of new) (items_of first ++ items_of (map element_of (es ++ e ∷ [])))
-  one_more first old new es e h k =
-      let parts : items_of (map element_of (es ++ e ∷ [])) ≡ items_of (map element_of es) ++ element_items (element_of e) =
-      simp (map-append, flat_map-append, append-nil) in
-      rw (parts, ← append_assoc (items_of first)) (onto (items_of old) (items_of first ++ items_of (map element_of es)) (element_items (element_of e))
-      (items_of new) h k)
 
   -- one more cell of a line of a row
   pub one_more_cell : (separator : Item A) (a : A) (xs : List (Column A)) (i : ℕ) (x : Column A) (old middle new : List (Element A)) → i < length xs → x ≡ get_or xs i x →

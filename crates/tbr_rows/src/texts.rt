@@ -96,7 +96,7 @@ fn push_first<T: Eq + Clone + Drop>(
     ensures rest { OnOk result (column.new ≡ model.dropped 1 column.old) }
 {
     match column.cell.lines.pop_front() {
-        Some(first) => push_line(line, text_in_row(first, tag)?),
+        Some(first) => line.append(text_in_row(first, tag)?),
         None => push_filler(line, column, tag),
     }
 }
@@ -132,18 +132,4 @@ fn push_filler<T: Eq + Clone + Drop>(
     let s = border.to_vertical_lines_above()?;
     let tag = tag.clone()?;
     line.push_str(TaggedString { s, tag })
-}
-
-/// Appends a line to another.
-fn push_line<T: Eq + Drop>(
-    line: &mut TaggedLine<T>,
-    other: TaggedLine<T>,
-) -> Result<(), OutOfMemory>
-    ensures items { OnOk result (SameItems T.eq (items_of line.new) (items_of line.old ++ items_of other)) }
-    ensures merged { IsMerged T.eq line.old → OnOk result (IsMerged T.eq line.new) }
-{
-    for element in other {
-        line.push(element)?;
-    }
-    Ok(())
 }

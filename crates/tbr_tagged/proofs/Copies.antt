@@ -8,6 +8,5 @@ use Rattle.tbr_tagged.specs.Copies.{CopiesAreEqual}
 pub list_copies_equal : {A : Type 0} (IsClone : A → A → Type 0) (eq : A → A → Bool) →
     CopiesAreEqual IsClone eq → CopiesAreEqual (AllZip IsClone) (pointwise eq)
 list_copies_equal C eq same [] [] h = refl
-list_copies_equal C eq same [] (y ∷ ys) h = absurd h
-list_copies_equal C eq same (x ∷ xs) [] h = absurd h
 list_copies_equal C eq same (x ∷ xs) (y ∷ ys) h = rw (same x y h.0) (list_copies_equal C eq same xs ys h.1)
+list_copies_equal C eq same _ _ h = absurd h

@@ -37,8 +37,7 @@ same_bytes bs ds u v =
 same_element_equal : {A : Type 0} (eq : A → A → Bool) (e f : Element A) → SameElement eq e f → equal_elements eq e f ≡ true
 same_element_equal eq (piece cs a) (piece ds b) h = rw (path_same cs ds h.0, h.1) refl
 same_element_equal eq (marker_element m) (marker_element n) h = path_same m n h
-same_element_equal eq (piece cs a) (marker_element n) h = absurd h
-same_element_equal eq (marker_element m) (piece ds b) h = absurd h
+same_element_equal eq _ _ h = absurd h
 
 pub same_lines_equal : {A : Type 0} (eq : A → A → Bool) (es fs : List (Element A)) → SameElements eq es fs → equal_lines eq es fs ≡ true
 same_lines_equal eq = list_copies_equal (SameElement eq) (equal_elements eq) (same_element_equal eq)
@@ -63,14 +62,12 @@ module _ {A : Type 0} (eq : A → A → Bool) (E : TaggedLineElement A → Tagge
   same_alone x y = same_stored x y ∙ and_true (equal_elements eq (element_of x) (element_of y))
 
   pub same_before_one : (x y : TaggedLineElement A) (ys : List (TaggedLineElement A)) → length ys ≡ 1 → y ≡ get_or ys 0 y → E x y ≡ equal_lines eq (element_of x ∷ []) (map element_of ys)
-  same_before_one x y [] one is = absurd (omega arith)
   same_before_one x y (z ∷ []) one is = ap (E x) is ∙ same_alone x z
-  same_before_one x y (z ∷ w ∷ ys) one is = absurd (omega arith)
+  same_before_one x y _ one is = absurd (omega arith)
 
   pub one_before_same : (x y : TaggedLineElement A) (xs : List (TaggedLineElement A)) → length xs ≡ 1 → x ≡ get_or xs 0 x → E x y ≡ equal_lines eq (map element_of xs) (element_of y ∷ [])
-  one_before_same x y [] one is = absurd (omega arith)
   one_before_same x y (z ∷ []) one is = ap (λ w. E w y) is ∙ same_alone z y
-  one_before_same x y (z ∷ w ∷ xs) one is = absurd (omega arith)
+  one_before_same x y _ one is = absurd (omega arith)
 
   -- lines are equal by what is stored as by their elements
   pub same_lines : (xs ys : List (TaggedLineElement A)) → pointwise E xs ys ≡ equal_lines eq (map element_of xs) (map element_of ys)

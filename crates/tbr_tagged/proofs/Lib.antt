@@ -1,3 +1,4 @@
+pub mod AppendedLines
 pub mod Outcomes
 pub mod Copies
 pub mod ElementLoops

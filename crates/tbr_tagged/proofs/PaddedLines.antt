@@ -6,8 +6,8 @@ use Rattle.tbr_tagged.specs.Elements.{Element, piece, marker_element, text_items
 use Rattle.tbr_tagged.specs.declared.padding.CellAlign.{CellAlign}
 use Rattle.tbr_tagged.specs.declared.padding.CellAlign.TheVariants.{Left, Right, Centre}
 use Rattle.tbr_tagged.specs.Padding.{spaces, columns_in_front, spaces_before, padded}
-use Rattle.tbr_tagged.proofs.SameItems.{all_zip_append, same_items, same_items_append, same_items_trans, items_push, same_width}
-use Rattle.tbr_tagged.proofs.TextAfter.{same_elements, same_merged, merged_push}
+use Rattle.tbr_tagged.proofs.SameItems.{all_zip_append, same_items, same_items_append, same_items_trans, items_push, same_width, zip_trans}
+use Rattle.tbr_tagged.proofs.TextAfter.{same_elements, pushed_merged}
 use Rattle.tbr_tagged.proofs.TextInFront.{items_inserted, merged_inserted}
 use Rattle.tbr_model.proofs.words.Items.{items_width-append}
 
@@ -25,49 +25,39 @@ module _ {A : Type 0} (eq : A → A → Bool) (laws : IsEquivalence eq) where
   same_element_trans : (d e f : Element A) → SameElement eq d e → SameElement eq e f → SameElement eq d f
   same_element_trans (piece cs a) (piece ds b) (piece es x) h k = (h.0 ∙ k.0, laws.congr a b x h.1 ∙ k.1)
   same_element_trans (piece cs a) (piece ds b) (marker_element n) h k = absurd k
-  same_element_trans (piece cs a) (marker_element m) f h k = absurd h
-  same_element_trans (marker_element l) (piece ds b) f h k = absurd h
   same_element_trans (marker_element l) (marker_element m) (piece es x) h k = absurd k
   same_element_trans (marker_element l) (marker_element m) (marker_element n) h k = h ∙ k
+  same_element_trans _ _ f h k = absurd h
 
   pub same_elements_trans : (ds es fs : List (Element A)) → SameElements eq ds es → SameElements eq es fs → SameElements eq ds fs
-  same_elements_trans [] [] [] h k = tt
-  same_elements_trans [] [] (f ∷ fs) h k = absurd k
-  same_elements_trans [] (e ∷ es) fs h k = absurd h
-  same_elements_trans (d ∷ ds) [] fs h k = absurd h
-  same_elements_trans (d ∷ ds) (e ∷ es) [] h k = absurd k
-  same_elements_trans (d ∷ ds) (e ∷ es) (f ∷ fs) h k = (same_element_trans d e f h.0 k.0, same_elements_trans ds es fs h.1 k.1)
+  same_elements_trans = zip_trans (SameElement eq) same_element_trans
 
   -- the same pieces are under an equal tag
   same_under : (e f : Element A) (a : A) → SameElement eq e f → is_piece_under eq (Some e) a ≡ is_piece_under eq (Some f) a
   same_under (piece cs a) (piece ds b) x h = laws.congr a b x h.1
   same_under (marker_element m) (marker_element n) x h = refl
-  same_under (piece cs a) (marker_element n) x h = absurd h
-  same_under (marker_element m) (piece ds b) x h = absurd h
+  same_under _ _ x h = absurd h
 
   same_with : (e f : Element A) (cs : List ℕ) → SameElement eq e f → SameElement eq (with_text e cs) (with_text f cs)
   same_with (piece cs a) (piece ds b) es h = (ap (λ xs. xs ++ es) h.0, h.1)
   same_with (marker_element m) (marker_element n) es h = h
-  same_with (piece cs a) (marker_element n) es h = absurd h
-  same_with (marker_element m) (piece ds b) es h = absurd h
+  same_with _ _ es h = absurd h
 
   same_last : (es fs : List (Element A)) (a : A) → SameElements eq es fs → is_piece_under eq (last_of es) a ≡ is_piece_under eq (last_of fs) a
   same_last [] [] a h = refl
-  same_last [] (f ∷ fs) a h = absurd h
-  same_last (e ∷ es) [] a h = absurd h
   same_last (e ∷ []) (f ∷ []) a h = same_under e f a h.0
   same_last (e ∷ []) (f ∷ g ∷ fs) a h = absurd h.1
   same_last (e ∷ d ∷ es) (f ∷ []) a h = absurd h.1
   same_last (e ∷ d ∷ es) (f ∷ g ∷ fs) a h = same_last (d ∷ es) (g ∷ fs) a h.1
+  same_last _ _ a h = absurd h
 
   same_extended : (es fs : List (Element A)) (cs : List ℕ) → SameElements eq es fs → SameElements eq (extend_last es cs) (extend_last fs cs)
   same_extended [] [] cs h = tt
-  same_extended [] (f ∷ fs) cs h = absurd h
-  same_extended (e ∷ es) [] cs h = absurd h
   same_extended (e ∷ []) (f ∷ []) cs h = (same_with e f cs h.0, tt)
   same_extended (e ∷ []) (f ∷ g ∷ fs) cs h = absurd h.1
   same_extended (e ∷ d ∷ es) (f ∷ []) cs h = absurd h.1
   same_extended (e ∷ d ∷ es) (f ∷ g ∷ fs) cs h = (h.0, same_extended (d ∷ es) (g ∷ fs) cs h.1)
+  same_extended _ _ cs h = absurd h
 
   -- text after lines that are the same
   pub same_push : (es fs : List (Element A)) (cs : List ℕ) (a : A) → SameElements eq es fs → SameElements eq (push_text eq es cs a) (push_text eq fs cs a)
@@ -109,8 +99,7 @@ module _ {A : Type 0} (eq : A → A → Bool) (laws : IsEquivalence eq) where
   before_merged es (suc n) a h = merged_inserted eq laws es (spaces (suc n)) a (omega arith) h
 
   pub padded_merged : (es fs : List (Element A)) (front after : ℕ) (a : A) → SameElements eq fs (padded eq es front after a) → IsMerged eq es → IsMerged eq fs
-  padded_merged es fs front after a same h =
-      same_merged eq laws fs (padded eq es front after a) same (merged_push eq (spaces_before eq es front a) (spaces after) a (before_merged es front a h))
+  padded_merged es fs front after a same h = pushed_merged eq laws (spaces_before eq es front a) fs (spaces after) a (before_merged es front a h) same
 
   spaces_columns : (columns : ℕ → Option ℕ) (n : ℕ) (a : A) → columns 32 ≡ Some 1 → items_width columns (text_items (spaces n) a) ≡ n
   spaces_columns columns zero a h = refl
@@ -120,11 +109,5 @@ module _ {A : Type 0} (eq : A → A → Bool) (laws : IsEquivalence eq) where
   pub padded_columns : (columns : ℕ → Option ℕ) (is js : List (Item A)) (front after : ℕ) (a : A) → columns 32 ≡ Some 1 →
       SameItems eq is (text_items (spaces front) a ++ js ++ text_items (spaces after) a) → items_width columns is ≡ front + items_width columns js + after
   padded_columns columns is js front after a h same =
-      omega (
-        arith,
-        same_width columns eq is (text_items (spaces front) a ++ js ++ text_items (spaces after) a) same,
-        items_width-append columns (text_items (spaces front) a ++ js) (text_items (spaces after) a),
-        items_width-append columns (text_items (spaces front) a) js,
-        spaces_columns columns front a h,
-        spaces_columns columns after a h,
-      )
+      rw (same_width columns eq is (text_items (spaces front) a ++ js ++ text_items (spaces after) a) same, items_width-append, items_width-append, spaces_columns columns front a h, spaces_columns columns after a h)
+      refl

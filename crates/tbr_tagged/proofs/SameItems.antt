@@ -1,4 +1,5 @@
 -- Items that are the same up to equal tags.
+use Rattle.std.proofs.lemmas.List.{map-append}
 use Rattle.std.proofs.Common.{◌≡◌, ℕ, Option, Bool, true, List, [], ◌∷◌, ◌++◌, map, refl, ap, sym, ◌∙◌, subst, arith, append_assoc, append-nil}
 use Rattle.std.specs.Cmp.{IsEquivalence}
 use Rattle.std.specs.List.{AllZip}
@@ -9,9 +10,19 @@ use Rattle.tbr_tagged.specs.Elements.{Element, piece, marker_element, element_it
 
 pub all_zip_append : {A B : Type 0} (R : A → B → Type 0) (xs zs : List A) (ys ws : List B) → AllZip R xs ys → AllZip R zs ws → AllZip R (xs ++ zs) (ys ++ ws)
 all_zip_append R [] zs [] ws h k = k
-all_zip_append R [] zs (y ∷ ys) ws h k = absurd h
-all_zip_append R (x ∷ xs) zs [] ws h k = absurd h
 all_zip_append R (x ∷ xs) zs (y ∷ ys) ws h k = (h.0, all_zip_append R xs zs ys ws h.1 k)
+all_zip_append R _ zs _ ws h k = absurd h
+
+pub zip_trans : {X : Type 0} (R : X → X → Type 0) → ((x y z : X) → R x y → R y z → R x z) → (xs ys zs : List X) → AllZip R xs ys → AllZip R ys zs → AllZip R xs zs
+zip_trans R one [] [] zs h k = k
+zip_trans R one (x ∷ xs) (y ∷ ys) [] h k = k
+zip_trans R one (x ∷ xs) (y ∷ ys) (z ∷ zs) h k = (one x y z h.0 k.0, zip_trans R one xs ys zs h.1 k.1)
+zip_trans R one _ _ zs h k = absurd h
+
+pub zip_same : {X Y : Type 0} (R : X → X → Type 0) (f : X → Y) → ((x y : X) → R x y → f x ≡ f y) → (xs ys : List X) → AllZip R xs ys → map f xs ≡ map f ys
+zip_same R f one [] [] h = refl
+zip_same R f one (x ∷ xs) (y ∷ ys) h = rw (one x y h.0, zip_same R f one xs ys h.1) refl
+zip_same R f one _ _ h = absurd h
 
 module _ {A : Type 0} (eq : A → A → Bool) (laws : IsEquivalence eq) where
   pub same_item : (i : Item A) → SameItem eq i i
@@ -29,16 +40,11 @@ module _ {A : Type 0} (eq : A → A → Bool) (laws : IsEquivalence eq) where
   same_item_trans (glyph c a) (glyph d b) (glyph e x) h k = (h.0 ∙ k.0, laws.congr a b x h.1 ∙ k.1)
   same_item_trans (marker m) (marker n) (marker o) h k = h ∙ k
   same_item_trans (glyph c a) (glyph d b) (marker o) h k = k
-  same_item_trans (glyph c a) (marker n) k h l = absurd h
-  same_item_trans (marker m) (glyph d b) k h l = absurd h
   same_item_trans (marker m) (marker n) (glyph e x) h k = k
+  same_item_trans _ _ k h l = absurd h
 
   pub same_items_trans : (is js ks : List (Item A)) → SameItems eq is js → SameItems eq js ks → SameItems eq is ks
-  same_items_trans [] [] ks h k = k
-  same_items_trans [] (j ∷ js) ks h k = absurd h
-  same_items_trans (i ∷ is) [] ks h k = absurd h
-  same_items_trans (i ∷ is) (j ∷ js) [] h k = k
-  same_items_trans (i ∷ is) (j ∷ js) (l ∷ ks) h k = (same_item_trans i j l h.0 k.0, same_items_trans is js ks h.1 k.1)
+  same_items_trans = zip_trans (SameItem eq) same_item_trans
 
   pub same_items_append : (is js ks ls : List (Item A)) → SameItems eq is js → SameItems eq ks ls → SameItems eq (is ++ ks) (js ++ ls)
   same_items_append is js ks ls = all_zip_append (SameItem eq) is ks js ls
@@ -50,18 +56,15 @@ module _ {A : Type 0} (eq : A → A → Bool) (laws : IsEquivalence eq) where
   same_element_items : (e f : Element A) → SameElement eq e f → SameItems eq (element_items e) (element_items f)
   same_element_items (piece cs a) (piece ds b) h = subst (λ xs. SameItems eq (map (λ c. glyph c a) cs) (map (λ c. glyph c b) xs)) h.0 (same_texts cs a b h.1)
   same_element_items (marker_element m) (marker_element n) h = (h, tt)
-  same_element_items (piece cs a) (marker_element n) h = absurd h
-  same_element_items (marker_element m) (piece ds b) h = absurd h
+  same_element_items _ _ h = absurd h
 
   pub same_items_of : (es fs : List (Element A)) → SameElements eq es fs → SameItems eq (items_of es) (items_of fs)
   same_items_of [] [] h = tt
-  same_items_of [] (f ∷ fs) h = absurd h
-  same_items_of (e ∷ es) [] h = absurd h
   same_items_of (e ∷ es) (f ∷ fs) h = same_items_append (element_items e) (element_items f) (items_of es) (items_of fs) (same_element_items e f h.0) (same_items_of es fs h.1)
+  same_items_of _ _ h = absurd h
 
   text_push : (cs ds : List ℕ) (a b : A) → eq b a ≡ true → SameItems eq (map (λ d. glyph d b) (cs ++ ds)) (map (λ d. glyph d b) cs ++ map (λ d. glyph d a) ds)
-  text_push [] ds a b h = same_texts ds b a h
-  text_push (c ∷ cs) ds a b h = ((refl, laws.refl b), text_push cs ds a b h)
+  text_push cs ds a b h = rw map-append (same_items_append _ _ _ _ (same_items (map (λ d. glyph d b) cs)) (same_texts ds b a h))
 
   extend_items : (es : List (Element A)) (ds : List ℕ) (a : A) → is_piece_under eq (last_of es) a ≡ true → SameItems eq (items_of (extend_last es ds)) (items_of es ++ map (λ d. glyph d a) ds)
   extend_items [] ds a h = cc
@@ -92,20 +95,17 @@ module _ {A : Type 0} (eq : A → A → Bool) (laws : IsEquivalence eq) where
 pub same_width_one : {A : Type 0} (columns : ℕ → Option ℕ) (eq : A → A → Bool) (i j : Item A) → SameItem eq i j → item_width columns i ≡ item_width columns j
 same_width_one columns eq (glyph c a) (glyph d b) h = ap (λ x. item_width columns (glyph x a)) h.0
 same_width_one columns eq (marker m) (marker n) h = refl
-same_width_one columns eq (glyph c a) (marker n) h = absurd h
-same_width_one columns eq (marker m) (glyph d b) h = absurd h
+same_width_one columns eq _ _ h = absurd h
 
 pub same_width : {A : Type 0} (columns : ℕ → Option ℕ) (eq : A → A → Bool) (is js : List (Item A)) → SameItems eq is js → items_width columns is ≡ items_width columns js
 same_width columns eq [] [] h = refl
-same_width columns eq [] (j ∷ js) h = absurd h
-same_width columns eq (i ∷ is) [] h = absurd h
 same_width columns eq (i ∷ is) (j ∷ js) h = omega (arith, same_width_one columns eq i j h.0, same_width columns eq is js h.1)
+same_width columns eq _ _ h = absurd h
 
 pub same_has : {A : Type 0} (eq : A → A → Bool) (is js : List (Item A)) → SameItems eq is js → has_character is ≡ has_character js
 same_has eq [] [] h = refl
-same_has eq [] (j ∷ js) h = absurd h
-same_has eq (i ∷ is) [] h = absurd h
 same_has eq (glyph c a ∷ is) (glyph d b ∷ js) h = refl
 same_has eq (glyph c a ∷ is) (marker n ∷ js) h = absurd h.0
 same_has eq (marker m ∷ is) (glyph d b ∷ js) h = absurd h.0
 same_has eq (marker m ∷ is) (marker n ∷ js) h = same_has eq is js h.1
+same_has eq _ _ h = absurd h

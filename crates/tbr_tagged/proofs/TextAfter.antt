@@ -1,5 +1,7 @@
 -- Text after a line of pieces.
-use Rattle.std.proofs.Common.{◌≡◌, ℕ, zero, suc, ◌-◌, ◌<◌, Bool, true, false, Some, option_map, List, [], ◌∷◌, ◌++◌, map, length, get_or, set, replicate, encode_utf8, refl, ap, sym, ◌∙◌, arith, append-nil}
+use Rattle.std.proofs.lemmas.Result.{on_ok_weaker}
+use Rattle.std.specs.Result.{OnOk}
+use Rattle.std.proofs.Common.{◌≡◌, ℕ, suc, ◌-◌, ◌<◌, Bool, true, false, Some, option_map, List, [], ◌∷◌, ◌++◌, map, length, get_or, set, replicate, encode_utf8, refl, ap, sym, ◌∙◌, arith, append-nil, Result}
 use Rattle.std.specs.List.{slice_get}
 use Rattle.std.proofs.lemmas.Bool.{cond_both}
 use Rattle.std.specs.Str.{IsAscii, IsUtf8, chars}
@@ -17,9 +19,8 @@ pub chars_push : (bs : List ℕ) (c : ℕ) → IsUtf8 bs → IsScalar c → char
 chars_push bs c u h = chars-append bs (encode_utf8 c) u ∙ ap (λ cs. chars bs ++ cs) (chars_one c h)
 
 pub spaces_ascii : (n : ℕ) → IsAscii (replicate n 32)
-spaces_ascii zero i = omega arith
-spaces_ascii (suc n) zero = omega arith
 spaces_ascii (suc n) (suc i) = spaces_ascii n i
+spaces_ascii _ _ = omega arith
 
 pub chars_spaces : (bs : List ℕ) (n : ℕ) → IsUtf8 bs → chars (bs ++ replicate n 32) ≡ chars bs ++ replicate n 32
 chars_spaces bs n u =
@@ -47,16 +48,12 @@ module _ {A : Type 0} (eq : A → A → Bool) (laws : IsEquivalence eq) where
   same_elements [] = tt
   same_elements (e ∷ es) = (same_element e, same_elements es)
 
-  pub same_from_equal : (es fs : List (Element A)) → es ≡ fs → SameElements eq es fs
-  same_from_equal es fs e = rw e (same_elements fs)
-
 -- the last element of a list, as `last` gives it
 pub last_of-map : {X : Type 0} {A : Type 0} (f : X → A) (xs : List X) → last_of (map f xs) ≡ option_map f (slice_get xs (length xs - 1))
-last_of-map f [] = refl
-last_of-map f (x ∷ []) = refl
 last_of-map f (x ∷ y ∷ xs) =
     let e : length (x ∷ y ∷ xs) - 1 ≡ suc (length (y ∷ xs) - 1) = omega arith in
     rw e (last_of-map f (y ∷ xs))
+last_of-map f _ = refl
 
 -- a write to the last element
 extend-set : {X : Type 0} {A : Type 0} (f : X → Element A) (xs : List X) (ds : List ℕ) (d y : X) → 0 < length xs → f y ≡ with_text (f (get_or xs (length xs - 1) d)) ds →
@@ -67,10 +64,11 @@ extend-set f (x ∷ z ∷ xs) ds d y some h =
     let e : length (x ∷ z ∷ xs) - 1 ≡ suc (length (z ∷ xs) - 1) = omega arith in
     rw e (ap (λ es. f x ∷ es) (extend-set f (z ∷ xs) ds d y (omega arith) (rw e at h)))
 
--- a write to the last of n elements
-pub extended_at : {X : Type 0} {A : Type 0} (f : X → Element A) (xs : List X) (n : ℕ) (ds : List ℕ) (d y : X) → n ≡ length xs → 0 < n → f y ≡ with_text (f (get_or xs (n - 1) d)) ds →
-    map f (set xs (n - 1) y) ≡ extend_last (map f xs) ds
-extended_at f xs n ds d y count some h = rw count (extend-set f xs ds d y (omega arith) (rw count at h))
+-- a write to the last of n elements, where that succeeds
+pub extended_at : {X A T E : Type 0} (r : Result T E) (f : X → Element A) (xs : List X) (n : ℕ) (ds : List ℕ) (d y : X) → n ≡ length xs → 0 < n → d ≡ get_or xs (n - 1) d →
+    OnOk r (f y ≡ with_text (f d) ds) → OnOk r (map f (set xs (n - 1) y) ≡ extend_last (map f xs) ds)
+extended_at r f xs n ds d y count some is =
+    on_ok_weaker r (λ h. rw count (extend-set f xs ds d y (omega (arith, some)) (rw (is, count) at h)))
 
 -- what pushing leaves where the last piece is under an equal tag
 pub push_extends : {A : Type 0} (eq : A → A → Bool) (es : List (Element A)) (cs : List ℕ) (a : A) → 0 < length cs → is_piece_under eq (last_of es) a ≡ true → push_text eq es cs a ≡ extend_last es cs
@@ -139,8 +137,7 @@ same_text eq (piece [] a) (piece [] b) h k = k
 same_text eq (piece [] a) (piece (d ∷ ds) b) h k = let no : [] ≡ d ∷ ds = h.0 in cc
 same_text eq (piece (c ∷ cs) a) (piece ds b) h k = tt
 same_text eq (marker_element m) (marker_element n) h k = tt
-same_text eq (piece cs a) (marker_element n) h k = absurd h
-same_text eq (marker_element m) (piece ds b) h k = absurd h
+same_text eq _ _ h k = absurd h
 
 not_true : (b : Bool) → ¬ (b ≡ true) → b ≡ false
 not_true true h = absurd (h refl)
@@ -151,10 +148,9 @@ module _ {A : Type 0} (eq : A → A → Bool) (laws : IsEquivalence eq) where
   same_parted (piece cs a) (piece ds b) (piece es x) (piece fs y) p q r = not_true (eq a x) (λ t.
       let by : eq b x ≡ true = sym (laws.congr a b x p.1) ∙ t in
       let all : eq b y ≡ true = laws.symm b y ∙ sym (laws.congr x y b q.1) ∙ laws.symm x b ∙ by in cc)
-  same_parted (piece cs a) (piece ds b) (marker_element m) h p q r = tt
   same_parted (piece cs a) (piece ds b) (piece es x) (marker_element n) p q r = absurd q
   same_parted (piece cs a) (marker_element n) g h p q r = absurd p
-  same_parted (marker_element m) f g h p q r = tt
+  same_parted _ _ _ h p q r = tt
 
   same_parted_from : (e f : Element A) (gs hs : List (Element A)) → SameElement eq e f → SameElements eq gs hs → IsPartedFrom eq f hs → IsPartedFrom eq e gs
   same_parted_from e f [] hs p q r = tt
@@ -165,3 +161,6 @@ module _ {A : Type 0} (eq : A → A → Bool) (laws : IsEquivalence eq) where
   same_merged [] fs h k = tt
   same_merged (e ∷ es) [] h k = absurd h
   same_merged (e ∷ es) (f ∷ fs) h k = (same_text eq e f h.0 k.0, same_parted_from e f es fs h.0 h.1 k.1, same_merged es fs h.1 k.2)
+
+  pub pushed_merged : (es fs : List (Element A)) (cs : List ℕ) (a : A) → IsMerged eq es → SameElements eq fs (push_text eq es cs a) → IsMerged eq fs
+  pushed_merged es fs cs a h same = same_merged fs (push_text eq es cs a) same (merged_push eq es cs a h)

@@ -19,11 +19,7 @@ ascii_in_one c h = grind (arith, nat_tests)
 -- a list, from what a loop has seen of it on
 pub seen_and_rest : {A : Type 0} (all xs : List A) (x : A) → xs ≡ take (length xs) all → length xs < length all → x ≡ get_or all (length xs) x →
     (rest : List A) × (all ≡ xs ++ (x ∷ rest))
-seen_and_rest {A} all xs x seen below is = (
-  drop (suc (length xs)) all,
-  sym (take-append-drop (length xs) all) ∙ ap (λ (ys : List A). ys ++ drop (length xs) all) (sym seen)
-      ∙ ap (λ (ys : List A). xs ++ ys) (drop-cons all (length xs) x below ∙ ap (λ (y : A). y ∷ drop (suc (length xs)) all) (sym is)),
-)
+seen_and_rest all xs x seen below is = (drop (suc (length xs)) all, rw (← seen, drop-cons all (length xs) x below, ← is) at (sym (take-append-drop (length xs) all)))
 
 pub width_of_text-append : (columns : ℕ → Option ℕ) (cs ds : List ℕ) → width_of_text columns (cs ++ ds) ≡ width_of_text columns cs + width_of_text columns ds
 width_of_text-append columns [] ds = omega arith

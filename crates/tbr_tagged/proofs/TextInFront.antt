@@ -1,15 +1,15 @@
 -- Text in front of a line of pieces.
-use Rattle.std.proofs.Common.{◌≡◌, ℕ, ◌<◌, Bool, true, false, Some, List, [], ◌∷◌, ◌++◌, length, refl, ◌∙◌, arith, append_assoc}
+use Rattle.std.proofs.lemmas.List.{map-append}
+use Rattle.std.proofs.Common.{◌≡◌, ℕ, ◌<◌, Bool, true, false, Some, List, [], ◌∷◌, ◌++◌, length, ◌∙◌, arith, append_assoc}
 use Rattle.std.specs.Cmp.{IsEquivalence}
 use Rattle.std.proofs.lemmas.Bool.{cond_both}
 use Rattle.tbr_tagged.specs.Elements.{Element, piece, marker_element, element_items, text_items, items_of, SameItems, is_piece_under, text_before, insert_text, HasText, AreParted, IsPartedFrom, IsMerged}
-use Rattle.tbr_tagged.proofs.SameItems.{same_items, same_items_append, same_from_path, same_items_trans}
+use Rattle.tbr_tagged.proofs.SameItems.{same_items, same_items_append, same_from_path, same_items_trans, same_texts}
 use Rattle.tbr_tagged.proofs.TextAfter.{more_text}
 
 module _ {A : Type 0} (eq : A → A → Bool) (laws : IsEquivalence eq) where
   text_in_front : (cs ds : List ℕ) (a b : A) → eq b a ≡ true → SameItems eq (text_items (cs ++ ds) b) (text_items cs a ++ text_items ds b)
-  text_in_front [] ds a b h = same_items eq laws (text_items ds b)
-  text_in_front (c ∷ cs) ds a b h = ((refl, h), text_in_front cs ds a b h)
+  text_in_front cs ds a b h = rw map-append (same_items_append eq laws _ _ _ _ (same_texts eq laws cs b a h) (same_items eq laws (text_items ds b)))
 
   extended_items : (e : Element A) (cs : List ℕ) (a : A) → is_piece_under eq (Some e) a ≡ true → SameItems eq (element_items (text_before cs e)) (text_items cs a ++ element_items e)
   extended_items (piece ds b) cs a h = text_in_front cs ds a b h

@@ -1,5 +1,5 @@
 //! Lines of text under tags.
-ghost use Rattle.std.specs.Prelude.{◌≡◌, ℕ, ◌^◌, ◌≤◌, ◌<◌, ◌++◌, ◌∷◌, ◌⊎◌, [], true, max, not, Option, chars, map, length, string_len, IfOk, OnOk, OnErr};
+ghost use Rattle.std.specs.Prelude.{◌≡◌, ℕ, ◌^◌, ◌≤◌, ◌<◌, ◌++◌, ◌∷◌, ◌⊎◌, [], true, max, not, Option, chars, fold, map, length, string_len, IfOk, OnOk, OnErr};
 ghost use Rattle.tbr_tagged.specs.Copies.{CopiesAreEqual};
 ghost use Rattle.tbr_model.specs.Run.{glyph};
 ghost use Rattle.tbr_tagged.specs.Elements.{items_of, line_width, element_items, characters, piece, push_text, push_element, insert_text, text_items, SameItems, SameElements, IsMerged};
@@ -187,6 +187,20 @@ impl<T: Eq + Drop> TaggedLine<T> {
                 self.elements.push(TaggedLineElement::FragmentStart(name))
             }
         }
+    }
+
+    /// Appends the elements of another line, each as [`TaggedLine::push`] does.
+    ///
+    /// Where memory is refused part of them may have been appended, and the others are dropped.
+    pub fn append(&mut self, other: TaggedLine<T>) -> Result<(), OutOfMemory>
+        ensures ok { OnOk result (self.new ≡ fold (push_element T.eq) self.old other) }
+        ensures items { OnOk result (SameItems T.eq (items_of self.new) (items_of self.old ++ items_of other)) }
+        ensures merged { IsMerged T.eq self.old → OnOk result (IsMerged T.eq self.new) }
+    {
+        for element in other {
+            self.push(element)?;
+        }
+        Ok(())
     }
 
     /// Puts text in front. It extends the first piece if that is under an equal tag, and else is a piece of its own,

@@ -40,13 +40,7 @@ impl<T> Model for EndedLines<T> {
 /// Each line between `<` and `>` on a line of its own, without its markers.
 impl<T> fmt::Display for EndedLines<T> {
     fn fmt<W: fmt::Write>(&self, f: &mut fmt::Formatter<W>) -> fmt::Result {
-        let mut items = self.flat.items();
-        for len in &self.lens {
-            f.write_str("<")?;
-            print_items(f, &mut items, *len)?;
-            f.write_str(">\n")?;
-        }
-        Ok(())
+        self.fmt_after(f, "", "")
     }
 }
 
@@ -65,6 +59,25 @@ fn print_items<W: fmt::Write>(
 }
 
 impl<T> EndedLines<T> {
+    /// Prints each line as `Display` does, the first one after a prefix of its own, and each other one after that of the
+    /// others.
+    pub fn fmt_after<'a, W: fmt::Write>(
+        &self,
+        f: &mut fmt::Formatter<W>,
+        first: &'a str,
+        others: &'a str,
+    ) -> fmt::Result {
+        let mut items = self.flat.items();
+        let mut prefix = first;
+        for len in &self.lens {
+            write!(f, "<{prefix}")?;
+            print_items(f, &mut items, *len)?;
+            f.write_str(">\n")?;
+            prefix = others;
+        }
+        Ok(())
+    }
+
     /// Lines of these lengths, of the first items that are placed.
     pub(crate) fn new(flat: FlatText<T>, lens: VecDeque<usize>) -> EndedLines<T>
         requires counted { deque_len lens ≡ length lens.items }
@@ -117,8 +130,10 @@ impl<T: Drop> EndedLines<T> {
         Ok(())
     }
 
-    /// Moves the text of the first line, if one is left, and a newline, to the end of a text.
-    fn append_line(&mut self, text: &mut String) -> Result<(), OutOfMemory>
+    /// Moves the text of the first line, if one is left, and a newline, to the end of a text. Where memory is refused
+    /// lines may be lost.
+    #[inline]
+    pub fn append_line(&mut self, text: &mut String) -> Result<(), OutOfMemory>
         ensures { (is : List (Item T)) (rest : List (List (Item T))) → self.old ≡ is ∷ rest →
             OnOk result ((chars_of text.new ≡ chars_of text.old ++ line_characters is) × (self.new ≡ rest)) }
     {

@@ -236,7 +236,7 @@ impl<T: Eq + Clone + Drop> LaidLines<T> {
         Ok(())
     }
 
-    /// Puts the word, and a text of `count` characters after it, on the open line. Both are of `width` columns.
+    /// Puts the word, and a text of `count` characters after it, on the open line. Together they take `width` columns.
     pub fn place_with(
         &mut self,
         text: &str,

@@ -1,5 +1,5 @@
 -- What calls, rows and footnotes add to the lines, piece by piece.
-use Rattle.std.proofs.Common.{◌≡◌, ℕ, Bool, Option, Some, None, List, [], ◌∷◌, ◌++◌, map, flat_map, fold, refl, ap, sym, ◌∙◌, subst, append_assoc, append-nil}
+use Rattle.std.proofs.Common.{◌≡◌, ℕ, Bool, Option, None, List, [], ◌∷◌, ◌++◌, map, flat_map, fold, refl, ap, sym, ◌∙◌, subst, append_assoc, append-nil, arith, rules}
 use Rattle.std.specs.List.{AllZip, AllByRecursion as Each}
 use Rattle.std.proofs.lemmas.List.{map-append}
 use Rattle.std.proofs.lemmas.List.Concat.{flat_map-append}
@@ -13,16 +13,13 @@ use Rattle.tbr_rows.specs.Meant.{SeenRow}
 use Rattle.tbr_rows.specs.declared.LineSet.{LineSet as Cell}
 use Rattle.tbr_decor.specs.Change as change
 use Rattle.tbr_decor.specs.Decoration.{Decoration}
-use Rattle.tbr_renderer.specs.declared.options.RenderOptions.{RenderOptions}
-use Rattle.tbr_kept_lines.specs.Line.{Line}
 use Rattle.tbr_renderer.specs.Renderer.{Open, Renderer, with_line, open_run, IsSound}
 use Rattle.tbr_renderer.specs.Footnotes.{listed, footnote_lines}
 use Rattle.tbr_renderer.specs.Rows.{GivenCell, border_lines, with_next, with_row, PutsRow}
 use Rattle.tbr_kept_lines.specs.LastBorder.{before_border}
-use Rattle.tbr_renderer.specs.Appended.{border_line}
 use Rattle.tbr_renderer.specs.Calls.{Call, Does, entries_brought, Brings, laid_entries, text_of_lines}
 use Rattle.tbr_tagged.specs.Outcome.{done}
-use Rattle.tbr_renderer.specs.Outcomes.{and_then, told_by}
+use Rattle.tbr_renderer.specs.Outcomes.{told_by}
 use Rattle.tbr_renderer.proofs.OutcomeParts.{one_done, done_first}
 use Rattle.text_block_renderer.specs.Added.{Added, text_laid, row_put, flush_ends}
 use Rattle.text_block_renderer.specs.Stretches.{Part, lines_laid, IsPart}
@@ -50,31 +47,17 @@ module _ {D A : Type 0} (columns : ℕ → Option ℕ) where
   no_rows (p ∷ ps) = no_rows ps
 
   piece_of_other : (r q : Renderer D A (List A)) → q.width ≡ r.width → q.options ≡ r.options → (p : Piece D A columns) → IsPiece columns q p → IsPiece columns r p
-  piece_of_other r q width options (part p) h = part_of_other columns r q width options p h
-  piece_of_other r q width options (put p) h = record { width = h.width ∙ width; options = h.options ∙ options; block = h.block }
-  piece_of_other r q width options (noted t is) h = (h.0 ∙ width, h.1 ∙ options)
+  piece_of_other r q width options p h = grind (arith, part_of_other)
 
   -- ---- a row
 
-  same_laid : (r : Renderer D A (List A)) (ls : List (Line (List A))) (cells : List (Cell (List A))) (ts : List (List (Item (List A)))) → lines_laid columns (record r { lines = ls; hanging = cells }) ts ≡ lines_laid columns r ts
-  same_laid r ls cells [] = refl
-  same_laid r ls cells (t ∷ ts) = refl
-
   next_lines : (r q : Renderer D A (List A)) (cells : List (Cell (List A))) (o : Option (Border (List A))) → beside q ≡ record (beside r) { hanging = cells } →
       (with_next columns q o).lines ≡ q.lines ++ border_lines_of columns r o
-  next_lines r q cells None e = sym (append-nil q.lines)
-  next_lines r q cells (Some b) e = ap (λ (p : Renderer D A (List A)). q.lines ++ border_line columns p b ∷ []) e
+  next_lines r q cells o e = grind (arith, append-nil)
 
   pub row_lines : (m : Renderer D A (List A)) (seen : SeenRow (List A)) →
       (with_row columns m seen).lines ≡ (before_border m.lines ++ border_lines seen.above) ++ (lines_laid columns m seen.lines ++ border_lines_of columns m seen.next)
-  row_lines m seen =
-      let first = before_border m.lines ++ border_lines seen.above in
-      let top : Renderer D A (List A) = record m { lines = first; hanging = seen.overhang } in
-      let full = fold (with_line columns) top seen.lines in
-      let laid = lines_laid columns m seen.lines in
-      next_lines m full seen.overhang seen.next (lines_beside columns seen.lines top)
-      ∙ ap (λ ls. ls ++ border_lines_of columns m seen.next) (laid_lines columns seen.lines top ∙ ap (λ ls. first ++ ls) (same_laid m first seen.overhang seen.lines))
-      ∙ append_assoc first laid (border_lines_of columns m seen.next)
+  row_lines m seen = search (rules, next_lines, lines_beside, laid_lines, append_assoc)
 
   -- lines stay where the border above a row is put in
   pub top_stays : (collapses : Bool) (cells : List (GivenCell (List A))) (m s : Renderer D A (List A)) (puts : PutsRow columns collapses cells m s) → AllZip StaysLine m.lines (under_row m puts.row).lines
@@ -104,14 +87,11 @@ module _ {D A : Type 0} (columns : ℕ → Option ℕ) where
           are = each_append (IsPiece columns r) front back h.came.are (each_gives (IsPiece columns q) (IsPiece columns r) (piece_of_other r q h.width h.options) back k.came.are);
           lines = subst (λ ls. AllZip StaysLine ls s.lines) (append_assoc r.lines first after_them ∙ ap (λ ls. r.lines ++ ls) (sym (flat_map-append (lines_of_piece columns) front back)))
               (stay_on ((r.lines ++ first) ++ after_them) (q.lines ++ after_them) s.lines (all_zip_append StaysLine (r.lines ++ first) after_them q.lines after_them h.came.lines (all_stay after_them)) k.came.lines);
-          entries = sym (append_assoc (open_run r.block) es fs) ∙ ap (λ gs. gs ++ fs) h.came.entries ∙ append_assoc before (open_run q.block) fs ∙ ap (λ gs. before ++ gs) k.came.entries
-              ∙ sym (append_assoc before after (open_run s.block)) ∙ ap (λ gs. gs ++ open_run s.block) (sym (flat_map-append (entries_of_piece columns) front back));
+          entries = grind (arith, append_assoc, flat_map-append);
           put_rows = ap (map cells_in) (rows_append front back) ∙ map-append cells_in (rows_in front) (rows_in back) ∙ ap (λ zs. zs ++ map cells_in (rows_in back)) h.came.put_rows ∙ ap (λ zs. xs ++ zs) k.came.put_rows;
         };
         added = flat_map-append (added_of_piece columns) front back ∙ ap (λ ts. ts ++ flat_map (added_of_piece columns) back) h.added ∙ ap (λ ts. rs ++ ts) k.added;
-        chain = subst (λ rows. Chain columns r.options.draw_borders r.hanging rows s.hanging) (sym (rows_append front back))
-            (chain_append columns r.options.draw_borders r.hanging (rows_in front) q.hanging (rows_in back) s.hanging h.chain
-            (subst (λ (o : RenderOptions). Chain columns o.draw_borders q.hanging (rows_in back) s.hanging) h.options k.chain));
+        chain = grind (arith, rows_append, chain_append);
       }
 
   -- these pieces came
@@ -173,9 +153,7 @@ module _ {D A : Type 0} (columns : ℕ → Option ℕ) where
 
     -- as the only one of calls
     pub alone : (c : Call (List A)) (r s : Renderer D A (List A)) → Does columns decoration c r s → Brings columns decoration (c ∷ []) r (entries_brought columns decoration c r) s
-    alone c r s does =
-        let first = entries_brought columns decoration c r in
-        (ap (λ o. and_then o (λ t. done t)) does, sym (append-nil first) ∙ ap (λ o. first ++ told_by (λ t. []) o) (sym does))
+    alone c r s does = grind (arith, append-nil)
 
     -- a row takes no text back
     pub texts_only_come : (collapses : Bool) (cells : List (GivenCell (List A))) (r s : Renderer D A (List A)) → after_act columns decoration (row collapses cells) r ≡ done s → (more : List (Item (List A))) × (text_of_lines s.lines ≡ text_of_lines r.lines ++ more)
@@ -189,8 +167,7 @@ module _ {D A : Type 0} (columns : ℕ → Option ℕ) where
         )
 
     pub rows_one : (act : Act A) (acts : List (Act A)) → rows_of (act ∷ acts) ≡ rows_of (act ∷ []) ++ rows_of acts
-    rows_one (row collapses cells) acts = refl
-    rows_one other acts = refl
+    rows_one act acts = grind arith
 
     act_along : (act : Act A) (r s : Renderer D A (List A)) → IsSound columns r → ActStep columns decoration act r s → Along (rows_of (act ∷ [])) (act_adds columns decoration act r) r (act_enters columns decoration act r) s
     act_along (call c) r s sound h = course_along r s _ _ _ (call_moves columns any decoration c r s ((λ appends is. tt), λ adds appends. tt) h) sound

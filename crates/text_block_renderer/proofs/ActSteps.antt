@@ -1,5 +1,5 @@
 -- Calls and rows one by one: each is a call, or a row that is put after a flush.
-use Rattle.std.proofs.Common.{◌≡◌, ℕ, Option, List, [], ◌∷◌, ◌++◌, subst, ap, sym, ◌∙◌}
+use Rattle.std.proofs.Common.{◌≡◌, ℕ, Option, List, [], ◌∷◌, ◌++◌, subst, ap, sym, ◌∙◌, arith}
 use Rattle.std.specs.Cmp.Lexicographic.{pointwise}
 use Rattle.tbr_model.specs.Run.{Entry}
 use Rattle.tbr_model.specs.Layout.{joined}
@@ -47,17 +47,12 @@ module _ {D A : Type 0} (columns : ℕ → Option ℕ) (decoration : Decoration 
       let seen = (computed same tells columns (style_in m collapses) m.annotations m.hanging own (last_border m.lines) puts.row).0 means in
       (m, flushed, puts, ap (told_by (λ q. texts_of_row columns decoration (row_seen columns decoration collapses cells q))) (live_done r.failure (after_flush columns r) m flushed).1 ∙ ap (texts_of_row columns decoration) seen)
   act_step (fmt_links links) r s h = one_done (with_footnotes columns r links) s (live_done r.failure (done (with_footnotes columns r links)) s h).1
-  act_step (finalise targets) r s h =
-      let q : Renderer D A (List A) = record r { decorator = decoration.after r.decorator (change.finalise (listed r.options targets)) } in
-      one_done q s (live_done r.failure (done q) s h).1
+  act_step (finalise targets) r s h = grind (arith, one_done, live_done)
 
   -- one act more
   pub acts_then : (acts : List (Act A)) (act : Act A) (r m s : Renderer D A (List A)) (es : List (Entry (List A))) → after_acts acts r ≡ done m → after_act columns decoration act m ≡ done s →
       (after_acts (acts ++ act ∷ []) r ≡ done s) × (acts_come columns decoration (acts ++ act ∷ []) r es ≡ act_comes columns decoration act m (acts_come columns decoration acts r es))
-  acts_then [] act r m s es h does =
-      let same = one_done r m h in
-      let there : after_act columns decoration act r ≡ done s = ap (after_act columns decoration act) (sym same) ∙ does in
-      (run_last (after_act columns decoration) act r s there, ap (told_by (λ q. act_comes columns decoration act r es)) there ∙ ap (λ (q : Renderer D A (List A)). act_comes columns decoration act q es) (sym same))
+  acts_then [] act r m s es h does = grind (arith, one_done, run_last)
   acts_then (a ∷ acts) act r m s es h does =
       let (n, first, others) = done_first (after_act columns decoration a r) (after_acts acts) m h in
       let came = act_comes columns decoration a r es in

@@ -1,15 +1,14 @@
 -- Lines only come.
-use Rattle.std.proofs.Common.{◌≡◌, ℕ, Option, Some, None, List, [], ◌∷◌, ◌++◌, map, fold, refl, ap, sym, ◌∙◌, append_assoc, append-nil}
+use Rattle.std.proofs.Common.{◌≡◌, ℕ, Option, List, [], ◌∷◌, ◌++◌, map, fold, refl, ap, sym, ◌∙◌, append_assoc, append-nil, arith}
 use Rattle.tbr_model.specs.Run.{Item}
 use Rattle.tbr_kept_lines.specs.Line.{Line}
 use Rattle.tbr_renderer.specs.Renderer.{Open, Renderer, with_line}
-use Rattle.tbr_renderer.specs.Flush.{block_lines, lines_at_end}
 use Rattle.tbr_renderer.proofs.FlushedBlocks.{FlushesBlock}
 use Rattle.tbr_decor.specs.Decoration.{Decoration}
 use Rattle.tbr_model.specs.Markers.{marker_items}
 use Rattle.text_block_renderer.specs.Stretches.{padded_line, lines_laid}
 use Rattle.tbr_renderer.specs.Calls.{Call, Steps, brought}
-use Rattle.text_block_renderer.proofs.Moves.{Move, flush, join, turn, Makes, MakesAll, through, any}
+use Rattle.text_block_renderer.proofs.Moves.{Move, Makes, MakesAll, through, any}
 use Rattle.text_block_renderer.proofs.CallMoves.{calls_move}
 
 abbrev pub Grows : {D A : Type 0} → Renderer D A (List A) → Renderer D A (List A) → Type 0
@@ -25,8 +24,7 @@ module _ {D A : Type 0} where
 module _ {D A : Type 0} (columns : ℕ → Option ℕ) where
   -- where no marker waits
   pub unmarked : (r : Renderer D A (List A)) (ts : List (List (Item (List A)))) → r.waiting ≡ [] → lines_laid columns r ts ≡ map (padded_line columns r) ts
-  unmarked r [] none = refl
-  unmarked r (t ∷ ts) none = ap (λ ns. padded_line columns r (marker_items ns ++ t) ∷ map (padded_line columns r) ts) none
+  unmarked r ts none = grind arith
 
   pub laid_lines : (ts : List (List (Item (List A)))) (r : Renderer D A (List A)) → (fold (with_line columns) r ts).lines ≡ r.lines ++ lines_laid columns r ts
   laid_lines [] r = sym (append-nil r.lines)
@@ -41,19 +39,13 @@ module _ {D A : Type 0} (columns : ℕ → Option ℕ) where
   lines_grow texts r = (lines_laid columns r texts, laid_lines texts r)
 
   flush_grows : (r s : Renderer D A (List A)) (o : Option (Open (List A))) → FlushesBlock columns r o s → Grows r s
-  flush_grows r s None h = stays r s (ap (λ (q : Renderer D A (List A)). q.lines) h)
-  flush_grows r s (Some b) h = (_, ap (λ (q : Renderer D A (List A)). q.lines) h.is ∙ laid_lines (block_lines columns r b (lines_at_end columns r b)) (record r { block = None }))
+  flush_grows r s o h = grind (arith, stays, laid_lines)
 
   move_grows : (m : Move D A) (r s : Renderer D A (List A)) → Makes columns any m r s → Grows r s
-  move_grows (flush q) r s h = flush_grows r s r.block h.1
-  move_grows (join es) r s h = stays r s (ap (λ (q : Renderer D A (List A)). q.lines) h)
-  move_grows turn r s h = stays r s h.lines
-  move_grows other r s h = (_, ap (λ (q : Renderer D A (List A)). q.lines) h.2)
+  move_grows m r s h = grind (arith, flush_grows, stays)
 
   pub moves_grow : (ms : List (Move D A)) (r s : Renderer D A (List A)) → MakesAll columns any ms r s → Grows r s
   moves_grow = through columns any Grows (λ r s e. stays r s (ap (λ (q : Renderer D A (List A)). q.lines) e)) grows_on move_grows
 
   pub steps_grow : (decoration : Decoration D A) (calls : List (Call (List A))) (r s : Renderer D A (List A)) → Steps columns decoration calls r s → Grows r s
-  steps_grow decoration calls r s h =
-      let path = calls_move columns any decoration calls r s (brought columns decoration calls r) tt (h, refl) in
-      moves_grow path.moves r s path.makes
+  steps_grow decoration calls r s h = grind (arith, calls_move columns any decoration calls r s (brought columns decoration calls r) tt (h, refl), any, moves_grow)

@@ -1,5 +1,5 @@
 -- Lines of other renderers, and borders, as moves.
-use Rattle.std.proofs.Common.{◌≡◌, ℕ, Bool, true, false, if◌then◌else◌, Option, None, List, [], ◌∷◌, ◌++◌, map, flat_map, fold, length, replicate, ◌-◌, suc, refl, ap, sym, ◌∙◌, subst, arith, append-nil}
+use Rattle.std.proofs.Common.{◌≡◌, ℕ, Bool, true, false, if◌then◌else◌, Option, None, List, [], ◌∷◌, ◌++◌, map, flat_map, fold, length, replicate, refl, ap, sym, ◌∙◌, subst, arith, append-nil}
 use Rattle.std.proofs.lemmas.Bool.{cond_both}
 use Rattle.std.proofs.lemmas.List.{map-append}
 use Rattle.tbr_model.specs.Run.{Entry, Item}
@@ -31,15 +31,10 @@ slashes_between draws width [] = []
 slashes_between draws width (c ∷ cells) = slashes draws width cells
 
 if_both : (draws : Bool) (bs cs : List (List Cell)) → (if draws then bs else []) ++ (if draws then cs else []) ≡ (if draws then bs ++ cs else [])
-if_both true bs cs = refl
-if_both false bs cs = refl
+if_both draws bs cs = grind arith
 
 row_is : {X : Type 0} (draws : Bool) (width : ℕ) (cells : List X) → slashes_between draws width cells ++ one_border draws width horizontal ≡ (if draws then row_borders width (length cells) else [])
-row_is draws width [] = refl
-row_is draws width (c ∷ cells) =
-    let count : length cells ≡ suc (length cells) - 1 = omega arith in
-    if_both draws (replicate (length cells) (replicate width slash)) (replicate width horizontal ∷ [])
-    ∙ ap (λ n. if draws then replicate n (replicate width slash) ++ replicate width horizontal ∷ [] else []) count
+row_is draws width cells = grind (arith, if_both)
 
 -- what cells bring under these annotations
 abbrev cells_bring : {T : Type 0} → T → List (List (Line T)) → List (Entry T)
@@ -57,8 +52,7 @@ module _ {D A : Type 0} (columns : ℕ → Option ℕ) (kind : Kind) where
 
   pub lines_appended : (prefixes : List (List ℕ)) (lines : List (Line (List A))) (r s : Renderer D A (List A)) → ((is : List (Item (List A))) → MayLay kind is) → FlushesThen columns (λ m. fold (with_line columns) m (prefixed r.annotations prefixes lines)) r s →
       Course columns kind r s (laid_entries (joined (prefixed r.annotations prefixes lines))) [] (flush_ends r ++ map text_laid (prefixed r.annotations prefixes lines))
-  lines_appended prefixes lines r s may h =
-      flushed_first columns kind (λ m. fold (with_line columns) m (prefixed r.annotations prefixes lines)) r s _ h (lines_put (prefixed r.annotations prefixes lines) h.0 may (flushed_none columns r h.0 h.1))
+  lines_appended prefixes lines r s may h = grind (arith, flushed_first, lines_put, flushed_none)
 
   pub border_added : (width : ℕ) (r s : Renderer D A (List A)) → MayRule kind r.options → FlushesThen columns (λ m. with_border columns m (border_of_cells horizontal width r)) r s →
       Course columns kind r s [] (replicate width horizontal ∷ []) (flush_ends r ++ border_put (replicate width horizontal) ∷ [])
@@ -82,8 +76,7 @@ module _ {D A : Type 0} (columns : ℕ → Option ℕ) (kind : Kind) where
   all_beside (lines ∷ cells) q = all_beside cells (with_cell_below columns q lines) ∙ below_beside lines q
 
   cells_beside : (cells : List (List (Line (List A)))) (q : Renderer D A (List A)) → beside (with_cells columns q cells) ≡ beside q
-  cells_beside [] q = refl
-  cells_beside (lines ∷ cells) q = all_beside cells (with_cell columns q lines) ∙ lines_beside columns (map (as_text q.annotations) lines) q
+  cells_beside cells q = grind (arith, all_beside, lines_beside)
 
   -- a border may be put
   abbrev Ready : Renderer D A (List A) → Type 0
@@ -125,8 +118,7 @@ module _ {D A : Type 0} (columns : ℕ → Option ℕ) (kind : Kind) where
         (onward columns kind q n s (laid_entries (joined texts)) (laid_entries (joined rest)) first (subst (λ (t : Renderer D A (List A)). Below t cells n) same others))
 
     cells_below : (cells : List (List (Line (List A)))) (q : Renderer D A (List A)) → Ready q → Below q cells q
-    cells_below [] q ready =
-        elim q.options.draw_borders as (λ (draws : Bool). Course columns kind q q [] (if draws then [] else []) []) [ true ↦ stays columns kind q q refl | false ↦ stays columns kind q q refl ]
+    cells_below [] q ready = grind (arith, stays)
     cells_below (lines ∷ cells) q ready =
         let n : Renderer D A (List A) = with_cell_below columns q lines in
         let same = below_beside lines q in

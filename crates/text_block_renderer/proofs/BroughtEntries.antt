@@ -1,16 +1,15 @@
 -- What was brought is in the lines of text, or waits.
-use Rattle.std.proofs.Common.{◌≡◌, ℕ, inl, zero, suc, Bool, true, false, not, if◌then◌else◌, Option, List, [], ◌∷◌, ◌++◌, filter, fold, refl, ap, sym, ◌∙◌, subst, append_assoc, append-nil}
+use Rattle.std.proofs.Common.{◌≡◌, ℕ, zero, suc, Bool, true, false, not, if◌then◌else◌, Option, List, [], ◌∷◌, ◌++◌, filter, fold, refl, ap, sym, ◌∙◌, subst, append_assoc, append-nil, arith}
 use Rattle.std.specs.List.{AllZip}
 use Rattle.std.proofs.lemmas.List.Elements.{filter-append}
 use Rattle.std.proofs.lemmas.List.Concat.{flat_map-append}
 use Rattle.std.proofs.lemmas.Simd.{map-map}
-use Rattle.std.proofs.lemmas.Bool.{cond_both}
 use Rattle.std.proofs.lemmas.Grind.{fold-append}
 use Rattle.tbr_model.specs.Run.{Entry, character, marker_entry, Item, glyph, marker, is_kept, items_of, kept_items}
 use Rattle.tbr_model.specs.Layout.{joined}
 use Rattle.tbr_model.specs.Markers.{names_in_items, names_in_run, marker_items, marker_run, marked_after, names_after}
 use Rattle.tbr_model.specs.Hard.{HasMode, is_visible}
-use Rattle.tbr_model.specs.declared.white_space.WhiteSpace.TheVariants.{Normal, Pre}
+use Rattle.tbr_model.specs.declared.white_space.WhiteSpace.TheVariants.{Normal}
 use Rattle.tbr_model.specs.Shown.{without_spaces, is_visible_or_marker, is_entry_to_show, ShowsEntry}
 use Rattle.tbr_model.specs.Rule.{is_space_item, run_of}
 use Rattle.tbr_model.proofs.lists.Each.{each_front, each_back}
@@ -67,9 +66,7 @@ abbrev pub Show : {T : Type 0} → (ℕ → Option ℕ) → List (Item T) → Li
 Show columns is es = AllZip (ShowsEntry (λ a b. a ≡ b)) is (filter (is_entry_to_show columns) es)
 
 pub show_both : {T : Type 0} (columns : ℕ → Option ℕ) (is js : List (Item T)) (es fs : List (Entry T)) → Show columns is es → Show columns js fs → Show columns (is ++ js) (es ++ fs)
-show_both columns is js es fs h k =
-    subst (AllZip (ShowsEntry (λ a b. a ≡ b)) (is ++ js)) (sym (filter-append (is_entry_to_show columns) es fs))
-    (all_zip_append (ShowsEntry (λ a b. a ≡ b)) is js (filter (is_entry_to_show columns) es) (filter (is_entry_to_show columns) fs) h k)
+show_both columns is js es fs h k = grind (arith, filter-append, all_zip_append)
 
 -- Items have the visible characters and the markers of entries, and, where these are `Normal`, their kept items.
 pub record StandFor {T : Type 0} (columns : ℕ → Option ℕ) (is : List (Item T)) (es : List (Entry T)) : Type 0 where
@@ -86,9 +83,6 @@ names_of_markers T [] = refl
 names_of_markers T (name ∷ names) = ap (λ ns. name ∷ ns) (names_of_markers T names)
 
 module _ {T : Type 0} (columns : ℕ → Option ℕ) where
-  pub nothing_stands : StandFor {T = T} columns [] []
-  nothing_stands = record { order = tt; names = refl; kept = λ normal. refl }
-
   -- one after the other
   pub stand_after : (old more new : List (Item T)) (es fs : List (Entry T)) → SeenAfter old more new → StandFor columns old es → StandFor columns more fs → StandFor columns new (es ++ fs)
   stand_after old more new es fs seen h k = record {
@@ -120,22 +114,14 @@ module _ {T : Type 0} (columns : ℕ → Option ℕ) where
 
   -- laid items stand for themselves
   pub laid_stand : (is : List (Item T)) → StandFor columns is (laid_entries is)
-  laid_stand [] = nothing_stands
+  laid_stand [] = grind arith
   laid_stand (marker name ∷ is) =
       let rest = laid_stand is in record {
         order = (refl, rest.order);
         names = ap (λ ns. name ∷ ns) rest.names;
         kept = λ normal. ap (λ (js : List (Item T)). marker name ∷ js) (rest.kept normal.1);
       }
-  laid_stand (glyph c a ∷ is) =
-      let rest = laid_stand is in
-      let seen = filter (is_visible_or_marker columns) is in
-      let came = filter (is_entry_to_show columns) (laid_entries is) in record {
-        order = elim (is_visible columns c) as (λ (v : Bool). AllZip (ShowsEntry (λ a b. a ≡ b)) (if v then glyph c a ∷ seen else seen) (if v then character c a a Pre ∷ came else came))
-            [ true ↦ ((refl, inl refl), rest.order) | false ↦ rest.order ];
-        names = rest.names;
-        kept = λ normal. absurd (let no : Pre ≡ Normal = normal.0 in cc);
-      }
+  laid_stand (glyph c a ∷ is) = grind (arith, laid_stand is)
 
   -- markers stand for a run of these markers alone
   pub markers_stand : (names : List (List ℕ)) → StandFor columns (marker_items names) (let es : List (Entry T) = marker_run names in es)
@@ -143,11 +129,7 @@ module _ {T : Type 0} (columns : ℕ → Option ℕ) where
 
   -- the lines of a run, and the markers that are on none of them
   pub run_stands : (width : ℕ) (may_overflow : Bool) (run : List (Entry T)) (texts : List (List (Item T))) (names : List (List ℕ)) → EndsRun columns width may_overflow run texts names → StandFor columns (joined texts ++ marker_items names) run
-  run_stands width may_overflow run texts names ends = record {
-    order = subst (λ (is : List (Item T)). AllZip (ShowsEntry (λ a b. a ≡ b)) is (filter (is_entry_to_show columns) run)) (sym (shown_before (joined texts) names)) ends.order;
-    names = names_before (joined texts) names ∙ ends.markers;
-    kept = λ normal. unspaced_before (joined texts) names ∙ ends.kept normal;
-  }
+  run_stands width may_overflow run texts names ends = grind (arith, shown_before, names_before, unspaced_before)
 
 -- ---- which markers wait
 
@@ -177,19 +159,12 @@ module _ {T : Type 0} (columns : ℕ → Option ℕ) where
   after_shown : (names : List (List ℕ)) (es : List (Entry T)) → fold (marked_after (is_visible columns)) names (filter (is_entry_to_show columns) es) ≡ fold (marked_after (is_visible columns)) names es
   after_shown names [] = refl
   after_shown names (marker_entry name ∷ es) = after_shown (names ++ name ∷ []) es
-  after_shown names (character c a b m ∷ es) =
-      let old = fold (marked_after (is_visible columns)) (if is_visible columns c then [] else names) es in
-      cond_both (is_visible columns c) (character c a b m ∷ filter (is_entry_to_show columns) es) (filter (is_entry_to_show columns) es) (λ gs. fold (marked_after (is_visible columns)) names gs ≡ old)
-      (λ e. after_shown (if is_visible columns c then [] else names) es)
-      (λ e. after_shown names es ∙ ap (λ (v : Bool). fold (marked_after (is_visible columns)) (if v then [] else names) es) (sym e))
+  after_shown names (character c a b m ∷ es) = grind (arith, after_shown (if is_visible columns c then [] else names) es, after_shown names es)
 
   after_kept : (names : List (List ℕ)) (es : List (Entry T)) → fold (item_after (is_kept columns)) names (kept_items columns es) ≡ fold (marked_after (is_kept columns)) names es
   after_kept names [] = refl
   after_kept names (marker_entry name ∷ es) = after_kept (names ++ name ∷ []) es
-  after_kept names (character c a b m ∷ es) =
-      let old = fold (marked_after (is_kept columns)) (if is_kept columns c then [] else names) es in
-      cond_both (is_kept columns c) (glyph c a ∷ []) [] (λ is. fold (item_after (is_kept columns)) names (is ++ kept_items columns es) ≡ old) (λ e. after_kept (if is_kept columns c then [] else names) es)
-      (λ e. after_kept names es ∙ ap (λ (v : Bool). fold (marked_after (is_kept columns)) (if v then [] else names) es) (sym e))
+  after_kept names (character c a b m ∷ es) = grind (arith, after_kept (if is_kept columns c then [] else names) es, after_kept names es)
 
   -- The markers at the end of items come after the last visible character that these show, and the last kept one.
   pub last_shown : (shown : List (Item T)) (names : List (List ℕ)) (es : List (Entry T)) → AllZip (ShowsEntry (λ a b. a ≡ b)) (shown ++ marker_items names) (filter (is_entry_to_show columns) es) → AreLastOf names (names_after (is_visible columns) es)
@@ -226,7 +201,7 @@ module _ {D A : Type 0} (columns : ℕ → Option ℕ) where
   less_open r es h = (h.ended, h.whole, record { order = h.order; names = names_before columns (text_of_lines r.lines) r.waiting ∙ h.markers; kept = h.kept })
 
   pub new_stands : (width : ℕ) (options : RenderOptions) (decorator : D) → Stands columns (new_renderer {D = D} {A = A} width options decorator) []
-  new_stands width options decorator = stands (new_renderer width options decorator) [] ([], refl, nothing_stands columns)
+  new_stands width options decorator = grind (arith, stands)
 
   pub end_stands : (r s : Renderer D A (List A)) (b : Open (List A)) (es : List (Entry (List A))) → EndsBlock columns r b s → IsSound columns r → InLines r es → InLines s (es ++ run_of b.events)
   end_stands r s b es h sound k =

@@ -1,5 +1,5 @@
 -- Calls as the moves of which they consist.
-use Rattle.std.proofs.Common.{◌≡◌, ℕ, ◌-◌, inl, inr, suc, Bool, true, false, if◌then◌else◌, Option, Some, None, List, [], ◌∷◌, ◌++◌, flat_map, fold, refl, ap, sym, ◌∙◌, subst, append-nil}
+use Rattle.std.proofs.Common.{◌≡◌, ℕ, inl, inr, suc, Bool, true, false, if◌then◌else◌, Option, Some, None, List, [], ◌∷◌, ◌++◌, flat_map, fold, refl, ap, sym, subst, append-nil, arith}
 use Rattle.std.specs.List.{AllByRecursion as Each}
 use Rattle.std.proofs.lemmas.Bool.{cond_both}
 use Rattle.tbr_wrap.proofs.runs.BlockLaws.{entries_run}
@@ -8,9 +8,8 @@ use Rattle.tbr_model.specs.Run.{Entry, marker_entry, Item}
 use Rattle.tbr_decor.specs.Decoration.{Decoration}
 use Rattle.tbr_decor.specs.Start as start
 use Rattle.tbr_decor.specs.End as end
-use Rattle.tbr_decor.specs.Ground.{Ground}
 use Rattle.tbr_renderer.specs.declared.options.RenderOptions.{RenderOptions}
-use Rattle.tbr_renderer.specs.Renderer.{Open, Renderer, has_content, with_line, without_annotation, entries_of, ignores, with_events}
+use Rattle.tbr_renderer.specs.Renderer.{Open, Renderer, with_line, without_annotation, entries_of, ignores, with_events}
 use Rattle.tbr_tagged.specs.Outcome.{done}
 use Rattle.tbr_tagged.proofs.Outcomes.{live_done}
 use Rattle.tbr_renderer.specs.Outcomes.{run, told_by}
@@ -22,7 +21,7 @@ use Rattle.tbr_renderer.proofs.OutcomeParts.{one_done, done_first}
 use Rattle.tbr_renderer.proofs.FlushedBlocks.{FlushesBlock, flushes}
 use Rattle.tbr_renderer.proofs.CallParts.{FlushesThen, flushed_then, BreaksLine, break_parts, AddsTextBy, AddsText, text_parts, close_parts, open_parts, AddsImage, image_parts}
 use Rattle.tbr_renderer.specs.Image.{shown_title}
-use Rattle.tbr_renderer.specs.Decorated.{struck_from, struck_until, asked_to_close, asked_to_end, annotated, coloured_by, coloured, uncoloured}
+use Rattle.tbr_renderer.specs.Decorated.{struck_from, struck_until, asked_to_close, annotated}
 use Rattle.tbr_renderer.specs.Calls.{Call, add_empty_line, new_line, new_line_hard, start_block, start_table, add_inline_text, record_frag_start, begin, finish, start_strikeout, end_strikeout, add_image, push_colour, pop_colour, add_border, append_subrender, append_vert_row, made, after, Does, Steps, text_brought, image_brought, entries_brought, brought, Brings}
 use Rattle.text_block_renderer.specs.Drawn.{borders_added, AddsNoBorder}
 use Rattle.text_block_renderer.specs.Added.{text_laid, flush_ends, empty_adds, start_lays, start_adds, text_adds, image_adds, call_adds, calls_add}
@@ -33,9 +32,7 @@ use Rattle.text_block_renderer.proofs.AppendedMoves.{lines_appended, border_adde
 -- ---- kinds
 
 may_lay_nothing : (T : Type 0) (kind : Kind) → MayLay {T = T} kind []
-may_lay_nothing T any = tt
-may_lay_nothing T undrawn = tt
-may_lay_nothing T own = refl
+may_lay_nothing T kind = grind arith
 
 -- What a call that appends something may lay, and what one that adds a border may put.
 abbrev pub Suits : {T : Type 0} → Kind → RenderOptions → Call T → Type 0
@@ -61,15 +58,10 @@ module _ {D A : Type 0} (columns : ℕ → Option ℕ) (kind : Kind) where
   empty_added r s h = flushed_first columns kind (with_empty_line columns) r s [] h (empty_put h.0 (flushed_none columns r h.0 h.1))
 
   begun : (r : Renderer D A (List A)) → r.block ≡ None → Course columns kind r (block_started columns r) [] [] (start_lays r)
-  begun r none =
-      elim (has_content r) as (λ (b : Bool). Course columns kind r (if b then with_empty_line columns r else record r { block_ended = false }) [] [] (if b then text_laid [] ∷ [] else [])) [
-        | true ↦ empty_put r none
-        | false ↦ turned columns kind r (record r { block_ended = false }) (record r { block_ended = false }) (alike r) refl
-      ]
+  begun r none = grind (arith, empty_put, turned, alike)
 
   flush_done : (r s : Renderer D A (List A)) (o : Option (Open (List A))) → FlushesBlock columns r o s → after_block columns r o ≡ done s
-  flush_done r s None h = ap (λ (q : Renderer D A (List A)). done q) (sym h)
-  flush_done r s (Some b) h = rw h.fits (ap (λ (q : Renderer D A (List A)). done q) (sym h.is))
+  flush_done r s o h = grind arith
 
   started : (r s : Renderer D A (List A)) → FlushesThen columns (block_started columns) r s → Course columns kind r s [] [] (start_adds columns r)
   started r s h =
@@ -82,10 +74,7 @@ module _ {D A : Type 0} (columns : ℕ → Option ℕ) (kind : Kind) where
 
   module _ (preformatted : D → Bool → A) where
     entries_started : (cs : List ℕ) (r s : Renderer D A (List A)) → FlushesThen columns (block_started columns) r s → entries_of columns preformatted s cs ≡ entries_of columns preformatted r cs
-    entries_started cs r s h =
-        ap (λ (q : Renderer D A (List A)). entries_of columns preformatted q cs) h.2
-        ∙ cond_both (has_content h.0) (with_empty_line columns h.0) (record h.0 { block_ended = false }) (λ (q : Renderer D A (List A)). entries_of columns preformatted q cs ≡ entries_of columns preformatted h.0 cs) (λ e. refl) (λ e. refl)
-        ∙ ap (λ (q : Renderer D A (List A)). entries_of columns preformatted q cs) (flush_beside columns r h.0 r.block refl h.1)
+    entries_started cs r s h = grind (arith, flush_beside)
 
     text_joined : (cs : List ℕ) (r s : Renderer D A (List A)) → s ≡ with_events r (text_brings columns preformatted cs r) → Course columns kind r s (entries_of columns preformatted r cs) [] []
     text_joined cs r s h = same_course columns kind r s (entries_run (entries_of columns preformatted r cs)) refl refl (one columns kind (join (text_brings columns preformatted cs r)) r s h)
@@ -105,17 +94,7 @@ module _ {D A : Type 0} (columns : ℕ → Option ℕ) (kind : Kind) where
     struck_from_same r = cond_both r.options.use_unicode_strikeout (record r { strikeouts = suc r.strikeouts }) r (SameText r) (λ e. alike r) (λ e. alike r)
 
     struck_until_same : (r : Renderer D A (List A)) → SameText r (asked_to_close decoration end.strikeout (struck_until r))
-    struck_until_same r =
-        cond_both r.options.use_unicode_strikeout (record r { strikeouts = r.strikeouts - 1 }) r (λ (q : Renderer D A (List A)). SameText r (asked_to_close decoration end.strikeout q))
-        (λ e. alike r) (λ e. alike r)
-
-    coloured_same : (o : Option A) (d : D) (r : Renderer D A (List A)) → SameText r (coloured_by decoration o (record r { decorator = d }))
-    coloured_same None d r = alike r
-    coloured_same (Some a) d r = alike r
-
-    uncoloured_same : (g : Ground) (r : Renderer D A (List A)) → SameText r (uncoloured decoration g r)
-    uncoloured_same g r =
-        cond_both (decoration.ends_colour r.decorator g) (without_annotation (asked_to_end decoration g r)) (asked_to_end decoration g r) (SameText r) (λ e. alike r) (λ e. alike r)
+    struck_until_same r = grind (arith, alike)
 
     added : (cs : List ℕ) (r s : Renderer D A (List A)) → AddsText columns decoration.preformatted cs r s → Course columns kind r s (text_brought columns decoration cs r) [] (text_adds columns cs r)
     added cs r s h = text_added decoration.preformatted (ignores r cs) r.block_ended cs r s h
@@ -157,8 +136,8 @@ module _ {D A : Type 0} (columns : ℕ → Option ℕ) (kind : Kind) where
         text_between (decoration.end_text q.decorator end.strikeout) (λ m. without_annotation m) r (asked_to_close decoration end.strikeout q) s (struck_until_same r) (λ m. alike m)
         (close_parts columns decoration end.strikeout q s h)
     made_moves (add_image source title) r s suits h = image_added source (shown_title r.options.img_mode source title) r s (image_parts columns decoration source (shown_title r.options.img_mode source title) r s h)
-    made_moves (push_colour g colour) r s suits h = turned columns kind r (coloured decoration g colour r) s (coloured_same (decoration.colour_annotation r.decorator g colour) _ r) (one_done _ s h)
-    made_moves (pop_colour g) r s suits h = turned columns kind r (uncoloured decoration g r) s (uncoloured_same g r) (one_done _ s h)
+    made_moves (push_colour g colour) r s suits h = grind (arith, turned, alike, one_done)
+    made_moves (pop_colour g) r s suits h = grind (arith, turned, alike, one_done)
     made_moves (add_border width) r s suits h = border_added columns kind width r s (suits.1 (λ no. no) (λ no. no)) (flushed_then columns (λ m. with_border columns m (border_of_cells horizontal width r)) r s h)
     made_moves (append_subrender prefixes lines) r s suits h = lines_appended columns kind prefixes lines r s (suits.0 (λ no. no)) (flushed_then columns (λ m. fold (with_line columns) m (prefixed r.annotations prefixes lines)) r s h)
     made_moves (append_vert_row cells) r s suits h = cells_appended columns kind (suits.0 (λ no. no)) cells r s (suits.1 (λ no. no) (λ no. no)) (flushed_then columns (λ m. with_divider columns horizontal (with_cells columns m cells)) r s h)

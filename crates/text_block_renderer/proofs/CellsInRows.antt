@@ -1,5 +1,5 @@
 -- The visible characters and the markers of a cell are in the lines of the rows that it spans, and in the borders between them, whatever its width.
-use Rattle.std.proofs.Common.{◌≡◌, ℕ, zero, suc, ◌+◌, ◌-◌, ◌<◌, ◌≤◌, ◌⊎◌, inl, inr, is_none, Bool, true, false, if◌then◌else◌, Option, Some, None, List, [], ◌∷◌, ◌++◌, map, flat_map, take, drop, length, refl, ap, sym, ◌∙◌, subst, arith, append_assoc, append-nil}
+use Rattle.std.proofs.Common.{◌≡◌, ℕ, zero, suc, ◌+◌, ◌-◌, ◌<◌, ◌≤◌, ◌⊎◌, inl, inr, is_none, Bool, true, false, if◌then◌else◌, Option, Some, None, List, [], ◌∷◌, ◌++◌, map, flat_map, take, drop, length, refl, ap, sym, ◌∙◌, subst, arith, append_assoc, append-nil, rules}
 use Rattle.std.specs.Prelude.{nat_lt}
 use Rattle.std.specs.List.{AllZip}
 use Rattle.std.proofs.lemmas.Bool.{cond_both, ltb-true}
@@ -8,11 +8,11 @@ use Rattle.std.proofs.lemmas.List.Concat.{flat_map-append}
 use Rattle.tbr_model.specs.Run.{Item, items_width, glyph}
 use Rattle.tbr_model.specs.Layout.{joined}
 use Rattle.tbr_model.proofs.lists.Joined.{joined-append}
-use Rattle.tbr_border.specs.Border.{Hole, Border, has_holes, shown}
+use Rattle.tbr_border.specs.Border.{Border, shown}
 use Rattle.tbr_border.specs.declared.RenderLine.{RenderLine}
 use Rattle.tbr_border.specs.declared.RenderLine.TheVariants.{Text, Line as Rule}
 use Rattle.tbr_tagged.specs.declared.CellAlign.{CellAlign}
-use Rattle.tbr_tagged.specs.Elements.{Element, items_of, text_items, element_items}
+use Rattle.tbr_tagged.specs.Elements.{Element, items_of, text_items}
 use Rattle.tbr_tagged.specs.Padding.{spaces, columns_in_front}
 use Rattle.tbr_rows.specs.declared.LineSet.{LineSet as Cell}
 use Rattle.tbr_rows.specs.declared.RowStyle.{RowStyle}
@@ -65,16 +65,8 @@ module _ {T : Type 0} where
   abbrev pub items_in : List (RenderLine T) → List (Item T)
   items_in ls = flat_map said ls
 
-  -- a border that is merged has no text in front of it
-  no_holes : (hs : List (Hole T)) → has_holes hs ≡ false → flat_map (λ (h : Hole T). element_items h.element) hs ≡ []
-  no_holes [] e = refl
-  no_holes (h ∷ hs) e = cc
-
   unwritten : (merges : Bool) (ls : List (RenderLine T)) → items_in (if merges then as_lines (first_mergeable ls) else []) ≡ []
-  unwritten false ls = refl
-  unwritten true [] = refl
-  unwritten true (Text es ∷ ls) = refl
-  unwritten true (Rule b ∷ ls) = cond_both (has_holes b.holes) None (Some b) (λ o. items_in (as_lines o) ≡ []) (λ e. refl) (λ e. append-nil (text_before b) ∙ no_holes b.holes e)
+  unwritten merges ls = grind (arith, append-nil)
 
   -- so a cell and what meets the row say the same
   met_written : (m : Meeting) (c : Cell T) → items_in (met m c).lines ≡ items_in c.lines
@@ -118,14 +110,7 @@ module _ {T : Type 0} (columns : ℕ → Option ℕ) (a : T) where
   lines_within : (ls : List (RenderLine T)) (shown : ℕ → List (Item T)) → ((i : ℕ) → StandWithin (seen (items_in (take 1 (drop i ls)))) (seen (shown i))) → (n : ℕ) →
       StandWithin (seen (items_in (take n ls))) (seen (joined (map shown (numbers_below n))))
   lines_within ls shown each zero = tt
-  lines_within ls shown each (suc n) =
-      let before = take n ls in
-      let next = take 1 (drop n ls) in
-      let texts = map shown (numbers_below n) in
-      let whole : joined (map shown (numbers_below n ++ n ∷ [])) ≡ joined texts ++ shown n = ap joined (map-append shown (numbers_below n) (n ∷ [])) ∙ joined-append texts (shown n ∷ []) ∙ ap (λ is. joined texts ++ is) (append-nil (shown n)) in
-      subst (λ is. StandWithin (seen is) (seen (joined (map shown (numbers_below n ++ n ∷ []))))) (sym (ap items_in (one_more n ls) ∙ flat_map-append said before next))
-      (subst (λ is. StandWithin (seen (items_in before ++ items_in next)) (seen is)) (sym whole)
-      (two_within columns (items_in before) (items_in next) (joined texts) (shown n) (lines_within ls shown each n) (each n)))
+  lines_within ls shown each (suc n) = search (rules, map-append, joined-append, append-nil, one_more, flat_map-append, two_within, lines_within ls shown each n)
 
   -- ---- the border below the row
 
@@ -136,10 +121,7 @@ module _ {T : Type 0} (columns : ℕ → Option ℕ) (a : T) where
 
   put_written : (place : ℕ) (b : Border T) (es : List (Element T)) → text_before (with_elements columns place b es) ≡ text_before b ++ items_of es
   put_written place b [] = sym (append-nil (text_before b))
-  put_written place b (e ∷ es) =
-      put_written place (with_element columns place b e) es
-      ∙ ap (λ is. is ++ items_of es) (flat_map-append (λ (h : Hole T). element_items h.element) b.holes _ ∙ ap (λ is. text_before b ++ is) (append-nil (element_items e)))
-      ∙ append_assoc (text_before b) (element_items e) (items_of es)
+  put_written place b (e ∷ es) = grind (arith, flat_map-append, append-nil, append_assoc, put_written place (with_element columns place b e) es)
 
   -- a cell's line in it says what the line says
   gap_within : (width : ℕ) (ls : List (RenderLine T)) (es : List (Element T)) → IsGapOf a width (first_line ls) es → StandWithin (seen (items_in (take 1 ls))) (seen (items_of es))
@@ -218,8 +200,7 @@ module _ {T : Type 0} (columns : ℕ → Option ℕ) (a : T) where
       let separator : Item T = glyph (separator_in style) a in
       let line_has = λ (i : ℕ). within_on (seen (items_in (take 1 (drop i k.cell.lines)))) (seen (cell_text a i k)) (seen (line_text separator a means.shown i))
       (one_within (cell_shows a k) (λ l more. refl) (drop i k.cell.lines)) (text_among separator (cell_text a i k) (map (cell_text a i) means.shown) (among_map (cell_text a i) k means.shown shown)) in
-      let in_lines : StandWithin (seen first) (seen (joined row.lines)) =
-      subst (λ ts. StandWithin (seen first) (seen (joined ts))) (sym means.texts) (lines_within k.cell.lines (line_text separator a means.shown) line_has height) in
+      let in_lines : StandWithin (seen first) (seen (joined row.lines)) = grind (arith, lines_within) in
       let in_border : StandWithin (seen gap) (seen (below row.next)) =
       subst (λ o. StandWithin (seen gap) (seen (below o))) (sym means.lower) (below_within draws d (cells_left height means.shown) _ means.full stands means.gaps) in
       let all : (first ++ gap) ++ items_in rest ≡ items_in c.lines =
@@ -288,12 +269,9 @@ module _ {D A : Type 0} (columns : ℕ → Option ℕ) where
         let (rest, left, inside) = cell_shown columns m.annotations _ _ _ _ row puts.means c among in
         let there = below columns m.annotations row.next in
         let is_rest = items_in rest in
-        let own : StandWithin (to_show columns (items_in c.lines)) (to_show columns (more ++ is_rest)) =
-        within_on (to_show columns (items_in c.lines)) (to_show columns ((joined row.lines ++ there) ++ is_rest)) (to_show columns (more ++ is_rest)) inside
-        (two_within columns (joined row.lines ++ there) is_rest more is_rest shows (itself_within columns is_rest)) in
+        let own : StandWithin (to_show columns (items_in c.lines)) (to_show columns (more ++ is_rest)) = search (rules, within_on, two_within, itself_within) in
         let both = two_within columns (written m.lines) (items_in c.lines) (written m.lines) (more ++ is_rest) (itself_within columns (written m.lines)) own in
-        let all : StandWithin us (to_show columns (written s.lines ++ is_rest)) =
-        subst (λ js. StandWithin us (to_show columns js)) (sym (append_assoc (written m.lines) more is_rest) ∙ ap (λ js. js ++ is_rest) (sym is)) (within_on us (to_show columns (written m.lines ++ items_in c.lines)) (to_show columns (written m.lines ++ (more ++ is_rest))) within both) in
+        let all : StandWithin us (to_show columns (written s.lines ++ is_rest)) = grind (arith, append_assoc, within_on) in
         elim left [
           | inl none ↦ inl (subst (λ js. StandWithin us (to_show columns js)) (ap (λ ls. written s.lines ++ items_in ls) none ∙ append-nil (written s.lines)) all)
           | inr (d, hangs, are, some, spans) ↦

@@ -1,5 +1,5 @@
 -- What holds of moves of which no border becomes text, holds of all moves on the lines less the borders drawn as text.
-use Rattle.std.proofs.Common.{◌≡◌, ℕ, ◌-◌, if◌then◌else◌, Bool, true, false, Option, Some, None, List, [], ◌∷◌, ◌++◌, map, flat_map, fold, refl, ap, sym, ◌∙◌, subst, append_assoc, append-nil}
+use Rattle.std.proofs.Common.{◌≡◌, ℕ, ◌-◌, if◌then◌else◌, Bool, true, false, Option, Some, None, List, [], ◌∷◌, ◌++◌, map, flat_map, fold, refl, ap, sym, ◌∙◌, subst, append_assoc, append-nil, arith}
 use Rattle.std.proofs.lemmas.List.{map-append}
 use Rattle.std.proofs.lemmas.List.Concat.{flat_map-append}
 use Rattle.tbr_model.specs.Run.{Entry, Item, items_width}
@@ -75,8 +75,7 @@ module _ {D A : Type 0} (columns : ℕ → Option ℕ) where
     came = h.came ∙ ap (λ ms. ms ++ h.more) g.came ∙ append_assoc r.lines g.more h.more;
     among = among_both bs cs g.more h.more g.rest h.rest g.among h.among;
     moves = g.moves ++ h.moves;
-    makes = subst (λ ms. MakesAll columns undrawn (g.moves ++ h.moves) (on r ls) (on s ms)) (append_assoc ls g.rest h.rest)
-        (makes-append columns undrawn g.moves h.moves (on r ls) (on q (ls ++ g.rest)) (on s ((ls ++ g.rest) ++ h.rest)) g.makes h.makes);
+    makes = grind (arith, undrawn, append_assoc, makes-append);
     brings = brought-append g.moves h.moves ∙ ap (λ gs. gs ++ brought h.moves) g.brings ∙ ap (λ gs. es ++ gs) h.brings;
   }
 
@@ -123,8 +122,7 @@ module _ {D A : Type 0} (columns : ℕ → Option ℕ) where
   pub end_alike : (r s : Renderer D A (List A)) (ls : List (Line (List A))) (b : Open (List A)) → EndsBlock columns r b s → (more : List (Line (List A))) × (s.lines ≡ r.lines ++ more) × EndsBlock columns (on r ls) b (on s (ls ++ more))
   end_alike r s ls b h =
       let (more, lines, others) = come_alike (block_lines columns r b (lines_at_end columns r b)) (record r { block = None }) ls in
-      let same : on s (ls ++ more) ≡ flushed columns (on r ls) (block_lines columns r b (lines_at_end columns r b)) (names_at_end columns r b) =
-      ap (λ (q : Renderer D A (List A)). on q (ls ++ more)) h.is ∙ sym (ap (λ (q : Renderer D A (List A)). record q { waiting = q.waiting ++ (names_at_end columns r b) }) others) in
+      let same : on s (ls ++ more) ≡ flushed columns (on r ls) (block_lines columns r b (lines_at_end columns r b)) (names_at_end columns r b) = grind arith in
       (more, ap (λ (q : Renderer D A (List A)). q.lines) h.is ∙ lines, record { fits = h.fits; ends = λ sound. h.ends (record { space = sound.space; wide = sound.wide }); is = same })
 
   flush_less : (r s : Renderer D A (List A)) (ls : List (Line (List A))) (o : Option (Open (List A))) → o ≡ r.block → FlushesBlock columns r o s → Less r s ls [] []
@@ -177,9 +175,7 @@ module _ {D A : Type 0} (columns : ℕ → Option ℕ) where
 
     pub calls_bring_on : (decoration : Decoration D A) (calls : List (Call (List A))) (r s : Renderer D A (List A)) (before es : List (Entry (List A))) →
         IsSound columns r → Fits kind r calls → Brings columns decoration calls r es s → P r before → P s (before ++ es)
-    calls_bring_on decoration calls r s before es sound fits h k =
-        let path = calls_move columns kind decoration calls r s es fits h in
-        subst (λ fs. P s (before ++ fs)) path.brings (along_sound path.moves r s before sound path.makes k)
+    calls_bring_on decoration calls r s before es sound fits h k = grind (arith, calls_move columns kind decoration calls r s es fits h, along_sound)
 
   module _ (P : Renderer D A (List A) → List (Entry (List A)) → Type 0)
       (each : (m : Move D A) (r s : Renderer D A (List A)) (es : List (Entry (List A))) → Makes columns undrawn m r s → IsSound columns r → P r es → P s (es ++ brought_by m)) where

@@ -1,5 +1,5 @@
 -- Entries that came, less those of the open run, and what moves and acts keep of a renderer and these.
-use Rattle.std.proofs.Common.{◌≡◌, ℕ, ◌-◌, Option, Some, None, List, [], ◌∷◌, ◌++◌, length, flat_map, fold, refl, ap, sym, ◌∙◌, subst, arith, append_assoc, append-nil}
+use Rattle.std.proofs.Common.{◌≡◌, ℕ, ◌-◌, Option, None, List, [], ◌∷◌, ◌++◌, length, flat_map, fold, refl, ap, sym, ◌∙◌, subst, arith, append_assoc, append-nil}
 use Rattle.std.specs.List.{AllZip}
 use Rattle.std.proofs.lemmas.List.{map-append, length-append}
 use Rattle.std.proofs.Math.Seq.{take-append_seam, drop-append_seam}
@@ -14,7 +14,7 @@ use Rattle.tbr_renderer.specs.Appended.{with_border}
 use Rattle.tbr_renderer.specs.Footnotes.{footnote_lines}
 use Rattle.tbr_renderer.specs.Outcomes.{run, told_by}
 use Rattle.tbr_renderer.specs.Rows.{with_next}
-use Rattle.tbr_renderer.specs.Calls.{laid_entry, laid_entries}
+use Rattle.tbr_renderer.specs.Calls.{laid_entries}
 use Rattle.tbr_renderer.proofs.FlushedBlocks.{EndsBlock, FlushesBlock}
 use Rattle.tbr_renderer.proofs.JoinedTexts.{run_joined}
 use Rattle.tbr_renderer.proofs.OutcomeParts.{one_done, done_first}
@@ -45,8 +45,7 @@ module _ {D A : Type 0} (columns : ℕ → Option ℕ) (kind : Kind) (Q : Render
   Came = List (Entry (List A))
 
   pub flush_on : (r s : Top) (o : Option (Open (List A))) (es : Came) → FlushesBlock columns r o s → IsSound columns r → Q r es → Q s (es ++ open_run o)
-  flush_on r s None es h sound k = subst (λ (q : Top). Q q (es ++ [])) (sym h) (subst (Q r) (sym (append-nil es)) k)
-  flush_on r s (Some b) es h sound k = on.flushed r s b es h sound k
+  flush_on r s o es h sound k = grind (arith, append-nil)
 
   -- the same lines and markers, with more in the open run
   joined_on : (r s : Top) (more es : Came) → s.lines ≡ r.lines → s.waiting ≡ r.waiting → open_run s.block ≡ open_run r.block ++ more → Ended Q r es → Ended Q s (es ++ more)
@@ -58,9 +57,7 @@ module _ {D A : Type 0} (columns : ℕ → Option ℕ) (kind : Kind) (Q : Render
 
   -- where no block is open
   put_on : (r s : Top) (more es : Came) → r.block ≡ None → s.block ≡ None → ((ended : Came) → Q r ended → Q s (ended ++ more)) → Ended Q r es → Ended Q s (es ++ more)
-  put_on r s more es none closed puts (ended, whole, k) =
-      let all : ended ≡ es = sym (append-nil ended) ∙ ap (λ (o : Option (Open (List A))). ended ++ open_run o) (sym none) ∙ whole in
-      (ended ++ more, ap (λ (o : Option (Open (List A))). (ended ++ more) ++ open_run o) closed ∙ append-nil (ended ++ more) ∙ ap (λ fs. fs ++ more) all, puts ended k)
+  put_on r s more es none closed puts (ended, whole, k) = grind (arith, append-nil)
 
   -- ---- moves
 
@@ -83,13 +80,10 @@ module _ {D A : Type 0} (columns : ℕ → Option ℕ) (kind : Kind) (Q : Render
 
   laid_on : (ts : List (List (Item (List A)))) (r : Top) (es : Came) → Q r es → Q (fold (with_line columns) r ts) (es ++ laid_entries (joined ts))
   laid_on [] r es k = subst (Q r) (sym (append-nil es)) k
-  laid_on (t ∷ ts) r es k =
-      subst (Q (fold (with_line columns) (with_line columns r t) ts)) (append_assoc es (laid_entries t) (laid_entries (joined ts)) ∙ ap (λ fs. es ++ fs) (sym (map-append laid_entry t (joined ts))))
-      (laid_on ts (with_line columns r t) (es ++ laid_entries t) (on.laid r t es k))
+  laid_on (t ∷ ts) r es k = grind (arith, append_assoc, map-append, laid_on ts (with_line columns r t) (es ++ laid_entries t) (on.laid r t es k))
 
   below_on : (r : Top) (o : Option (Border (List A))) (es : Came) → MayRule kind r.options → Q r es → Q (with_next columns r o) es
-  below_on r None es may k = k
-  below_on r (Some b) es may k = on.ruled r b es may k
+  below_on r o es may k = grind arith
 
   -- entries come before those of the open run
   placed : (r : Top) (ended more : Came) → (ended ++ more) ++ open_run r.block ≡ before_run r more (ended ++ open_run r.block)

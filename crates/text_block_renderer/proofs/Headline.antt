@@ -1,11 +1,6 @@
 -- The headline.
-use Rattle.std.proofs.Common.{◌≡◌, ℕ, Option, ◌≤◌, List, ap, sym, ◌∙◌, subst}
+use Rattle.std.proofs.Common.{◌≡◌, ℕ, Option, ◌≤◌, List, ap, sym, ◌∙◌, subst, arith}
 use Rattle.std.specs.List.{AllByRecursion as Each}
-use Rattle.tbr_model.specs.Rule.{run_of}
-use Rattle.tbr_model.specs.declared.white_space.WhiteSpace.TheVariants.{Normal, Pre}
-use Rattle.tbr_model.specs.Run.{Entry, character, marker_entry}
-use Rattle.tbr_model.specs.Hard.{HasMode}
-use Rattle.tbr_model.specs.Shown.{IsNotPre}
 use Rattle.tbr_model.proofs.lists.Each.{each_unmap}
 use Rattle.tbr_rows.specs.Cells.{AreApart}
 use Rattle.tbr_rows.specs.CellsShown.{IsFilled, HasFilledCells}
@@ -14,8 +9,7 @@ use Rattle.tbr_decor.specs.Decoration.{Decoration}
 use Rattle.tbr_renderer.specs.Outcomes.{run}
 use Rattle.tbr_renderer.specs.declared.options.RenderOptions.{RenderOptions}
 use Rattle.tbr_renderer.specs.Renderer.{Renderer, least, block_width, IsSound}
-use Rattle.text_block_renderer.specs.Stretches.{ended}
-use Rattle.text_block_renderer.specs.Acts.{Act, after_act, Piece, part, cells_in, rows_in, IsPiece}
+use Rattle.text_block_renderer.specs.Acts.{Act, after_act, Piece, cells_in, rows_in, IsPiece}
 use Rattle.text_block_renderer.specs.Headline.{NoLayoutIsAhead, StandsOnce, CellsFit, made, Headline}
 use Rattle.text_block_renderer.proofs.RunStretches.{none_ahead}
 use Rattle.text_block_renderer.proofs.TwoColumns.{act_fits}
@@ -25,17 +19,11 @@ use Rattle.text_block_renderer.proofs.ActParts.{acts_along}
 
 module _ {D A : Type 0} (columns : ℕ → Option ℕ) where
   module _ (decoration : Decoration D A) where
-    not_pre : (e : Entry (List A)) → HasMode Normal e → IsNotPre e
-    not_pre (character c a b mode) h = λ pre. let no : Normal ≡ Pre = sym h ∙ pre in cc
-    not_pre (marker_entry name) h = tt
-
     no_layout : (r : Renderer D A (List A)) (p : Piece D A columns) → IsPiece columns r p → NoLayoutIsAhead columns p
-    no_layout r (part (ended q b texts)) h = λ narrow normal. none_ahead columns (block_width q) (run_of b.events) texts (h.ends.shown.best narrow normal)
-    no_layout r other h = tt
+    no_layout r p h = grind (arith, none_ahead)
 
     once : (r : Renderer D A (List A)) (p : Piece D A columns) → IsPiece columns r p → StandsOnce columns p
-    once r (part (ended q b texts)) h = (h.ends.shown.visible, λ normal. h.ends.own (each_gives (HasMode Normal) IsNotPre not_pre (run_of b.events) normal))
-    once r other h = tt
+    once r p h = grind (arith, each_gives)
 
     pub headline : (acts : List (Act A)) (r s : Renderer D A (List A)) → IsSound columns r → run (after_act columns decoration) acts r ≡ done s → Headline columns decoration acts r s
     headline acts r s sound h =

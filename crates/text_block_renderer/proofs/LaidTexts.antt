@@ -1,9 +1,9 @@
 -- The lines of laid texts, and the visible characters there.
-use Rattle.std.proofs.Common.{◌≡◌, ◌≤◌, ℕ, false, Option, List, [], ◌∷◌, ◌++◌, map, flat_map, fold, length, refl, ap, sym, arith, ◌∙◌, append-nil}
+use Rattle.std.proofs.Common.{◌≡◌, ◌≤◌, ℕ, false, Option, List, [], ◌∷◌, ◌++◌, map, flat_map, fold, length, refl, ap, sym, arith, ◌∙◌, append-nil, rules}
 use Rattle.std.specs.List.{AllByRecursion as Each, zip}
 use Rattle.tbr_model.specs.Run.{Item}
 use Rattle.tbr_model.specs.Layout.{joined}
-use Rattle.tbr_model.specs.Hard.{IsSpaces, is_visible, visible_glyphs}
+use Rattle.tbr_model.specs.Hard.{IsSpaces, visible_glyphs}
 use Rattle.tbr_tagged.specs.Elements.{text_items}
 use Rattle.tbr_decor.specs.Decoration.{Decoration}
 use Rattle.tbr_kept_lines.specs.Line.{Line, text}
@@ -26,15 +26,11 @@ module _ {T : Type 0} (columns : ℕ → Option ℕ) where
   shown_after : (tag : T) (prefixes : List (List ℕ)) (lines : List (Line T)) → visible_glyphs columns (joined (prefixed tag prefixes lines)) ≡ flat_map (visible_after columns tag) (zip prefixes lines)
   shown_after tag [] lines = refl
   shown_after tag (p ∷ ps) [] = refl
-  shown_after tag (p ∷ ps) (l ∷ ls) =
-      glyphs-append columns (text_items p tag ++ as_text tag l) (joined (prefixed tag ps ls))
-      ∙ ap (λ gs. gs ++ visible_glyphs columns (joined (prefixed tag ps ls))) (glyphs-append columns (text_items p tag) (as_text tag l))
-      ∙ ap (λ gs. visible_after columns tag (p, l) ++ gs) (shown_after tag ps ls)
+  shown_after tag (p ∷ ps) (l ∷ ls) = grind (arith, glyphs-append, shown_after tag ps ls)
 
   unseen_spaces : (tag : T) (cs : List ℕ) → IsSpaces cs → visible_glyphs columns (text_items cs tag) ≡ []
   unseen_spaces tag [] h = refl
-  unseen_spaces tag (c ∷ cs) h =
-      let unseen : is_visible columns c ≡ false = ap (is_visible columns) h.0 ∙ space_unseen columns in rw unseen (unseen_spaces tag cs h.1)
+  unseen_spaces tag (c ∷ cs) h = grind (arith, space_unseen, unseen_spaces tag cs h.1)
 
   -- spaces in front are not seen
   shown_indented : (tag : T) (prefixes : List (List ℕ)) (lines : List (Line T)) → length lines ≤ length prefixes → Each IsSpaces prefixes →
@@ -54,12 +50,8 @@ module _ {D A : Type 0} (columns : ℕ → Option ℕ) where
   pub unpadded_line : (r : Renderer D A (List A)) (is : List (Item (List A))) → r.options.pad_block_width ≡ false → padded_line columns r is ≡ text is
   unpadded_line r is e = let whole : is ++ [] ≡ is = append-nil is in rw e (ap text whole)
 
-  unpadded_lines : (r : Renderer D A (List A)) (ts : List (List (Item (List A)))) → r.options.pad_block_width ≡ false → map (padded_line columns r) ts ≡ map text ts
-  unpadded_lines r [] e = refl
-  unpadded_lines r (t ∷ ts) e = ap (λ l. l ∷ map (padded_line columns r) ts) (unpadded_line r t e) ∙ ap (λ ls. text t ∷ ls) (unpadded_lines r ts e)
-
   pub plain_lines : (ts : List (List (Item (List A)))) (r : Renderer D A (List A)) → r.options.pad_block_width ≡ false → r.waiting ≡ [] → (fold (with_line columns) r ts).lines ≡ r.lines ++ map text ts
-  plain_lines ts r e none = unmarked_lines columns ts r none ∙ ap (λ ls. r.lines ++ ls) (unpadded_lines r ts e)
+  plain_lines ts r e none = search (rules, unmarked_lines)
 
   -- where they come after a flush
   lines_after : (decoration : Decoration D A) (prefixes : List (List ℕ)) (lines : List (Line (List A))) (r s : Renderer D A (List A)) → Does columns decoration (append_subrender prefixes lines) r s →

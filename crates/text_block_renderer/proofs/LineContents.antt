@@ -1,7 +1,7 @@
 -- What whoever looks at items, but not at spaces, sees of lines of text and of the markers that wait.
-use Rattle.std.proofs.Common.{◌≡◌, ℕ, ◌-◌, Option, Some, None, List, [], ◌∷◌, ◌++◌, map, fold, refl, ap, sym, ◌∙◌, append_assoc, append-nil}
+use Rattle.std.proofs.Common.{◌≡◌, ℕ, Option, None, List, [], ◌∷◌, ◌++◌, map, fold, refl, ap, sym, ◌∙◌, append_assoc, append-nil, rules}
 use Rattle.std.proofs.lemmas.List.{map-append}
-use Rattle.tbr_model.specs.Run.{Item, marker, items_width}
+use Rattle.tbr_model.specs.Run.{Item, marker}
 use Rattle.tbr_model.specs.Layout.{joined}
 use Rattle.tbr_model.specs.Markers.{marker_items}
 use Rattle.tbr_border.specs.Border.{Border}
@@ -33,19 +33,15 @@ pub record Looks {T Y : Type 0} (look : List (Item T) → List Y) : Type 0 where
   pub spaces_unseen : (n : ℕ) (a : T) → look (text_items (spaces n) a) ≡ []
 
 module _ {A Y : Type 0} (look : List (Item (List A)) → List Y) (looks : Looks look) (columns : ℕ → Option ℕ) where
-  padding_unseen : (o : Option (List A)) (width : ℕ) (is : List (Item (List A))) → look (padding_of columns o width is) ≡ []
-  padding_unseen None width is = looks.nothing
-  padding_unseen (Some a) width is = looks.spaces_unseen (width - items_width columns is) a
-
   -- so it is not seen in texts
   pub unpadded : (o : Option (List A)) (width : ℕ) (ts : List (List (Item (List A)))) → look (joined (map (λ is. is ++ padding_of columns o width is) ts)) ≡ look (joined ts)
   unpadded o width [] = refl
-  unpadded o width (t ∷ ts) = simp (looks.append, append-nil, padding_unseen o width, unpadded o width ts)
+  unpadded o width (t ∷ ts) = search (rules, looks.append, append-nil, unpadded o width ts)
 
 module _ {D A Y : Type 0} (look : List (Item (List A)) → List Y) (looks : Looks look) (columns : ℕ → Option ℕ) where
   -- one line more
   pub seen_line : (r : Renderer D A (List A)) (t : List (Item (List A))) → look (items_so_far (with_line columns r t)) ≡ look (items_so_far r) ++ look t
-  seen_line r t = simp (append-nil, text_of_lines-append, looks.append, append_assoc, padding_unseen look looks columns)
+  seen_line r t = search (rules, append-nil, text_of_lines-append, looks.append, append_assoc)
 
   -- and several
   pub seen_texts : (ts : List (List (Item (List A)))) (r : Renderer D A (List A)) → look (items_so_far (fold (with_line columns) r ts)) ≡ look (items_so_far r) ++ look (joined ts)

@@ -1,5 +1,5 @@
 -- All lines that come are parts: stretches of runs, laid texts, and borders.
-use Rattle.std.proofs.Common.{◌≡◌, ℕ, Option, Some, None, List, [], ◌∷◌, ◌++◌, flat_map, refl, ap, sym, ◌∙◌, subst, append_assoc, append-nil}
+use Rattle.std.proofs.Common.{◌≡◌, ℕ, Option, Some, None, List, [], ◌∷◌, ◌++◌, flat_map, refl, ap, sym, ◌∙◌, subst, append_assoc, append-nil, arith}
 use Rattle.std.proofs.lemmas.List.Concat.{flat_map-append}
 use Rattle.tbr_model.specs.Rule.{run_of}
 use Rattle.tbr_model.specs.Run.{Entry}
@@ -31,14 +31,11 @@ IsOfKind kind (laid r is) = MayLay kind is
 IsOfKind kind (ruled r cells) = MayRule kind r.options
 
 own_is : {D A : Type 0} (part : Part D A) → IsOfKind own part → IsOwnPart part
-own_is (ended r b texts) h = h
-own_is other h = h
+own_is part h = grind arith
 
 module _ {D A : Type 0} (columns : ℕ → Option ℕ) where
   pub part_of_other : (r q : Renderer D A (List A)) → q.width ≡ r.width → q.options ≡ r.options → (p : Part D A) → IsPart columns q p → IsPart columns r p
-  part_of_other r q width options (ended t b texts) h = record { width = h.width ∙ width; options = h.options ∙ options; block = h.block; are_its = h.are_its; names = h.names; ends = h.ends }
-  part_of_other r q width options (laid t is) h = record { width = h.width ∙ width; options = h.options ∙ options; block = h.block }
-  part_of_other r q width options (ruled t cells) h = record { width = h.width ∙ width; options = h.options ∙ options; block = h.block }
+  part_of_other r q width options p h = grind arith
 
 module _ {D A : Type 0} (columns : ℕ → Option ℕ) (kind : Kind) where
   -- What came in parts, and which borders and what else these add.
@@ -59,8 +56,7 @@ module _ {D A : Type 0} (columns : ℕ → Option ℕ) (kind : Kind) where
           parts = front ++ back;
           are = each_append (IsPart columns r) front back h.parts.are others;
           lines = simp (k.parts.lines, h.parts.lines, flat_map-append (lines_of_part {D = D} {A = A} columns), append_assoc);
-          entries = sym (append_assoc (open_run r.block) es fs) ∙ ap (λ gs. gs ++ fs) h.parts.entries ∙ append_assoc first (open_run q.block) fs ∙ ap (λ gs. first ++ gs) k.parts.entries
-              ∙ sym (append_assoc first (flat_map entries_of_part back) (open_run s.block)) ∙ ap (λ gs. gs ++ open_run s.block) (sym (flat_map-append entries_of_part front back));
+          entries = grind (arith, append_assoc, flat_map-append);
         };
         kinds = each_append (IsOfKind kind) front back h.kinds k.kinds;
         borders = flat_map-append borders_of_part front back ∙ ap (λ ds. ds ++ flat_map borders_of_part back) h.borders ∙ ap (λ ds. bs ++ ds) k.borders;

@@ -12,8 +12,8 @@ use Rattle.tbr_renderer.specs.Renderer.{Renderer}
 use Rattle.tbr_renderer.specs.Calls.{begin, after}
 use Rattle.tbr_renderer.proofs.OutcomeParts.{done_before}
 use Rattle.tbr_stack.specs.Stack.{Level, Stack, new_stack, first_renderer, in_first, with_top}
-use Rattle.tbr_stack.specs.Top.{in_top, ChangesTop}
-use Rattle.tbr_stack.specs.Links.{opened, closed, first_open, open_in_first, open_links, with_link, without_open_link, shown_number, after_link_start, after_end_with, after_end_showing, after_link_end}
+use Rattle.tbr_stack.specs.Top.{ChangesTop}
+use Rattle.tbr_stack.specs.Links.{opened, first_open, open_in_first, open_links, with_link, shown_number, after_link_start, after_end_with, after_end_showing, after_link_end}
 use Rattle.tbr_stack.specs.StackCalls.{StackCall, change_top, set_table_depth, push, pop, start_link, end_link, targets_of, IsNextToEnd, IsNextNumber, StackDoes, StackSteps, after_end_as}
 use Rattle.tbr_stack.proofs.Tops.{top_changed}
 
@@ -55,8 +55,7 @@ on_call v end_link = (in_first (drop 1) v.0, v.1)
 on_call v other = v
 
 targets_on : (v : View) (call : StackCall) (calls : List StackCall) → (on_call v call).1 ++ targets_of calls ≡ v.1 ++ targets_of (call ∷ calls)
-targets_on v (start_link target) calls = append_assoc v.1 (target ∷ []) (targets_of calls)
-targets_on v other calls = refl
+targets_on v call calls = grind (arith, append_assoc)
 
 all_targets : (calls : List StackCall) (v : View) → (fold on_call v calls).1 ≡ v.1 ++ targets_of calls
 all_targets [] v = sym (append-nil v.1)
@@ -120,26 +119,17 @@ open_in level = level.open_links
 abbrev view : {R : Type 0} → Stack R → View
 view s = (map open_in s.levels, s.links)
 
--- a change of the first level's open links is one of theirs
-first_changed : {R : Type 0} (change : Level R → Level R) (other : List ℕ → List ℕ) → ((l : Level R) → open_in (change l) ≡ other (open_in l)) → (levels : List (Level R)) →
-    map open_in (in_first change levels) ≡ in_first other (map open_in levels)
-first_changed change other same [] = refl
-first_changed change other same (l ∷ levels) = ap (λ o. o ∷ map open_in levels) (same l)
-
 -- the link that is open first
 open_first : {R : Type 0} (levels : List (Level R)) (k : ℕ) → Stands (0 ∷ []) (map open_in levels) k → first_open (open_in_first levels) ≡ Some k
-open_first [] k h = absurd h
-open_first (l ∷ levels) k h = (elim l.open_links as (λ o. Stands (0 ∷ []) (o ∷ map open_in levels) k → first_open o ≡ Some k) [ [] ↦ λ no. absurd no | p ∷ o ↦ λ here. ap Some here.1 ]) h
+open_first levels k h = grind arith
 
 first_stands : {R : Type 0} (levels : List (Level R)) (k : ℕ) → first_open (open_in_first levels) ≡ Some k → Stands (0 ∷ []) (map open_in levels) k
-first_stands [] k h = cc
-first_stands (l ∷ levels) k h = (elim l.open_links as (λ o. first_open o ≡ Some k → Stands (0 ∷ []) (o ∷ map open_in levels) k) [ [] ↦ λ no. cc | p ∷ o ↦ λ here. (refl, cc) ]) h
+first_stands levels k h = grind arith
 
 -- a link that is opened in the top
 opened_stands : {R : Type 0} (place : ℕ) (levels : List (Level R)) (r : R) → first_renderer (in_first (opened place) levels) ≡ Some r →
     Stands (0 ∷ []) (in_first (λ o. place ∷ o) (map open_in levels)) place
-opened_stands place [] r h = cc
-opened_stands place (l ∷ levels) r h = (refl, refl)
+opened_stands place levels r h = grind arith
 
 get_seam : {X : Type 0} (xs : List X) (y : X) (ys : List X) → slice_get (xs ++ y ∷ ys) (length xs) ≡ Some y
 get_seam [] y ys = refl
@@ -163,17 +153,7 @@ module _ {D A : Type 0} (columns : ℕ → Option ℕ) (decoration : Decoration 
   top_view Step s t h = ap (λ (q : Tops). view q) h.4 ∙ top_kept s h.1
 
   does : (call : StackCall) (s t : Tops) → StackDoes columns decoration call s t → view t ≡ on_call (view s) call
-  does push s t h = ap (λ (q : Tops). view q) h.1
-  does pop s t h = ap (λ (q : Tops). view q) h ∙ ap (λ os. (os, s.links)) (sym (drop-map open_in 1 s.levels))
-  does (start_link target) s t h =
-      let k = length s.links + 1 in
-      top_view _ (with_link target s) t (top_changed (begins target) (with_link target s) t h) ∙ ap (λ os. (os, s.links ++ target ∷ [])) (first_changed (opened k) (λ o. k ∷ o) (λ l. refl) s.levels)
-  does end_link s t h =
-      let (m, ended, is) = done_before without_open_link (in_top (ends (open_links s)) s) t h in
-      ap (λ (q : Tops). view q) is ∙ ap (λ os. (os, m.links)) (first_changed closed (drop 1) (λ l. refl) m.levels)
-      ∙ ap (λ v. on_call v end_link) (top_view _ s m (top_changed (ends (open_links s)) s m ended))
-  does change_top s t h = ap (λ (q : Tops). view q) h.1 ∙ top_kept s h.0
-  does (set_table_depth depth) s t h = ap (λ (q : Tops). view q) h
+  does call s t h = grind (arith, drop-map, top_view, top_changed, done_before, top_kept)
 
   steps_do : (calls : List StackCall) (s t : Tops) → StackSteps columns decoration calls s t → view t ≡ fold on_call (view s) calls
   steps_do [] s t steps = ap (λ (q : Tops). view q) steps
@@ -205,9 +185,7 @@ module _ {D A : Type 0} (columns : ℕ → Option ℕ) (decoration : Decoration 
   targets_come calls s t steps = ap (λ (v : View). v.1) (steps_do calls s t steps) ∙ all_targets calls (view s)
 
   pub own_place : (target : List ℕ) (calls : List StackCall) (s m t : Tops) → after_link_start columns decoration target s ≡ done m → StackSteps columns decoration calls m t → slice_get t.links (length s.links) ≡ Some target
-  own_place target calls s m t starts steps =
-      let all = targets_come (start_link target ∷ calls) s t (m, starts, steps) in
-      ap (λ ls. slice_get ls (length s.links)) all ∙ get_seam s.links target (targets_of calls)
+  own_place target calls s m t starts steps = grind (arith, targets_come (start_link target ∷ calls) s t (m, starts, steps), get_seam)
 
 -- ---- footnotes
 
@@ -215,9 +193,7 @@ module _ {A : Type 0} where
   footnote_from : (a : A) (k : ℕ) (targets : List (List ℕ)) (i : ℕ) → slice_get (footnotes_from a k targets) i ≡ option_map (footnote a (i + k)) (slice_get targets i)
   footnote_from a k [] i = refl
   footnote_from a k (t ∷ targets) zero = let none : k ≡ zero + k = omega arith in ap (λ j. Some (footnote a j t)) none
-  footnote_from a k (t ∷ targets) (suc i) =
-      let same : i + (k + 1) ≡ suc i + k = omega arith in
-      footnote_from a (k + 1) targets i ∙ ap (λ j. option_map (footnote a j) (slice_get targets i)) same
+  footnote_from a k (t ∷ targets) (suc i) = grind (arith, footnote_from a (k + 1) targets i)
 
   pub footnote_at : (a : A) (targets : List (List ℕ)) (i : ℕ) (target : List ℕ) → slice_get targets i ≡ Some target → slice_get (footnotes a targets) i ≡ Some (footnote a (i + 1) target)
   footnote_at a targets i target h = footnote_from a 1 targets i ∙ ap (option_map (footnote a (i + 1))) h

@@ -1,5 +1,5 @@
 -- The moves of which calls consist. What holds of lists of calls is shown move by move.
-use Rattle.std.proofs.Common.{◌≡◌, ◌<◌, ℕ, inl, Bool, false, Option, Some, None, List, [], ◌∷◌, ◌++◌, flat_map, fold, refl, ap, sym, ◌∙◌, subst, append_assoc, append-nil}
+use Rattle.std.proofs.Common.{◌≡◌, ◌<◌, ℕ, Bool, false, Option, None, List, [], ◌∷◌, ◌++◌, flat_map, fold, refl, ap, sym, ◌∙◌, subst, append_assoc, append-nil, arith}
 use Rattle.std.specs.Prelude.{⊤}
 use Rattle.std.proofs.lemmas.List.Concat.{flat_map-append}
 use Rattle.tbr_model.specs.declared.white_space.WhiteSpace.{WhiteSpace}
@@ -11,7 +11,6 @@ use Rattle.tbr_border.specs.Cell.{Cell}
 use Rattle.tbr_rows.specs.declared.LineSet.{LineSet as Overhanging}
 use Rattle.tbr_renderer.specs.declared.options.RenderOptions.{RenderOptions}
 use Rattle.tbr_renderer.specs.Renderer.{Open, Renderer, with_line, with_events, block_width, IsSound}
-use Rattle.tbr_renderer.specs.Flush.{block_lines, lines_at_end}
 use Rattle.tbr_renderer.proofs.FlushedBlocks.{FlushesBlock, Flushes}
 use Rattle.tbr_renderer.proofs.CallParts.{FlushesThen}
 use Rattle.tbr_renderer.specs.Appended.{with_border}
@@ -99,9 +98,7 @@ MayRule own options = ⊥
 
 -- where a kind's moves may put borders, there are calls of the kind
 pub may_call : {D A : Type 0} (kind : Kind) (r : Renderer D A (List A)) (c : Call (List A)) → MayRule kind r.options → Fits kind r (c ∷ [])
-may_call any r c h = tt
-may_call undrawn r c h = inl h
-may_call own r c h = absurd h
+may_call kind r c h = grind arith
 
 -- ---- paths
 
@@ -128,8 +125,7 @@ module _ {D A : Type 0} (columns : ℕ → Option ℕ) where
   lines_beside (t ∷ ts) q = lines_beside ts (with_line columns q t)
 
   pub flush_beside : (r s : Renderer D A (List A)) (o : Option (Open (List A))) → o ≡ r.block → FlushesBlock columns r o s → beside s ≡ record (beside r) { block = None }
-  flush_beside r s None e h = ap (λ (q : Renderer D A (List A)). beside q) h ∙ ap (λ (o : Option (Open (List A))). record (beside r) { block = o }) (sym e)
-  flush_beside r s (Some b) e h = ap (λ (q : Renderer D A (List A)). beside q) h.is ∙ lines_beside (block_lines columns r b (lines_at_end columns r b)) (record r { block = None })
+  flush_beside r s o e h = grind (arith, lines_beside)
 
   pub flushed_none : (r s : Renderer D A (List A)) → Flushes columns r s → s.block ≡ None
   flushed_none r s h = ap (λ (q : Renderer D A (List A)). q.block) (flush_beside r s r.block refl h)
@@ -159,13 +155,7 @@ module _ {D A : Type 0} (columns : ℕ → Option ℕ) (kind : Kind) where
   makes-append (m ∷ ms) ns r q s h k = (h.0, h.1, makes-append ms ns h.0 q s h.2 k)
 
   pub onward : (r q s : Renderer D A (List A)) (es fs : List (Entry (List A))) {bs cs : List (List Cell)} {xs ys : List (Added D A)} → Course r q es bs xs → Course q s fs cs ys → Course r s (es ++ fs) (bs ++ cs) (xs ++ ys)
-  onward r q s es fs {bs} {cs} {xs} {ys} p k = record {
-    moves = p.moves ++ k.moves;
-    makes = makes-append p.moves k.moves r q s p.makes k.makes;
-    brings = flat_map-append brought_by p.moves k.moves ∙ ap (λ gs. gs ++ brought k.moves) p.brings ∙ ap (λ gs. es ++ gs) k.brings;
-    rules = flat_map-append ruled_by p.moves k.moves ∙ ap (λ ds. ds ++ ruled k.moves) p.rules ∙ ap (λ ds. bs ++ ds) k.rules;
-    adds = flat_map-append added_by p.moves k.moves ∙ ap (λ zs. zs ++ added k.moves) p.adds ∙ ap (λ zs. xs ++ zs) k.adds;
-  }
+  onward r q s es fs {bs} {cs} {xs} {ys} p k = grind (arith, makes-append, flat_map-append)
 
   pub one : (m : Move D A) (r s : Renderer D A (List A)) → Makes m r s → Course r s (brought_by m) (ruled_by m) (added_by m)
   one m r s h = record { moves = m ∷ []; makes = (s, h, refl); brings = append-nil (brought_by m); rules = append-nil (ruled_by m); adds = append-nil (added_by m) }
@@ -191,9 +181,7 @@ module _ {D A : Type 0} (columns : ℕ → Option ℕ) (kind : Kind) where
       ((m : Move D A) (r s : Renderer D A (List A)) (es : List (Entry (List A))) → Makes m r s → P r es → P s (es ++ brought_by m)) →
       (ms : List (Move D A)) (r s : Renderer D A (List A)) (es : List (Entry (List A))) → MakesAll ms r s → P r es → P s (es ++ brought ms)
   along P each [] r s es h k = subst (λ (q : Renderer D A (List A)). P q (es ++ [])) (sym h) (subst (λ (fs : List (Entry (List A))). P r fs) (sym (append-nil es)) k)
-  along P each (m ∷ ms) r s es h k =
-      subst (λ (fs : List (Entry (List A))). P s fs) (append_assoc es (brought_by m) (brought ms))
-      (along P each ms h.0 s (es ++ brought_by m) h.2 (each m r h.0 es h.1 k))
+  along P each (m ∷ ms) r s es h k = grind (arith, append_assoc, along P each ms h.0 s (es ++ brought_by m) h.2 (each m r h.0 es h.1 k))
 
   -- A relation that goes on, and that each move has, calls have.
   pub through : (R : Renderer D A (List A) → Renderer D A (List A) → Type 0) →
@@ -207,19 +195,14 @@ module _ {D A : Type 0} (columns : ℕ → Option ℕ) (kind : Kind) where
   -- ---- width, options, and the cells that overhang
 
   pub move_frame : (m : Move D A) (r s : Renderer D A (List A)) → Makes m r s → frame s ≡ frame r
-  move_frame (flush q) r s h = ap (λ (p : Renderer D A (List A)). frame p) (flush_beside columns r s r.block refl h.1)
-  move_frame (join es) r s h = ap (λ (q : Renderer D A (List A)). frame q) h
-  move_frame turn r s h = cc
-  move_frame other r s h = ap (λ (q : Renderer D A (List A)). frame q) h.2
+  move_frame m r s h = grind (arith, flush_beside)
 
   pub move_options : (m : Move D A) (r s : Renderer D A (List A)) → Makes m r s → s.options ≡ r.options
   move_options m r s h = ap (λ (f : Frame A). f.options) (move_frame m r s h)
 
   -- a sound renderer stays so
   pub sound_moved : (m : Move D A) (r s : Renderer D A (List A)) → Makes m r s → IsSound columns r → IsSound columns s
-  sound_moved m r s h sound =
-      let same = move_frame m r s h in
-      sound_alike columns r s (ap (λ (f : Frame A). f.width) same) (ap (λ (f : Frame A). f.options) same) sound
+  sound_moved m r s h sound = grind (arith, move_frame, sound_alike)
 
   pub path_frame : (r s : Renderer D A (List A)) (es : List (Entry (List A))) (bs : List (List Cell)) {xs : List (Added D A)} → Course r s es bs xs → frame s ≡ frame r
   path_frame r s es bs {xs} path =

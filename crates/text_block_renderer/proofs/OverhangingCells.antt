@@ -1,22 +1,17 @@
 -- Rows that follow one another among calls, and what they show of their cells.
-use Rattle.std.proofs.Common.{◌≡◌, ℕ, ◌-◌, Bool, Option, List, [], ◌∷◌, ◌++◌, map, length, ap, sym, ◌∙◌, subst, arith}
+use Rattle.std.proofs.Common.{◌≡◌, ℕ, Bool, Option, List, [], ◌∷◌, ◌++◌, map, length, sym, ◌∙◌, subst, arith}
 use Rattle.std.specs.List.{AllZip, AllByRecursion as Each}
-use Rattle.std.specs.Prelude.{replicate}
 use Rattle.std.proofs.lemmas.List.{length-append, length-map, length-replicate}
-use Rattle.tbr_model.specs.Run.{items_width}
 use Rattle.tbr_model.proofs.lists.Each.{each_front, each_map}
-use Rattle.tbr_border.specs.Border.{Border}
-use Rattle.tbr_border.specs.Cell.{horizontal}
 use Rattle.tbr_tagged.specs.declared.CellAlign.{CellAlign}
 use Rattle.tbr_border.specs.declared.RenderLine.{RenderLine}
-use Rattle.tbr_border.specs.declared.RenderLine.TheVariants.{Text, Line as Rule}
 use Rattle.tbr_rows.specs.declared.LineSet.{LineSet as Cell}
 use Rattle.tbr_rows.specs.Cells.{AreApart}
-use Rattle.tbr_rows.specs.Shown.{DrawsInOne, HolesFill}
+use Rattle.tbr_rows.specs.Shown.{DrawsInOne}
 use Rattle.tbr_rows.specs.CellsShown.{Fills, IsFilled, FollowOneAnother, HasFilledCells, ShowsTexts}
 use Rattle.tbr_rows.proofs.FilledCells.{fill_later}
 use Rattle.tbr_rows.proofs.CellsOfRows.{aligned_width, all_filled, overhang_apart, overhang_filled, shown_over}
-use Rattle.tbr_kept_lines.specs.Line.{Line, text, border}
+use Rattle.tbr_kept_lines.specs.Line.{Line}
 use Rattle.tbr_renderer.specs.Rows.{GivenCell, FillsCell, ComesAs}
 use Rattle.text_block_renderer.specs.Acts.{PutRow}
 use Rattle.text_block_renderer.specs.Headline.{FitsCell, LinesFit, CellsFit, made, IsCellOf}
@@ -31,17 +26,10 @@ each_zip P R Q each xs ys k h = absurd h
 
 module _ {A : Type 0} (columns : ℕ → Option ℕ) (one : DrawsInOne columns) where
   line_filled : (align : CellAlign) (width : ℕ) (a : A) (l : Line A) (done : RenderLine A) → FitsCell columns width l → FillsCell columns align width a l done → Fills columns width done
-  line_filled align width a (text is) (Text es) fits h =
-      ap (items_width columns) h.0 ∙ aligned_width columns one align is (width - items_width columns is) a ∙ omega (arith, fits)
-  line_filled align width a (border b) (Rule done) fits h =
-      let full : length done.cells ≡ width = ap (λ (c : Border A). length c.cells) h ∙ length-append b.cells (replicate (width - length b.cells) horizontal) ∙ omega (arith, length-replicate (width - length b.cells) horizontal, fits.0) in
-      let inside = fill_later columns 0 b.holes (length b.cells) (length done.cells) fits.1 (omega (arith, full, fits.0)) in
-      (full, subst (λ (c : Border A). HolesFill columns 0 c.holes (length done.cells)) (sym h) inside)
-  line_filled align width a l done fits h = absurd h
+  line_filled align width a l done fits h = grind (arith, aligned_width, length-append, length-replicate, fill_later)
 
   pub own_filled : (a : A) (given : List (GivenCell A)) (own : List (Cell A)) → Each (LinesFit columns) given → AllZip (ComesAs columns a) given own → Each (IsFilled columns) own
-  own_filled a = each_zip (LinesFit columns) (ComesAs columns a) (IsFilled columns) (λ g c fit h. subst (λ (w : ℕ). Each (Fills columns w) c.lines) (sym h.0)
-      (each_zip (FitsCell columns g.width) (FillsCell columns g.align g.width a) (Fills columns g.width) (line_filled g.align g.width a) g.lines c.lines fit h.2))
+  own_filled a = grind (arith, each_zip, line_filled)
 
 -- ---- the cells that overhang
 

@@ -1,13 +1,12 @@
 -- Rows of cells side by side.
-use Rattle.std.proofs.Common.{◌≡◌, ℕ, Bool, Option, Some, None, List, ◌++◌, fold, refl, ap, ◌∙◌}
+use Rattle.std.proofs.Common.{◌≡◌, ℕ, Bool, Option, Some, None, List, ◌++◌, refl, ap, ◌∙◌, arith}
 use Rattle.std.specs.Option.{option_map}
-use Rattle.tbr_border.specs.Border.{Border}
 use Rattle.tbr_rows.specs.declared.LineSet.{LineSet as Overhanging}
 use Rattle.tbr_rows.specs.Meant.{SeenRow}
 use Rattle.tbr_rows.specs.Computed.{row_of}
-use Rattle.tbr_renderer.specs.Renderer.{Renderer, settings_of, with_line}
+use Rattle.tbr_renderer.specs.Renderer.{Renderer, settings_of}
 use Rattle.tbr_kept_lines.specs.LastBorder.{last_border, before_border}
-use Rattle.tbr_renderer.specs.Rows.{GivenCell, border_lines, style_in, with_next, with_row, cells_from, row_put, placed, after_row}
+use Rattle.tbr_renderer.specs.Rows.{GivenCell, border_lines, style_in, with_row, cells_from, row_put, placed, after_row}
 use Rattle.text_block_renderer.proofs.Moves.{beside, lines_beside, flush_beside}
 use Rattle.tbr_tagged.specs.Outcome.{done, if_live}
 use Rattle.tbr_tagged.proofs.Outcomes.{live_done}
@@ -39,12 +38,8 @@ abbrev pub under_row : {D A : Type 0} → Renderer D A (List A) → SeenRow (Lis
 under_row r row = record r { lines = before_border r.lines ++ border_lines row.above; hanging = row.overhang }
 
 module _ {D A : Type 0} (columns : ℕ → Option ℕ) where
-  next_beside : (r : Renderer D A (List A)) (o : Option (Border (List A))) → beside (with_next columns r o) ≡ beside r
-  next_beside r None = refl
-  next_beside r (Some b) = refl
-
   pub row_beside : (r : Renderer D A (List A)) (row : SeenRow (List A)) → beside (with_row columns r row) ≡ record (beside r) { hanging = row.overhang }
-  row_beside r row = next_beside (fold (with_line columns) (under_row r row) row.lines) row.next ∙ lines_beside columns row.lines (under_row r row)
+  row_beside r row = grind (arith, lines_beside)
 
   -- Only lines, the open block, waiting markers and overhanging cells aren't as they were.
   laid_beside : (r s : Renderer D A (List A)) → LaysRow columns r s → (cells : List (Overhanging (List A))) × (beside s ≡ record (beside r) { block = None; hanging = cells })

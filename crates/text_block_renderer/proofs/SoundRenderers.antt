@@ -1,7 +1,6 @@
 -- Renderers stay sound.
-use Rattle.std.proofs.Common.{◌≡◌, ◌≢◌, ◌<◌, ℕ, zero, suc, Option, None, Some, List, ap, refl, arith}
-use Rattle.std.proofs.lemmas.Bool.{cond_both, leb-true}
-use Rattle.std.specs.Prelude.{nat_le}
+use Rattle.std.proofs.Common.{◌≡◌, ◌≢◌, ◌<◌, ℕ, Option, Some, List, ap, refl, arith}
+use Rattle.std.proofs.lemmas.Bool.{leb-true}
 use Rattle.tbr_tagged.specs.Outcome.{done}
 use Rattle.tbr_decor.specs.Decoration.{Decoration}
 use Rattle.tbr_renderer.specs.declared.options.RenderOptions.{RenderOptions}
@@ -14,24 +13,15 @@ use Rattle.text_block_renderer.proofs.Moves.{any, Frame, sound_alike, path_frame
 use Rattle.text_block_renderer.proofs.CallMoves.{calls_move}
 use Rattle.text_block_renderer.proofs.ActParts.{acts_along}
 
-some_columns : (width : ℕ) (wrap : Option ℕ) → 0 < width → wrap ≢ Some 0 → 0 < least width wrap
-some_columns width None wide some = wide
-some_columns width (Some zero) wide some = absurd (some refl)
-some_columns width (Some (suc n)) wide some = cond_both (nat_le width (suc n)) width (suc n) (λ w. 0 < w) (λ e. wide) (λ e. omega arith)
-
-none_least : (width : ℕ) → least width (Some 0) ≡ 0
-none_least width = cond_both (nat_le width 0) width 0 (λ n. n ≡ 0) (λ e. omega (arith, leb-true)) (λ e. refl)
-
 not_zero : (width : ℕ) (wrap : Option ℕ) → 0 < least width wrap → wrap ≢ Some 0
-not_zero width wrap h is = absurd (omega (arith, h, ap (least width) is, none_least width))
+not_zero width wrap h is = grind (arith, leb-true)
 
 module _ {D A : Type 0} (columns : ℕ → Option ℕ) where
   pub new_sound : columns 32 ≡ Some 1 → (width : ℕ) (options : RenderOptions) (decorator : D) → 0 < width → options.wrap_width ≢ Some 0 → IsSound columns (new_renderer {D = D} {A = A} {T = List A} width options decorator)
-  new_sound space width options decorator wide some = record { space = space; wide = some_columns width options.wrap_width wide some }
+  new_sound space width options decorator wide some = grind arith
 
   pub inside_sound : (decoration : Decoration D A) (width : ℕ) (r : Renderer D A (List A)) → 0 < width → IsSound columns r → IsSound columns (sub_renderer decoration width r)
-  inside_sound decoration width r wide sound =
-      record { space = sound.space; wide = some_columns width r.options.wrap_width wide (not_zero r.width r.options.wrap_width sound.wide) }
+  inside_sound decoration width r wide sound = grind (arith, not_zero)
 
   pub calls_sound : (decoration : Decoration D A) (calls : List (Call (List A))) (r s : Renderer D A (List A)) → IsSound columns r → Steps columns decoration calls r s → IsSound columns s
   calls_sound decoration calls r s sound h =

@@ -1,6 +1,5 @@
 -- Visible characters and markers of lines that renderers take from one another.
-use Rattle.std.proofs.Common.{◌≡◌, ℕ, zero, suc, ◌+◌, ◌≤◌, ◌⊎◌, inl, inr, Option, List, [], ◌∷◌, ◌++◌, map, flat_map, fold, length, refl, ap, sym, ◌∙◌, subst, arith, append_assoc, append-nil}
-use Rattle.std.proofs.lemmas.Bool.{cond_both}
+use Rattle.std.proofs.Common.{◌≡◌, ℕ, zero, suc, ◌+◌, ◌≤◌, ◌⊎◌, inl, inr, Option, List, [], ◌∷◌, ◌++◌, map, flat_map, fold, length, refl, ap, sym, ◌∙◌, subst, arith, append_assoc, append-nil, rules}
 use Rattle.std.proofs.lemmas.List.Elements.{filter-append}
 use Rattle.std.proofs.lemmas.Grind.{fold-append}
 use Rattle.std.proofs.lemmas.List.{length-append}
@@ -8,9 +7,8 @@ use Rattle.tbr_renderer.proofs.OutcomeParts.{one_done, done_first}
 use Rattle.tbr_model.specs.Run.{Entry, Item}
 use Rattle.tbr_model.specs.Layout.{joined}
 use Rattle.tbr_model.specs.Shown.{is_visible_or_marker}
-use Rattle.tbr_border.specs.Border.{shown}
 use Rattle.tbr_tagged.specs.Elements.{text_items}
-use Rattle.tbr_border.specs.Cell.{Cell, horizontal, slash}
+use Rattle.tbr_border.specs.Cell.{Cell, slash}
 use Rattle.tbr_decor.specs.Decoration.{Decoration}
 use Rattle.tbr_rows.specs.CellsShown.{StandsAmong}
 use Rattle.tbr_rows.specs.declared.LineSet.{LineSet as Overhanging}
@@ -20,7 +18,7 @@ use Rattle.tbr_kept_lines.specs.Line.{Line, text, border}
 use Rattle.tbr_renderer.specs.Flush.{after_flush}
 use Rattle.tbr_renderer.specs.Footnotes.{footnote_lines}
 use Rattle.tbr_renderer.specs.Renderer.{Open, Renderer, open_run, IsSound}
-use Rattle.tbr_renderer.specs.Appended.{border_of_cells, with_border, as_text, prefixed, with_divider, with_cell, with_cell_below, with_cells, handed_out}
+use Rattle.tbr_renderer.specs.Appended.{as_text, prefixed, with_divider, with_cell, with_cell_below, with_cells, handed_out}
 use Rattle.tbr_renderer.specs.Calls.{Call, append_subrender, append_vert_row, Does}
 use Rattle.tbr_tagged.specs.Outcome.{done, if_live}
 use Rattle.tbr_renderer.proofs.CallParts.{handed_then}
@@ -34,7 +32,7 @@ use Rattle.text_block_renderer.proofs.VerticalRows.{cells_after}
 use Rattle.text_block_renderer.specs.Stretches.{lines_laid}
 use Rattle.text_block_renderer.proofs.BroughtEntries.{last_shown}
 use Rattle.text_block_renderer.proofs.WrittenEntries.{flush_written}
-use Rattle.text_block_renderer.specs.Taken.{StandWithin, text_before, written, to_show, AreWrittenIn, IsWrittenSoFar, CallTakes, Takes, NothingOverhangs, AreTakenIn}
+use Rattle.text_block_renderer.specs.Taken.{StandWithin, written, to_show, AreWrittenIn, IsWrittenSoFar, CallTakes, Takes, NothingOverhangs, AreTakenIn}
 use Rattle.text_block_renderer.proofs.AddedLines.{Grows, lines_grow, moves_grow, steps_grow, laid_lines}
 use Rattle.text_block_renderer.proofs.CellsInRows.{items_in, Follows, row_adds, row_follows, cell_follows}
 use Rattle.text_block_renderer.proofs.Within.{within_itself, within_more, within_on, two_within, itself_within, after_within, before_within}
@@ -50,8 +48,7 @@ module _ {T : Type 0} (columns : ℕ → Option ℕ) where
   -- A line as text says what is written there, after other items and before other lines.
   first_within : (tag : T) (line : Line T) (lines : List (Line T)) (front rest : List (Item T)) → StandWithin (seen columns lines) (to_show columns rest) → StandWithin (seen columns (line ∷ lines)) (to_show columns ((front ++ as_text tag line) ++ rest))
   first_within tag (text is) lines front rest h = two_within columns is (written lines) (front ++ is) rest (after_within columns front is is (itself_within columns is)) h
-  first_within tag (border b) lines front rest h =
-      two_within columns (text_before b) (written lines) (front ++ shown tag b) rest (after_within columns front (text_before b) (shown tag b) (border_shown columns tag b)) h
+  first_within tag (border b) lines front rest h = search (rules, two_within, after_within, border_shown)
 
   texts_within : (tag : T) (lines : List (Line T)) → StandWithin (seen columns lines) (to_show columns (joined (map (as_text tag) lines)))
   texts_within tag [] = tt
@@ -88,9 +85,7 @@ module _ {D A : Type 0} (columns : ℕ → Option ℕ) where
   still_within us r s grows h = more_within us r s (more_text r s grows) h
 
   divider_keeps : (us : List (Item (List A))) (cell : Cell) (r : Renderer D A (List A)) → StandWithin us (seen columns r.lines) → StandWithin us (seen columns (with_divider columns cell r).lines)
-  divider_keeps us cell r h =
-      let s : Renderer D A (List A) = with_border columns r (border_of_cells cell r.width r) in
-      cond_both r.options.draw_borders s r (λ (q : Renderer D A (List A)). StandWithin us (seen columns q.lines)) (λ e. still_within us r s (_, refl) h) (λ e. h)
+  divider_keeps us cell r h = grind (arith, still_within)
 
   -- laid texts are written after what there was
   laid_after : (us : List (Item (List A))) (ts : List (List (Item (List A)))) (r s : Renderer D A (List A)) → s.lines ≡ r.lines ++ lines_laid columns r ts → StandWithin us (to_show columns (joined ts)) → StandWithin us (seen columns s.lines)
@@ -125,11 +120,7 @@ module _ {D A : Type 0} (columns : ℕ → Option ℕ) where
         let all : StandWithin (seen columns taken) (to_show columns (joined (prefixed tag prefixes taken))) = prefixed_within columns tag prefixes taken (subst (λ (ls : List (Line (List A))). length ls ≤ length prefixes) (sym t.0) t.1) in
         let (m, flushed, is) = appended_after columns decoration prefixes taken r s h in
         subst (λ (ls : List (Line (List A))). StandWithin (seen columns ls) (seen columns s.lines)) t.0 (laid_after (seen columns taken) (prefixed tag prefixes taken) m s is all)
-    taken_within (append_vert_row cells) r s lines t h =
-        let (front, back, is) = t in
-        let (m, flushed, whole) = cells_after columns decoration cells r s h in
-        let row = divider_keeps (seen columns lines) horizontal (with_cells columns m (front ++ lines ∷ back)) (row_within front back lines m) in
-        subst (λ (q : Renderer D A (List A)). StandWithin (seen columns lines) (seen columns q.lines)) (sym (whole ∙ ap (λ cs. with_divider columns horizontal (with_cells columns m cs)) is)) row
+    taken_within (append_vert_row cells) r s lines t h = grind (arith, cells_after, divider_keeps, row_within)
     taken_within other r s lines t h = elim t [ ]
 
     flush_adds : (r m : Renderer D A (List A)) → if_live r.failure (after_flush columns r) ≡ done m → MoreText r m
@@ -146,8 +137,7 @@ module _ {D A : Type 0} (columns : ℕ → Option ℕ) where
 
     -- what is left goes on overhanging
     follows_on : (us : List (Item (List A))) (n rows : ℕ) (r s : Renderer D A (List A)) → n ≤ rows → MoreText r s → s.hanging ≡ r.hanging → Follows columns us n r → Follows columns us rows s
-    follows_on us n rows r s fits more same (inl h) = inl (more_within us r s more h)
-    follows_on us n rows r s fits more same (inr (c, hangs, some, few, h)) = inr (c, subst (StandsAmong c) (sym same) hangs, some, omega (arith, few, fits), still_more us r s (items_in c.lines) more h)
+    follows_on us n rows r s fits more same h = grind (arith, more_within, still_more, items_in)
 
     act_follows : (us : List (Item (List A))) (act : Act A) (n rows : ℕ) (r s : Renderer D A (List A)) → n ≤ length (rows_of (act ∷ [])) + rows → ActStep columns decoration act r s → Follows columns us n r → Follows columns us rows s
     act_follows us (call c) n rows r s fits h k =

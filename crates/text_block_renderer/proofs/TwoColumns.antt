@@ -1,5 +1,5 @@
 -- Two columns are enough for characters that take two at most.
-use Rattle.std.proofs.Common.{unwrap_or, IfSome, ◌≡◌, ℕ, ◌≤◌, inl, inr, Bool, true, false, Option, Some, None, List, [], ◌∷◌, fold, ap, sym, subst, arith}
+use Rattle.std.proofs.Common.{unwrap_or, IfSome, ◌≡◌, ℕ, ◌≤◌, inl, inr, Bool, true, false, Option, Some, None, List, [], ◌∷◌, fold, ap, sym, subst, arith, rules}
 use Rattle.std.proofs.lemmas.Bool.{cond_both}
 use Rattle.tbr_model.specs.Rule.{run_of}
 use Rattle.tbr_model.specs.Run.{Entry, character, marker_entry}
@@ -8,25 +8,24 @@ use Rattle.tbr_decor.specs.Start as start
 use Rattle.tbr_decor.specs.End as end
 use Rattle.tbr_decor.specs.Decoration.{Decoration}
 use Rattle.tbr_renderer.specs.Image.{shown_title}
-use Rattle.tbr_renderer.specs.Decorated.{struck_from, struck_until, asked_to_close, annotated, after_start, after_end, after_titled}
-use Rattle.tbr_renderer.specs.Renderer.{Open, Renderer, least, block_width, without_annotation, with_line, open_block, with_events, struck, text_annotations, last_mode, ignores}
-use Rattle.tbr_tagged.specs.Outcome.{done, refused}
+use Rattle.tbr_renderer.specs.Decorated.{struck_from, struck_until, annotated, after_start, after_end, after_titled}
+use Rattle.tbr_renderer.specs.Renderer.{Open, Renderer, least, block_width, with_line, open_block, with_events, struck, text_annotations, last_mode}
+use Rattle.tbr_tagged.specs.Outcome.{refused}
 use Rattle.tbr_tagged.specs.declared.Error.TheVariants.{TooNarrow}
 use Rattle.tbr_border.specs.Cell.{horizontal}
 use Rattle.tbr_renderer.specs.Outcomes.{changed}
 use Rattle.tbr_renderer.specs.Flush.{block_lines, lines_at_end, names_at_end, fits_at_end, fits_grown, flushed, after_block, after_flush}
-use Rattle.tbr_renderer.specs.Steps.{with_empty_line, block_started, after_block_start, at_line_start, text_brings, after_joining, after_first_text, after_text}
+use Rattle.tbr_renderer.specs.Steps.{with_empty_line, block_started, after_block_start, text_brings, after_joining, after_first_text, after_text}
 use Rattle.tbr_renderer.specs.Appended.{with_border, border_of_cells, prefixed, with_divider, with_cells}
 use Rattle.tbr_renderer.proofs.OutcomeParts.{refused_before, refused_first, refused_if_not}
 use Rattle.tbr_renderer.proofs.MappedBlocks.{end_wide, join_wide}
 use Rattle.tbr_renderer.specs.Calls.{Call, add_empty_line, new_line, new_line_hard, start_block, start_table, add_inline_text, begin, finish, start_strikeout, end_strikeout, add_image, add_border, append_subrender, append_vert_row, made}
 use Rattle.tbr_renderer.proofs.SettingsStay.{Steady, started_alike}
-use Rattle.text_block_renderer.specs.Acts.{Act, call, row, ActIsTooNarrow}
+use Rattle.text_block_renderer.specs.Acts.{Act, ActIsTooNarrow}
 use Rattle.text_block_renderer.specs.Headline.{TakeTwoAtMost}
 
 narrow : (o : Option ℕ) (width : ℕ) → IfSome o (λ n. n ≤ 2) → 2 ≤ width → unwrap_or o 0 ≤ width
-narrow None width two wide = omega arith
-narrow (Some n) width two wide = omega (arith, two, wide)
+narrow o width two wide = grind arith
 
 characters_fit : {T : Type 0} (columns : ℕ → Option ℕ) → TakeTwoAtMost columns → (width : ℕ) (es : List (Entry T)) → 2 ≤ width → CharactersFit columns width es
 characters_fit columns two width [] wide = tt
@@ -60,29 +59,23 @@ module _ {D A : Type 0} (columns : ℕ → Option ℕ) (one : columns 32 ≡ Som
     ]
 
     text_fits : (cs : List ℕ) (r : Renderer D A (List A)) → 2 ≤ block_width r → after_text columns preformatted cs r ≡ refused TooNarrow → ⊥
-    text_fits cs r wide h =
-        cond_both (ignores r cs) (done r) _ (λ o. o ≡ refused TooNarrow → ⊥) (λ e no. cc)
-        (λ e. cond_both r.block_ended _ _ (λ o. o ≡ refused TooNarrow → ⊥) (λ f. first_fits cs r wide) (λ f. join_fits cs r wide)) h
+    text_fits cs r wide h = grind (arith, first_fits, join_fits)
 
   module _ (decoration : Decoration D A) where
     start_fits : (s : start.Start) (r : Renderer D A (List A)) → 2 ≤ block_width r → after_start columns decoration s r ≡ refused TooNarrow → ⊥
     start_fits s r wide h = text_fits decoration.preformatted (decoration.start_text r.decorator s) (annotated decoration s r) wide h
 
     end_fits : (e : end.End) (r : Renderer D A (List A)) → 2 ≤ block_width r → after_end columns decoration e r ≡ refused TooNarrow → ⊥
-    end_fits e r wide h =
-        let cs = decoration.end_text r.decorator e in
-        text_fits decoration.preformatted cs (asked_to_close decoration e r) wide (refused_before (λ (s : Renderer D A (List A)). without_annotation s) (after_text columns decoration.preformatted cs (asked_to_close decoration e r)) TooNarrow h)
+    end_fits e r wide h = search (rules, text_fits, refused_before)
 
     image_fits : (source : List ℕ) (title : Option (List ℕ)) (r : Renderer D A (List A)) → 2 ≤ block_width r → after_titled columns decoration source title r ≡ refused TooNarrow → ⊥
     image_fits source None r wide h = cc
-    image_fits source (Some title) r wide h =
-        start_fits (start.image source title) r wide (refused_before (λ (s : Renderer D A (List A)). without_annotation s) (after_start columns decoration (start.image source title) r) TooNarrow h)
+    image_fits source (Some title) r wide h = search (rules, start_fits, refused_before)
 
     call_fits : (c : Call (List A)) (r : Renderer D A (List A)) → 2 ≤ block_width r → made columns decoration c r ≡ refused TooNarrow → ⊥
     call_fits add_empty_line r wide h = flushed_fits (with_empty_line columns) r wide h
     call_fits new_line r wide h = flush_fits r wide h
-    call_fits new_line_hard r wide h =
-        cond_both (at_line_start columns r r.block) _ _ (λ o. o ≡ refused TooNarrow → ⊥) (λ e. flushed_fits (with_empty_line columns) r wide) (λ e. flush_fits r wide) h
+    call_fits new_line_hard r wide h = grind (arith, flushed_fits, flush_fits)
     call_fits start_block r wide h = flushed_fits (block_started columns) r wide h
     call_fits start_table r wide h = flushed_fits (block_started columns) r wide h
     call_fits (add_inline_text cs) r wide h = text_fits decoration.preformatted cs r wide h
@@ -98,6 +91,4 @@ module _ {D A : Type 0} (columns : ℕ → Option ℕ) (one : columns 32 ≡ Som
     call_fits other r wide h = cc
 
     pub act_fits : (act : Act A) (r : Renderer D A (List A)) → 2 ≤ block_width r → ActIsTooNarrow columns decoration act r → ⊥
-    act_fits (call c) r wide h = call_fits c r wide h
-    act_fits (row collapses cells) r wide h = flush_fits r wide h
-    act_fits other r wide h = elim h [ ]
+    act_fits act r wide h = grind (arith, call_fits, flush_fits)

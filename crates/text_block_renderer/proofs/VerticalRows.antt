@@ -1,5 +1,5 @@
 -- Rows of cells, as lines.
-use Rattle.std.proofs.Common.{◌≡◌, ℕ, Bool, true, false, if◌then◌else◌, Option, List, [], ◌∷◌, ◌++◌, map, flat_map, fold, refl, ap, sym, ◌∙◌, append_assoc, append-nil}
+use Rattle.std.proofs.Common.{◌≡◌, ℕ, Bool, true, false, if◌then◌else◌, Option, List, [], ◌∷◌, ◌++◌, map, flat_map, fold, refl, ap, sym, ◌∙◌, append_assoc, append-nil, arith, rules}
 use Rattle.std.specs.List.{join_by}
 use Rattle.std.proofs.lemmas.Grind.{fold-append}
 use Rattle.tbr_model.specs.Run.{Item}
@@ -42,9 +42,7 @@ module _ {D A : Type 0} (columns : ℕ → Option ℕ) where
         ap (λ k. with_cell columns (on (ls ++ k ∷ [])) lines) (unpadded_line columns m t unpadded) ∙ cell_put lines (ls ++ text t ∷ []) ∙ ap on (append_assoc ls (text t ∷ []) (cell_lines m lines))
 
     divider_put : (cell : Cell) (ls : List (Line (List A))) → with_divider columns cell (on ls) ≡ on (ls ++ border (border_of_cells cell m.width m) ∷ [])
-    divider_put cell ls =
-        let b = border_of_cells cell m.width m in
-        ap (λ (d : Bool). if d then with_border columns (on ls) b else on ls) drawn ∙ ap (λ l. on (ls ++ l ∷ [])) (border_stays columns m b unpadded)
+    divider_put cell ls = grind (arith, border_stays)
 
     abbrev slashed : List (Line (List A))
     slashed = border (border_of_cells slash m.width m) ∷ []
@@ -54,20 +52,14 @@ module _ {D A : Type 0} (columns : ℕ → Option ℕ) where
 
     below_put : (cells : List (List (Line (List A)))) (ls : List (Line (List A))) → fold (with_cell_below columns) (on ls) cells ≡ on (ls ++ below cells)
     below_put [] ls = ap on (sym (append-nil ls))
-    below_put (lines ∷ cells) ls =
-        ap (λ q. fold (with_cell_below columns) (with_cell columns q lines) cells) (divider_put slash ls) ∙ ap (λ q. fold (with_cell_below columns) q cells) (cell_put lines (ls ++ slashed))
-        ∙ below_put cells ((ls ++ slashed) ++ cell_lines m lines)
-        ∙ ap on (ap (λ ms. ms ++ below cells) (append_assoc ls slashed (cell_lines m lines)) ∙ append_assoc ls (slashed ++ cell_lines m lines) (below cells))
+    below_put (lines ∷ cells) ls = grind (arith, divider_put, cell_put, append_assoc, below_put cells ((ls ++ slashed) ++ cell_lines m lines))
 
     cells_put : (cells : List (List (Line (List A)))) (ls : List (Line (List A))) → with_cells columns (on ls) cells ≡ on (ls ++ join_by (cell_lines m) slashed cells)
     cells_put [] ls = ap on (sym (append-nil ls))
-    cells_put (lines ∷ cells) ls =
-        ap (λ q. fold (with_cell_below columns) q cells) (cell_put lines ls) ∙ below_put cells (ls ++ cell_lines m lines) ∙ ap on (append_assoc ls (cell_lines m lines) (below cells))
+    cells_put (lines ∷ cells) ls = search (rules, cell_put, below_put, append_assoc)
 
     row_put : (cells : List (List (Line (List A)))) (ls : List (Line (List A))) → with_divider columns horizontal (with_cells columns (on ls) cells) ≡ on (ls ++ row_lines m cells)
-    row_put cells ls =
-        let inside = join_by (cell_lines m) slashed cells in
-        ap (with_divider columns horizontal) (cells_put cells ls) ∙ divider_put horizontal (ls ++ inside) ∙ ap on (append_assoc ls inside (border (border_of_cells horizontal m.width m) ∷ []))
+    row_put cells ls = grind (arith, cells_put, divider_put, append_assoc)
 
   -- the cells come after a flush
   pub cells_after : (decoration : Decoration D A) (cells : List (List (Line (List A)))) (r s : Renderer D A (List A)) → Does columns decoration (append_vert_row cells) r s →

@@ -1,11 +1,10 @@
 -- Visible characters are there once.
-use Rattle.std.proofs.Common.{◌≡◌, ℕ, inl, zero, suc, true, false, if◌then◌else◌, Option, None, List, [], ◌∷◌, ◌++◌, filter, fold, refl, ap, sym, ◌∙◌, subst, append-nil}
+use Rattle.std.proofs.Common.{◌≡◌, ℕ, zero, suc, false, Option, None, List, [], ◌∷◌, ◌++◌, filter, fold, refl, ap, sym, ◌∙◌, subst, append-nil, arith}
 use Rattle.std.proofs.Math.Bool.{and-false}
 use Rattle.std.specs.List.{AllZip}
 use Rattle.tbr_model.specs.Rule.{run_of}
 use Rattle.tbr_model.specs.Codes.{space_character}
-use Rattle.tbr_model.specs.declared.white_space.WhiteSpace.TheVariants.{Pre}
-use Rattle.tbr_model.specs.Run.{Entry, character, Item, glyph, marker}
+use Rattle.tbr_model.specs.Run.{Entry, Item, glyph, marker}
 use Rattle.tbr_model.specs.Layout.{joined}
 use Rattle.tbr_model.specs.Markers.{marker_items}
 use Rattle.tbr_model.specs.Hard.{glyphs_of, is_visible, is_visible_entry, IsShown, visible_glyphs, visible_entries}
@@ -62,19 +61,13 @@ module _ {T : Type 0} (columns : ℕ → Option ℕ) where
   laid_shown : (is : List (Item T)) → AllZip (IsShown (λ a b. a ≡ b)) (visible_glyphs columns is) (visible_entries columns (laid_entries is))
   laid_shown [] = tt
   laid_shown (marker name ∷ is) = laid_shown is
-  laid_shown (glyph c a ∷ is) =
-      let gs = visible_glyphs columns is in
-      let es = visible_entries columns (laid_entries is) in
-      elim (is_visible columns c) as (λ v. AllZip (IsShown (λ a b. a ≡ b)) (if v then (c, a) ∷ gs else gs) (if v then character c a a Pre ∷ es else es))
-      [ true ↦ ((refl, inl refl), laid_shown is) | false ↦ laid_shown is ]
+  laid_shown (glyph c a ∷ is) = grind (arith, laid_shown is)
 
 -- ---- lines
 
 module _ {D A : Type 0} (columns : ℕ → Option ℕ) where
   on_lines : (r : Renderer D A (List A)) → visible_glyphs columns (items_so_far r) ≡ visible_glyphs columns (text_of_lines r.lines)
-  on_lines r =
-      glyphs-append columns (text_of_lines r.lines) (marker_items r.waiting) ∙ ap (λ gs. visible_glyphs columns (text_of_lines r.lines) ++ gs) (markers_unseen columns r.waiting (marker_items r.waiting) refl)
-      ∙ append-nil (visible_glyphs columns (text_of_lines r.lines))
+  on_lines r = grind (arith, glyphs-append, markers_unseen, append-nil)
 
   shown_line : (r : Renderer D A (List A)) (t : List (Item (List A))) → visible_glyphs columns (text_of_lines (with_line columns r t).lines) ≡ visible_glyphs columns (text_of_lines r.lines) ++ visible_glyphs columns t
   shown_line r t = sym (on_lines (with_line columns r t)) ∙ seen_line (visible_glyphs columns) (at_visible columns) columns r t ∙ ap (λ gs. gs ++ visible_glyphs columns t) (on_lines r)
@@ -136,10 +129,7 @@ module _ {D A : Type 0} (columns : ℕ → Option ℕ) where
 
   -- where no block is open, all that came is shown
   all_shown : (s : Renderer D A (List A)) (es : List (Entry (List A))) → s.block ≡ None → Shows columns s es → AllZip (IsShown (λ a b. a ≡ b)) (visible_glyphs columns (text_of_lines s.lines)) (visible_entries columns es)
-  all_shown s es none k =
-      let ended : visible_entries columns k.ended ≡ visible_entries columns es =
-      ap (visible_entries columns) (sym (append-nil k.ended) ∙ ap (λ (o : Option (Open (List A))). k.ended ++ open_run o) (sym none)) ∙ k.whole in
-      subst (λ (fs : List (Entry (List A))). AllZip (IsShown (λ a b. a ≡ b)) (visible_glyphs columns (text_of_lines s.lines)) fs) ended k.shown
+  all_shown s es none k = grind (arith, append-nil)
 
   pub all_handed_out : (r : Renderer D A (List A)) (es : List (Entry (List A))) (lines : List (Line (List A))) → IsSound columns r → Shows columns r es → handed_out columns r ≡ done lines →
       AllZip (IsShown (λ a b. a ≡ b)) (visible_glyphs columns (text_of_lines lines)) (visible_entries columns es)

@@ -5,7 +5,7 @@ use Rattle.std.proofs.lemmas.Bool.{or_parts}
 use Rattle.tbr_model.specs.Rule.{run_of}
 use Rattle.tbr_model.specs.Run.{Entry, Item, Word, kept_items, has_character, words_of, trailing}
 use Rattle.tbr_model.specs.Layout.{word_slots, slots_of, line_text, joined, HasNoEmptyLine}
-use Rattle.tbr_model.specs.Markers.{names_in_items, names_in_run, marker_items, marker_run}
+use Rattle.tbr_model.specs.Markers.{names_in_run, marker_items, marker_run}
 use Rattle.tbr_model.specs.Shown.{without_spaces}
 use Rattle.tbr_model.proofs.words.Items.{has_character-append}
 use Rattle.tbr_model.proofs.words.KeptItems.{words_hold}
@@ -37,9 +37,7 @@ use Rattle.text_block_renderer.proofs.BroughtEntries.{end_stands, StandFor, at_u
 -- each word has one
 no_word : {T : Type 0} (words : List (Word T)) (left : List (Item T)) → Each (λ w. has_character w.items ≡ true) words → has_character (flat_map (λ w. w.items) words ++ left) ≡ false → words ≡ []
 no_word [] left have none = refl
-no_word (w ∷ words) left have none =
-    let others = flat_map (λ v. v.items) words in
-    let here : has_character w.items ≡ false = (or_parts _ _ (sym (has_character-append w.items (others ++ left)) ∙ ap has_character (sym (append_assoc w.items others left)) ∙ none)).0 in cc
+no_word (w ∷ words) left have none = grind (arith, or_parts, has_character-append, append_assoc)
 
 no_slots : {T : Type 0} (columns : ℕ → Option ℕ) (width : ℕ) (run : List (Entry T)) → has_character (kept_items columns run) ≡ false → slots_of columns width run ≡ []
 no_slots columns width run none =
@@ -104,13 +102,7 @@ module _ {D A : Type 0} (columns : ℕ → Option ℕ) where
   -- a block without lines: its markers wait after the others
   bare : (r s : Renderer D A (List A)) (o : Option (Open (List A))) → FlushesBlock columns r o s → IsSound columns r → may_overflow r ≡ false → IsNormal (open_run o) →
       has_character (kept_items columns (open_run o)) ≡ false → (s.lines ≡ r.lines) × (s.waiting ≡ r.waiting ++ names_in_run (open_run o))
-  bare r s None h sound narrow normal none = (ap (λ (q : Renderer D A (List A)). q.lines) h, ap (λ (q : Renderer D A (List A)). q.waiting) h ∙ sym (append-nil r.waiting))
-  bare r s (Some b) h sound narrow normal none =
-      let names = names_at_end columns r b in
-      let texts : lines_at_end columns r b ≡ [] = no_lines columns (block_width r) (run_of b.events) (lines_at_end columns r b) ((h.ends sound).shown.best narrow normal) none in
-      let is = h.is ∙ ap (λ (ts : List (List (Item (List A)))). flushed columns r (block_lines columns r b ts) names) texts in
-      let all : names ≡ names_in_run (run_of b.events) = ap (λ (ls : List (List (Item (List A)))). names_in_items (joined ls) ++ names) (sym texts) ∙ (h.ends sound).markers in
-      (ap (λ (q : Renderer D A (List A)). q.lines) is, ap (λ (q : Renderer D A (List A)). q.waiting) is ∙ ap (λ ns. r.waiting ++ ns) all)
+  bare r s o h sound narrow normal none = grind (arith, append-nil, no_lines)
 
   pub flushes_stand : (r s : Renderer D A (List A)) → IsSound columns r → after_flush columns r ≡ done s → FlushStands columns (open_run r.block) r s
   flushes_stand r s sound h =
@@ -134,12 +126,7 @@ Waiting None old new = BeginsWith old new
 
 module _ {T : Type 0} where
   wait_longer : (ls ms : List (Line T)) (old between new : List (List ℕ)) → Waiting (first_text ls) old between → Waiting (first_text ms) between new → Waiting (first_text (ls ++ ms)) old new
-  wait_longer [] ms old between new (rest, here) h =
-      (elim (first_text ms) as (λ o. Waiting o between new → Waiting o old new) [
-        | None ↦ λ k. (rest ++ k.0, k.1 ∙ ap (λ ns. ns ++ k.0) here ∙ append_assoc old rest k.0)
-        | Some is ↦ λ k.
-            (marker_items rest ++ k.0, k.1 ∙ ap (λ ns. marker_items ns ++ k.0) here ∙ ap (λ js. js ++ k.0) (marker_items-append old rest) ∙ append_assoc (marker_items old) (marker_items rest) k.0)
-      ]) h
+  wait_longer [] ms old between new (rest, here) h = grind (arith, append_assoc, marker_items-append)
   wait_longer (text is ∷ ls) ms old between new g h = g
   wait_longer (border b ∷ ls) ms old between new g h = wait_longer ls ms old between new g h
 
@@ -164,12 +151,7 @@ module _ {D A : Type 0} (columns : ℕ → Option ℕ) where
   wait_on r q s g h = (g.0 ++ h.0, h.1 ∙ ap (λ ls. ls ++ h.0) g.1 ∙ append_assoc r.lines g.0 h.0, wait_longer g.0 h.0 r.waiting q.waiting s.waiting g.2 h.2)
 
   wait_for_text : (r s : Renderer D A (List A)) → Waits r s → WaitForText r s
-  wait_for_text r s (more, lines, k) = record {
-    more = more;
-    lines = lines;
-    stand = λ is first. subst (λ o. Waiting o r.waiting s.waiting) first k;
-    wait = λ none. subst (λ o. Waiting o r.waiting s.waiting) none k;
-  }
+  wait_for_text r s (more, lines, k) = grind arith
 
   -- no line came, and more markers may wait
   no_line_came : (r s : Renderer D A (List A)) (names : List (List ℕ)) → s.lines ≡ r.lines → s.waiting ≡ r.waiting ++ names → Waits r s

@@ -1,8 +1,7 @@
 -- Lists that stand within others, in order.
-use Rattle.std.proofs.Common.{ℕ, Option, inl, inr, List, [], ◌∷◌, ◌++◌, refl, sym, ◌∙◌, subst, append-nil}
+use Rattle.std.proofs.Common.{ℕ, Option, inl, inr, List, [], ◌∷◌, ◌++◌, refl, ◌∙◌, subst, append-nil, arith}
 use Rattle.std.proofs.lemmas.List.Elements.{filter-append}
 use Rattle.tbr_model.specs.Run.{Item}
-use Rattle.tbr_model.specs.Shown.{is_visible_or_marker}
 use Rattle.text_block_renderer.specs.Taken.{StandWithin, to_show}
 
 module _ {X : Type 0} where
@@ -39,9 +38,7 @@ module _ {T : Type 0} (columns : ℕ → Option ℕ) where
   seen is = to_show columns is
 
   pub two_within : (is js us vs : List (Item T)) → StandWithin (seen is) (seen us) → StandWithin (seen js) (seen vs) → StandWithin (seen (is ++ js)) (seen (us ++ vs))
-  two_within is js us vs h k =
-      subst (λ ks. StandWithin ks (seen (us ++ vs))) (sym (filter-append (is_visible_or_marker columns) is js))
-      (subst (StandWithin (seen is ++ seen js)) (sym (filter-append (is_visible_or_marker columns) us vs)) (within_both (seen is) (seen js) (seen us) (seen vs) h k))
+  two_within is js us vs h k = grind (arith, filter-append, within_both)
 
   pub itself_within : (is : List (Item T)) → StandWithin (seen is) (seen is)
   itself_within is = within_itself (seen is)

@@ -1,11 +1,10 @@
 -- What is written in lines: their texts, and those in front of borders.
-use Rattle.std.proofs.Common.{◌≡◌, ℕ, ◌+◌, Option, List, [], ◌∷◌, ◌++◌, map, flat_map, refl, ap, sym, ◌∙◌, subst, append_assoc}
-use Rattle.std.specs.Prelude.{slice_range}
+use Rattle.std.proofs.Common.{◌≡◌, ℕ, ◌+◌, Option, List, [], ◌∷◌, ◌++◌, map, flat_map, refl, ap, sym, ◌∙◌, subst, append_assoc, rules}
 use Rattle.std.specs.List.{AllZip}
 use Rattle.tbr_model.specs.Run.{Item}
 use Rattle.tbr_model.specs.Layout.{joined}
 use Rattle.tbr_border.specs.Cell.{Cell}
-use Rattle.tbr_border.specs.Border.{Hole, Border, drawn, shown_from, shown}
+use Rattle.tbr_border.specs.Border.{Hole, Border, shown_from, shown}
 use Rattle.tbr_tagged.specs.Elements.{element_items}
 use Rattle.tbr_kept_lines.specs.Line.{Line, text, border}
 use Rattle.tbr_model.specs.Markers.{marker_items}
@@ -31,10 +30,7 @@ module _ {T : Type 0} where
     -- a border shows the text in front of it
     holes_shown : (tag : T) (cells : List Cell) (at : ℕ) (hs : List (Hole T)) → StandWithin (to_show columns (flat_map (λ (h : Hole T). element_items h.element) hs)) (to_show columns (shown_from tag cells at hs))
     holes_shown tag cells at [] = tt
-    holes_shown tag cells at (h ∷ hs) =
-        let rest = flat_map (λ (k : Hole T). element_items k.element) hs in
-        after_within columns (drawn (slice_range cells at h.place) tag) (element_items h.element ++ rest) (element_items h.element ++ shown_from tag cells (h.place + h.width) hs)
-        (two_within columns (element_items h.element) rest (element_items h.element) (shown_from tag cells (h.place + h.width) hs) (itself_within columns (element_items h.element)) (holes_shown tag cells (h.place + h.width) hs))
+    holes_shown tag cells at (h ∷ hs) = search (rules, after_within, two_within, itself_within, holes_shown tag cells (h.place + h.width) hs)
 
     pub border_shown : (tag : T) (b : Border T) → StandWithin (to_show columns (text_before b)) (to_show columns (shown tag b))
     border_shown tag b = holes_shown tag b.cells 0 b.holes

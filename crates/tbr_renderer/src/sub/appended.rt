@@ -1,26 +1,28 @@
 //! Lines of other renderers.
-ghost use Rattle.std.specs.Prelude.{◌≡◌, ◌≢◌, ◌≤◌, ◌++◌, true, false, None, Some, Ok, Err, List, length, map, fold, take, chars, OnOk, IfOk};
+ghost use Rattle.std.specs.Prelude.{◌≡◌, ◌≢◌, ◌≤◌, ◌++◌, [], true, false, None, Some, Err, List, ℕ, length, replicate, map, fold, take, chars, OnOk, IfOk, IfSome};
 ghost use Rattle.std.specs.List.{AllByRecursion as Each};
 ghost use Rattle.std.specs.Vec.Iter.{into_iter_items};
 ghost use Rattle.tbr_annotations.specs.Annotations.{equal_annotations};
 ghost use Rattle.tbr_tagged.specs.Elements.{items_of, text_items, IsMerged};
 ghost use Rattle.tbr_border.specs.RenderLine.{IsMergedText};
 ghost use Rattle.tbr_tagged.specs.declared.Error.TheVariants as E;
-ghost use Rattle.tbr_kept_lines.specs.Line.{Line, text, line_seen};
+ghost use Rattle.tbr_kept_lines.specs.Line.{Line, line_seen};
+ghost use Rattle.tbr_kept_lines.specs.Prefixed.{as_text, prefixed_lines, Appends};
 ghost use Rattle.tbr_renderer.specs.Renderer.{KeepsSettings, with_line, block_width};
 ghost use Rattle.tbr_footnotes.specs.Tags.{tag_meant, items_meant};
 ghost use Rattle.tbr_renderer.specs.Meant.{map_line, meant};
 ghost use Rattle.tbr_tagged.specs.Outcome.{done, refused};
 ghost use Rattle.tbr_renderer.specs.Outcomes.{and_then, gathered, taking};
 ghost use Rattle.tbr_renderer.specs.Flush.{after_flush};
-ghost use Rattle.tbr_renderer.specs.Appended.{GivesFirst, texts_of, as_text, prefixed, with_cell, with_cell_below, with_cells, after_lines, after_cells, handed_out};
+ghost use Rattle.tbr_renderer.specs.Appended.{GivesFirst, AreAlike, texts_of, with_prefixed, with_cell, with_cell_below, with_cells, after_lines, after_cells, handed_out};
 
 use crate::sub::SubRenderer;
+use std::alloc::Global;
 use std::convert::AsStr;
-use std::mem;
 use std::vec::IntoIter;
 use tbr_annotations::Annotations;
 use tbr_decor::TextDecorator;
+use tbr_kept_lines::KeptLines;
 use tbr_lines::{BorderSegHoriz, CharWidth, Error, OutOfMemory, RenderLine, TaggedLine};
 
 impl<D: TextDecorator, W: CharWidth> SubRenderer<D, W> {
@@ -62,101 +64,92 @@ impl<D: TextDecorator, W: CharWidth> SubRenderer<D, W> {
         text.insert_front_str(prefix, tag)
     }
 
-    /// Puts a prefix in front of a line, under a copy of the annotations. A border becomes text. Where memory is
-    /// refused the line is lost.
-    fn prefix_line(
-        &self,
-        line: &mut RenderLine<Annotations<D::Annotation>>,
-        prefix: &str,
-    ) -> Result<(), OutOfMemory>
-        requires merged { IsMergedText (equal_annotations D.Annotation.eq) line.old }
-        ensures line { let tag = map D.meaning self.now.annotations in
-            OnOk result (map_line (tag_meant D.meaning) (line_seen line.new)
-            ≡ text (text_items (chars prefix.now) tag
-            ++ as_text tag (map_line (tag_meant D.meaning) (line_seen line.old)))) }
-        ensures merged { OnOk result (IsMergedText (equal_annotations D.Annotation.eq) line.new) }
-    {
-        if let RenderLine::Text(text) = line {
-            return self.put_in_front(text, prefix);
-        }
-        let border = mem::replace(line, RenderLine::Text(TaggedLine::new(self.alloc)));
-        let mut text = self.as_text(border)?;
-        self.put_in_front(&mut text, prefix)?;
-        *line = RenderLine::Text(text);
-        Ok(())
-    }
-
-    /// Puts the next prefix in front of a line, and answers whether there was one. Where there is none the line stays as
-    /// it is, and where memory is refused it is lost.
-    fn put_next<P: AsStr + Drop, I: Iterator<Item = P>>(
-        &self,
-        line: &mut RenderLine<Annotations<D::Annotation>>,
-        prefixes: &mut I,
-    ) -> Result<bool, OutOfMemory>
-        requires merged { IsMergedText (equal_annotations D.Annotation.eq) line.old }
-        requires prefixes { I.can_next prefixes.old }
-        ensures put { let tag = map D.meaning self.now.annotations in result ≡ Ok true → (prefix : P)
-            × I.next_gives prefixes.old (Some prefix) prefixes.new
-            × (map_line (tag_meant D.meaning) (line_seen line.new)
-            ≡ text (text_items (chars (P.text prefix)) tag
-            ++ as_text tag (map_line (tag_meant D.meaning) (line_seen line.old)))) }
-        ensures goes_on { result ≡ Ok true → I.can_next prefixes.new }
-        ensures merged { result ≡ Ok true → IsMergedText (equal_annotations D.Annotation.eq) line.new }
-        ensures none { result ≡ Ok false → I.next_gives prefixes.old None prefixes.new × (line.new ≡ line.old) }
-    {
-        let Some(prefix) = prefixes.next() else {
-            return Ok(false);
-        };
-        self.prefix_line(line, prefix.as_str())?;
-        Ok(true)
-    }
-
-    /// Puts a prefix in front of each line, as long as there are both, and answers how many there were.
-    fn put_prefixes<P: AsStr + Drop, I: Iterator<Item = P>>(
-        &self,
-        lines: &mut [RenderLine<Annotations<D::Annotation>>],
-        mut prefixes: I,
-    ) -> Result<usize, OutOfMemory>
-        requires merged { Each (IsMergedText (equal_annotations D.Annotation.eq)) lines.old }
-        requires prefixes { I.can_next prefixes }
-        ensures { IfOk result (λ count. (given : List P)
-            × GivesFirst I.next_gives (length lines.old) prefixes given
-            × (map (map_line (tag_meant D.meaning)) (map line_seen (take count lines.new))
-            ≡ map text (prefixed (map D.meaning self.now.annotations) (texts_of P.text given)
-            (map (map_line (tag_meant D.meaning)) (map line_seen lines.old))))
-            × Each (IsMergedText (equal_annotations D.Annotation.eq)) (take count lines.new)) }
-    {
-        let mut count = 0usize;
-        for line in lines.iter_mut() {
-            if !self.put_next(line, &mut prefixes)? {
-                return Ok(count);
-            }
-            count += 1;
-        }
-        Ok(count)
-    }
-
     /// Adds each line after its prefix, as long as there are both.
     fn add_prefixed<P: AsStr + Drop, I: Iterator<Item = P>>(
         &mut self,
-        mut lines: Vec<RenderLine<Annotations<D::Annotation>>>,
+        lines: KeptLines<Annotations<D::Annotation>>,
         prefixes: I,
     ) -> Result<(), OutOfMemory>
         requires unfailed { self.old.failure ≡ None }
-        requires merged { Each (IsMergedText (equal_annotations D.Annotation.eq)) lines.items }
         requires prefixes { I.can_next prefixes }
-        ensures lines { OnOk result ((given : List P) × GivesFirst I.next_gives (length lines.items) prefixes given
-            × (meant D.meaning self.new ≡ fold (with_line W.columns) (meant D.meaning self.old)
-            (prefixed (map D.meaning self.old.annotations) (texts_of P.text given)
-            (map (map_line (tag_meant D.meaning)) (map line_seen lines.items))))) }
+        ensures lines { OnOk result ((given : List P) × GivesFirst I.next_gives (length lines) prefixes given
+            × (meant D.meaning self.new ≡ with_prefixed W.columns (meant D.meaning self.old) (texts_of P.text given)
+            (map (map_line (tag_meant D.meaning)) lines))) }
         ensures settings { KeepsSettings (meant D.meaning self.old) (meant D.meaning self.new) }
     {
-        let count = self.put_prefixes(&mut lines, prefixes)?;
-        lines.truncate(count);
-        if self.options.pad_block_width || !self.waiting.is_empty() {
-            return self.add_cell(lines);
+        let count = lines.len()?;
+        let given = first_given(self.alloc, prefixes, count)?;
+        if self.keeps_as_is()
+            && given.len() == count
+            && let Some((first, others)) = first_and_others(&given)
+        {
+            return self.append_after(lines, first, others);
         }
-        self.push_lines(lines)
+        self.add_each_after(lines.into_vec()?, given)
+    }
+
+    /// Whether lines that are kept come as they are: neither padded, nor after markers that wait.
+    fn keeps_as_is(&self) -> bool
+        ensures { result ≡ true → (self.now.options.pad_block_width ≡ false) × (self.now.waiting ≡ []) }
+    {
+        !self.options.pad_block_width && self.waiting.is_empty()
+    }
+
+    /// Adds lines as they are kept, the first one after its own prefix, and each other one after that of the others.
+    fn append_after(
+        &mut self,
+        lines: KeptLines<Annotations<D::Annotation>>,
+        first: &str,
+        others: &str,
+    ) -> Result<(), OutOfMemory>
+        requires { (self.old.options.pad_block_width ≡ false) × (self.old.waiting ≡ []) }
+        ensures lines { (prefixes : List (List ℕ)) → AreAlike (chars first.now) (chars others.now) prefixes →
+            length prefixes ≡ length lines → let shown = map (map_line (tag_meant D.meaning)) lines in
+            OnOk result (meant D.meaning self.new ≡ with_prefixed W.columns (meant D.meaning self.old) prefixes shown) }
+        ensures settings { KeepsSettings (meant D.meaning self.old) (meant D.meaning self.new) }
+    {
+        let tag = self.tag()?;
+        self.append_kept(lines, first, others, &tag)
+    }
+
+    /// Adds lines as they are kept, after prefixes under copies of the tag.
+    fn append_kept(
+        &mut self,
+        lines: KeptLines<Annotations<D::Annotation>>,
+        first: &str,
+        others: &str,
+        tag: &Annotations<D::Annotation>,
+    ) -> Result<(), OutOfMemory>
+        ensures rest { OnOk result (self.new ≡ record self.old { lines = self.new.lines }) }
+        ensures lines { let prefixed = prefixed_lines tag.now (chars first.now) (chars others.now) lines in
+            OnOk result (Appends (equal_annotations D.Annotation.eq) self.old.lines prefixed self.new.lines) }
+        ensures settings { KeepsSettings (meant D.meaning self.old) (meant D.meaning self.new) }
+    {
+        self.lines.append_prefixed(lines, first, others, tag)
+    }
+
+    /// Adds each line as text after its prefix, as long as there are both.
+    fn add_each_after<P: AsStr + Drop>(
+        &mut self,
+        lines: Vec<RenderLine<Annotations<D::Annotation>>>,
+        given: Vec<P>,
+    ) -> Result<(), OutOfMemory>
+        requires unfailed { self.old.failure ≡ None }
+        requires merged { Each (IsMergedText (equal_annotations D.Annotation.eq)) lines.items }
+        ensures lines { OnOk result (meant D.meaning self.new ≡ with_prefixed W.columns (meant D.meaning self.old)
+            (texts_of P.text given.items) (map (map_line (tag_meant D.meaning)) (map line_seen lines.items))) }
+        ensures settings { KeepsSettings (meant D.meaning self.old) (meant D.meaning self.new) }
+    {
+        let mut lines = lines.into_iter();
+        for prefix in given {
+            let Some(line) = lines.next() else {
+                return Ok(());
+            };
+            let mut text = self.as_text(line)?;
+            self.put_in_front(&mut text, prefix.as_str())?;
+            self.add_line(text)?;
+        }
+        Ok(())
     }
 
     /// Adds each line as text.
@@ -198,7 +191,7 @@ impl<D: TextDecorator, W: CharWidth> SubRenderer<D, W> {
         ensures settings { KeepsSettings (meant D.meaning self.old) (meant D.meaning self.new) }
     {
         self.try_flush()?;
-        let lines = other.into_shared_lines()?;
+        let lines = other.into_kept()?;
         self.add_prefixed(lines, prefixes)?;
         Ok(())
     }
@@ -264,4 +257,57 @@ impl<D: TextDecorator, W: CharWidth> SubRenderer<D, W> {
         }
         Ok(())
     }
+}
+
+/// What an iterator gives when it is asked so many times, or until it has no more.
+fn first_given<P: Drop, I: Iterator<Item = P>>(
+    alloc: Global,
+    mut prefixes: I,
+    count: usize,
+) -> Result<Vec<P>, OutOfMemory>
+    requires { I.can_next prefixes }
+    ensures { IfOk result (λ given. GivesFirst I.next_gives count prefixes given.items) }
+{
+    let mut given = Vec::with_capacity(alloc, count)?;
+    for _ in 0..count {
+        let Some(prefix) = next_of(&mut prefixes) else {
+            return Ok(given);
+        };
+        given.push(prefix)?;
+    }
+    Ok(given)
+}
+
+/// What an iterator gives next.
+fn next_of<P: Drop, I: Iterator<Item = P>>(prefixes: &mut I) -> Option<P>
+    requires { I.can_next prefixes.old }
+    ensures gives { I.next_gives prefixes.old result prefixes.new }
+    ensures goes_on { IfSome result (λ _. I.can_next prefixes.new) }
+{
+    prefixes.next()
+}
+
+/// The first text, and the one that all others are, if they are alike.
+fn first_and_others<P: AsStr>(given: &[P]) -> Option<(&str, &str)>
+    ensures { IfSome result (λ r. AreAlike (chars r.0.now) (chars r.1.now) (texts_of P.text given.now)) }
+{
+    let first = given.first()?.as_str();
+    let others = given.last()?.as_str();
+    if are_all(&given[1..], others) {
+        Some((first, others))
+    } else {
+        None
+    }
+}
+
+/// Whether all of these are one text.
+fn are_all<P: AsStr>(given: &[P], text: &str) -> bool
+    ensures { result ≡ true → texts_of P.text given.now ≡ replicate (length given.now) (chars text.now) }
+{
+    for prefix in given {
+        if prefix.as_str() != text {
+            return false;
+        }
+    }
+    true
 }

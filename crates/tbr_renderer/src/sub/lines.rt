@@ -65,7 +65,7 @@ impl<D: TextDecorator, W: CharWidth> SubRenderer<D, W> {
     /// Ends the open line, and hands out what is kept.
     ///
     /// It refuses as `new_line` does.
-    fn into_kept(mut self) -> Result<KeptLines<Annotations<D::Annotation>>, Error>
+    pub(crate) fn into_kept(mut self) -> Result<KeptLines<Annotations<D::Annotation>>, Error>
         ensures lines { IfOk result (λ lines.
             handed_out W.columns (meant D.meaning self) ≡ done (map (map_line (tag_meant D.meaning)) lines)) }
         ensures too_narrow { result ≡ Err E.TooNarrow →

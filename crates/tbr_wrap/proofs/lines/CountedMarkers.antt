@@ -1,6 +1,7 @@
 -- The markers among items, counted.
+use Rattle.tbr_model.proofs.rule.LaidText.{trailing_cases}
 use Rattle.std.proofs.Common.{◌≡◌, ℕ, zero, suc, nat_lt, ◌≤◌, true, List, [], ◌∷◌, length, inl, inr, refl, sym, ◌∙◌, arith}
-use Rattle.std.proofs.lemmas.Bool.{cond_both, cases_lt, lt-ltb, le-ltb}
+use Rattle.std.proofs.lemmas.Bool.{cases_lt, lt-ltb, le-ltb}
 use Rattle.tbr_model.specs.Run.{Item, glyph, marker, has_character}
 use Rattle.tbr_model.specs.Rule.{spaces, is_space_item, without_trailing}
 use Rattle.tbr_model.specs.Markers.{names_in_items}
@@ -33,15 +34,6 @@ space_markers (marker name) e = cc
 
 -- spaces that are taken away at the end are no markers
 pub trailing_markers : {A : Type 0} (is : List (Item A)) → length (names_in_items (without_trailing is)) ≡ length (names_in_items is)
-trailing_markers [] = refl
-trailing_markers {A} (i ∷ is) = go (without_trailing is) refl (trailing_markers is)
-  where
-    go : (ks : List (Item A)) → without_trailing is ≡ ks → length (names_in_items (without_trailing is)) ≡ length (names_in_items is) →
-        length (names_in_items (without_trailing (i ∷ is))) ≡ length (names_in_items (i ∷ is))
-    go [] e k =
-        let none = rw e at k in
-        rw e (cond_both (is_space_item i) [] (i ∷ []) (λ (ks : List (Item A)). length (names_in_items ks) ≡ length (names_in_items (i ∷ is)))
-        (λ t. omega (arith, none, space_markers i t, markers-append (i ∷ []) is)) (λ _. omega (arith, none, markers-append (i ∷ []) is)))
-    go (x ∷ ks) e k =
-        let same = rw e at k in
-        rw e (omega (arith, same, markers-append (i ∷ []) is, markers-append (i ∷ []) (x ∷ ks)))
+trailing_markers {A} is =
+    trailing_cases (λ (is js : List (Item A)). length (names_in_items js) ≡ length (names_in_items is)) refl (λ i is js h. omega (arith, h, markers-append (i ∷ []) is, markers-append (i ∷ []) js))
+    (λ i is s h. omega (arith, h, space_markers i s, markers-append (i ∷ []) is)) is

@@ -1,15 +1,12 @@
 -- Lines that are cut out of the items of all of them.
 use Rattle.std.proofs.Common.{◌≡◌, ℕ, ◌||◌, List, [], ◌∷◌, ◌++◌, map, length, take, drop, refl, ap, sym, ◌∙◌, subst, arith, append_assoc}
-use Rattle.std.specs.List.{AllZip, list_any}
+use Rattle.std.specs.List.{list_any}
 use Rattle.std.proofs.Math.Bool.{or-false}
 use Rattle.std.proofs.lemmas.List.{take_at, drop_at}
 use Rattle.tbr_model.specs.Run.{Item, has_character}
 use Rattle.tbr_model.specs.Layout.{joined}
 use Rattle.tbr_model.proofs.words.Items.{has_character-append}
 use Rattle.tbr_wrap.specs.EndedLines.{cut, AreLines}
-
-pub same_lines : {X Y : Type 0} (R : X → Y → Type 0) (xs zs : List X) (ys : List Y) → xs ≡ zs → AllZip R zs ys → AllZip R xs ys
-same_lines R xs zs ys e h = rw e h
 
 module _ {X : Type 0} where
   -- none is left where there is no length
@@ -25,12 +22,11 @@ module _ {X : Type 0} where
   cut_joined : (ls : List (List X)) (after : List X) → cut (map length ls) (joined ls ++ after) ≡ ls
   cut_joined [] after = refl
   cut_joined (l ∷ ls) after =
-      ap (cut (map length (l ∷ ls))) (append_assoc l (joined ls) after) ∙ ap (λ (is : List X). is ∷ cut (map length ls) (drop (length l) (l ++ (joined ls ++ after)))) (take_at l (joined ls ++ after) (length l) refl)
-      ∙ ap (λ (is : List X). l ∷ cut (map length ls) is) (drop_at l (joined ls ++ after) (length l) refl) ∙ ap (λ ks. l ∷ ks) (cut_joined ls after)
+      rw (append_assoc l (joined ls) after, take_at l (joined ls ++ after) (length l) refl, drop_at l (joined ls ++ after) (length l) refl, cut_joined ls after) refl
 
 module _ {A : Type 0} where
   pub cut_lines : (lens : List ℕ) (placed : List (Item A)) (lines : List (List (Item A))) → AreLines lens placed lines → cut lens placed ≡ lines
-  cut_lines lens placed lines h = ap (λ ns. cut ns placed) h.lens_is ∙ ap (cut (map length lines)) h.placed_is ∙ cut_joined lines h.after
+  cut_lines lens placed lines h = rw (h.lens_is, h.placed_is) (cut_joined lines h.after)
 
   pub are_cut : (lens : List ℕ) (placed : List (Item A)) (lines : List (List (Item A))) → AreLines lens placed lines → AreLines lens placed (cut lens placed)
   are_cut lens placed lines h = subst (AreLines lens placed) (sym (cut_lines lens placed lines h)) h

@@ -1,5 +1,5 @@
 -- What the fields hold after a line is ended and characters are placed.
-use Rattle.std.proofs.Common.{◌≡◌, ℕ, ◌+◌, ◌≤◌, Bool, Option, None, Some, List, [], ◌∷◌, ◌++◌, map, length, refl, ap, sym, ◌∙◌, subst, arith, append_assoc, append-nil, length-append, nat_lt, is_some, take, drop, IfSome, slice_index_or, option_copied, Bor}
+use Rattle.std.proofs.Common.{◌≡◌, ℕ, ◌+◌, ◌≤◌, Bool, Option, Some, List, [], ◌∷◌, ◌++◌, map, length, refl, ap, sym, ◌∙◌, subst, arith, append_assoc, append-nil, length-append, nat_lt, is_some, take, drop, IfSome, slice_index_or, option_copied, Bor}
 use Rattle.std.proofs.lemmas.List.{take_at, drop_at, map-append}
 use Rattle.tbr_tagged.specs.Elements.{SameItems}
 use Rattle.tbr_model.specs.Run.{Item}
@@ -15,8 +15,8 @@ use Rattle.tbr_flat.proofs.MarkedItems.{markers-append}
 pub holds_end : {A : Type 0} (b c : LaidLines A) (before : List (List (Item A))) (l : Laid A) (n : ℕ) → HoldsLaid b before l → n ≡ length l.line → c.flat.placed ≡ b.flat.placed → c.ended.items ≡ b.ended.items ++ n ∷ [] → c.line_len ≡ 0 → c.line_markers ≡ 0 → c.line_width ≡ 0 →
     HoldsLaid c before (end_line l)
 holds_end {A} b c before l n h same flat lines len markers width = record {
-  placed = flat ∙ h.placed ∙ sym (append-nil (joined (before ++ (l.done ++ l.line ∷ []))) ∙ ap joined (sym (append_assoc before l.done (l.line ∷ []))) ∙ joined-append (before ++ l.done) (l.line ∷ []) ∙ ap (λ is. joined (before ++ l.done) ++ is) (append-nil l.line));
-  lens = lines ∙ ap (λ ns. ns ++ n ∷ []) h.lens ∙ ap (λ m. map length (before ++ l.done) ++ m ∷ []) same ∙ sym (ap (map length) (sym (append_assoc before l.done (l.line ∷ []))) ∙ map-append length (before ++ l.done) (l.line ∷ []));
+  placed = rw (flat, h.placed) (simp (append_assoc, joined-append, append-nil));
+  lens = rw (lines, h.lens, same) (simp (append_assoc, map-append));
   len = len;
   markers = markers;
   width = width;
@@ -46,9 +46,8 @@ holds_same b c before l h flat lines len markers width = record { placed = flat 
 -- ---- the first ended line
 
 pub front_of : (o : Option (Bor ℕ)) (ls : List ℕ) (n : ℕ) → Some n ≡ option_copied o → is_some o ≡ nat_lt 0 (length ls) → IfSome o (λ x. x.now ≡ slice_index_or ls 0 x.now) → (rest : List ℕ) × (ls ≡ n ∷ rest)
-front_of None ls n e some at = cc
-front_of (Some x) [] n e some at = cc
 front_of (Some x) (m ∷ ls) n e some at = (ls, (let same : n ≡ x.now = cc in let is : x.now ≡ m = at in cc))
+front_of _ _ n e some at = cc
 
 pub first_line : {X : Type 0} (xs : List (List X)) (n : ℕ) (rest : List ℕ) → n ∷ rest ≡ map length xs → (is : List X) × (others : List (List X)) × (xs ≡ is ∷ others) × (length is ≡ n) × (map length others ≡ rest)
 first_line [] n rest e = cc
@@ -80,10 +79,8 @@ taken {A} eq b c before l is rest n ns line h first e same flat lens len markers
 pub holds_wide : {A : Type 0} (b c : LaidLines A) (before : List (List (Item A))) (l : Laid A) (i : Item A) (columns n : ℕ) → HoldsLaid b before l → c.flat.placed ≡ b.flat.placed ++ i ∷ [] → n ≡ b.line_len + 1 → c.ended.items ≡ b.ended.items ++ n ∷ [] → c.line_len ≡ 0 → c.line_markers ≡ 0 → c.line_width ≡ 0 →
     HoldsLaid c before (end_line (extended l (i ∷ []) columns))
 holds_wide {A} b c before l i columns n h placed count lines len markers width = record {
-  placed = placed ∙ ap (λ js. js ++ i ∷ []) h.placed ∙ append_assoc (joined (before ++ l.done)) l.line (i ∷ [])
-      ∙ sym (append-nil (joined (before ++ (l.done ++ (l.line ++ i ∷ []) ∷ []))) ∙ ap joined (sym (append_assoc before l.done ((l.line ++ i ∷ []) ∷ []))) ∙ joined-append (before ++ l.done) ((l.line ++ i ∷ []) ∷ []) ∙ ap (λ is. joined (before ++ l.done) ++ is) (append-nil (l.line ++ i ∷ [])));
-  lens = lines ∙ ap (λ ns. ns ++ n ∷ []) h.lens ∙ ap (λ m. map length (before ++ l.done) ++ m ∷ []) (let e : n ≡ length (l.line ++ i ∷ []) = omega (arith, count, h.len, length-append l.line (i ∷ [])) in e)
-      ∙ sym (ap (map length) (sym (append_assoc before l.done ((l.line ++ i ∷ []) ∷ []))) ∙ map-append length (before ++ l.done) ((l.line ++ i ∷ []) ∷ []));
+  placed = rw (placed, h.placed) (simp (append_assoc, joined-append, append-nil));
+  lens = let e : n ≡ length (l.line ++ i ∷ []) = omega (arith, count, h.len, length-append l.line (i ∷ [])) in rw (lines, h.lens, e) (simp (append_assoc, map-append));
   len = len;
   markers = markers;
   width = width;

@@ -103,9 +103,8 @@ narrow_rest columns width (suc n) (i ∷ is) h = narrow_rest columns width n is 
 
 -- items that are put at two goes
 pub put_parts : {A : Type 0} (columns : ℕ → Option ℕ) (width : ℕ) (l : Laid A) (n : ℕ) (is : List (Item A)) → put_items columns width l is ≡ put_items columns width (put_items columns width l (take n is)) (drop n is)
-put_parts columns width l zero is = refl
-put_parts columns width l (suc n) [] = refl
 put_parts columns width l (suc n) (i ∷ is) = put_parts columns width (put_item columns width l i) n is
+put_parts columns width l _ _ = refl
 
 -- ---- spaces
 

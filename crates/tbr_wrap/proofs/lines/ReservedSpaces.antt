@@ -1,5 +1,5 @@
 -- Spaces that are placed at once, and taken onto lines one line after another.
-use Rattle.std.proofs.Common.{◌≡◌, ℕ, zero, suc, ◌+◌, ◌≤◌, Bool, true, Option, Some, List, [], ◌∷◌, ◌++◌, map, length, refl, ap, sym, ◌∙◌, arith, append_assoc, append-nil, length-append}
+use Rattle.std.proofs.Common.{◌≡◌, ℕ, zero, suc, ◌+◌, ◌≤◌, Bool, true, Option, Some, List, [], ◌∷◌, ◌++◌, length, refl, ap, sym, ◌∙◌, arith, append_assoc, append-nil, length-append}
 use Rattle.std.specs.Cmp.{IsEquivalence}
 use Rattle.std.proofs.lemmas.List.{map-append}
 use Rattle.tbr_model.specs.Run.{Item}
@@ -37,7 +37,7 @@ module _ {A : Type 0} (columns : ℕ → Option ℕ) (eq : A → A → Bool) (la
     taken_here flat lines len markers width = record {
       laid = extended h.laid (spaces n x) n;
       holds = record {
-        placed = ap (λ f. f.placed) flat ∙ h.holds.placed ∙ sym (append_assoc (joined (before ++ h.laid.done) ++ h.laid.line) (spaces n x) after) ∙ ap (λ is. is ++ after) (append_assoc (joined (before ++ h.laid.done)) h.laid.line (spaces n x));
+        placed = rw (flat, h.holds.placed) (simp append_assoc);
         lens = ap (λ q. q.items) lines ∙ h.holds.lens;
         len = omega (arith, len, h.holds.len, length-append h.laid.line (spaces n x), spaces_length n x);
         markers = omega (arith, markers, h.holds.markers, markers-append h.laid.line (spaces n x), spaces_markers n x);
@@ -55,11 +55,8 @@ module _ {A : Type 0} (columns : ℕ → Option ℕ) (eq : A → A → Bool) (la
         record {
           laid = end_line (extended h.laid (spaces n x) n);
           holds = record {
-            placed = ap (λ f. f.placed) flat ∙ h.holds.placed ∙ sym (append_assoc (joined (before ++ h.laid.done) ++ h.laid.line) (spaces n x) after)
-                ∙ ap (λ is. is ++ after) (append_assoc (joined (before ++ h.laid.done)) h.laid.line (spaces n x)
-                ∙ sym (append-nil (joined (before ++ (h.laid.done ++ line ∷ []))) ∙ ap joined (sym (append_assoc before h.laid.done (line ∷ []))) ∙ joined-append (before ++ h.laid.done) (line ∷ []) ∙ ap (λ is. joined (before ++ h.laid.done) ++ is) (append-nil line)));
-            lens = lines ∙ ap (λ ns. ns ++ (b.line_len + n) ∷ []) h.holds.lens ∙ ap (λ m. map length (before ++ h.laid.done) ++ m ∷ []) many
-                ∙ sym (ap (map length) (sym (append_assoc before h.laid.done (line ∷ []))) ∙ map-append length (before ++ h.laid.done) (line ∷ []));
+            placed = rw (flat, h.holds.placed) (simp (append_assoc, joined-append, append-nil));
+            lens = rw (lines, h.holds.lens, many) (simp (append_assoc, map-append));
             len = len;
             markers = markers;
             width = width;

@@ -1,4 +1,5 @@
 -- Spaces taken away from a line, and white space from a word.
+use Rattle.tbr_model.proofs.rule.LaidText.{trailing_cases}
 use Rattle.std.proofs.Common.{◌≡◌, ℕ, ◌+◌, ◌-◌, ◌≤◌, Bool, true, false, Option, Some, if◌then◌else◌, List, [], ◌∷◌, ◌++◌, length, refl, ap, ◌∙◌, arith, unwrap_or, ◌==◌}
 use Rattle.std.proofs.lemmas.Bool.{cond_both, eqb-true}
 use Rattle.std.specs.Char.{is_whitespace}
@@ -15,27 +16,22 @@ use Rattle.tbr_wrap.proofs.lines.CountedMarkers.{markers_within, trailing_marker
 same_space : {A : Type 0} (eq : A → A → Bool) (i j : Item A) → SameItem eq i j → is_space_item i ≡ is_space_item j
 same_space eq (glyph c a) (glyph d b) h = ap (λ x. x == 32) h.0
 same_space eq (marker m) (marker n) h = refl
-same_space eq (glyph c a) (marker n) h = absurd h
-same_space eq (marker m) (glyph d b) h = absurd h
+same_space eq _ _ h = absurd h
 
 same_white : {A : Type 0} (eq : A → A → Bool) (i j : Item A) → SameItem eq i j → is_white_item i ≡ is_white_item j
 same_white eq (glyph c a) (glyph d b) h = ap is_whitespace h.0
 same_white eq (marker m) (marker n) h = refl
-same_white eq (glyph c a) (marker n) h = absurd h
-same_white eq (marker m) (glyph d b) h = absurd h
+same_white eq _ _ h = absurd h
 
 pub same_leading : {A : Type 0} (eq : A → A → Bool) (is js : List (Item A)) → SameItems eq is js → SameItems eq (without_leading is) (without_leading js)
 same_leading eq [] [] h = tt
-same_leading eq [] (j ∷ js) h = absurd h
-same_leading eq (i ∷ is) [] h = absurd h
 same_leading {A} eq (i ∷ is) (j ∷ js) h =
     rw (same_white eq i j h.0) (cond_both (is_white_item j) (without_leading js) (j ∷ js) (λ (ks : List (Item A)). SameItems eq (if is_white_item j then without_leading is else i ∷ is) ks)
     (λ e. rw e (same_leading eq is js h.1)) (λ e. rw e h))
+same_leading eq _ _ h = absurd h
 
 pub same_trailing : {A : Type 0} (eq : A → A → Bool) (is js : List (Item A)) → SameItems eq is js → SameItems eq (without_trailing is) (without_trailing js)
 same_trailing eq [] [] h = tt
-same_trailing eq [] (j ∷ js) h = absurd h
-same_trailing eq (i ∷ is) [] h = absurd h
 same_trailing {A} eq (i ∷ is) (j ∷ js) h = go (without_trailing is) (without_trailing js) refl refl (same_trailing eq is js h.1)
   where
     go : (ks ls : List (Item A)) → without_trailing is ≡ ks → without_trailing js ≡ ls → SameItems eq ks ls → SameItems eq (without_trailing (i ∷ is)) (without_trailing (j ∷ js))
@@ -47,6 +43,7 @@ same_trailing {A} eq (i ∷ is) (j ∷ js) h = go (without_trailing is) (without
     go [] (l ∷ ls) e f k = absurd k
     go (x ∷ ks) [] e f k = absurd k
     go (x ∷ ks) (l ∷ ls) e f k = rw (e, f) (h.0, k)
+same_trailing eq _ _ h = absurd h
 
 space_width : {A : Type 0} (columns : ℕ → Option ℕ) → columns 32 ≡ Some 1 → (i : Item A) → is_space_item i ≡ true → item_width columns i ≡ 1
 space_width columns one (glyph c a) e = ap (λ x. unwrap_or (columns x) 0) (eqb-true c 32 e) ∙ ap (λ o. unwrap_or o 0) one
@@ -54,16 +51,9 @@ space_width columns one (marker m) e = cc
 
 -- each space that is taken away took a column
 pub trailing_width : {A : Type 0} (columns : ℕ → Option ℕ) → columns 32 ≡ Some 1 → (is : List (Item A)) → items_width columns is + length (without_trailing is) ≡ items_width columns (without_trailing is) + length is
-trailing_width columns one [] = refl
-trailing_width {A} columns one (i ∷ is) = go (without_trailing is) refl (trailing_width columns one is)
-  where
-    go : (ks : List (Item A)) → without_trailing is ≡ ks → items_width columns is + length (without_trailing is) ≡ items_width columns (without_trailing is) + length is →
-        items_width columns (i ∷ is) + length (without_trailing (i ∷ is)) ≡ items_width columns (without_trailing (i ∷ is)) + length (i ∷ is)
-    go [] e k =
-        let less = rw e at k in
-        rw e (cond_both (is_space_item i) [] (i ∷ []) (λ (ks : List (Item A)). items_width columns (i ∷ is) + length ks ≡ items_width columns ks + length (i ∷ is))
-        (λ t. omega (arith, less, space_width columns one i t)) (λ _. omega (arith, less)))
-    go (x ∷ ks) e k = let less = rw e at k in rw e (omega (arith, less))
+trailing_width {A} columns one is =
+    trailing_cases (λ (is js : List (Item A)). items_width columns is + length js ≡ items_width columns js + length is) refl (λ i is js h. omega (arith, h))
+    (λ i is s h. omega (arith, h, space_width columns one i s)) is
 
 module _ {A : Type 0} (columns : ℕ → Option ℕ) (one : columns 32 ≡ Some 1) (eq : A → A → Bool) (b : LaidLines A) (before given : List (List (Item A))) (r : Laid A) (h : HoldsRule columns eq b before given r) (n : ℕ)
     (removed : n + length (without_trailing h.laid.line) ≡ length h.laid.line) where

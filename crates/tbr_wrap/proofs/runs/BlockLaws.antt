@@ -1,11 +1,11 @@
 -- What follows from the outcomes of a block's calls.
-use Rattle.std.proofs.Common.{◌≡◌, ℕ, ◌-◌, ◌<◌, ◌≤◌, ◌==◌, not, ◌&&◌, ◌||◌, ◌⊎◌, Bool, true, false, Option, None, Some, IfSome, List, [], ◌∷◌, ◌++◌, drop, length, map, refl, ap, sym, ◌∙◌, subst, arith, append_assoc, append-nil, length-append, lt-ltb, inl, inr, if◌then◌else◌}
+use Rattle.std.proofs.Common.{◌≡◌, ℕ, ◌-◌, ◌<◌, ◌≤◌, ◌==◌, not, ◌&&◌, ◌⊎◌, Bool, true, false, Option, None, Some, IfSome, List, [], ◌∷◌, ◌++◌, drop, length, map, refl, ap, sym, ◌∙◌, subst, arith, append_assoc, append-nil, length-append, lt-ltb, inl, inr, if◌then◌else◌}
 use Rattle.std.proofs.Math.ListN.{drop_of_length-le}
 use Rattle.std.proofs.lemmas.List.{drop-append-le, drop_at}
-use Rattle.std.proofs.lemmas.Bool.{and_parts, and_left, and_right, or_right, cases_lt, cond_both, eqb-true, ne_eqb, not-true}
+use Rattle.std.proofs.lemmas.Bool.{and_parts, and_left, and_right, or_right, cases_lt, cond_both, eqb-true, ne_eqb, not-true, cases_Bool, or_parts}
 use Rattle.std.specs.List.{AllByRecursion as Each}
 use Rattle.tbr_model.specs.declared.white_space.WhiteSpace.{WhiteSpace}
-use Rattle.tbr_model.specs.Run.{Item, glyph, marker, Entry, marker_entry, items_width, has_character, reading, trailing}
+use Rattle.tbr_model.specs.Run.{Item, marker, Entry, marker_entry, items_width, has_character, reading, trailing}
 use Rattle.tbr_model.specs.Markers.{names_in_items, names_in_run, marker_run, marker_items, names_after, last}
 use Rattle.tbr_model.specs.Hard.{is_visible}
 use Rattle.tbr_model.specs.Laid.{Laid, end_if_character}
@@ -119,11 +119,10 @@ module _ {A : Type 0} (columns : ℕ → Option ℕ) where
     left_grown within = ap (λ ls. s.ended ++ drop s.handed ls) lines_grown.1 ∙ ap (λ ls. s.ended ++ ls) (drop-append-le s.handed (lines columns s) lines_grown.0 within) ∙ sym (append_assoc s.ended (drop s.handed (lines columns s)) lines_grown.0)
 
   lines_taken : (s : Block A) → lines columns (without_loose columns s) ≡ lines columns s
-  lines_taken s = go (has_character (progress_of columns s).word) refl
-    where
-      go : (b : Bool) → has_character (progress_of columns s).word ≡ b → lines columns (without_loose columns s) ≡ lines columns s
-      go true some = ap (lines columns) (none_taken columns s some)
-      go false none = ap (λ (p : Progress A). p.laid.done) (progress_taken columns s none)
+  lines_taken s = elim (cases_Bool (has_character (progress_of columns s).word)) [
+    | inl some ↦ ap (lines columns) (none_taken columns s some)
+    | inr none ↦ ap (λ (p : Progress A). p.laid.done) (progress_taken columns s none)
+  ]
 
   pub left_taken : (s : Block A) → left columns (without_loose columns s) ≡ left columns s
   left_taken s = ap (λ ls. s.ended ++ drop s.handed ls) (lines_taken s)
@@ -137,11 +136,8 @@ module _ {A : Type 0} (columns : ℕ → Option ℕ) where
   -- the lines that the end of the run adds come after those that are left
   pub left_ended : (s : Block A) → s.handed ≤ length (lines columns s) → (more : List (List (Item A))) × (all_lines columns s ≡ lines columns s ++ more) × (left columns (flushed columns s) ≡ left columns s ++ more)
   left_ended s within =
-      let add = finished_adds columns s.width (progress_of columns s) in (
-        add.0,
-        add.1,
-        left_flushed s ∙ ap (λ ls. s.ended ++ ls) (ap (drop s.handed) add.1 ∙ drop-append-le s.handed (lines columns s) add.0 within) ∙ sym (append_assoc s.ended (drop s.handed (lines columns s)) add.0),
-      )
+      let add = finished_adds columns s.width (progress_of columns s) in
+      (add.0, add.1, rw (left_flushed s, add.1, drop-append-le s.handed (lines columns s) add.0 within, append_assoc) refl)
 
   -- ---- what stays so
 
@@ -165,13 +161,11 @@ module _ {A : Type 0} (columns : ℕ → Option ℕ) where
 
     pub sound_taken : (t : Block A) → after_taking columns s ≡ done t → IsSound columns t
     sound_taken t e =
-        subst (IsSound columns) (sym (taking_leaves s t e))
-        (record { wide = h.wide; allowed = ap (allows columns s) (lines_taken s) ∙ h.allowed; within = omega (arith, h.within, ap length (lines_taken s)) })
+        rw (taking_leaves s t e) (record { wide = h.wide; allowed = ap (allows columns s) (lines_taken s) ∙ h.allowed; within = omega (arith, h.within, ap length (lines_taken s)) })
 
     pub sound_flushed : (t : Block A) → after_flush columns s ≡ done t → IsSound columns t
     sound_flushed t e =
-        subst (IsSound columns) (sym (flush_leaves s t e))
-        (record { wide = h.wide; allowed = ap (allows columns s) (none_flushed s) ∙ or_right s.may_overflow true refl; within = omega arith })
+        rw (flush_leaves s t e) (record { wide = h.wide; allowed = ap (allows columns s) (none_flushed s) ∙ or_right s.may_overflow true refl; within = omega arith })
 
     pub sound_line : (t : Block A) → after_line columns s ≡ done t → IsSound columns t
     sound_line t e = subst (IsSound columns) (sym (line_leaves s t e)) (cond_both (is_some_list (left columns s)) _ _ (IsSound columns) some (λ _. h))
@@ -193,19 +187,14 @@ module _ {A : Type 0} (columns : ℕ → Option ℕ) where
   -- ---- what is allowed
 
   never_if : (s : Block A) (ls : List (List (Item A))) → allows columns s ls ≡ false → s.may_overflow ≡ false
-  never_if s ls e = go s.may_overflow e
-    where
-      go : (o : Bool) → o || lines_fit columns s.width ls ≡ false → o ≡ false
-      go true h = cc
-      go false h = refl
+  never_if s ls e = (or_parts s.may_overflow (lines_fit columns s.width ls) e).0
 
   -- and where lines may be wider, the rule says which they are
   fit_lines : columns 32 ≡ Some 1 → (s : Block A) → 0 < s.width → allows columns s (all_lines columns s) ≡ true → Each (FitsBlock columns s.width s.may_overflow) (all_lines columns s)
-  fit_lines one s wide e = go s.may_overflow refl
-    where
-      go : (o : Bool) → s.may_overflow ≡ o → Each (FitsBlock columns s.width s.may_overflow) (all_lines columns s)
-      go true may = subst (λ o. Each (FitsBlock columns s.width o) (all_lines columns s)) (sym may) (end_fits columns s.width true one wide s.events (inl refl))
-      go false never = subst (λ o. Each (FitsBlock columns s.width o) (all_lines columns s)) (sym never) (allowed_each columns s (all_lines columns s) never e)
+  fit_lines one s wide e = elim (cases_Bool s.may_overflow) [
+    | inl may ↦ rw may (end_fits columns s.width true one wide s.events (inl refl))
+    | inr never ↦ rw never (allowed_each columns s (all_lines columns s) never e)
+  ]
 
   refused_where : (s : Block A) (ls : List (List (Item A))) → allows columns s ls ≡ false → Each (FitsBlock columns s.width false) ls → ⊥
   refused_where s ls not_all fit = let k : true ≡ false = sym (or_right s.may_overflow _ (fit_allows columns s.width false ls fit)) ∙ not_all in cc
@@ -306,9 +295,7 @@ module _ {A : Type 0} (columns : ℕ → Option ℕ) where
     none_open = ap (λ (q : Progress A). not (has_character q.laid.line) && not (has_character q.word)) after_is ∙ ap not (waiting_none columns s.width (p s))
 
     pub no_columns_open : takes_no_columns columns t ≡ true
-    no_columns_open =
-        ap (λ (q : Progress A). (q.laid.width == 0) && (items_width columns q.word == 0)) after_is
-        ∙ ap (λ n. n == 0) (no_character_no_width columns _ (waiting_none columns s.width (p s)))
+    no_columns_open = rw (after_is, no_character_no_width columns _ (waiting_none columns s.width (p s))) refl
 
     pub run_waits : run_of t.events ≡ marker_run (waiting_names columns s)
     run_waits = ap (λ (q : Block A). run_of q.events) (flush_leaves s t e) ∙ run_of_markers (waiting_names columns s)
@@ -424,23 +411,22 @@ module _ {A : Type 0} (columns : ℕ → Option ℕ) where
 
     -- the loose markers are the last ones of the run
     pub loose_last : loose columns s ≡ last (length (loose columns s)) (names_in_run (run_of s.events))
-    loose_last = both (has_character (p s).word) refl
+    loose_last = elim (cases_Bool (has_character (p s).word)) [
+      | inl some ↦
+          let none : loose columns s ≡ [] = rw some refl in
+          let names : List (List ℕ) = names_in_run (run_of s.events) in
+          none ∙ sym (ap (λ ns. last (length ns) names) none ∙ ap (last 0) (sym (append-nil names)) ∙ last_of_two names [])
+      | inr none ↦
+          let names : loose columns s ≡ names_in_items (p s).word = rw none refl in
+          let parts : names_in_run (run_of s.events) ≡ front ++ loose columns s = all ∙ ap (λ ns. front ++ ns) (sym names) in
+          sym (ap (last (length (loose columns s))) parts ∙ last_of_two front (loose columns s))
+    ]
       where
         front : List (List ℕ)
         front = names_in_items (joined (p s).laid.done) ++ names_in_items (p s).laid.line
 
         all : names_in_run (run_of s.events) ≡ front ++ names_in_items (p s).word
         all = sym (markers_run columns s.width s.events) ∙ sym (append_assoc (names_in_items (joined (p s).laid.done)) (names_in_items (p s).laid.line) (names_in_items (p s).word))
-
-        both : (t : Bool) → has_character (p s).word ≡ t → loose columns s ≡ last (length (loose columns s)) (names_in_run (run_of s.events))
-        both true some =
-            let none : loose columns s ≡ [] = rw some refl in
-            let names : List (List ℕ) = names_in_run (run_of s.events) in
-            none ∙ sym (ap (λ ns. last (length ns) names) none ∙ ap (last 0) (sym (append-nil names)) ∙ last_of_two names [])
-        both false none =
-            let names : loose columns s ≡ names_in_items (p s).word = rw none refl in
-            let parts : names_in_run (run_of s.events) ≡ front ++ loose columns s = all ∙ ap (λ ns. front ++ ns) (sym names) in
-            sym (ap (last (length (loose columns s))) parts ∙ last_of_two front (loose columns s))
 
     -- they come after the last visible character
     pub loose_after : AreLastOf (loose columns s) (names_after (is_visible columns) (run_of s.events))
@@ -464,9 +450,8 @@ module _ {A : Type 0} (columns : ℕ → Option ℕ) where
 
   -- a marker joins the word, and ends no line
   with_marker : (word : List (Item A)) (name : List ℕ) → has_character (word ++ marker name ∷ []) ≡ has_character word
-  with_marker [] name = refl
-  with_marker (glyph c a ∷ is) name = refl
   with_marker (marker n ∷ is) name = with_marker is name
+  with_marker _ name = refl
 
   module _ (s t : Block A) (name : List ℕ) (e : after_marker name s ≡ done t) where
     marked : progress_of columns t ≡ record (p s) { word = (p s).word ++ marker name ∷ [] }
@@ -478,12 +463,10 @@ module _ {A : Type 0} (columns : ℕ → Option ℕ) where
     pub marker_columns : takes_no_columns columns t ≡ takes_no_columns columns s
     marker_columns =
         let wide : items_width columns ((p s).word ++ marker name ∷ []) ≡ items_width columns (p s).word = omega (arith, items_width-append columns (p s).word (marker name ∷ [])) in
-        ap (λ (q : Progress A). (q.laid.width == 0) && (items_width columns q.word == 0)) marked ∙ ap (λ n. ((p s).laid.width == 0) && (n == 0)) wide
+        rw (marked, wide) refl
 
     pub marker_character : has_no_character columns t ≡ has_no_character columns s
-    marker_character =
-        ap (λ (q : Progress A). not (has_character q.laid.line) && not (has_character q.word)) marked
-        ∙ ap (λ b. not (has_character (p s).laid.line) && not b) (with_marker (p s).word name)
+    marker_character = rw (marked, with_marker (p s).word name) refl
 
     -- one more is loose where the word has no character, and else none
     pub marker_loose : has_character (p s).word ≡ false → loose columns t ≡ loose columns s ++ name ∷ []

@@ -26,7 +26,7 @@ use Rattle.tbr_wrap.specs.Held.{padding_tag, block_of}
 use Rattle.tbr_wrap.specs.LaidLines.{KeepsLimits}
 use Rattle.tbr_wrap.specs.declared.block.WrappedBlock.TheInside.{Inside}
 use Rattle.tbr_wrap.specs.declared.run_change.RunChange.{RunChange}
-use Rattle.tbr_wrap.specs.declared.run_change.RunChange.TheVariants.{Called, Character, Marker, Taken, Ended, HandedOut}
+use Rattle.tbr_wrap.specs.declared.run_change.RunChange.TheVariants.{HandedOut}
 
 no_chars : (rest : List ℕ) → (length rest == 0) ≡ true → chars rest ≡ []
 no_chars [] e = chars-nil
@@ -36,12 +36,8 @@ module _ {A : Type 0} (columns : ℕ → Option ℕ) where
   -- ---- settings
 
   one_keeps : (s : Block A) (x : RunChange × A × A) → ((changed columns s x).failure ≡ s.failure) × (settings_of (changed columns s x) ≡ settings_of s)
-  one_keeps s (Called, a, b) = (refl, refl)
-  one_keeps s (Character c m, a, b) = (refl, refl)
-  one_keeps s (Marker n, a, b) = (refl, refl)
-  one_keeps s (Taken, a, b) = (refl, refl)
-  one_keeps s (Ended, a, b) = (refl, refl)
   one_keeps s (HandedOut, a, b) = let keeps = handed_keeps s in (keeps.0, keeps.1)
+  one_keeps s (change, a, b) = (refl, refl)
 
   all_keep : (changes : List (RunChange × A × A)) (s : Block A) → ((fold (changed columns) s changes).failure ≡ s.failure) × (settings_of (fold (changed columns) s changes) ≡ settings_of s)
   all_keep [] s = (refl, refl)
@@ -116,14 +112,10 @@ module _ {A : Type 0} (columns : ℕ → Option ℕ) where
       let word : List (Item A) = (progress_of columns s).word in
       (λ i. progress_of columns (record s { events = without_markers (loose_count word none i) s.events })) ∙ taken_events columns s.width s.events [] word refl none
 
-  pub no_loose : (word : List (Item A)) → has_character word ≡ true → loose_names word ≡ []
-  no_loose word some = rw some refl
-
   pub none_taken : (s : Block A) → has_character (progress_of columns s).word ≡ true → without_loose columns s ≡ s
   none_taken s some =
-      let none : loose columns s ≡ [] = no_loose (progress_of columns s).word some in
-      ap (λ (names : List (List ℕ)). record s { events = without_markers (length names) s.events }) none
-      ∙ ap (λ (es : List (Event A)). record s { events = es }) (without_no_event s.events)
+      let none : loose columns s ≡ [] = rw some refl in
+      rw (none, without_no_event) refl
 
   -- ---- what is allowed
 
@@ -169,30 +161,24 @@ module _ {A : Type 0} (columns : ℕ → Option ℕ) where
 
   front_and_rest : (s : Block A) (es : List (Event A)) (cs ds : List ℕ) (a b : A) (mode : WhiteSpace) →
       grown (grown s (es ++ map entry (text_entries cs a b mode))) (map entry (text_entries ds a b mode)) ≡ grown s (es ++ map entry (text_entries (cs ++ ds) a b mode))
-  front_and_rest s es cs ds a b mode =
-      grown_more s (es ++ map entry (text_entries cs a b mode)) (map entry (text_entries ds a b mode))
-      ∙ ap (grown s) (append_assoc es (map entry (text_entries cs a b mode)) (map entry (text_entries ds a b mode)) ∙ ap (λ (fs : List (Event A)). es ++ fs) (sym (entries_append cs ds a b mode)))
+  front_and_rest s es cs ds a b mode = rw (entries_append cs ds a b mode) (simp append_assoc)
 
   pub grown_on : (r s t : Block A) (es : List (Event A)) (text rest more : List ℕ) (a b : A) (mode : WhiteSpace) → HasGrown r es text rest a b mode s → HasGrown s [] rest more a b mode t → HasGrown r es text more a b mode t
   grown_on r s t es text rest more a b mode h k = record {
     front = h.front ++ k.front;
-    split = h.split ∙ ap (λ cs. h.front ++ cs) k.split ∙ sym (append_assoc h.front k.front (chars more));
-    is = k.is ∙ ap (λ (q : Block A). grown q (map entry (text_entries k.front a b mode))) h.is ∙ front_and_rest r es h.front k.front a b mode;
+    split = rw (h.split, k.split, append_assoc) refl;
+    is = rw (k.is, h.is) (front_and_rest r es h.front k.front a b mode);
   }
 
   -- with what is left of the text too, it is as with the whole text
   pub grown_whole : (r s : Block A) (es : List (Event A)) (text rest : List ℕ) (a b : A) (mode : WhiteSpace) → HasGrown r es text rest a b mode s →
       grown s (map entry (text_entries (chars rest) a b mode)) ≡ grown r (es ++ map entry (text_entries (chars text) a b mode))
   grown_whole r s es text rest a b mode h =
-      ap (λ (q : Block A). grown q (map entry (text_entries (chars rest) a b mode))) h.is
-      ∙ front_and_rest r es h.front (chars rest) a b mode
-      ∙ ap (λ cs. grown r (es ++ map entry (text_entries cs a b mode))) (sym h.split)
+      rw (h.is, h.split) (front_and_rest r es h.front (chars rest) a b mode)
 
   pub grown_all : (r s : Block A) (es : List (Event A)) (text rest : List ℕ) (a b : A) (mode : WhiteSpace) → (length rest == 0) ≡ true → HasGrown r es text rest a b mode s → s ≡ grown r (es ++ map entry (text_entries (chars text) a b mode))
   grown_all r s es text rest a b mode e h =
-      ap (λ (fs : List (Event A)). record s { events = fs }) (sym (append-nil s.events))
-      ∙ ap (λ cs. grown s (map entry (text_entries cs a b mode))) (sym (no_chars rest e))
-      ∙ grown_whole r s es text rest a b mode h
+      rw (no_chars rest e, append-nil s.events) at (grown_whole r s es text rest a b mode h)
 
   module _ (r s : Block A) (text rest : List ℕ) (a b : A) (mode : WhiteSpace) (h : HasGrown r (call ∷ []) text rest a b mode s) where
     -- the whole text has come

@@ -86,10 +86,9 @@ module _ {A : Type 0} (columns : ℕ → Option ℕ) (width : ℕ) where
 
   shown_narrow : (eq : A → A → Bool) (gs : List (ℕ × A)) (es : List (Entry A)) → AllZip (IsShown (λ a b. eq a b ≡ true)) gs es → Each IsNarrowGlyph gs → Each (IsNarrowEntry columns width) es
   shown_narrow eq [] [] h k = tt
-  shown_narrow eq [] (e ∷ es) h k = absurd h
-  shown_narrow eq (g ∷ gs) [] h k = absurd h
   shown_narrow eq (g ∷ gs) (marker_entry name ∷ es) h k = absurd h.0
   shown_narrow eq (g ∷ gs) (character c a b m ∷ es) h k = (subst (λ (d : ℕ). unwrap_or (columns d) 0 ≤ width) h.0.0 k.0, shown_narrow eq gs es h.1 k.1)
+  shown_narrow eq _ _ h k = absurd h
 
   narrow_visible : (run : List (Entry A)) → Each (IsNarrowEntry columns width) (visible_entries columns run) → VisibleFit columns width run
   narrow_visible [] h = tt

@@ -58,10 +58,9 @@ visible_own {A} columns = filter-map own (is_visible_entry columns) (is_visible_
 
 under_own : {A : Type 0} (Same : A → A → Type 0) (gs : List (ℕ × A)) (es : List (Entry A)) → AllZip (IsShown Same) gs (map own es) → AllZip (StandsUnderOwn Same) gs es
 under_own Same [] [] h = tt
-under_own Same [] (e ∷ es) h = absurd h
-under_own Same (g ∷ gs) [] h = absurd h
 under_own Same (g ∷ gs) (character c a b m ∷ es) h = ((h.0.0, elim h.0.1 [ inl s ↦ s | inr s ↦ s ]), under_own Same gs es h.1)
 under_own Same (g ∷ gs) (marker_entry name ∷ es) h = absurd h.0
+under_own Same _ _ h = absurd h
 
 module _ {A : Type 0} (columns : ℕ → Option ℕ) (width : ℕ) where
   -- What came of the hard line takes n columns, and is on no ended line. No line goes on.

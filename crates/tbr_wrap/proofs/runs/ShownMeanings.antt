@@ -1,10 +1,10 @@
 -- What a line shows under what its tags mean.
-use Rattle.std.proofs.Common.{◌≡◌, ℕ, ◌-◌, Bool, Option, None, Some, List, [], ◌∷◌, ◌++◌, map, refl, ap, sym, ◌∙◌}
+use Rattle.std.proofs.Common.{◌≡◌, ℕ, ◌-◌, Bool, Option, None, Some, List, [], ◌∷◌, ◌++◌, map, refl, ap}
 use Rattle.std.specs.Option.{option_map}
 use Rattle.std.specs.List.{AllZip}
 use Rattle.std.proofs.lemmas.List.{map-append}
 use Rattle.tbr_model.specs.Run.{Item, glyph, items_width}
-use Rattle.tbr_model.specs.Mapped.{map_item, map_items}
+use Rattle.tbr_model.specs.Mapped.{map_items}
 use Rattle.tbr_model.proofs.maps.Words.{items_width-map}
 use Rattle.tbr_tagged.specs.Elements.{Element, items_of, text_items}
 use Rattle.tbr_tagged.specs.Padding.{spaces}
@@ -21,22 +21,18 @@ module _ {A B : Type 0} (f : A → B) where
       map_items f (padding_of columns padding width is) ≡ padding_of columns (option_map f padding) width (map_items f is)
   padding_mapped columns None width is = refl
   padding_mapped columns (Some a) width is =
-      text_mapped (spaces (width - items_width columns is)) a
-      ∙ ap (λ n. text_items (spaces (width - n)) (f a)) (sym (items_width-map f columns is))
+      rw (text_mapped (spaces (width - items_width columns is)) a, items_width-map f columns is) refl
 
   module _ (eq : A → A → Bool) (means : MeansEqual f eq) (columns : ℕ → Option ℕ) (padding : Option A) (width : ℕ) where
     pub line_means : (es : List (Element A)) (is : List (Item A)) → ShowsText columns eq padding width es is →
         map_items f (items_of es) ≡ map_items f is ++ padding_of columns (option_map f padding) width (map_items f is)
     line_means es is h =
-        means_same_items f eq means (items_of es) (is ++ padding_of columns padding width is) h.items
-        ∙ map-append (map_item f) is (padding_of columns padding width is)
-        ∙ ap (λ (js : List (Item B)). map_items f is ++ js) (padding_mapped columns padding width is)
+        rw (means_same_items f eq means (items_of es) (is ++ padding_of columns padding width is) h.items, map-append, padding_mapped columns padding width is) refl
 
     pub lines_mean : (lines : List (List (Element A))) (texts : List (List (Item A))) → AllZip (ShowsText columns eq padding width) lines texts →
         map (λ es. map_items f (items_of es)) lines
         ≡ map (λ is. map_items f is ++ padding_of columns (option_map f padding) width (map_items f is)) texts
     lines_mean [] [] h = refl
-    lines_mean [] (is ∷ texts) h = absurd h
-    lines_mean (es ∷ lines) [] h = absurd h
     lines_mean (es ∷ lines) (is ∷ texts) h =
         let first = line_means es is h.0 in let rest = lines_mean lines texts h.1 in cc
+    lines_mean _ _ h = absurd h

@@ -17,8 +17,7 @@ use Rattle.tbr_wrap.specs.declared.wrapper.Space.{Space as HeldSpace}
 
 -- U+200B, white space that waits already, and an empty line: nothing is noted
 pub collapse_zero : {A : Type 0} (c : ℕ) (a : A) (p : Progress A) → c ≡ 8203 → collapse c a p ≡ p
-collapse_zero c a p e =
-    let test : (is_blank c && (nat_lt 0 p.laid.width && is_none p.space)) ≡ false = and_left _ _ (ap is_blank e) in rw test refl
+collapse_zero c a p e = rw e refl
 
 pub collapse_pending : {A : Type 0} (c : ℕ) (a : A) (p : Progress A) → is_none p.space ≡ false → collapse c a p ≡ p
 collapse_pending c a p e =
@@ -62,10 +61,8 @@ stands_put columns eq b lines before given p l (Err e) s lays word = tt
 -- ---- the preserving modes, by character
 
 blank_not : (x y : Bool) → (x && not y) ≡ not (not x || y)
-blank_not false false = refl
-blank_not false true = refl
-blank_not true false = refl
-blank_not true true = refl
+blank_not true y = refl
+blank_not false y = refl
 
 pub blank_is : (c : ℕ) (b : Bool) → always_takes_space c ≡ b → is_blank c ≡ not b
 blank_is c b e = blank_not (is_whitespace c) (c == 160) ∙ ap not e
@@ -80,14 +77,10 @@ module _ {A : Type 0} (columns : ℕ → Option ℕ) (width c : ℕ) (a b : A) (
   -- any other character but U+200B
   module _ (zero : c ≢ 8203) (line : c ≢ 10) (stop : c ≢ 9) where
     preserve_other : preserve columns width c a b mode p ≡ (if is_blank c then keep_space c (tag_of p a b) mode (columns c) p else keep_character columns width c a b mode (columns c) p)
-    preserve_other =
-        let no_zero : (c == 8203) ≡ false = ne_eqb _ _ zero in
-        let no_line : (c == 10) ≡ false = ne_eqb _ _ line in
-        let no_stop : (c == 9) ≡ false = ne_eqb _ _ stop in rw (no_zero, no_line, no_stop) refl
+    preserve_other = rw (ne_eqb _ _ zero, ne_eqb _ _ line, ne_eqb _ _ stop) refl
 
     by_width : (blank : Bool) (o : Option ℕ) → is_blank c ≡ blank → columns c ≡ o → preserve columns width c a b mode p ≡ (if blank then keep_space c (tag_of p a b) mode o p else keep_character columns width c a b mode o p)
-    by_width blank o e w = preserve_other ∙ ap (λ t. if t then keep_space c (tag_of p a b) mode (columns c) p else keep_character columns width c a b mode (columns c) p) e
-        ∙ ap (λ n. if blank then keep_space c (tag_of p a b) mode n p else keep_character columns width c a b mode n p) w
+    by_width blank o e w = rw (preserve_other, e, w) refl
 
     pub preserve_space : (n : ℕ) → always_takes_space c ≡ false → columns c ≡ Some n → preserve columns width c a b mode p ≡ keep_space c (tag_of p a b) mode (Some n) p
     preserve_space n e w = by_width true (Some n) (blank_is c false e) w
@@ -106,7 +99,7 @@ module _ {A : Type 0} (columns : ℕ → Option ℕ) (width c : ℕ) (a b : A) (
 
 module _ {A : Type 0} (columns : ℕ → Option ℕ) (width c : ℕ) (a : A) (p : Progress A) where
   pub normal_break : is_break c ≡ true → enter_normal columns width c a p ≡ collapse c a (break_word columns width p)
-  normal_break e = ap (λ t. if t then collapse c a (break_word columns width p) else (if is_some (columns c) then join c a Normal p else p)) e
+  normal_break e = rw e refl
 
   pub normal_kept : (n : ℕ) → is_break c ≡ false → columns c ≡ Some n → enter_normal columns width c a p ≡ join c a Normal p
-  normal_kept n e w = ap (λ t. if t then collapse c a (break_word columns width p) else (if is_some (columns c) then join c a Normal p else p)) e ∙ ap (λ o. if is_some o then join c a Normal p else p) w
+  normal_kept n e w = rw (e, w) refl

@@ -85,9 +85,8 @@ joining columns spaced c h = go (columns c) (is_break c) (spaced && c == 32) ref
 
 takes_space : (z w n : Bool) → (z || (w && not n)) ≡ false → (not w || n) ≡ true
 takes_space false true true e = refl
-takes_space false true false e = cc
 takes_space false false n e = refl
-takes_space true w n e = cc
+takes_space _ _ _ e = cc
 
 kept_takes : (c : ℕ) → is_break c ≡ false → always_takes_space c ≡ true
 kept_takes c h = takes_space (c == 8203) (is_whitespace c) (c == 160) h
@@ -129,13 +128,10 @@ module _ {A : Type 0} (columns : ℕ → Option ℕ) (width : ℕ) (a b : A) (mo
   keeps_tag : (c n : ℕ) (p : Progress A) → StaysUnder width columns mode n p → keep_character columns width c a b mode (Some n) p ≡ join c (tag_of p a b) mode p
   keeps_tag c n p h =
       elim h [
-        | elsewhere e ↦ stays (and_left (is_pre mode) (passes columns width n p) e)
-        | fits e ↦ stays (and_right (is_pre mode) (passes columns width n p) (le-ltb _ _ e))
+        | elsewhere e ↦ rw (and_left (is_pre mode) (passes columns width n p) e) refl
+        | fits e ↦ rw (and_right (is_pre mode) (passes columns width n p) (le-ltb _ _ e)) refl
         | goes_on e f ↦ begun c (is_pre mode && passes columns width n p) p e f
       ]
-    where
-      stays : (is_pre mode && passes columns width n p) ≡ false → keep_character columns width c a b mode (Some n) p ≡ join c (tag_of p a b) mode p
-      stays test = ap (λ t. if t then join c b mode (record p { continuation_flag = true; in_continuation = true }) else join c (tag_of p a b) mode p) test
 
 module _ {A : Type 0} (columns : ℕ → Option ℕ) (width : ℕ) (a b : A) where
   kept_entered : (mode : WhiteSpace) (c n : ℕ) (p : Progress A) → columns c ≡ Some n → is_break c ≡ false → StaysUnder width columns mode n p → enter columns width p (character c a b mode) ≡ join c (tag_of p a b) mode p
@@ -146,10 +142,9 @@ module _ {A : Type 0} (columns : ℕ → Option ℕ) (width : ℕ) (a b : A) whe
 
   -- after a character of the word
   space_entered : (mode : WhiteSpace) (p : Progress A) → columns 32 ≡ Some 1 → is_pre mode ≡ true → has_character p.word ≡ true → enter columns width p (character 32 a b mode) ≡ join 32 (tag_of p a b) mode p
-  space_entered Normal p one is some = cc
-  space_entered PreWrap p one is some = cc
   space_entered Pre p one is some =
       preserve_space columns width 32 a b Pre p (λ e. omega (arith, e)) (λ e. omega (arith, e)) (λ e. omega (arith, e)) 1 refl one ∙ keep_joins 32 (tag_of p a b) Pre 1 p some
+  space_entered _ p one is some = cc
 
   module _ (mode : WhiteSpace) (spaced : Bool) (one : columns 32 ≡ Some 1) where
     -- spaces join where white space is kept, after a character of the word
@@ -168,8 +163,8 @@ module _ {A : Type 0} (columns : ℕ → Option ℕ) (width : ℕ) (a b : A) whe
     all_join (c ∷ cs) p h spaces stays =
         let t = tag_of p a b in let q : Progress A = join c t mode p in
         let some : has_character q.word ≡ true = has_character-append p.word (glyph c t ∷ []) ∙ or-true (has_character p.word) in
-        ap (λ r. fold (enter columns width) r (text_entries cs a b mode)) (joins_entered c p h.0 spaces (stays_first width columns mode _ _ p (omega arith) stays))
-        ∙ all_join cs q h.1 (λ e. ((spaces e).0, some)) (stays_after width columns mode c (width_of_text columns cs) t p stays)
+        rw (fold, joins_entered c p h.0 spaces (stays_first width columns mode _ _ p (omega arith) stays))
+        (all_join cs q h.1 (λ e. ((spaces e).0, some)) (stays_after width columns mode c (width_of_text columns cs) t p stays))
 
 -- all of them at once
 joined_all : {A : Type 0} (c : ℕ) (cs : List ℕ) (a : A) (mode : WhiteSpace) (p : Progress A) →
@@ -178,8 +173,7 @@ joined_all c [] a mode p = refl
 joined_all {A} c (d ∷ cs) a mode p =
     let q : Progress A = join c a mode p in
     let some : has_character q.word ≡ true = has_character-append p.word (glyph c a ∷ []) ∙ or-true (has_character p.word) in
-    joined_all d cs a mode q
-    ∙ (λ i. record q { word = append_assoc p.word (glyph c a ∷ []) (text_items (d ∷ cs) a) i; mode = if some i then q.mode else mode })
+    rw (joined_all d cs a mode q, some, append_assoc) refl
 
 pub joined_text : {A : Type 0} (cs : List ℕ) (a : A) (mode : WhiteSpace) (p : Progress A) → 0 < length cs →
     join_all cs a mode p ≡ record p { word = p.word ++ text_items cs a; mode = if has_character p.word then p.mode else mode }

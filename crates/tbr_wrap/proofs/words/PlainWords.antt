@@ -91,10 +91,8 @@ words_front columns cs w =
 
 -- fewer characters join a word where more do
 pub fewer_join : (columns : ℕ → Option ℕ) (n m : ℕ) (cs : List ℕ) → JoinWord columns false (take n cs) → JoinWord columns false (take n (take m cs))
-fewer_join columns zero m cs h = tt
-fewer_join columns (suc n) zero cs h = tt
-fewer_join columns (suc n) (suc m) [] h = tt
 fewer_join columns (suc n) (suc m) (c ∷ cs) h = (h.0, fewer_join columns n m cs h.1)
+fewer_join columns _ _ _ h = tt
 
 pub all_ascii : (columns : ℕ → Option ℕ) (cs : List ℕ) → AreWords columns cs → IsAscii cs
 all_ascii columns cs w = subst IsAscii (sym w.is) (IsAscii-append w.front (32 ∷ []) (words_ascii columns false w.front true w.read) (IsAscii-cons 32 [] (omega arith) IsAscii-nil))
@@ -149,13 +147,7 @@ module _ {A : Type 0} (columns : ℕ → Option ℕ) (one : columns 32 ≡ Some 
       let t = tag_of q a b in
       let wide : pending_width q.space + (items_width columns (q.word ++ glyph c t ∷ []) + length cs) ≡ pending_width q.space + (items_width columns q.word + suc (length cs)) =
       omega (arith, items_width-append columns q.word (glyph c t ∷ []), ap (λ o. unwrap_or o 0) is) in
-      λ i. record q {
-        laid = extended q.laid (space_text q.space ++ append_assoc q.word (glyph c t ∷ []) (text_items cs t) i) (wide i);
-        space = Some (record { width = 1; tag = t; mode = Normal });
-        word = [];
-        mode = Normal;
-        continuation_flag = false;
-      }
+      rw (append_assoc q.word (glyph c t ∷ []) (text_items cs t), wide) refl
 
   -- a space ends the word, and more follow
   after_space : (cs : List ℕ) (q : Progress A) → after_words (after_word q) cs ≡ after_words q (32 ∷ cs)
@@ -168,14 +160,8 @@ module _ {A : Type 0} (columns : ℕ → Option ℕ) (one : columns 32 ≡ Some 
 
   after_none : (q : Progress A) → q.mode ≡ Normal → after_word q ≡ after_words q []
   after_none q e =
-      let wide : pending_width q.space + items_width columns q.word ≡ pending_width q.space + (items_width columns q.word + 0) = omega arith in
-      λ i. record q {
-        laid = extended q.laid (space_text q.space ++ sym (append-nil q.word) i) (wide i);
-        space = Some (record { width = 1; tag = tag_of q a b; mode = Normal });
-        word = [];
-        mode = e i;
-        continuation_flag = false;
-      }
+      let wide : pending_width q.space + (items_width columns q.word + 0) ≡ pending_width q.space + items_width columns q.word = omega arith in
+      rw (append-nil q.word, wide, e) refl
 
   words_entered : (inside : Bool) (cs : List ℕ) (q : Progress A) → fold (reads columns) (Some inside) cs ≡ Some true → IsReading inside q → q.laid.width + (pending_width q.space + (items_width columns q.word + length cs)) ≤ width →
       fold (enter columns width) q (text_entries (cs ++ 32 ∷ []) a b Normal) ≡ after_words q cs
@@ -183,23 +169,16 @@ module _ {A : Type 0} (columns : ℕ → Option ℕ) (one : columns 32 ≡ Some 
   words_entered false [] q read h fits = cc
   words_entered inside (c ∷ cs) q read h fits =
       let t = tag_of q a b in
-      let rest = text_entries (cs ++ 32 ∷ []) a b Normal in
       elim (next_read columns inside c cs true read) [
         | space e i k ↦
             let is = subst (λ w. IsReading w q) i h in
-            let ended : enter columns width q (character c a b Normal) ≡ after_word q = ap (λ d. enter columns width q (character d a b Normal)) e ∙ word_ended q is.0 (omega (arith, fits)) in
-            ap (λ r. fold (enter columns width) r rest) ended
-            ∙ words_entered false cs (after_word q) k refl (omega (arith, fits))
-            ∙ after_space cs q
-            ∙ ap (λ d. after_words q (d ∷ cs)) (sym e)
+            rw (e, word_ended q is.0 (omega (arith, fits))) (words_entered false cs (after_word q) k refl (omega (arith, fits)) ∙ after_space cs q)
         | narrow n k ↦
             let r : Progress A = join c t Normal q in
             let joins : enter columns width q (character c a b Normal) ≡ r = normal_kept columns width c t q 1 (graphic_joins c n.graphic) n.one in
             let wide : items_width columns r.word ≡ items_width columns q.word + 1 = omega (arith, items_width-append columns q.word (glyph c t ∷ []), ap (λ o. unwrap_or o 0) n.one) in
             let some : has_character r.word ≡ true = has_character-append q.word (glyph c t ∷ []) ∙ or-true (has_character q.word) in
-            ap (λ r. fold (enter columns width) r rest) joins
-            ∙ words_entered true cs r k (omega (arith, wide), some, joined_mode inside q h) (omega (arith, fits, wide))
-            ∙ after_join c cs q n.one
+            rw (fold, joins) (words_entered true cs r k (omega (arith, wide), some, joined_mode inside q h) (omega (arith, fits, wide)) ∙ after_join c cs q n.one)
       ]
 
   -- the words go on the open line as one word does, and the last space waits
@@ -271,20 +250,18 @@ module _ {A : Type 0} (columns : ℕ → Option ℕ) (one : columns 32 ≡ Some 
   words_moved false [] n q read h drops blank letters wide fits = cc
   words_moved inside (c ∷ cs) n q read h drops blank letters wide fits =
       let t = tag_of q a b in
-      let rest = text_entries (cs ++ 32 ∷ []) a b Normal in
       elim (next_read columns inside c cs true read) [
         | space e i k ↦
             let none = no_more n (cs ++ 32 ∷ []) (subst (λ d. JoinWord columns false (take n (d ∷ cs ++ 32 ∷ []))) e letters) in
             let same = moved_end q drops (subst (λ w. IsReading w q) i h) blank (omega (arith, wide, none)) (omega (arith, fits)) in
-            ap (λ r. fold (enter columns width) r rest)
-            (subst (λ d. enter columns width q (character d a b Normal) ≡ enter columns width (afresh q) (character d a b Normal)) (sym e) same)
+            rw (e, same) refl
         | narrow m k ↦
             let r : Progress A = join c t Normal q in
             let joins_word : enter columns width q (character c a b Normal) ≡ r = normal_kept columns width c t q 1 (graphic_joins c m.graphic) m.one in
             let joins_afresh : enter columns width (afresh q) (character c a b Normal) ≡ afresh r = normal_kept columns width c t (afresh q) 1 (graphic_joins c m.graphic) m.one in
             let more : items_width columns r.word ≡ items_width columns q.word + 1 = omega (arith, items_width-append columns q.word (glyph c t ∷ []), ap (λ o. unwrap_or o 0) m.one) in
             let some : has_character r.word ≡ true = has_character-append q.word (glyph c t ∷ []) ∙ or-true (has_character q.word) in
-            ap (λ x. fold (enter columns width) x rest) joins_word
-            ∙ words_moved true cs (n - 1) r k (omega (arith, more), some, joined_mode inside q h) drops blank (more_letters n c (cs ++ 32 ∷ []) letters) (omega (arith, wide, more)) (omega (arith, fits, more))
-            ∙ sym (ap (λ x. fold (enter columns width) x rest) joins_afresh)
+            rw (fold, joins_word, joins_afresh)
+            (words_moved true cs (n - 1) r k (omega (arith, more), some, joined_mode inside q h) drops blank (more_letters n c (cs ++ 32 ∷ []) letters)
+            (omega (arith, wide, more)) (omega (arith, fits, more)))
       ]

@@ -22,8 +22,7 @@ on_ok_both (Err e) P Q p q = tt
 pub same_held_width : {A : Type 0} (eq : A → A → Bool) (held : Option (HeldSpace A)) (o : Option (Space A)) → SameSpace eq held o → held_width held ≡ pending_width o
 same_held_width eq None None h = refl
 same_held_width eq (Some s) (Some t) h = h.0
-same_held_width eq None (Some t) h = absurd h
-same_held_width eq (Some s) None h = absurd h
+same_held_width eq _ _ h = absurd h
 
 -- a word that fits is put as it is
 pub put_fitting : {A : Type 0} (columns : ℕ → Option ℕ) (width : ℕ) (l : Laid A) (is : List (Item A)) → l.width + items_width columns is ≤ width → put_items columns width l is ≡ extended l is (items_width columns is)

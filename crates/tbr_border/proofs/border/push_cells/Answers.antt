@@ -1,4 +1,4 @@
-use Rattle.std.proofs.Common.{◌≡◌, [], ◌++◌, map, length, ap, ◌∙◌, sym, chars, append-nil}
+use Rattle.std.proofs.Common.{◌≡◌, [], ◌++◌, map, length, ◌∙◌, sym, chars, append-nil, refl}
 use Rattle.std.specs.String.{string_bytes}
 use Rattle.std.proofs.lemmas.Bool.{eqb-true}
 use Rattle.std.proofs.lemmas.Str.{chars-nil}
@@ -7,21 +7,20 @@ use Rattle.std.proofs.lemmas.Result.{on_ok_weaker}
 use Rattle.tbr_tagged.specs.Elements.{items_of, text_items, SameItems}
 use Rattle.tbr_border.specs.Cell.{cell_of, character}
 use Rattle.tbr_border.specs.Border.{drawn}
-use Rattle.tbr_tagged.proofs.SameItems.{same_items, same_items_append, same_items_trans, same_from_path, same_texts}
+use Rattle.tbr_tagged.proofs.SameItems.{same_items, same_items_append, same_items_trans, same_texts}
 use Rattle.tbr_border.proofs.border.push_cells.Goals as goal
 
 pub returns-then-is_empty-clause-items : goal.returns-then-is_empty-clause-items
 returns-then-is_empty-clause-items g c =
     let none : c.args.cells.now ≡ [] = nil_from_length c.args.cells.now (eqb-true (length c.args.cells.now) 0 (sym c.if-is_empty.ensures)) in
-    same_from_path g.T.PartialEq.eq g.met.T.Eq.laws (items_of c.args.line.now) (items_of c.args.line.now ++ drawn (map cell_of c.args.cells.now) c.args.tag.now)
-    (sym (ap (λ cells. items_of c.args.line.now ++ drawn (map cell_of cells) c.args.tag.now) none ∙ append-nil (items_of c.args.line.now)))
+    rw (none, append-nil) (same_items g.T.PartialEq.eq g.met.T.Eq.laws (items_of c.args.line.now))
 
 pub returns-clause-items : goal.returns-clause-items
 returns-clause-items g c =
     let eq = g.T.PartialEq.eq in
     let laws = g.met.T.Eq.laws in
     let text : chars (string_bytes c.draw.new.text) ≡ map character (map cell_of c.args.cells.now) =
-    c.in_ok-draw.ensures ∙ ap (λ cs. cs ++ map character (map cell_of c.args.cells.now)) (ap chars c.new-s.ensures.bytes ∙ chars-nil) in
+    rw (c.in_ok-draw.ensures, c.new-s.ensures.bytes, chars-nil) refl in
     let tag = laws.symm _ _ ∙ c.requires _ _ c.in_ok-tag.ensures.cases in
     let same : SameItems eq (text_items (chars (string_bytes c.draw.new.text)) c.in_ok-tag.tag) (drawn (map cell_of c.args.cells.now) c.args.tag.now) =
     rw text (same_texts eq laws (map character (map cell_of c.args.cells.now)) c.in_ok-tag.tag c.args.tag.now tag) in

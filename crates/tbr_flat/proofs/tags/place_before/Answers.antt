@@ -1,27 +1,13 @@
 use Rattle.std.proofs.Common.{◌≡◌, ℕ, List, zero, ◌-◌, ◌+◌, ◌<◌, ◌≤◌, suc, length, drop, ap, arith}
 use Rattle.tbr_flat.specs.declared.tags.RepeatedTag.{RepeatedTag}
 use Rattle.tbr_flat.specs.Tags.{tags_of}
-use Rattle.tbr_flat.proofs.RepeatedTags.{stored_len, none_left}
+use Rattle.tbr_flat.proofs.RepeatedTags.{stored_len}
 use Rattle.tbr_flat.proofs.tags.place_before.Goals as goal
-
-pub loop-left-init : goal.loop-left-init
-loop-left-init g c =
-    let all : length c.args.stored.now.items ≡ c.len-nth.result = omega (arith, c.len-nth.ensures, c.args.stored.now.ok.0) in
-    record { within = omega (arith, all); reached = omega (arith, none_left c.args.stored.now.items c.len-nth.result (omega (arith, all))) }
 
 -- where the stored tags after a place are fewer tags than there are, one is before it
 stored_before : {A : Type 0} (xs : List (RepeatedTag A)) (k : ℕ) {left last : ℕ} → left + length (tags_of (drop k xs)) ≡ last → last ≤ length (tags_of xs) → 0 < left → k ≡ suc (k - 1)
 stored_before xs zero e most some = absurd (omega arith)
 stored_before xs (suc k) e most some = omega arith
-
-pub overflow_sub-nth : goal.overflow_sub-nth
-overflow_sub-nth g c = omega (arith, stored_before c.args.stored.now.items c.loop-left.nth c.loop-left.invariant.reached c.requires c.loop-left-test.true)
-
-pub loop-left-preserved : goal.loop-left-preserved
-loop-left-preserved g c =
-    let xs = c.args.stored.now.items in let k = c.loop-left.nth in let inv = c.loop-left.invariant in
-    let len = stored_len xs (k - 1) k c.index.result.now (stored_before xs k inv.reached c.requires c.loop-left-test.true) inv.within c.index.ensures in
-    record { within = omega (arith, inv.within); reached = omega (arith, inv.reached, len, c.if-left-more.false) }
 
 pub returns-then-left-more : goal.returns-then-left-more
 returns-then-left-more g c =
@@ -33,10 +19,3 @@ returns-then-left-more g c =
       tags = omega (arith, inv.reached, len, c.if-left-more.true);
       inside = λ _. omega (arith, inv.reached, ap (λ i. length (tags_of (drop i xs))) next, c.loop-left-test.true);
     }
-
-pub returns : goal.returns
-returns g c = record {
-  within = c.loop-left.invariant.within;
-  tags = omega (arith, c.loop-left.invariant.reached, c.loop-left-test.false);
-  inside = λ some. absurd (omega (arith, some));
-}

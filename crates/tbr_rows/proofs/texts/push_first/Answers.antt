@@ -12,6 +12,6 @@ returns-in_ok-text_in_row-in-Some-clause-items g c =
     let column = c.args.column.now in
     let first : column.cell.lines ≡ c.in-Some.first ∷ c.pop_front.new.self = c.pop_front.ensures.line ∙ ap (λ o. option_to_list o ++ c.pop_front.new.self) c.in-Some.is in
     let text : text_in_row tag c.in-Some.first ≡ cell_text tag 0 column = sym (ap (text_of_lines tag column) first) in
-    on_ok_weaker c.push_line.result
-    (after_same g.T.PartialEq.eq g.met.T.Eq.laws c.args.line.now c.push_line.new.line (items_of flat.field-0) _ (subst (SameItems g.T.PartialEq.eq (items_of flat.field-0)) text flat.ensures))
-    c.push_line.ensures.items
+    on_ok_weaker c.append.result
+    (after_same g.T.PartialEq.eq g.met.T.Eq.laws c.args.line.now c.append.new.self (items_of flat.field-0) _ (subst (SameItems g.T.PartialEq.eq (items_of flat.field-0)) text flat.ensures))
+    c.append.ensures.items

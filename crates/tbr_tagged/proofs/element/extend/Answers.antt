@@ -1,9 +1,8 @@
-use Rattle.std.proofs.Common.{ap, ◌∙◌}
-use Rattle.std.specs.Str.{chars}
+use Rattle.std.proofs.Common.{refl}
 use Rattle.std.specs.String.{string_bytes}
 use Rattle.std.proofs.lemmas.Str.{IsUtf8-string_bytes, chars-append}
-use Rattle.tbr_tagged.specs.Elements.{piece}
 use Rattle.tbr_tagged.proofs.element.extend.Goals as goal
 
 pub returns-in_ok-push_str-clause-ok : goal.returns-in_ok-push_str-clause-ok
-returns-in_ok-push_str-clause-ok g c = rw c.in-Str.is (ap (λ cs. piece cs c.in-Str.last.tag) (ap chars c.in_ok-push_str.ensures.bytes ∙ chars-append (string_bytes c.in-Str.last.s) c.args.text.now (IsUtf8-string_bytes c.in-Str.last.s)))
+returns-in_ok-push_str-clause-ok g c =
+    rw (c.in-Str.is, c.in_ok-push_str.ensures.bytes, chars-append (string_bytes c.in-Str.last.s) c.args.text.now (IsUtf8-string_bytes c.in-Str.last.s)) refl

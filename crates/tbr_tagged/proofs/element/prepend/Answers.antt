@@ -1,10 +1,8 @@
-use Rattle.std.proofs.Common.{ap, ◌∙◌}
-use Rattle.std.specs.Str.{chars}
+use Rattle.std.proofs.Common.{refl}
 use Rattle.std.specs.String.{string_bytes}
 use Rattle.std.proofs.lemmas.Str.{chars-append}
-use Rattle.tbr_tagged.specs.Elements.{piece}
 use Rattle.tbr_tagged.proofs.element.prepend.Goals as goal
 
 pub returns-in_ok-insert_str-clause-ok : goal.returns-in_ok-insert_str-clause-ok
-returns-in_ok-insert_str-clause-ok g c = rw c.in-Str.is (ap (λ cs. piece cs c.in-Str.piece.tag)
-    (ap chars c.in_ok-insert_str.ensures.bytes ∙ chars-append c.args.text.now (string_bytes c.in-Str.piece.s) c.utf8.text))
+returns-in_ok-insert_str-clause-ok g c =
+    rw (c.in-Str.is, c.in_ok-insert_str.ensures.bytes, chars-append c.args.text.now (string_bytes c.in-Str.piece.s) c.utf8.text) refl

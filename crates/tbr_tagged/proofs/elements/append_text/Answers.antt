@@ -1,9 +1,8 @@
-use Rattle.std.proofs.Common.{ap, ◌∙◌, ◌++◌, map, take, append-nil, append_assoc}
+use Rattle.std.proofs.Common.{map, take, append-nil, append_assoc, refl}
 use Rattle.std.specs.String.{string_bytes}
-use Rattle.std.specs.Str.{chars}
 use Rattle.std.proofs.lemmas.Str.{IsUtf8-string_bytes, chars-append}
 use Rattle.std.proofs.lemmas.List.Concat.{flat_map-append}
-use Rattle.tbr_tagged.specs.Elements.{characters, element_characters}
+use Rattle.tbr_tagged.specs.Elements.{element_characters}
 use Rattle.tbr_tagged.specs.View.{element_of}
 use Rattle.tbr_tagged.proofs.ElementLoops.{one_more}
 use Rattle.tbr_tagged.proofs.elements.append_text.Goals as goal
@@ -14,9 +13,17 @@ loop-element-preserved g c =
     let before = map element_of (take c.loop-element.element-index c.args.elements.now) in
     let more = one_more element_of c.args.elements.now c.loop-element.element-index c.element-item.result c.loop-element-test.true c.element-item.is in
     elim c.match-element.branch [
-      | in-Str+in_ok-push_str w ↦ rw (more, w.in-Str.is, w.text-is, flat_map-append element_characters before, append-nil)
-          (ap chars w.in_ok-push_str.ensures.bytes ∙ chars-append (string_bytes c.loop-element.text) w.as_str.result.now (IsUtf8-string_bytes c.loop-element.text)
-          ∙ ap (λ cs. cs ++ chars w.as_str.result.now) c.loop-element.invariant ∙ append_assoc (chars (string_bytes c.args.text.now)) (characters before) (chars w.as_str.result.now)
-          ∙ ap (λ bs. chars (string_bytes c.args.text.now) ++ (characters before ++ chars bs)) w.as_str.ensures.value)
+      | in-Str+in_ok-push_str w ↦ rw (
+        more,
+        w.in-Str.is,
+        w.text-is,
+        flat_map-append element_characters before,
+        append-nil,
+        w.in_ok-push_str.ensures.bytes,
+        chars-append (string_bytes c.loop-element.text) w.as_str.result.now (IsUtf8-string_bytes c.loop-element.text),
+        c.loop-element.invariant,
+        append_assoc,
+        w.as_str.ensures.value,
+      ) refl
       | in_default w ↦ rw (more, w.in_default.is, w.text-is, flat_map-append element_characters before, append-nil) c.loop-element.invariant
     ]

@@ -1,9 +1,9 @@
-use Rattle.std.proofs.Common.{map, take, ap, ◌∙◌, subst}
-use Rattle.std.proofs.lemmas.List.{map_push, take_all}
+use Rattle.std.proofs.Common.{map, take}
+use Rattle.std.proofs.lemmas.List.{map_push}
 use Rattle.std.proofs.lemmas.List.Elements.{AllZip-push}
 use Rattle.tbr_tagged.specs.View.{element_of}
 use Rattle.tbr_tagged.proofs.ElementLoops.{one_more}
-use Rattle.tbr_tagged.specs.Elements.{SameElement, SameElements}
+use Rattle.tbr_tagged.specs.Elements.{SameElement}
 use Rattle.tbr_tagged.proofs.elements.clone.Goals as goal
 
 pub loop-element-preserved : goal.loop-element-preserved
@@ -15,9 +15,3 @@ loop-element-preserved g c =
     )
     (AllZip-push (SameElement g.T.PartialEq.eq) (map element_of c.loop-element.copy.items) (map element_of (take c.loop-element.element-index c.deref-element-items.result.now)) (element_of c.in_ok-clone.field-0) (element_of c.element-item.result)
     c.loop-element.invariant c.in_ok-clone.ensures.same)
-
-pub returns : goal.returns
-returns g c =
-    let all =
-    ap (map element_of) (take_all c.loop-element.element-index c.deref-element-items.result.now c.loop-element-test.false ∙ c.deref-element-items.ensures.value) in
-    subst (SameElements g.T.PartialEq.eq (map element_of c.loop-element.copy.items)) all c.loop-element.invariant

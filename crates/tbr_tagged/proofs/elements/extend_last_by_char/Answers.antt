@@ -1,18 +1,15 @@
-use Rattle.std.proofs.Common.{◌-◌, ◌<◌, ◌∙◌, ap, [], ◌∷◌, arith}
+use Rattle.std.proofs.Common.{◌-◌, ◌∙◌, ap, [], ◌∷◌, arith}
 use Rattle.std.proofs.Math.Seq.{map-set_same}
 use Rattle.std.proofs.lemmas.Bool.Decides.{nat_tests}
-use Rattle.std.proofs.lemmas.Result.{on_ok_weaker, on_err_weaker}
-use Rattle.tbr_tagged.specs.Elements.{with_text}
+use Rattle.std.proofs.lemmas.Result.{on_err_weaker}
 use Rattle.tbr_tagged.specs.View.{element_of}
 use Rattle.tbr_tagged.proofs.TextAfter.{extended_at}
 use Rattle.tbr_tagged.proofs.elements.extend_last_by_char.Goals as goal
 
 pub returns-clause-ok : goal.returns-clause-ok
 returns-clause-ok g c =
-    let xs = c.args.elements.now.items in
-    let some : 0 < c.len-end.result = grind (arith, nat_tests) in
-    on_ok_weaker c.extend_by_char.result (λ h. extended_at element_of xs c.len-end.result (c.args.c ∷ []) c.index_mut.result.now c.extend_by_char.new.element (c.len-end.ensures ∙ c.args.elements.now.ok.0) some
-    (h ∙ ap (λ e. with_text (element_of e) (c.args.c ∷ [])) c.index_mut.ensures.value)) c.extend_by_char.ensures.ok
+    extended_at c.extend_by_char.result element_of c.args.elements.now.items c.len-end.result (c.args.c ∷ []) c.index_mut.result.now c.extend_by_char.new.element
+    (c.len-end.ensures ∙ c.args.elements.now.ok.0) (grind (arith, nat_tests)) c.index_mut.ensures.value c.extend_by_char.ensures.ok
 
 pub returns-clause-err : goal.returns-clause-err
 returns-clause-err g c =

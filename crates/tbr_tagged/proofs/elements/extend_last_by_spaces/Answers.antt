@@ -1,8 +1,7 @@
-use Rattle.std.proofs.Common.{◌-◌, ◌<◌, ◌∙◌, ap, arith}
+use Rattle.std.proofs.Common.{◌-◌, ◌∙◌, ap, arith}
 use Rattle.std.proofs.Math.Seq.{map-set_same}
 use Rattle.std.proofs.lemmas.Bool.Decides.{nat_tests}
-use Rattle.std.proofs.lemmas.Result.{on_ok_weaker, on_err_weaker}
-use Rattle.tbr_tagged.specs.Elements.{with_text}
+use Rattle.std.proofs.lemmas.Result.{on_err_weaker}
 use Rattle.tbr_tagged.specs.Padding.{spaces}
 use Rattle.tbr_tagged.specs.View.{element_of}
 use Rattle.tbr_tagged.proofs.TextAfter.{extended_at}
@@ -10,10 +9,8 @@ use Rattle.tbr_tagged.proofs.elements.extend_last_by_spaces.Goals as goal
 
 pub returns-clause-ok : goal.returns-clause-ok
 returns-clause-ok g c =
-    let xs = c.args.elements.now.items in
-    let some : 0 < c.len-end.result = grind (arith, nat_tests) in
-    on_ok_weaker c.extend_by_spaces.result (λ h. extended_at element_of xs c.len-end.result (spaces c.args.count) c.index_mut.result.now c.extend_by_spaces.new.element (c.len-end.ensures ∙ c.args.elements.now.ok.0) some
-    (h ∙ ap (λ e. with_text (element_of e) (spaces c.args.count)) c.index_mut.ensures.value)) c.extend_by_spaces.ensures.ok
+    extended_at c.extend_by_spaces.result element_of c.args.elements.now.items c.len-end.result (spaces c.args.count) c.index_mut.result.now c.extend_by_spaces.new.element
+    (c.len-end.ensures ∙ c.args.elements.now.ok.0) (grind (arith, nat_tests)) c.index_mut.ensures.value c.extend_by_spaces.ensures.ok
 
 pub returns-clause-err : goal.returns-clause-err
 returns-clause-err g c =

@@ -1,13 +1,13 @@
-use Rattle.std.proofs.Common.{◌<◌, sym, ◌∙◌, ap, length, arith, map, [], ◌∷◌, ◌++◌, subst}
+use Rattle.std.proofs.Common.{◌<◌, sym, ◌∙◌, ap, length, arith, map}
 use Rattle.std.proofs.lemmas.List.{map_push, length-replicate}
 use Rattle.std.proofs.lemmas.List.Elements.{AllZip-push}
 use Rattle.std.proofs.lemmas.Result.{on_ok_weaker}
 use Rattle.tbr_tagged.specs.declared.element.TaggedLineElement.TheVariants.{Str}
-use Rattle.tbr_tagged.specs.Elements.{SameElement, SameElements, piece, push_text}
+use Rattle.tbr_tagged.specs.Elements.{SameElement, piece}
 use Rattle.tbr_tagged.specs.Padding.{spaces}
 use Rattle.tbr_tagged.specs.Stored.{stored}
 use Rattle.tbr_tagged.specs.View.{element_of}
-use Rattle.tbr_tagged.proofs.TextAfter.{push_extends, push_after, same_elements, same_from_equal}
+use Rattle.tbr_tagged.proofs.TextAfter.{push_extends, push_after, same_elements}
 use Rattle.tbr_tagged.proofs.padding.push_spaces.Goals as goal
 
 pub returns-then-count-eq0-clause-ok : goal.returns-then-count-eq0-clause-ok
@@ -20,7 +20,7 @@ returns-then-ends_under-clause-ok g c =
     let es = map element_of (stored c.args.elements.now) in
     let some : 0 < length (spaces c.args.count) = rw length-replicate (omega arith) in
     let pushed = push_extends eq es (spaces c.args.count) c.args.tag.now some (sym c.if-ends_under.ensures) in
-    on_ok_weaker c.extend_last_by_spaces.result (λ h. same_from_equal eq g.met.T.Eq.laws _ _ (h ∙ sym pushed)) c.extend_last_by_spaces.ensures.ok
+    on_ok_weaker c.extend_last_by_spaces.result (λ h. let ended = h ∙ sym pushed in rw ended (same_elements eq g.met.T.Eq.laws _)) c.extend_last_by_spaces.ensures.ok
 
 pub returns-clause-ok : goal.returns-clause-ok
 returns-clause-ok g c =
@@ -28,8 +28,7 @@ returns-clause-ok g c =
     let es = map element_of (stored c.args.elements.now) in
     let some : 0 < length (spaces c.args.count) = rw length-replicate (omega arith) in
     let pushed = push_after eq es (spaces c.args.count) c.args.tag.now some (sym c.if-ends_under.ensures) in
-    let ts = c.in_ok-piece.piece in
-    let after : SameElements eq (es ++ element_of (Str ts) ∷ []) (push_text eq es (spaces c.args.count) c.args.tag.now) =
-    rw pushed (AllZip-push (SameElement eq) es es (element_of (Str ts)) (piece (spaces c.args.count) c.args.tag.now) (same_elements eq g.met.T.Eq.laws es) (c.in_ok-piece.ensures.text, c.in_ok-piece.ensures.tag)) in
     on_ok_weaker c.push.result (λ h.
-    subst (λ fs. SameElements eq fs (push_text eq es (spaces c.args.count) c.args.tag.now)) (sym (ap (map element_of) h ∙ map_push element_of (stored c.args.elements.now) (Str ts))) after) c.push.ensures.ok
+    let ended = ap (map element_of) h ∙ map_push element_of (stored c.args.elements.now) (Str c.in_ok-piece.piece) in
+    rw (ended, pushed)
+    (AllZip-push (SameElement eq) es es _ (piece (spaces c.args.count) c.args.tag.now) (same_elements eq g.met.T.Eq.laws es) (c.in_ok-piece.ensures.text, c.in_ok-piece.ensures.tag))) c.push.ensures.ok

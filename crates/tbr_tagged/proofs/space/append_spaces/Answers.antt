@@ -1,4 +1,4 @@
-use Rattle.std.proofs.Common.{ℕ, ◌≡◌, ◌<◌, ◌≤◌, ◌-◌, ◌+◌, List, ◌++◌, ap, ◌∙◌, append_assoc, arith, replicate}
+use Rattle.std.proofs.Common.{ℕ, ◌≡◌, ◌<◌, ◌≤◌, ◌-◌, ◌+◌, List, ◌++◌, append_assoc, arith, replicate, refl}
 use Rattle.std.specs.List.{slice_index, slice_range}
 use Rattle.std.specs.String.{string_bytes}
 use Rattle.std.proofs.lemmas.List.{get_or-replicate, take-replicate, replicate-append-replicate}
@@ -13,8 +13,7 @@ more_spaces : (bs : List ℕ) (count left n : ℕ) → left ≤ count → n ≤ 
 more_spaces bs count left n within some few =
     let front : n - 0 ≡ n = omega arith in
     let all : count - (left - n) ≡ (count - left) + n = omega (arith, within, some) in
-    rw (front, all, take-replicate {X = ℕ} n 32 32 few) (append_assoc bs (replicate (count - left) 32) (replicate n 32)
-    ∙ ap (λ cs. bs ++ cs) (replicate-append-replicate (count - left) n 32))
+    rw (front, all, take-replicate {X = ℕ} n 32 32 few, append_assoc, replicate-append-replicate) refl
 
 pub range-requires-clause-end_boundary : goal.range-requires-clause-end_boundary
 range-requires-clause-end_boundary c = (
@@ -25,10 +24,7 @@ range-requires-clause-end_boundary c = (
 pub loop-left-preserved : goal.loop-left-preserved
 loop-left-preserved c = (
   omega (arith, c.loop-left.invariant.0),
-  c.in_ok-push_str.ensures.bytes
-      ∙ ap (λ bs. bs ++ c.range.result.now) c.loop-left.invariant.1
-      ∙ ap (λ cs. (string_bytes c.args.text.now ++ replicate (c.args.count - c.loop-left.left) 32) ++ cs) c.range.ensures.value
-      ∙ more_spaces (string_bytes c.args.text.now) c.args.count c.loop-left.left c.min-some.result c.loop-left.invariant.0
-      (omega (arith, c.min-some.ensures)) (omega (arith, c.min-some.ensures)),
+  rw (c.in_ok-push_str.ensures.bytes, c.loop-left.invariant.1, c.range.ensures.value)
+      (more_spaces (string_bytes c.args.text.now) c.args.count c.loop-left.left c.min-some.result c.loop-left.invariant.0 (omega (arith, c.min-some.ensures)) (omega (arith, c.min-some.ensures))),
   omega (arith, c.loop-left.invariant.2, c.in_ok-push_str.ensures.len, c.in_ok-push_str.ensures.capacity, c.range.ensures.len),
 )

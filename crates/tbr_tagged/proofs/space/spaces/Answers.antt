@@ -1,10 +1,7 @@
-use Rattle.std.proofs.Common.{chars, ap, ◌∙◌, ◌++◌}
 use Rattle.std.proofs.lemmas.Str.{chars-IsAscii}
 use Rattle.tbr_tagged.specs.Padding.{spaces}
 use Rattle.tbr_tagged.proofs.TextAfter.{spaces_ascii}
 use Rattle.tbr_tagged.proofs.space.spaces.Goals as goal
 
 pub returns : goal.returns
-returns c =
-    ap chars (c.in_ok-append_spaces.ensures.ok ∙ ap (λ bs. bs ++ spaces c.args.count) c.in_ok-s.ensures.bytes)
-    ∙ chars-IsAscii (spaces c.args.count) (spaces_ascii c.args.count)
+returns c = rw (c.in_ok-append_spaces.ensures.ok, c.in_ok-s.ensures.bytes) (chars-IsAscii (spaces c.args.count) (spaces_ascii c.args.count))

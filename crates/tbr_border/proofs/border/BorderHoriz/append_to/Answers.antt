@@ -1,22 +1,16 @@
-use Rattle.std.proofs.Common.{◌≡◌, ◌∷◌, refl, [], ◌++◌, map, take, length, chars, ap, sym, ◌∙◌, arith, append_assoc, append-nil}
+use Rattle.tbr_tagged.specs.Elements.{element_characters}
+use Rattle.std.proofs.Common.{◌≡◌, ◌∷◌, [], ◌++◌, map, take, length, chars, ap, ◌∙◌, arith, append_assoc, append-nil, refl}
 use Rattle.std.specs.String.{string_bytes}
 use Rattle.std.proofs.lemmas.Str.{chars-append, IsUtf8-string_bytes}
 use Rattle.std.proofs.lemmas.List.{take_all}
 use Rattle.std.proofs.lemmas.Result.{on_ok_weaker}
 use Rattle.tbr_tagged.specs.Walks.{item_characters}
-use Rattle.tbr_border.specs.Cell.{cell_of, character}
+use Rattle.tbr_border.specs.Cell.{cell_of}
 use Rattle.tbr_border.specs.Border.{shown_from}
-use Rattle.tbr_border.specs.BorderView.{hole_of, shown_by}
+use Rattle.tbr_border.specs.BorderView.{hole_of}
 use Rattle.tbr_tagged.proofs.ElementLoops.{one_more}
 use Rattle.tbr_border.proofs.BorderText.{in_order_within, hole_at, map-slice, cells_from, text_step, text_end}
 use Rattle.tbr_border.proofs.border.BorderHoriz.append_to.Goals as goal
-
-pub loop-span-init : goal.loop-span-init
-loop-span-init g c =
-    record {
-      text = λ rest. refl;
-      fit = rw (c.deref-span-items.ensures.value, c.as_slice-cells.ensures.value, c.deref-shape.ensures) c.self.invariant;
-    }
 
 pub slice_bounds-draw-end : goal.slice_bounds-draw-end
 slice_bounds-draw-end g c =
@@ -30,20 +24,18 @@ overflow_add-at g c =
 
 pub loop-span-preserved : goal.loop-span-preserved
 loop-span-preserved g c =
-    let old = chars (string_bytes c.args.text.now) in
     let tag = c.args.self.now.tag in
     let cells = map cell_of c.as_slice-cells.result.now in
     let hole = hole_of c.span-item.result in
-    let seen = map hole_of (take c.loop-span.span-index c.deref-span-items.result.now) in
     let here = hole_at hole_of c.deref-span-items.result.now c.loop-span.span-index c.span-item.result c.loop-span.at (length c.as_slice-cells.result.now) c.loop-span-test.true c.span-item.is c.loop-span.invariant.fit in
-    let drew = c.in_ok-draw.ensures ∙ ap (λ cs. chars (string_bytes c.loop-span.text) ++ map character cs) (map-slice cell_of c.as_slice-cells.result.now c.loop-span.at c.span-item.result.place) in
-    let pushed = ap chars c.in_ok-push_str.ensures.bytes ∙ chars-append (string_bytes c.draw.new.text) c.as_str.result.now (IsUtf8-string_bytes c.draw.new.text) ∙ ap (λ cs. chars (string_bytes c.draw.new.text) ++ cs) c.as_str.ensures in
+    let drew = rw map-slice at c.in_ok-draw.ensures in
+    let pushed : chars (string_bytes c.push_str.new.self) ≡ chars (string_bytes c.draw.new.text) ++ element_characters hole.element =
+    rw (c.in_ok-push_str.ensures.bytes, chars-append (string_bytes c.draw.new.text) c.as_str.result.now (IsUtf8-string_bytes c.draw.new.text), c.as_str.ensures) refl in
     let more = one_more hole_of c.deref-span-items.result.now c.loop-span.span-index c.span-item.result c.loop-span-test.true c.span-item.is in
     record {
-      text = λ rest.
-          text_step tag cells c.loop-span.at hole rest (chars (string_bytes c.loop-span.text)) (chars (string_bytes c.draw.new.text)) (chars (string_bytes c.push_str.new.self)) drew pushed
-          ∙ c.loop-span.invariant.text (hole ∷ rest)
-          ∙ ap (λ hs. old ++ item_characters (shown_from tag cells 0 hs)) (sym (ap (λ hs. hs ++ rest) more ∙ append_assoc seen (hole ∷ []) rest));
+      text = λ rest. rw (more, append_assoc)
+          (text_step tag cells c.loop-span.at hole rest (chars (string_bytes c.loop-span.text)) (chars (string_bytes c.draw.new.text)) (chars (string_bytes c.push_str.new.self)) drew pushed
+          ∙ c.loop-span.invariant.text (hole ∷ rest));
       fit = here.1;
     }
 
@@ -54,11 +46,8 @@ returns g c =
     let cells = map cell_of c.as_slice-cells.result.now in
     let holes = c.deref-span-items.result.now in
     let had = chars (string_bytes c.loop-span.text) in
-    let all : map hole_of (take c.loop-span.span-index holes) ++ [] ≡ map hole_of holes = append-nil (map hole_of (take c.loop-span.span-index holes)) ∙ ap (map hole_of) (take_all c.loop-span.span-index holes c.loop-span-test.false) in
+    let all : map hole_of (take c.loop-span.span-index holes) ++ [] ≡ map hole_of holes = rw (append-nil, take_all c.loop-span.span-index holes c.loop-span-test.false) refl in
     on_ok_weaker c.draw-2.result (λ drew.
-    text_end tag cells c.loop-span.at had (chars (string_bytes c.draw-2.new.text)) (drew ∙ ap (λ cs. had ++ map character cs) (cells_from cell_of c.as_slice-cells.result.now c.loop-span.at))
-    ∙ c.loop-span.invariant.text []
-    ∙ ap (λ hs. old ++ item_characters (shown_from tag cells 0 hs)) (all ∙ ap (map hole_of) c.deref-span-items.ensures.value)
-    ∙ ap (λ xs. old ++ item_characters (shown_from tag (map cell_of xs) 0 (map hole_of c.deref-shape.result.now.holes.items))) c.as_slice-cells.ensures.value
-    ∙ ap (λ shape. old ++ item_characters (shown_from tag (shown_by shape).cells 0 (shown_by shape).holes)) c.deref-shape.ensures
+    let done = text_end tag cells c.loop-span.at had (chars (string_bytes c.draw-2.new.text)) (rw cells_from at drew) ∙ c.loop-span.invariant.text [] in
+    (rw (all, c.deref-span-items.ensures.value, c.as_slice-cells.ensures.value, c.deref-shape.ensures) at done)
     ∙ ap (λ b. old ++ item_characters (shown_from tag b.cells 0 b.holes)) c.self.view_is) c.draw-2.ensures

@@ -1,26 +1,13 @@
-use Rattle.std.proofs.Common.{◌≤◌, map, length, ap, ◌∙◌, arith}
-use Rattle.std.specs.List.{AllZip}
-use Rattle.tbr_border.specs.Cell.{cell_of}
-use Rattle.tbr_border.specs.Border.{SameHole}
+use Rattle.std.proofs.Common.{◌≤◌, map, length, ap, arith}
 use Rattle.tbr_border.specs.BorderView.{hole_of}
 use Rattle.tbr_border.proofs.HolesInOrder.{same_order, in_order_longer}
 use Rattle.tbr_border.proofs.border.BorderHoriz.clone.Goals as goal
-
-same_holes : (g : _) (c : goal.In_ok-new g) → AllZip (SameHole g.T.PartialEq.eq) (map hole_of c.in_ok-holes.holes.items) (map hole_of c.deref-shape.result.now.holes.items)
-same_holes g c = rw c.deref.ensures.value at c.in_ok-holes.ensures
 
 pub invariant_of-result : goal.invariant_of-result
 invariant_of-result g c =
     let shape = c.deref-shape.result.now in
     let cells = length shape.segments.items in
     let long : cells ≤ length c.in_ok-segments.segments.items = omega (arith, ap length c.in_ok-segments.ensures.items, ap length c.deref-2.ensures.value) in
-    let order = same_order g.T.PartialEq.eq 0 (map hole_of c.in_ok-holes.holes.items) (map hole_of shape.holes.items) cells (same_holes g c) (rw c.deref-shape.ensures c.self.invariant) in
+    let order = same_order g.T.PartialEq.eq 0 (map hole_of c.in_ok-holes.holes.items) (map hole_of shape.holes.items) cells
+    (rw c.deref.ensures.value at c.in_ok-holes.ensures) (rw c.deref-shape.ensures c.self.invariant) in
     rw c.in_ok-new.ensures.ok (in_order_longer 0 (map hole_of c.in_ok-holes.holes.items) cells (length c.in_ok-segments.segments.items) order long)
-
-pub returns : goal.returns
-returns g c =
-    rw (← c.self.view_is, ← c.deref-shape.ensures, c.in_ok-new.ensures.ok) (record {
-      cells = ap (map cell_of) (c.in_ok-segments.ensures.items ∙ c.deref-2.ensures.value);
-      tag = g.met.T.Eq.laws.symm _ _ ∙ c.requires _ _ c.in_ok-tag.ensures.cases;
-      holes = same_holes g c;
-    })

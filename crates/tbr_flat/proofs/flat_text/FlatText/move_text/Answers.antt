@@ -1,7 +1,7 @@
-use Rattle.std.proofs.Common.{◌≡◌, ◌+◌, ◌-◌, ap, arith}
-use Rattle.tbr_tagged.specs.View.{chars_of}
-use Rattle.tbr_flat.specs.Flat.{Flat}
-use Rattle.tbr_flat.proofs.TaggedCharacters.{text_turn, rest_turn}
+use Rattle.std.proofs.Common.{◌≡◌, ◌+◌, ◌-◌, refl, arith, append_assoc}
+use Rattle.std.proofs.Math.Seq.{take-add}
+use Rattle.std.proofs.lemmas.List.{drop-drop}
+use Rattle.std.proofs.lemmas.List.Concat.{flat_map-append}
 use Rattle.tbr_flat.proofs.flat_text.FlatText.move_text.Goals as goal
 
 pub loop-left-preserved : goal.loop-left-preserved
@@ -10,7 +10,6 @@ loop-left-preserved g c =
     let k : c.args.items - (c.loop-left.left - n) ≡ m + n = omega (arith, inv.within, c.in_ok-left.ensures.some.1) in
     record {
       within = omega (arith, inv.within);
-      text = text_turn (chars_of c.args.text.now) (chars_of c.loop-left.text) (chars_of c.move_piece.new.text) c.args.self.now.placed c.loop-left.self.placed m n
-          (c.args.items - (c.loop-left.left - n)) k (ap (λ (f : Flat g.row.T.Denot). f.placed) inv.rest) inv.text c.in_ok-left.ensures.text;
-      rest = rest_turn c.args.self.now c.loop-left.self c.move_piece.new.self m n (c.args.items - (c.loop-left.left - n)) k inv.rest c.in_ok-left.ensures.rest;
+      text = rw (c.in_ok-left.ensures.text, inv.text, inv.rest, k, take-add, flat_map-append, append_assoc) refl;
+      rest = rw (c.in_ok-left.ensures.rest, inv.rest, k, drop-drop) refl;
     }

@@ -1,8 +1,9 @@
-use Rattle.std.proofs.Common.{◌≡◌, ◌+◌, ◌-◌, ap, arith}
+use Rattle.std.proofs.Common.{◌≡◌, ◌+◌, ◌-◌, ap, refl, arith}
 use Rattle.std.proofs.lemmas.Result.{IfOk-at_ok}
+use Rattle.std.proofs.lemmas.List.{drop-drop}
 use Rattle.tbr_tagged.specs.Elements.{items_of, IsMerged}
 use Rattle.tbr_flat.specs.Flat.{Flat}
-use Rattle.tbr_flat.proofs.TaggedCharacters.{line_turn, rest_turn}
+use Rattle.tbr_flat.proofs.TaggedCharacters.{line_turn}
 use Rattle.tbr_flat.proofs.flat_text.FlatText.take_line.Goals as goal
 
 pub loop-left-preserved : goal.loop-left-preserved
@@ -14,5 +15,5 @@ loop-left-preserved g c =
       items = line_turn g.T.PartialEq.eq g.met.T.Eq.laws (items_of c.loop-left.line) (items_of c.move_element.new.line) c.args.self.now.placed c.loop-left.self.placed m n
           (c.args.items - (c.loop-left.left - n)) k (ap (λ (f : Flat g.row.T.Denot). f.placed) inv.rest) inv.items c.in_ok-left.ensures.items;
       merged = IfOk-at_ok (λ _. IsMerged g.T.PartialEq.eq c.move_element.new.line) c.in_ok-left.was (c.move_element.ensures.merged inv.merged);
-      rest = rest_turn c.args.self.now c.loop-left.self c.move_element.new.self m n (c.args.items - (c.loop-left.left - n)) k inv.rest c.in_ok-left.ensures.rest;
+      rest = rw (c.in_ok-left.ensures.rest, inv.rest, k, drop-drop) refl;
     }

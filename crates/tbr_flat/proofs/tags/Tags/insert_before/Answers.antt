@@ -1,4 +1,4 @@
-use Rattle.std.proofs.Common.{◌≡◌, ◌<◌, ◌≤◌, ◌+◌, ◌-◌, ◌++◌, [], ◌∷◌, ℕ, zero, suc, Bool, true, List, length, drop, take, get_or, set, replicate, refl, ap, ◌∙◌, sym, subst, arith, add-one, append-nil}
+use Rattle.std.proofs.Common.{◌≡◌, ◌<◌, ◌≤◌, ◌+◌, ◌-◌, ◌++◌, [], ◌∷◌, ℕ, zero, suc, Bool, true, List, length, drop, take, get_or, set, replicate, refl, ap, ◌∙◌, sym, arith, add-one, append-nil}
 use Rattle.std.proofs.lemmas.List.{get_or_read, take_at, drop_at, drop-set-lt, length-set, length-take-le}
 use Rattle.std.proofs.lemmas.Result.{on_ok_weaker}
 use Rattle.std.specs.Cmp.{IsEquivalence}
@@ -22,8 +22,8 @@ module _ {A : Type 0} (eq : A → A → Bool) (laws : IsEquivalence eq) (xs : Li
   put : (i o p : ℕ) (a b t : A) (new rest : List A) → length (tags_of (drop i xs)) ≡ o + last → eq a tag ≡ true → eq b t ≡ true → drop o (tags_of (drop i xs)) ≡ replicate p t ++ rest →
       new ≡ (tags_of (take i xs) ++ take o (tags_of (drop i xs))) ++ (replicate n a ++ (replicate p b ++ rest)) → Inserted new
   put i o p a b t new rest len e same left is =
-      let at = cut xs tags i o last view len in let after = replicate p b ++ rest in
-      (a, after, e, is ∙ ap (λ ts. ts ++ (replicate n a ++ after)) (sym at.0), subst (AllZip (λ x y. eq x y ≡ true) after) (sym (at.1 ∙ left)) (same_run eq laws p b t rest same))
+      let at = cut xs tags i o last view len in
+      rw (at.0, at.1, left, is) (a, replicate p b ++ rest, e, refl, same_run eq laws p b t rest same)
 
   -- a stored tag that was read twice is repeated more, wherever in it the tag is meant
   bumped : (i o : ℕ) (r s y : RepeatedTag A) → i < length xs → r ≡ get_or xs i r → s ≡ get_or xs i s → y ≡ record s { more = s.more + n } → o ≤ suc s.more → length (tags_of (drop i xs)) ≡ o + last → eq r.tag tag ≡ true →
@@ -53,9 +53,6 @@ module _ {A : Type 0} (eq : A → A → Bool) (laws : IsEquivalence eq) (xs : Li
       put i o (suc b.more) tag b.tag s.tag (tags_of two) (tags_of (drop (suc i) xs)) place.tags (laws.refl tag) same (parted (drop i xs) (drop (suc i) xs) s o (suc b.more) (stored_at xs i s h is) (omega arith)).1
       (ap tags_of items ∙ tags_of-append front (new ∷ after) ∙ (λ k. ended xs i o last s y place inside is e k ++ (replicate (m k) tag ++ (replicate (suc b.more) b.tag ++ tags_of (kept k)))))
 
-pub place_before-place-requires : goal.place_before-place-requires
-place_before-place-requires g c = omega (arith, c.requires.within, ap length c.self.view_is)
-
 pub returns-then-eq : goal.returns-then-eq
 returns-then-eq g c =
     let xs = c.self.inside.stored.items in let p = c.place_before-place.result in let s = c.index_mut.result.now in
@@ -63,11 +60,6 @@ returns-then-eq g c =
     let less : p.offset ≤ s.more = offset_in xs p.nth p.offset c.args.last s c.place_before-place.ensures c.index_mut.ensures.value in
     on_ok_weaker c.lengthen.result (λ h. bumped g.T.PartialEq.eq g.met.T.Eq.laws xs c.args.self.now c.self.view_is c.args.last c.args.count c.args.tag p.nth p.offset c.index.result.now s c.lengthen.new.repeated in_xs
     c.index.ensures c.index_mut.ensures.value h (omega (arith, less)) c.place_before-place.ensures.tags (sym c.if-eq.ensures)) c.lengthen.ensures.ok
-
-pub split_off-requires-clause-within : goal.split_off-requires-clause-within
-split_off-requires-clause-within g c =
-    let p = c.place_before-place.result in
-    offset_in c.self.inside.stored.items p.nth p.offset c.args.last c.index_mut-then-place-gt0.result.now c.place_before-place.ensures c.index_mut-then-place-gt0.ensures.value
 
 pub returns-then-place-gt0 : goal.returns-then-place-gt0
 returns-then-place-gt0 g c =

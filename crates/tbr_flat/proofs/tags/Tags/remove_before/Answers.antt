@@ -5,12 +5,6 @@ use Rattle.tbr_flat.proofs.RepeatedTags.{cut, drop_on, has_stored, in_order, off
 use Rattle.tbr_flat.proofs.tags.Tags.remove_before.Goals as goal
 use Rattle.tbr_flat.proofs.tags.Tags.remove_before.Goals.{After-index_mut, After-end_at-first}
 
-pub place_before-from-requires : goal.place_before-from-requires
-place_before-from-requires g c = omega (arith, c.requires.within, ap length c.self.view_is)
-
-pub place_before-to-requires : goal.place_before-to-requires
-place_before-to-requires g c = omega (arith, c.requires.within, ap length c.self.view_is)
-
 -- both places are in one stored tag
 offsets : (g : _) (c : After-index_mut g) → (c.place_before-to.result.offset ≡ c.place_before-from.result.offset + c.args.count) × (c.place_before-to.result.offset ≤ c.index_mut.result.now.more)
 offsets g c =
@@ -31,9 +25,6 @@ returns-then-from-to g c =
     let front = sym (cut xs tags i a (last + c.args.count) c.self.view_is from).0 in
     let after = sym ((cut xs tags i b last c.self.view_is (omega (arith, from, o.0))).1 ∙ (parted (drop i xs) (drop (suc i) xs) s b (suc s.more - b) (stored_at xs i s in_xs c.index_mut.ensures.value) (omega (arith, o.1))).1) in
     resized xs i a (suc s.more - a) (suc s.more - b) s _ in_xs c.index_mut.ensures.value (omega (arith, o.0, o.1)) (omega (arith, o.0, o.1)) refl ∙ (λ k. front k ++ after k)
-
-pub end_at-first-requires : goal.end_at-first-requires
-end_at-first-requires g c = (c.args.last + c.args.count, c.place_before-from.ensures)
 
 -- the places are in two stored tags
 next : (g : _) (c : After-end_at-first g) → c.place_before-from.result.nth < c.place_before-to.result.nth

@@ -1,10 +1,8 @@
-use Rattle.std.proofs.Common.{◌++◌, chars, take, ap, ◌∙◌}
+use Rattle.std.proofs.Common.{refl}
 use Rattle.std.specs.String.{string_bytes}
 use Rattle.std.proofs.lemmas.Str.{chars-append, IsUtf8-string_bytes}
-use Rattle.tbr_tagged.specs.View.{chars_of}
 use Rattle.tbr_flat.proofs.text_queue.TextQueue.move_to.Goals as goal
 
 pub returns-clause-text : goal.returns-clause-text
 returns-clause-text c =
-    ap chars c.in_ok-push_str.ensures.bytes ∙ chars-append (string_bytes c.args.text.now) c.front.result.now (IsUtf8-string_bytes c.args.text.now)
-    ∙ ap (λ cs. chars_of c.args.text.now ++ cs) (c.front.ensures ∙ ap (take c.args.count) c.as_str-left.ensures)
+    rw (c.in_ok-push_str.ensures.bytes, chars-append (string_bytes c.args.text.now) c.front.result.now (IsUtf8-string_bytes c.args.text.now), c.front.ensures, c.as_str-left.ensures) refl

@@ -19,6 +19,6 @@ pub returns-clause-lines : goal.returns-clause-lines
 returns-clause-lines g c =
     let eq = g.T.PartialEq.eq in
     let k = c.self.inside in
-    subst (λ ls. AllZip (SameSeen eq) (map line_seen c.append_all.new.lines.items) ls) c.self.view_is
+    subst (λ ls. AllZip (SameSeen eq) (map line_seen c.append_all.new.items.items) ls) c.self.view_is
     (subst (λ ls. AllZip (SameSeen eq) (map line_seen ls) (parts_seen k.above.items ++ map line_seen k.last.items)) (sym c.in_ok-append_all.ensures.ok)
     (lines_after eq g.met.T.Eq.laws c.in_ok-lines.lines.items k.last.items (parts_seen k.above.items) c.in_ok-lines.ensures.lines))

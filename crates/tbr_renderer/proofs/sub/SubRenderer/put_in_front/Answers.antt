@@ -8,7 +8,7 @@ use Rattle.tbr_tagged.specs.Elements.{items_of, text_items}
 use Rattle.tbr_tagged.proofs.MappedTags.{means_same_items}
 use Rattle.tbr_footnotes.specs.Tags.{tag_meant, items_meant}
 use Rattle.tbr_footnotes.proofs.Tags.{tags_mean, text_items-map}
-use Rattle.tbr_renderer.proofs.AppendedLines.{no_prefix}
+use Rattle.tbr_kept_lines.proofs.Prefixes.{no_prefix}
 use Rattle.tbr_renderer.proofs.sub.SubRenderer.put_in_front.Goals as goal
 
 pub returns-then-is_empty-clause-items : goal.returns-then-is_empty-clause-items

@@ -1,4 +1,4 @@
-use Rattle.std.proofs.Common.{◌≡◌, rules, chars, [], ap, sym, ◌∙◌, ◌++◌, map, length, arith}
+use Rattle.std.proofs.Common.{◌≡◌, rules, chars, [], ap, sym, ◌∙◌, ◌++◌, map, refl}
 use Rattle.std.specs.Str.Iter.{chars_rest}
 use Rattle.std.specs.Char.{IsScalar}
 use Rattle.tbr_tagged.specs.Elements.{characters}
@@ -21,21 +21,11 @@ returns-in-Some-clause-goes g c = let steps = returns-in-Some-clause-steps g c i
 pub returns-in_err-element-clause-steps : goal.returns-in_err-element-clause-steps
 returns-in_err-element-clause-steps g c =
     let text : chars (chars_rest c.loop-c.self.text) ≡ [] = chars_none (chars_rest c.loop-c.self.text) c.in_default.ensures.steps.0.0 in
-    let none : characters_left c.args.self.now ≡ [] =
-    sym c.loop-c.invariant ∙ ap (λ cs. cs ++ characters (map element_of (elements_left c.loop-c.self.rest))) text ∙ ap (λ es. characters (map element_of es)) c.in_err-element.ensures.steps.0 in
-    let same : characters_left (record { text = c.next.new.self; rest = c.next-in-loop-c.new.self }) ≡ [] =
-    ap (λ walk. chars (chars_rest walk) ++ characters (map element_of (elements_left c.next-in-loop-c.new.self))) c.in_default.ensures.steps.0.1
-    ∙ ap (λ cs. cs ++ characters (map element_of (elements_left c.next-in-loop-c.new.self))) text ∙ ap (λ es. characters (map element_of es)) c.in_err-element.ensures.steps.1 in
+    let none : characters_left c.args.self.now ≡ [] = rw (← c.loop-c.invariant, text, c.in_err-element.ensures.steps.0) refl in
+    let same : characters_left (record { text = c.next.new.self; rest = c.next-in-loop-c.new.self }) ≡ [] = rw (c.in_default.ensures.steps.0.1, text, c.in_err-element.ensures.steps.1) refl in
     rw c.from_residual.ensures (none, same)
 
 pub loop-c-preserved : goal.loop-c-preserved
 loop-c-preserved g c =
-    let rest = elements_left c.next-in-loop-c.new.self in
     let text : chars (chars_rest c.loop-c.self.text) ≡ [] = chars_none (chars_rest c.loop-c.self.text) c.in_default.ensures.steps.0.0 in
-    let now : characters_left c.loop-c.self ≡ chars c.as_str.result.now ++ characters (map element_of rest) =
-    ap (λ cs. cs ++ characters (map element_of (elements_left c.loop-c.self.rest))) text ∙ ap (λ es. characters (map element_of es)) c.in_ok-element.ensures.steps
-    ∙ ap (λ cs. cs ++ characters (map element_of rest)) (sym c.as_str.ensures) in
-    ap (λ bs. chars bs ++ characters (map element_of rest)) c.chars-self.ensures.rest ∙ sym now ∙ c.loop-c.invariant
-
-pub loop-c-smaller : goal.loop-c-smaller
-loop-c-smaller g c = omega (arith, ap length c.in_ok-element.ensures.steps)
+    rw (← c.loop-c.invariant, c.chars-self.ensures.rest, c.as_str.ensures, text, c.in_ok-element.ensures.steps) refl

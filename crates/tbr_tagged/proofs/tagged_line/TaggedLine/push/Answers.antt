@@ -1,9 +1,9 @@
-use Rattle.std.proofs.Common.{◌∙◌, ◌++◌, ap, map, subst, sym}
+use Rattle.std.proofs.Common.{◌∙◌, ap, map}
 use Rattle.std.proofs.lemmas.List.{map_push}
 use Rattle.std.proofs.lemmas.Result.{on_ok_weaker}
 use Rattle.std.specs.String.{string_bytes}
 use Rattle.tbr_tagged.specs.declared.element.TaggedLineElement.TheVariants.{FragmentStart}
-use Rattle.tbr_tagged.specs.Elements.{marker_element, element_items, items_of, SameItems, IsMerged}
+use Rattle.tbr_tagged.specs.Elements.{marker_element}
 use Rattle.tbr_tagged.specs.Stored.{stored}
 use Rattle.tbr_tagged.specs.View.{element_of}
 use Rattle.tbr_tagged.proofs.TextAfter.{merged_element}
@@ -12,21 +12,18 @@ use Rattle.tbr_tagged.proofs.tagged_line.TaggedLine.push.Goals as goal
 
 pub returns-in-FragmentStart-clause-items : goal.returns-in-FragmentStart-clause-items
 returns-in-FragmentStart-clause-items g c =
-    let eq = g.T.PartialEq.eq in
     let es = map element_of (stored c.self.inside.elements) in
     let name = c.in-FragmentStart.name in
-    let marker = marker_element (string_bytes name) in
     rw (c.in-FragmentStart.is, ← c.self.view_is)
     (on_ok_weaker c.push.result (λ h.
-    subst (λ fs. SameItems eq (items_of fs) (items_of es ++ element_items marker)) (sym (ap (map element_of) h ∙ map_push element_of (stored c.self.inside.elements) (FragmentStart name)))
-    (element_pushed eq g.met.T.Eq.laws es marker)) c.push.ensures.ok)
+    let pushed = ap (map element_of) h ∙ map_push element_of (stored c.self.inside.elements) (FragmentStart name) in
+    rw pushed (element_pushed g.T.PartialEq.eq g.met.T.Eq.laws es (marker_element (string_bytes name)))) c.push.ensures.ok)
 
 pub returns-in-FragmentStart-clause-merged : goal.returns-in-FragmentStart-clause-merged
 returns-in-FragmentStart-clause-merged g c = λ merged.
-    let eq = g.T.PartialEq.eq in
     let es = map element_of (stored c.self.inside.elements) in
     let name = c.in-FragmentStart.name in
     let before = rw (← c.self.view_is) at merged in
     on_ok_weaker c.push.result (λ h.
-    subst (λ fs. IsMerged eq fs) (sym (ap (map element_of) h ∙ map_push element_of (stored c.self.inside.elements) (FragmentStart name)))
-    (merged_element eq es (marker_element (string_bytes name)) before)) c.push.ensures.ok
+    let pushed = ap (map element_of) h ∙ map_push element_of (stored c.self.inside.elements) (FragmentStart name) in
+    rw pushed (merged_element g.T.PartialEq.eq es (marker_element (string_bytes name)) before)) c.push.ensures.ok

@@ -1,10 +1,9 @@
 use Rattle.std.proofs.Common.{map, [], ◌∷◌}
 use Rattle.std.proofs.lemmas.Result.{on_ok_weaker}
-use Rattle.tbr_tagged.specs.Elements.{push_text}
 use Rattle.tbr_tagged.specs.Stored.{stored}
 use Rattle.tbr_tagged.specs.View.{element_of}
 use Rattle.tbr_tagged.proofs.SameItems.{push_items}
-use Rattle.tbr_tagged.proofs.TextAfter.{merged_push, same_merged}
+use Rattle.tbr_tagged.proofs.TextAfter.{pushed_merged}
 use Rattle.tbr_tagged.proofs.tagged_line.TaggedLine.push_char.Goals as goal
 
 pub returns-clause-items : goal.returns-clause-items
@@ -15,7 +14,5 @@ returns-clause-items g c =
 
 pub returns-clause-merged : goal.returns-clause-merged
 returns-clause-merged g c = λ merged.
-    on_ok_weaker c.push_glyph.result
-    (λ same. same_merged g.T.PartialEq.eq g.met.T.Eq.laws (map element_of (stored c.push_glyph.new.elements)) (push_text g.T.PartialEq.eq (map element_of (stored c.self.inside.elements)) (c.args.c ∷ []) c.args.tag.now) same
-    (merged_push g.T.PartialEq.eq (map element_of (stored c.self.inside.elements)) (c.args.c ∷ []) c.args.tag.now (rw (← c.self.view_is) at merged)))
-    c.push_glyph.ensures.ok
+    let pushed = pushed_merged g.T.PartialEq.eq g.met.T.Eq.laws _ (map element_of (stored c.push_glyph.new.elements)) (c.args.c ∷ []) c.args.tag.now (rw (← c.self.view_is) at merged) in
+    on_ok_weaker c.push_glyph.result pushed c.push_glyph.ensures.ok

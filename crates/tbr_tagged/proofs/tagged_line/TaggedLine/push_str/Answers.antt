@@ -1,12 +1,12 @@
-use Rattle.std.proofs.Common.{◌≡◌, map, [], ◌++◌, refl, sym, ap, ◌∙◌, arith, append-nil, chars}
+use Rattle.std.proofs.Common.{◌≡◌, map, [], refl, sym, arith, append-nil, chars}
 use Rattle.std.specs.String.{string_bytes, string_len}
 use Rattle.std.proofs.lemmas.Bool.{eqb-true}
 use Rattle.std.proofs.lemmas.Result.{on_ok_weaker}
-use Rattle.tbr_tagged.specs.Elements.{push_text, text_items, items_of, IsMerged}
+use Rattle.tbr_tagged.specs.Elements.{items_of}
 use Rattle.tbr_tagged.specs.Stored.{stored}
 use Rattle.tbr_tagged.specs.View.{element_of}
 use Rattle.tbr_tagged.proofs.TextAfter.{chars_none, merged_push}
-use Rattle.tbr_tagged.proofs.SameItems.{items_push, same_from_path}
+use Rattle.tbr_tagged.proofs.SameItems.{items_push, same_items}
 use Rattle.tbr_tagged.proofs.tagged_line.TaggedLine.push_str.Goals as goal
 
 pub returns-then-is_empty-clause-ok : goal.returns-then-is_empty-clause-ok
@@ -19,8 +19,7 @@ pub returns-then-is_empty-clause-items : goal.returns-then-is_empty-clause-items
 returns-then-is_empty-clause-items g c =
     let none : string_len c.args.ts.s ≡ 0 = eqb-true (string_len c.args.ts.s) 0 (sym c.if-is_empty.ensures) in
     let text : chars (string_bytes c.args.ts.s) ≡ [] = chars_none (string_bytes c.args.ts.s) (omega (arith, none)) in
-    same_from_path g.T.PartialEq.eq g.met.T.Eq.laws (items_of c.args.self.now) (items_of c.args.self.now ++ text_items (chars (string_bytes c.args.ts.s)) c.args.ts.tag)
-    (sym (ap (λ cs. items_of c.args.self.now ++ text_items cs c.args.ts.tag) text ∙ append-nil (items_of c.args.self.now)))
+    rw (text, append-nil) (same_items g.T.PartialEq.eq g.met.T.Eq.laws (items_of c.args.self.now))
 
 pub returns-clause-items : goal.returns-clause-items
 returns-clause-items g c =
@@ -31,7 +30,5 @@ returns-clause-items g c =
 pub returns-clause-merged : goal.returns-clause-merged
 returns-clause-merged g c = λ merged.
     on_ok_weaker c.push_piece.result (λ is.
-    let pushed : IsMerged g.T.PartialEq.eq (push_text g.T.PartialEq.eq (map element_of (stored c.self.inside.elements)) (chars (string_bytes c.args.ts.s)) c.args.ts.tag) =
-    merged_push g.T.PartialEq.eq (map element_of (stored c.self.inside.elements)) (chars (string_bytes c.args.ts.s)) c.args.ts.tag (rw (← c.self.view_is) at merged) in
-    rw is pushed)
+    rw is (merged_push g.T.PartialEq.eq (map element_of (stored c.self.inside.elements)) (chars (string_bytes c.args.ts.s)) c.args.ts.tag (rw (← c.self.view_is) at merged)))
     c.push_piece.ensures.ok

@@ -1,13 +1,13 @@
-use Rattle.std.proofs.Common.{ap, map, length, sym, ◌∙◌, arith}
+use Rattle.std.proofs.Common.{ap, length, sym, ◌∙◌, arith}
 use Rattle.std.proofs.lemmas.List.{length-map}
 use Rattle.tbr_tagged.specs.Stored.{stored}
 use Rattle.tbr_tagged.specs.View.{element_of}
-use Rattle.tbr_tagged.specs.Walks.{elements_left, strings_of, pieces_of, piece_of}
+use Rattle.tbr_tagged.specs.Walks.{elements_left, strings_of, piece_of}
 use Rattle.tbr_tagged.proofs.LineWalks.{few_stored, strings_are_pieces, pieces_among}
 use Rattle.tbr_tagged.proofs.tagged_line.TaggedLine.tagged_strings.Goals as goal
 
 pub returns-clause-pieces : goal.returns-clause-pieces
-returns-clause-pieces g c = strings_are_pieces (elements_left c.iter.result) ∙ ap (λ es. pieces_of (map element_of es)) c.iter.ensures ∙ ap pieces_of c.self.view_is
+returns-clause-pieces g c = rw (← c.self.view_is, ← c.iter.ensures) (strings_are_pieces (elements_left c.iter.result))
 
 pub returns-clause-len : goal.returns-clause-len
 returns-clause-len g c = sym (length-map (strings_of (elements_left c.iter.result)) piece_of) ∙ ap length (returns-clause-pieces g c)

@@ -5,11 +5,11 @@ use Rattle.tbr_model.specs.Run.{Entry}
 use Rattle.tbr_model.specs.Rule.{entry}
 use Rattle.tbr_tagged.specs.declared.error.Error.TheVariants as E
 use Rattle.tbr_wrap.specs.Runs.{text_entries}
-use Rattle.tbr_wrap.specs.Block.{Block, lines, allows, grown, settled, settings_of}
+use Rattle.tbr_wrap.specs.Block.{Block, lines, allows, grown, settled}
 use Rattle.tbr_wrap.specs.Held.{HoldsRun, block_of}
 use Rattle.tbr_wrap.specs.Wrapper.{IsAtProgress}
 use Rattle.tbr_wrap.proofs.runs.HeldRuns.{holds_grown, given}
-use Rattle.tbr_wrap.proofs.runs.Blocks.{led_on, settings_kept, entries_entered, text_grown, refused_text, entered_allows}
+use Rattle.tbr_wrap.proofs.runs.Blocks.{led_on, entries_entered, text_grown, refused_text, entered_allows}
 use Rattle.tbr_wrap.proofs.block.WrappedBlock.add_front.Goals as goal
 
 pub split_at-requires : goal.split_at-requires
@@ -50,17 +50,6 @@ returns-clause-ok g c =
           ∙ text_grown columns (block_of columns r) cs c.args.main_tag.now c.args.wrap_tag.now mode
           ∙ ap (λ (s : Block g.row.T.Denot). grown s (map entry (text_entries cs c.args.main_tag.now c.args.wrap_tag.now mode))) c.self.view_is;
     }
-
-pub returns-clause-settings : goal.returns-clause-settings
-returns-clause-settings g c =
-    let r = c.self.inside in
-    settings_kept g.W.CharWidth.columns r (record r { wrapper = c.add_front-added.new.self; failure = c.keep.new.failure; changes = c.note_text.new.changes }) c.add_front-added.ensures.limits refl
-    ∙ ap settings_of c.self.view_is
-
-pub returns-in_err-bytes-clause-settings : goal.returns-in_err-bytes-clause-settings
-returns-in_err-bytes-clause-settings g c =
-    let r = c.self.inside in
-    settings_kept g.W.CharWidth.columns r (record r { wrapper = c.add_front-added.new.self; failure = c.keep.new.failure }) c.add_front-added.ensures.limits refl ∙ ap settings_of c.self.view_is
 
 pub returns-in_err-bytes-clause-too_narrow : goal.returns-in_err-bytes-clause-too_narrow
 returns-in_err-bytes-clause-too_narrow g c = λ e.

@@ -1,11 +1,11 @@
 use Rattle.std.proofs.Common.{[], ◌∷◌, refl, ap, ◌∙◌, sym, subst, string_bytes}
 use Rattle.tbr_model.specs.Run.{marker_entry}
 use Rattle.tbr_model.specs.Rule.{entry, enter}
-use Rattle.tbr_wrap.specs.Block.{Block, grown, settings_of, progress_of}
+use Rattle.tbr_wrap.specs.Block.{progress_of}
 use Rattle.tbr_wrap.specs.Held.{HoldsRun, block_of}
 use Rattle.tbr_wrap.specs.Wrapper.{IsAtProgress}
 use Rattle.tbr_wrap.proofs.runs.HeldRuns.{holds_grown, given}
-use Rattle.tbr_wrap.proofs.runs.Blocks.{led_on, settings_kept}
+use Rattle.tbr_wrap.proofs.runs.Blocks.{led_on}
 use Rattle.tbr_wrap.proofs.block.WrappedBlock.add_marker.Goals as goal
 
 pub invariant_of-self-2 : goal.invariant_of-self-2
@@ -23,22 +23,3 @@ invariant_of-self-2 g c = λ live.
     subst (HoldsRun columns eq t.wrapper r.begun)
     (sym (led_on columns r t _ limits refl c.with_marker-changes.ensures.changes was live))
     (holds_grown _ _ _ _ _ k t.wrapper (entry (marker_entry name) ∷ []) named)
-
-pub returns-clause-ok : goal.returns-clause-ok
-returns-clause-ok g c =
-    let columns = g.W.CharWidth.columns in let r = c.self.inside in
-    let t = record r { wrapper = c.add_marker-added.new.self; failure = c.keep_want.new.failure; changes = c.with_marker-changes.result.0 } in
-    let was = ap (λ (s : Block g.row.T.Denot). s.failure) c.self.view_is ∙ c.requires in
-    led_on columns r t _ c.add_marker-added.ensures.limits refl c.with_marker-changes.ensures.changes was (c.in_ok-keep_want.ensures.ok.1 ∙ was)
-    ∙ ap (λ (s : Block g.row.T.Denot). grown s (entry (marker_entry (string_bytes c.args.name)) ∷ [])) c.self.view_is
-
-pub returns-clause-settings : goal.returns-clause-settings
-returns-clause-settings g c =
-    let r = c.self.inside in
-    settings_kept g.W.CharWidth.columns r (record r { wrapper = c.add_marker-added.new.self; failure = c.keep_want.new.failure; changes = c.with_marker-changes.result.0 }) c.add_marker-added.ensures.limits refl
-    ∙ ap settings_of c.self.view_is
-
-pub returns-in_err-keep_want-clause-settings : goal.returns-in_err-keep_want-clause-settings
-returns-in_err-keep_want-clause-settings g c =
-    let r = c.self.inside in
-    settings_kept g.W.CharWidth.columns r (record r { wrapper = c.add_marker-added.new.self; failure = c.keep_want.new.failure }) c.add_marker-added.ensures.limits refl ∙ ap settings_of c.self.view_is

@@ -1,14 +1,11 @@
 use Rattle.std.proofs.Common.{[], refl, ap, ◌∙◌, sym}
 use Rattle.tbr_tagged.proofs.Outcomes.{answers_ok}
-use Rattle.tbr_wrap.specs.Block.{Block, settings_of}
+use Rattle.tbr_wrap.specs.Block.{settings_of}
 use Rattle.tbr_wrap.proofs.runs.Blocks.{grown_on, text_done}
 use Rattle.tbr_wrap.proofs.block.WrappedBlock.add_text.Goals as goal
 
 pub loop-rest-init : goal.loop-rest-init
 loop-rest-init g c = record { utf8 = c.utf8.text; grown = record { front = []; split = refl; is = c.begin_call.ensures.begun }; allowed = c.begin_call.ensures.allowed }
-
-pub add_front-requires-clause-unfailed : goal.add_front-requires-clause-unfailed
-add_front-requires-clause-unfailed g c = ap (λ (s : Block g.row.T.Denot). s.failure) c.loop-rest.invariant.grown.is ∙ c.in_ok-refusal.ensures
 
 pub loop-rest-preserved : goal.loop-rest-preserved
 loop-rest-preserved g c = record {

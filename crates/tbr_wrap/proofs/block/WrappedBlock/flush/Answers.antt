@@ -14,7 +14,7 @@ use Rattle.tbr_wrap.proofs.block.WrappedBlock.flush.Goals as goal
 
 -- a line has at least a column
 wide : (g : Over) (c : After-keep g) → 0 < c.args.self.now.width
-wide g c = subst (λ (s : Block g.row.T.Denot). 0 < s.width) c.self.view_is c.self.inside.wrapper.lines.positive
+wide g c = rw (← c.self.view_is) c.self.inside.wrapper.lines.positive
 
 -- where the wrapper refuses, the block does
 refused_end : (g : Over) (c : After-keep g) → c.finish.result ≡ Err E.TooNarrow → after_flush g.W.CharWidth.columns c.args.self.now ≡ refused E.TooNarrow
@@ -22,9 +22,8 @@ refused_end g c is =
     let columns = g.W.CharWidth.columns in let r = c.self.inside in let s = block_of columns r in
     let k = c.self.invariant (ap (λ (q : Block g.row.T.Denot). q.failure) c.self.view_is ∙ c.in_ok-refusal.ensures) in
     let wider = c.finish.ensures.wider is _ _ _ k.stands in
-    ap (after_flush columns) (sym c.self.view_is)
-    ∙ live_goes s.failure _ (ap (λ (q : Block g.row.T.Denot). q.failure) c.self.view_is ∙ c.in_ok-refusal.ensures)
-    ∙ if_not_allowed columns (allows columns s (all_lines columns s)) (flushed columns s) (not_allowed columns s (all_lines columns s) wider.0 wider.1)
+    rw (← c.self.view_is, live_goes s.failure _ (ap (λ (q : Block g.row.T.Denot). q.failure) c.self.view_is ∙ c.in_ok-refusal.ensures))
+    (if_not_allowed columns (allows columns s (all_lines columns s)) (flushed columns s) (not_allowed columns s (all_lines columns s) wider.0 wider.1))
 
 pub invariant_of-self-2 : goal.invariant_of-self-2
 invariant_of-self-2 g c = λ live.
@@ -47,9 +46,8 @@ done_end g c =
     let live = ap (λ (q : Block g.row.T.Denot). q.failure) c.self.view_is ∙ c.in_ok-refusal.ensures in
     let k = c.self.invariant live in
     let e = rw was.0 at (c.finish.ensures.finished _ _ _ k.stands) in
-    ap (after_flush columns) (sym c.self.view_is) ∙ live_goes s.failure _ live
-    ∙ if_allowed columns (allows columns s (all_lines columns s)) (flushed columns s) (fit_allows columns r.wrapper.lines.width r.wrapper.lines.may_overflow _ e.fits)
-    ∙ ap done (sym (led_on columns r t _ c.finish.ensures.limits refl c.appended-self-inside.ensures live (was.1 ∙ live)))
+    rw (← c.self.view_is, live_goes s.failure _ live, led_on columns r t _ c.finish.ensures.limits refl c.appended-self-inside.ensures live (was.1 ∙ live))
+    (if_allowed columns (allows columns s (all_lines columns s)) (flushed columns s) (fit_allows columns r.wrapper.lines.width r.wrapper.lines.may_overflow _ e.fits))
 
 pub returns-clause-answers : goal.returns-clause-answers
 returns-clause-answers g c =

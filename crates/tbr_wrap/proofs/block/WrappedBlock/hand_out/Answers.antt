@@ -1,5 +1,5 @@
-use Rattle.std.proofs.Common.{◌≡◌, [], ◌∷◌, ◌++◌, drop, length, ap, ◌∙◌, sym, refl, subst, arith, append_assoc, append-nil}
-use Rattle.tbr_wrap.specs.Block.{Block, Settings, left, HandsOutFirst}
+use Rattle.std.proofs.Common.{◌≡◌, [], ◌∷◌, ◌++◌, drop, length, ap, ◌∙◌, sym, subst, arith, append_assoc, append-nil, refl}
+use Rattle.tbr_wrap.specs.Block.{Block, Settings, left}
 use Rattle.tbr_wrap.specs.Wrapped.{ShowsText}
 use Rattle.tbr_wrap.proofs.runs.LinesLeft.{handed_keeps, left_after}
 use Rattle.tbr_wrap.proofs.runs.BlockLaws.{HandsOne, one_handed, none_handed}
@@ -12,8 +12,7 @@ use Rattle.tbr_wrap.proofs.block.WrappedBlock.hand_out.Goals as goal
 one : (g : Over) (c : In-Some g) → HandsOne g.W.CharWidth.columns g.T.PartialEq.eq c.loop-lines.self c.in-Some.line c.next_line.new.self
 one g c =
     let columns = g.W.CharWidth.columns in let block = c.loop-lines.self in
-    one_handed columns g.T.PartialEq.eq block c.next_line.new.self c.in_ok-line.ensures.answers.ok c.in-Some.line
-    (subst (λ o. HandsOutFirst columns g.T.PartialEq.eq block (left columns block) o) c.in-Some.is c.in_ok-line.ensures.line)
+    one_handed columns g.T.PartialEq.eq block c.next_line.new.self c.in_ok-line.ensures.answers.ok c.in-Some.line (rw c.in-Some.is at c.in_ok-line.ensures.line)
 
 pub loop-lines-init : goal.loop-lines-init
 loop-lines-init g c = (c.requires.live, refl, refl, [], refl, rw c.new-lines.ensures.items tt)
@@ -43,7 +42,6 @@ loop-lines-preserved g c =
 pub returns-clause-lines : goal.returns-clause-lines
 returns-clause-lines g c =
     let columns = g.W.CharWidth.columns in let inv = c.loop-lines.invariant in let block = c.loop-lines.self in
-    let none = (none_handed columns g.T.PartialEq.eq block c.next_line.new.self c.in_ok-line.ensures.answers.ok
-    (subst (λ o. HandsOutFirst columns g.T.PartialEq.eq block (left columns block) o) c.in_default.is c.in_ok-line.ensures.line)).0 in
+    let none = (none_handed columns g.T.PartialEq.eq block c.next_line.new.self c.in_ok-line.ensures.answers.ok (rw c.in_default.is at c.in_ok-line.ensures.line)).0 in
     let all : inv.3 ≡ left columns c.args.self.now = sym (append-nil inv.3) ∙ ap (λ ls. inv.3 ++ ls) (sym none) ∙ sym inv.4 in
     rw (← all) inv.5

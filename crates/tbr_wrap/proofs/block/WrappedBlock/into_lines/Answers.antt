@@ -1,29 +1,20 @@
-use Rattle.std.proofs.Common.{◌≡◌, ap, ◌∙◌, sym, subst}
+use Rattle.std.proofs.Common.{◌≡◌, ap}
 use Rattle.std.specs.List.{AllZip}
 use Rattle.std.proofs.lemmas.Result.{IfOk-weaker}
 use Rattle.tbr_tagged.specs.Outcome.{done}
-use Rattle.tbr_tagged.proofs.Outcomes.{live_done}
 use Rattle.tbr_wrap.specs.Block.{Block, Settings, left, after_flush}
 use Rattle.tbr_wrap.specs.Wrapped.{ShowsText}
 use Rattle.tbr_wrap.proofs.runs.BlockLaws.{flush_leaves, left_flushed}
 use Rattle.tbr_wrap.proofs.block.WrappedBlock.into_lines.Goals as goal
-
-pub hand_out-requires-clause-live : goal.hand_out-requires-clause-live
-hand_out-requires-clause-live g c =
-    ap (λ (s : Block g.row.T.Denot). s.failure) (flush_leaves g.W.CharWidth.columns c.args.self c.flush.new.self c.in_ok-flush.ensures.answers.ok)
-    ∙ (live_done c.args.self.failure _ _ c.in_ok-flush.ensures.answers.ok).0
 
 pub returns-clause-gives : goal.returns-clause-gives
 returns-clause-gives g c =
     let columns = g.W.CharWidth.columns in let t = c.flush.new.self in
     let padding = ap (λ (k : Settings g.row.T.Denot). k.padding) c.in_ok-flush.ensures.answers.settings_stay in
     let width = ap (λ (k : Settings g.row.T.Denot). k.width) c.in_ok-flush.ensures.answers.settings_stay in
-    let ended : left columns t ≡ t.ended = subst (λ (s : Block g.row.T.Denot). left columns s ≡ s.ended) (sym (flush_leaves columns c.args.self t c.in_ok-flush.ensures.answers.ok)) (left_flushed columns c.args.self) in
+    let ended : left columns t ≡ t.ended = rw (flush_leaves columns c.args.self t c.in_ok-flush.ensures.answers.ok) (left_flushed columns c.args.self) in
     IfOk-weaker c.hand_out.result
     (λ lines. AllZip (ShowsText columns g.T.PartialEq.eq t.padding t.width) lines.items (left columns t))
     (λ lines. (s : Block g.row.T.Denot) × (after_flush columns c.args.self ≡ done s) × AllZip (ShowsText columns g.T.PartialEq.eq c.args.self.padding c.args.self.width) lines.items s.ended)
     (λ lines shown. (t, c.in_ok-flush.ensures.answers.ok, rw (← ended) (rw (← padding) (rw (← width) shown))))
     c.hand_out.ensures.lines
-
-pub returns-clause-kept : goal.returns-clause-kept
-returns-clause-kept g c = λ e failed. let k = (c.in_ok-flush.ensures.answers.kept e failed).0 in cc

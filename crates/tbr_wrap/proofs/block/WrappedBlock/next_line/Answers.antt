@@ -1,8 +1,6 @@
-use Rattle.std.proofs.Common.{◌≡◌, None, [], List, IsSomeAnd, refl, ap, sym, subst}
-use Rattle.tbr_model.specs.Run.{Item}
-use Rattle.tbr_tagged.specs.Elements.{items_of, SameItems}
+use Rattle.std.proofs.Common.{◌≡◌, None, [], refl, ap}
 use Rattle.tbr_tagged.proofs.Outcomes.{answers_ok}
-use Rattle.tbr_wrap.specs.Block.{Settings, left, HandsOutFirst}
+use Rattle.tbr_wrap.specs.Block.{Settings, left}
 use Rattle.tbr_wrap.proofs.runs.LinesLeft.{none_of, shows_padded}
 use Rattle.tbr_wrap.proofs.runs.Blocks.{no_line, hands_first}
 use Rattle.tbr_wrap.proofs.block.WrappedBlock.next_line.Goals as goal
@@ -10,14 +8,14 @@ use Rattle.tbr_wrap.proofs.block.WrappedBlock.next_line.Goals as goal
 pub returns-in_default-clause-answers : goal.returns-in_default-clause-answers
 returns-in_default-clause-answers g c =
     let columns = g.W.CharWidth.columns in
-    let none : left columns c.args.self.now ≡ [] = none_of _ (λ text rest e. subst (λ o. IsSomeAnd o (λ l. SameItems g.T.PartialEq.eq (items_of l) text)) c.in_default.is (c.in_ok-line.ensures.some text rest e)) in
+    let none : left columns c.args.self.now ≡ [] = none_of _ (λ text rest e. rw c.in_default.is at (c.in_ok-line.ensures.some text rest e)) in
     answers_ok _ _ _ _ None _ c.in_ok-refusal.ensures (no_line columns c.args.self.now c.take_line.new.self none (c.in_ok-line.ensures.none none).1) c.in_ok-line.ensures.settings
 
 pub returns-in_default-clause-line : goal.returns-in_default-clause-line
 returns-in_default-clause-line g c =
     let columns = g.W.CharWidth.columns in
-    let none : left columns c.args.self.now ≡ [] = none_of _ (λ text rest e. subst (λ o. IsSomeAnd o (λ l. SameItems g.T.PartialEq.eq (items_of l) text)) c.in_default.is (c.in_ok-line.ensures.some text rest e)) in
-    subst (λ (ls : List (List (Item g.row.T.Denot))). HandsOutFirst columns g.T.PartialEq.eq c.args.self.now ls None) (sym none) refl
+    let none : left columns c.args.self.now ≡ [] = none_of _ (λ text rest e. rw c.in_default.is at (c.in_ok-line.ensures.some text rest e)) in
+    rw none refl
 
 pub returns-clause-line : goal.returns-clause-line
 returns-clause-line g c =
@@ -30,4 +28,4 @@ returns-clause-line g c =
     hands_first columns eq c.args.self.now (left columns c.args.self.now) c.pad-padded.new.line
     (λ none. let was = (c.in_ok-line.ensures.none none).0 in let some = c.in-Some.is in cc)
     (λ text rest e. shows_padded columns eq g.met.T.Eq.laws c.args.self.now.padding c.args.self.now.width c.in-Some.line c.pad-padded.new.line text filled merged
-    (subst (λ o. IsSomeAnd o (λ l. SameItems eq (items_of l) text)) c.in-Some.is (c.in_ok-line.ensures.some text rest e)))
+    (rw c.in-Some.is at (c.in_ok-line.ensures.some text rest e)))

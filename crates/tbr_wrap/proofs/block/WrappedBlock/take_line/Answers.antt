@@ -1,11 +1,11 @@
 use Rattle.std.proofs.Common.{◌≡◌, ◌<◌, Ok, true, false, [], length, refl, ap, ◌∙◌, sym, subst, IfSome}
 use Rattle.tbr_tagged.specs.Elements.{items_of, SameItems, IsMerged}
 use Rattle.tbr_tagged.proofs.SameItems.{same_items_trans}
-use Rattle.tbr_wrap.specs.Block.{Block, left, line_handed_out, settings_of}
+use Rattle.tbr_wrap.specs.Block.{Block, left}
 use Rattle.tbr_wrap.specs.Held.{HoldsRun, block_of}
 use Rattle.std.proofs.lemmas.Result.{IfOk-at_ok}
 use Rattle.tbr_wrap.proofs.runs.HeldRuns.{no_lines, holds_handed, first_shown, left_shown, some_left, none_left, none_held, some_held, laid}
-use Rattle.tbr_wrap.proofs.runs.Blocks.{led_on, settings_kept}
+use Rattle.tbr_wrap.proofs.runs.Blocks.{led_on}
 use Rattle.tbr_wrap.proofs.block.WrappedBlock.take_line.Goals as goal
 
 pub returns-in_err-line-clause-none : goal.returns-in_err-line-clause-none
@@ -13,11 +13,6 @@ returns-in_err-line-clause-none g c = λ e.
     let k = c.self.invariant (ap (λ (s : Block g.row.T.Denot). s.failure) c.self.view_is ∙ c.requires.unfailed) in
     let none = none_left _ _ _ _ _ k (ap (left g.W.CharWidth.columns) c.self.view_is ∙ e) in
     absurd (let was = (c.take_line-taken.ensures.none none).0 in let no : false ≡ true = rw was at c.in_err-line.ensures.failed.0 in cc)
-
-pub returns-in_err-line-clause-settings : goal.returns-in_err-line-clause-settings
-returns-in_err-line-clause-settings g c =
-    let r = c.self.inside in
-    settings_kept g.W.CharWidth.columns r (record r { wrapper = record r.wrapper { lines = c.take_line-taken.new.self }; failure = c.keep_want.new.failure }) c.take_line-taken.ensures.limits refl ∙ ap settings_of c.self.view_is
 
 pub invariant_of-self-in_default : goal.invariant_of-self-in_default
 invariant_of-self-in_default g c = λ live.
@@ -66,19 +61,6 @@ returns-clause-merged g c =
     let f = some_left _ _ _ _ _ k some in
     let t = IfOk-at_ok _ was (c.take_line-taken.ensures.taken k.before (laid _ _ _ _ _ k) f.0 f.1 k.stands.lays.holds f.2) in
     λ line e. let same : c.in-Some.line ≡ line = cc in subst (λ l. IsMerged g.T.PartialEq.eq l) same t.1
-
-pub returns-clause-taken : goal.returns-clause-taken
-returns-clause-taken g c = λ _.
-    let columns = g.W.CharWidth.columns in let r = c.self.inside in
-    let t = record r { wrapper = record r.wrapper { lines = c.take_line-taken.new.self }; failure = c.keep_want.new.failure; begun = true; changes = c.appended-self-inside.result } in
-    let before = ap (λ (s : Block g.row.T.Denot). s.failure) c.self.view_is ∙ c.requires.unfailed in
-    led_on columns r t _ c.take_line-taken.ensures.limits refl c.appended-self-inside.ensures before (c.in_ok-line.ensures.ok.1 ∙ before) ∙ ap line_handed_out c.self.view_is
-
-pub returns-clause-settings : goal.returns-clause-settings
-returns-clause-settings g c =
-    let r = c.self.inside in
-    settings_kept g.W.CharWidth.columns r (record r { wrapper = record r.wrapper { lines = c.take_line-taken.new.self }; failure = c.keep_want.new.failure; begun = true; changes = c.appended-self-inside.result }) c.take_line-taken.ensures.limits refl
-    ∙ ap settings_of c.self.view_is
 
 pub returns-clause-none : goal.returns-clause-none
 returns-clause-none g c = λ e.

@@ -1,14 +1,10 @@
-use Rattle.std.proofs.Common.{◌≡◌, map, refl, ap, ◌∙◌, sym, subst}
-use Rattle.std.proofs.lemmas.Result.{err_from_is_err_and}
-use Rattle.tbr_tagged.specs.Elements.{marker_element}
-use Rattle.tbr_tagged.specs.View.{element_of}
+use Rattle.std.proofs.Common.{◌≡◌, refl, ap, ◌∙◌, sym, subst}
 use Rattle.tbr_tagged.specs.Outcome.{done}
-use Rattle.tbr_tagged.proofs.Outcomes.{answers_ok, answers_err}
-use Rattle.tbr_tagged.specs.declared.error.Error.TheVariants as E
-use Rattle.tbr_wrap.specs.Block.{Block, progress_of, loose, without_loose, settings_of}
+use Rattle.tbr_tagged.proofs.Outcomes.{answers_ok}
+use Rattle.tbr_wrap.specs.Block.{Block, without_loose, settings_of}
 use Rattle.tbr_wrap.specs.Held.{HoldsRun, block_of}
 use Rattle.tbr_wrap.proofs.runs.HeldRuns.{holds_taken, word_held, word_names_held}
-use Rattle.tbr_wrap.proofs.runs.Blocks.{led_on, settings_kept, none_taken, no_loose}
+use Rattle.tbr_wrap.proofs.runs.Blocks.{led_on, settings_kept, none_taken}
 use Rattle.tbr_wrap.proofs.block.WrappedBlock.take_trailing_fragments.Given.{Over}
 use Rattle.tbr_wrap.proofs.block.WrappedBlock.take_trailing_fragments.Goals.{In_ok-refusal}
 use Rattle.tbr_wrap.proofs.block.WrappedBlock.take_trailing_fragments.Goals as goal
@@ -32,8 +28,7 @@ returns-then-has_word-clause-markers g c =
     let columns = g.W.CharWidth.columns in
     let k = held g (goal.at.returns-then-has_word-clause-markers g c).In_ok-refusal in
     let some = sym (word_held _ _ _ _ _ k) ∙ sym c.has_word.ensures ∙ c.if-has_word.true in
-    ap (map element_of) c.new.ensures.items ∙ sym (ap (map marker_element) (no_loose columns (progress_of columns (block_of columns c.self.inside)).word some))
-    ∙ ap (λ (s : Block g.row.T.Denot). map marker_element (loose columns s)) c.self.view_is
+    rw (← c.self.view_is, c.new.ensures.items, some) refl
 
 -- ---- one that has none
 
@@ -66,14 +61,4 @@ returns-clause-markers g c =
     let columns = g.W.CharWidth.columns in
     let k = held g (goal.at.returns-clause-markers g c).In_ok-refusal in
     let none = sym (word_held _ _ _ _ _ k) ∙ sym c.has_word.ensures ∙ c.if-has_word.false in
-    rw c.in_ok-markers.ensures.ok.0 at c.take_markers-taken.ensures.markers ∙ ap (map marker_element) (word_names_held _ _ _ _ _ k none)
-    ∙ ap (λ (s : Block g.row.T.Denot). map marker_element (loose columns s)) c.self.view_is
-
-pub returns-in_err-markers-clause-answers : goal.returns-in_err-markers-clause-answers
-returns-in_err-markers-clause-answers g c =
-    let columns = g.W.CharWidth.columns in let r = c.self.inside in
-    let t = record r { wrapper = c.take_markers-taken.new.self; failure = c.keep_want.new.failure } in
-    let p = err_from_is_err_and c.from_residual-in_err-markers.result c.from_residual-in_err-markers.ensures.1 in
-    let want : p.0 ≡ E.OutOfMemory = cc (p.2, c.in_err-markers.ensures.failed.1) in
-    answers_err _ _ _ _ p.0 _ _ p.1 c.in_ok-refusal.ensures (λ narrow. cc) (cc (p.2, c.in_err-markers.ensures.failed.2))
-    (settings_kept columns r t c.take_markers-taken.ensures.limits refl ∙ ap settings_of c.self.view_is)
+    rw (← c.self.view_is, ← word_names_held _ _ _ _ _ k none) (rw c.in_ok-markers.ensures.ok.0 at c.take_markers-taken.ensures.markers)

@@ -9,6 +9,3 @@ returns-clause-holds g c = λ columns eq. record {
   shows = record { rest = []; split = refl; done = tt; last = tt; width = refl };
   measured = record { small = omega arith; line = refl; done = tt };
 }
-
-pub returns-clause-word : goal.returns-clause-word
-returns-clause-word g c = ap (λ f. f.word) c.new.ensures

@@ -1,14 +1,8 @@
-use Rattle.std.proofs.Common.{◌≡◌, ◌++◌, take, drop, refl, ap, ◌∙◌, arith}
+use Rattle.std.proofs.Common.{◌≡◌, ◌++◌, take, refl, ap, ◌∙◌, arith}
 use Rattle.tbr_model.specs.Run.{item_width}
 use Rattle.tbr_wrap.proofs.lines.HeldLines.{holds_wide}
 use Rattle.tbr_wrap.proofs.lines.LaidByRule.{lays_wide, same_first}
 use Rattle.tbr_wrap.proofs.laid_lines.LaidLines.place_wide.Goals as goal
-
-pub returns-clause-word : goal.returns-clause-word
-returns-clause-word g c =
-    let e = c.in_ok-place_front.ensures in
-    let one : c.in_ok-place_front.field-0.count ≡ 1 = omega (arith, e.most, e.some c.requires.some (omega (arith, c.requires.width))) in
-    ap (λ f. f.word) e.placed ∙ ap (λ n. drop n c.args.self.now.flat.word) one
 
 pub returns-clause-placed : goal.returns-clause-placed
 returns-clause-placed g c = λ j js same wide before given r h.

@@ -1,6 +1,6 @@
 use Rattle.std.proofs.Common.{◌<◌, take, drop, ap, sym, ◌∙◌, subst, arith}
 use Rattle.tbr_model.specs.Run.{item_width, items_width}
-use Rattle.tbr_model.specs.Laid.{end_if_columns, put_items}
+use Rattle.tbr_model.specs.Laid.{end_if_columns}
 use Rattle.tbr_tagged.specs.Elements.{SameItems}
 use Rattle.tbr_tagged.proofs.SameItems.{same_width}
 use Rattle.tbr_wrap.specs.LaidLines.{HoldsRule}
@@ -21,7 +21,6 @@ returns-clause-put g c =
           let begins = same_width columns eq (take 1 old.flat.word) (take 1 js) (same_take eq g.met.T.Eq.laws 1 old.flat.word js same) ∙ ap (λ ks. items_width columns (take 1 ks)) s.2 in
           let wide : old.width < item_width columns s.0 = omega (arith, begins, c.requires.width, c.requires.wide) in
           let word = subst (λ ks. SameItems eq c.end_if_columns.new.self.flat.word ks) s.2 (subst (λ f. SameItems eq f.word js) (sym flat) same) in
-          subst (λ ks. HoldsRule columns eq new before given (put_items columns old.width r (take 1 ks))) (sym s.2)
-          (item_wide columns old.width (HoldsRule columns eq new before given) r s.0 wide
+          rw s.2 (item_wide columns old.width (HoldsRule columns eq new before given) r s.0 wide
           (c.in_ok-place_wide.ensures.placed s.0 s.1 word (omega (arith, wide, c.in_ok-end_if_columns.ensures.limits.width)) before given (end_if_columns r) (c.in_ok-end_if_columns.ensures.ended columns before given r h)));
     }

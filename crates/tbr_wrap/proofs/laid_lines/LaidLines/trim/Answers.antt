@@ -1,17 +1,7 @@
-use Rattle.std.proofs.Common.{◌++◌, length, refl, sym, ap, arith, length-append}
+use Rattle.std.proofs.Common.{◌++◌, refl, sym}
 use Rattle.tbr_model.specs.Layout.{joined}
-use Rattle.tbr_wrap.proofs.lines.TrimmedSpaces.{same_leading, removed_len, markers_left, removed_width, lays_trimmed}
+use Rattle.tbr_wrap.proofs.lines.TrimmedSpaces.{same_leading, markers_left, removed_width, lays_trimmed}
 use Rattle.tbr_wrap.proofs.laid_lines.LaidLines.trim.Goals as goal
-
-pub trim-removed-requires : goal.trim-removed-requires
-trim-removed-requires g c =
-    let h = c.requires.lays.5 in
-    omega (arith, h.holds.len, ap length h.holds.placed, length-append (joined (c.requires.lays.1 ++ h.laid.done)) h.laid.line)
-
-pub overflow_sub-self : goal.overflow_sub-self
-overflow_sub-self g c =
-    let w = c.requires.lays in let h = w.5 in
-    removed_len w.0 w.4 g.T.PartialEq.eq c.args.self.now w.1 w.2 w.3 h c.trim-removed.result (c.trim-removed.ensures.placed (joined (w.1 ++ h.laid.done)) h.laid.line h.holds.placed (sym h.holds.len)).1
 
 pub invariant_of-self-clause-marked : goal.invariant_of-self-clause-marked
 invariant_of-self-clause-marked g c =

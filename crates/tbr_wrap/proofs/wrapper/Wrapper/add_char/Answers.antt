@@ -1,18 +1,11 @@
-use Rattle.std.proofs.Common.{◌≡◌, true, false, ℕ, ◌∙◌, sym, subst, Err}
+use Rattle.std.proofs.Common.{◌≡◌, ◌∙◌, sym, Err}
 use Rattle.std.proofs.lemmas.Result.{err_from_is_err_and}
 use Rattle.tbr_model.specs.declared.white_space.WhiteSpace.TheVariants.{PreWrap}
-use Rattle.tbr_model.specs.Rule.{break_word, preserve, tag_of}
+use Rattle.tbr_model.specs.Rule.{break_word, tag_of}
 use Rattle.tbr_tagged.specs.declared.error.Error.TheVariants as E
-use Rattle.tbr_model.specs.Run.{is_break}
-use Rattle.tbr_model.specs.Fits.{lines_fit}
 use Rattle.tbr_model.proofs.rule.WiderLines.{unfit_by}
 use Rattle.tbr_model.proofs.rule.DoneLines.{preserve_after}
 use Rattle.tbr_wrap.proofs.wrapper.Wrapper.add_char.Goals as goal
-
-pub returns-in-Normal-clause-entered : goal.returns-in-Normal-clause-entered
-returns-in-Normal-clause-entered g c = λ before given p s.
-    let a = tag_of p c.args.main_tag.now c.args.wrap_tag.now in
-    rw c.in-Normal.is (c.enter_normal.ensures.entered a (c.call_tag-tag.ensures g.W.CharWidth.columns before given p s) before given p s)
 
 pub preserve-requires-then-is_wordbreak_point-clause-stands : goal.preserve-requires-then-is_wordbreak_point-clause-stands
 preserve-requires-then-is_wordbreak_point-clause-stands g c =
@@ -32,20 +25,20 @@ returns-in_err-break_word-in-PreWrap-clause-wider g c = λ e before given p s.
     let columns = g.W.CharWidth.columns in let width = c.args.self.now.lines.width in
     let q = err_from_is_err_and c.from_residual.result c.from_residual.ensures.1 in
     let is : c.break_word.result ≡ Err E.TooNarrow = cc (q.1, q.2, e, c.in_err-break_word-in-PreWrap.was) in
-    let k = c.break_word.ensures.wider is before given p s in
-    let breaks : is_break c.args.c ≡ true = sym c.is_wordbreak_point.ensures ∙ c.if-is_wordbreak_point.true in
-    (k.0, rw (c.in-PreWrap.is, breaks) (unfit_by columns width (preserve columns width c.args.c c.args.main_tag.now c.args.wrap_tag.now PreWrap) (preserve_after columns width c.args.c c.args.main_tag.now c.args.wrap_tag.now PreWrap) (break_word columns width p) k.1))
+    let k = c.break_word.ensures.wider is before given p s in (
+      k.0,
+      rw (c.in-PreWrap.is, ← c.is_wordbreak_point.ensures, c.if-is_wordbreak_point.true)
+          (unfit_by columns width _ (preserve_after columns width c.args.c c.args.main_tag.now c.args.wrap_tag.now PreWrap) (break_word columns width p) k.1),
+    )
 
 pub returns-then-is_wordbreak_point-clause-wider : goal.returns-then-is_wordbreak_point-clause-wider
 returns-then-is_wordbreak_point-clause-wider g c = λ e before given p s.
     let columns = g.W.CharWidth.columns in let width = c.args.self.now.lines.width in
     let b = c.in_ok-break_word-in-PreWrap.ensures in let q = break_word columns width p in
     let k = c.preserve-then-is_wordbreak_point.ensures.wider e before given q (b.laid before given p s) in
-    let breaks : is_break c.args.c ≡ true = sym c.is_wordbreak_point.ensures ∙ c.if-is_wordbreak_point.true in
-    (sym b.limits.may_overflow ∙ k.0, rw (c.in-PreWrap.is, breaks) (rw c.in-PreWrap.is at (subst (λ (w : ℕ). lines_fit columns w (preserve columns w c.args.c c.args.main_tag.now c.args.wrap_tag.now c.args.mode q).laid.done ≡ false) b.limits.width k.1)))
+    (sym b.limits.may_overflow ∙ k.0, rw (c.in-PreWrap.is, ← c.is_wordbreak_point.ensures, c.if-is_wordbreak_point.true) (rw (c.in-PreWrap.is, b.limits.width) at k.1))
 
 pub returns-else-is_wordbreak_point-clause-wider : goal.returns-else-is_wordbreak_point-clause-wider
 returns-else-is_wordbreak_point-clause-wider g c = λ e before given p s.
     let k = c.preserve-in-PreWrap.ensures.wider e before given p s in
-    let goes : is_break c.args.c ≡ false = sym c.is_wordbreak_point.ensures ∙ c.if-is_wordbreak_point.false in
-    (k.0, rw (c.in-PreWrap.is, goes) (rw c.in-PreWrap.is at k.1))
+    (k.0, rw (c.in-PreWrap.is, ← c.is_wordbreak_point.ensures, c.if-is_wordbreak_point.false) (rw c.in-PreWrap.is at k.1))

@@ -1,30 +1,19 @@
-use Rattle.std.proofs.Common.{◌≡◌, ◌≤◌, ◌+◌, ◌++◌, ◌∷◌, [], ◌∙◌, sym, ap, chars, length, fold, arith, refl, length-append}
+use Rattle.std.proofs.Common.{◌≡◌, ◌≤◌, ◌+◌, ◌++◌, ◌∷◌, [], ◌∙◌, sym, ap, chars, length, arith, refl, length-append}
 use Rattle.std.proofs.lemmas.Str.{chars-IsAscii}
 use Rattle.tbr_model.specs.declared.white_space.WhiteSpace.TheVariants.{Normal}
-use Rattle.tbr_model.specs.Rule.{tag_of, pending_width, lay_here, enter, collapse}
+use Rattle.tbr_model.specs.Rule.{tag_of, pending_width, lay_here}
 use Rattle.tbr_model.specs.Run.{items_width}
 use Rattle.tbr_model.specs.Width.{width_of_text}
-use Rattle.tbr_wrap.specs.Runs.{text_entries}
 use Rattle.tbr_wrap.specs.Wrapper.{join_all}
-use Rattle.tbr_wrap.proofs.words.PlainWords.{words_laid, words_ascii, words_width, words_front, some_read, all_ascii}
+use Rattle.tbr_wrap.proofs.words.PlainWords.{words_laid, words_ascii, words_width, words_front, all_ascii}
 use Rattle.tbr_wrap.proofs.words.WordsLaid.{same_held_width}
 use Rattle.tbr_tagged.proofs.SameItems.{same_has}
 use Rattle.tbr_wrap.proofs.wrapper.Wrapper.add_words.Goals as goal
-
-pub lay_with-requires-clause-some : goal.lay_with-requires-clause-some
-lay_with-requires-clause-some g c =
-    let w = c.requires.words in
-    omega (arith, ap length (c.range-words.ensures.value ∙ words_front g.W.CharWidth.columns c.args.text.now w), some_read g.W.CharWidth.columns w.front w.read)
 
 pub lay_with-requires-clause-count : goal.lay_with-requires-clause-count
 lay_with-requires-clause-count g c =
     let w = c.requires.words in let is = c.range-words.ensures.value ∙ words_front g.W.CharWidth.columns c.args.text.now w in
     ap length (is ∙ sym (ap chars is ∙ chars-IsAscii w.front (words_ascii g.W.CharWidth.columns _ w.front _ w.read)))
-
-pub lay_with-requires-clause-room : goal.lay_with-requires-clause-room
-lay_with-requires-clause-room g c =
-    let w = c.requires.words in
-    omega (arith, ap length w.is, length-append w.front (32 ∷ []), c.range-words.ensures.len, c.requires.room)
 
 pub returns-clause-entered : goal.returns-clause-entered
 returns-clause-entered g c = λ before given p s.
@@ -39,6 +28,5 @@ returns-clause-entered g c = λ before given p s.
     let laid = c.in_ok-lay_with.ensures.laid t wide same before given p s in
     let collapsed = c.collapse.ensures.after_change columns t same before given (lay_here columns (join_all (chars c.range-words.result.now) t Normal p)) laid in
     let fits : p.laid.width + (pending_width p.space + (items_width columns p.word + length w.front)) ≤ old.lines.width = omega (arith, ap length w.is, length-append w.front (32 ∷ []), c.requires.room, s.word_width, s.lays.holds.width, s.lays.shows.width, same_held_width eq old.space p.space s.space) in
-    rw (ap (λ cs. fold (enter columns old.lines.width) p (text_entries cs a b Normal)) whole
-    ∙ words_laid columns (g.met.W.CharWidth.drawn_in_one 32 refl) old.lines.width a b w.front p w.read (sym (same_has eq old.lines.flat.word p.word s.word) ∙ c.requires.word) fits
-    ∙ ap (λ cs. collapse 32 t (lay_here columns (join_all cs t Normal p))) (sym words)) collapsed
+    let entered = words_laid columns (g.met.W.CharWidth.drawn_in_one 32 refl) old.lines.width a b w.front p w.read (sym (same_has eq old.lines.flat.word p.word s.word) ∙ c.requires.word) fits in
+    rw (whole, entered, ← words) collapsed

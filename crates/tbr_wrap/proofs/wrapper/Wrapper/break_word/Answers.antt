@@ -1,16 +1,6 @@
-use Rattle.std.proofs.Common.{◌≡◌, true, false, nat_lt, arith, lt-ltb, le-ltb}
+use Rattle.std.proofs.Common.{◌≡◌, true, nat_lt, arith, lt-ltb}
 use Rattle.tbr_model.specs.Run.{items_width}
 use Rattle.tbr_wrap.proofs.wrapper.Wrapper.break_word.Goals as goal
-
-pub returns-then-self-eq0-clause-laid : goal.returns-then-self-eq0-clause-laid
-returns-then-self-eq0-clause-laid g c = λ before given p s.
-    let none : nat_lt 0 (items_width g.W.CharWidth.columns p.word) ≡ false = le-ltb _ _ (omega (arith, c.if-self-eq0.true, s.word_width)) in
-    rw none s
-
-pub returns-clause-laid : goal.returns-clause-laid
-returns-clause-laid g c = λ before given p s.
-    let some : nat_lt 0 (items_width g.W.CharWidth.columns p.word) ≡ true = lt-ltb _ _ (omega (arith, c.if-self-eq0.false, s.word_width)) in
-    rw some (c.lay.ensures.laid before given p s)
 
 pub returns-clause-wider : goal.returns-clause-wider
 returns-clause-wider g c = λ refused before given p s.

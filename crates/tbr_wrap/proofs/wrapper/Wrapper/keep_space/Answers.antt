@@ -8,7 +8,7 @@ use Rattle.tbr_wrap.proofs.wrapper.Wrapper.keep_space.Goals as goal
 
 pub returns-then-has_word-clause-kept : goal.returns-then-has_word-clause-kept
 returns-then-has_word-clause-kept g c = λ columns a wide same before given p s.
-    let has : has_character p.word ≡ true = sym (same_has g.T.PartialEq.eq c.args.self.now.lines.flat.word p.word s.word) ∙ sym c.has_word.ensures ∙ c.if-has_word.true in
+    let has = sym (same_has g.T.PartialEq.eq c.args.self.now.lines.flat.word p.word s.word) ∙ sym c.has_word.ensures ∙ c.if-has_word.true in
     rw (keep_joins c.args.c a c.args.mode c.args.width p has) (c.join.ensures.joined columns a wide same before given p s)
 
 pub returns-in_ok-tag-clause-kept : goal.returns-in_ok-tag-clause-kept

@@ -1,10 +1,8 @@
-use Rattle.std.proofs.Common.{◌≡◌, ◌<◌, ◌+◌, true, false, nat_le, sym, ◌∙◌, arith, subst}
+use Rattle.std.proofs.Common.{◌≡◌, ◌<◌, ◌+◌, true, false, nat_le, sym, ◌∙◌, arith}
 use borrow.Author.Tests.{le-leb, lt-leb}
-use Rattle.std.proofs.lemmas.Result.{on_ok_weaker}
 use Rattle.tbr_model.specs.Run.{items_width}
-use Rattle.tbr_model.specs.Greedy.{IsNarrow}
-use Rattle.tbr_model.specs.Rule.{pending_width, wrap_space, lay_fresh}
-use Rattle.tbr_wrap.specs.Wrapper.{IsAtProgress, held_width}
+use Rattle.tbr_model.specs.Rule.{pending_width, wrap_space}
+use Rattle.tbr_wrap.specs.Wrapper.{held_width}
 use Rattle.tbr_wrap.proofs.words.WordsLaid.{same_held_width, no_room}
 use Rattle.tbr_model.proofs.rule.WiderLines.{lay_wider}
 use Rattle.tbr_wrap.proofs.wrapper.Wrapper.lay.Goals as goal
@@ -21,15 +19,6 @@ lay_fresh-requires-clause-stands g c =
     let w = c.requires.stands in
     (w.0, w.1, wrap_space g.W.CharWidth.columns c.args.self.now.lines.width w.2 w.2.space, c.in_ok-wrap_space.ensures.wrapped w.0 w.1 w.2 w.3)
 
-pub returns-clause-laid : goal.returns-clause-laid
-returns-clause-laid g c = λ before given p s.
-    let columns = g.W.CharWidth.columns in let eq = g.T.PartialEq.eq in let b = c.args.self.now in
-    let q = wrap_space columns b.lines.width p p.space in
-    let full : nat_le (p.laid.width + (pending_width p.space + items_width columns p.word)) b.lines.width ≡ false =
-    lt-leb _ _ (let past : b.lines.width < b.lines.line_width + (held_width b.space + b.word_width) = no_room _ _ (λ h. let room : c.has_room.result ≡ true = c.has_room.ensures.1 h in let none : c.has_room.result ≡ false = c.if-has_room.false in absurd (let e : true ≡ false = sym room ∙ none in cc)) in
-    omega (arith, past, same_held_width eq b.space p.space s.space, s.word_width, s.lays.holds.width, s.lays.shows.width)) in
-    rw full (on_ok_weaker c.lay_fresh.result (λ x. subst (λ n. IsAtProgress columns eq c.lay_fresh.new.self before given (lay_fresh columns n q)) c.in_ok-wrap_space.ensures.limits.width x) (c.lay_fresh.ensures.laid before given q (c.in_ok-wrap_space.ensures.wrapped before given p s)))
-
 pub returns-clause-wider : goal.returns-clause-wider
 returns-clause-wider g c = λ refused before given p s.
     let columns = g.W.CharWidth.columns in let eq = g.T.PartialEq.eq in let b = c.args.self.now in
@@ -39,5 +28,5 @@ returns-clause-wider g c = λ refused before given p s.
     omega (arith, past, same_held_width eq b.space p.space s.space, s.word_width, s.lays.holds.width, s.lays.shows.width)) in
     let n = c.lay_fresh.ensures.too_narrow refused before given q (c.in_ok-wrap_space.ensures.wrapped before given p s) in (
       sym c.in_ok-wrap_space.ensures.limits.may_overflow ∙ n.0,
-      lay_wider columns b.lines.width p full (λ h. n.1 (subst (λ x. IsNarrow columns x q.word) (sym c.in_ok-wrap_space.ensures.limits.width) h)),
+      lay_wider columns b.lines.width p full (λ h. n.1 (rw c.in_ok-wrap_space.ensures.limits.width h)),
     )

@@ -1,10 +1,7 @@
-use Rattle.std.proofs.Common.{◌≡◌, true, false, [], None, sym, ap, ◌∙◌, arith, subst}
-use Rattle.std.proofs.lemmas.Result.{on_ok_weaker}
+use Rattle.std.proofs.Common.{◌≡◌, true, false, sym, ap, ◌∙◌, arith}
 use Rattle.tbr_model.specs.Run.{has_character}
-use Rattle.tbr_model.specs.Greedy.{IsNarrow}
-use Rattle.tbr_model.specs.Laid.{end_if_character, put_items}
-use Rattle.tbr_model.specs.Rule.{is_pre, put_pending}
-use Rattle.tbr_wrap.specs.Wrapper.{IsAtProgress}
+use Rattle.tbr_model.specs.Laid.{end_if_character}
+use Rattle.tbr_model.specs.Rule.{is_pre}
 use Rattle.tbr_tagged.proofs.SameItems.{same_has}
 use Rattle.tbr_wrap.proofs.words.WordsLaid.{stands_laid, flagged_stands, lay_fresh_some, lay_fresh_none}
 use Rattle.tbr_wrap.proofs.wrapper.Wrapper.lay_fresh.Goals as goal
@@ -21,7 +18,7 @@ returns-clause-laid g c = λ before given p s.
     let t = stands_laid columns eq b c.end_if_character.new.self before given p (end_if_character p.laid) s (k.ended columns before given p.laid s.lays).0 (rw k.flat s.word) in
     let u = c.in_ok-put_pending.ensures.put before given (record p { laid = end_if_character p.laid }) t in
     let none : has_character p.word ≡ false = sym (same_has eq c.put_pending.new.self.lines.flat.word p.word u.word) ∙ sym c.has_word.ensures ∙ c.if-has_word.false in
-    let v = subst (λ n. IsAtProgress columns eq c.put_pending.new.self before given (record p { laid = put_pending n p.space (end_if_character p.laid); space = None })) k.limits.width u in
+    let v = rw k.limits.width at u in
     rw (lay_fresh_none columns b.lines.width p none)
     (flagged_stands columns eq c.put_pending.new.self _ before given _ (is_pre p.mode) v (c.is_pre-self.ensures ∙ ap is_pre u.mode))
 
@@ -36,8 +33,7 @@ returns-then-has_word-clause-laid g c = λ before given p s.
     let w : c.put_pending.new.self.lines.width ≡ b.lines.width = c.in_ok-put_pending.ensures.limits.width ∙ k.limits.width in
     let some : has_character p.word ≡ true = sym (same_has eq c.put_pending.new.self.lines.flat.word p.word u.word) ∙ sym c.has_word.ensures ∙ c.if-has_word.true in
     rw (lay_fresh_some columns b.lines.width p some)
-    (on_ok_weaker c.put_fresh.result (λ x. subst (λ n. IsAtProgress columns eq c.put_fresh.new.self before given (record p { laid = put_items columns n (put_pending b.lines.width p.space (end_if_character p.laid)) p.word; space = None; word = []; continuation_flag = is_pre p.mode })) w
-    (subst (λ n. IsAtProgress columns eq c.put_fresh.new.self before given (record p { laid = put_items columns c.put_pending.new.self.lines.width (put_pending n p.space (end_if_character p.laid)) p.word; space = None; word = []; continuation_flag = is_pre p.mode })) k.limits.width x)) v)
+    (rw (w, k.limits.width) at v)
 
 pub returns-then-has_word-clause-too_narrow : goal.returns-then-has_word-clause-too_narrow
 returns-then-has_word-clause-too_narrow g c = λ refused before given p s.
@@ -48,4 +44,4 @@ returns-then-has_word-clause-too_narrow g c = λ refused before given p s.
     let f = flagged_stands columns eq c.put_pending.new.self _ before given _ (is_pre p.mode) u (c.is_pre-self.ensures ∙ ap is_pre u.mode) in
     let w : c.put_pending.new.self.lines.width ≡ b.lines.width = c.in_ok-put_pending.ensures.limits.width ∙ k.limits.width in
     let n = c.put_fresh.ensures.too_narrow refused before given _ f in
-    (sym (c.in_ok-put_pending.ensures.limits.may_overflow ∙ k.limits.may_overflow) ∙ n.0, λ h. n.1 (subst (λ x. IsNarrow columns x p.word) (sym w) h))
+    (sym (c.in_ok-put_pending.ensures.limits.may_overflow ∙ k.limits.may_overflow) ∙ n.0, λ h. n.1 (rw w h))

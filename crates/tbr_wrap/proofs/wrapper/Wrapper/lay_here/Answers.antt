@@ -1,9 +1,8 @@
-use Rattle.std.proofs.Common.{refl, sym, ◌∙◌, subst, rules, []}
+use Rattle.std.proofs.Common.{refl, sym, ◌∙◌, rules, []}
 use Rattle.tbr_model.specs.Run.{items_width}
 use Rattle.tbr_model.specs.Laid.{extended}
 use Rattle.tbr_model.specs.Rule.{space_text, pending_width}
 use Rattle.tbr_tagged.specs.Elements.{SameItems}
-use Rattle.tbr_wrap.specs.LaidLines.{HoldsRule}
 use Rattle.tbr_model.proofs.rule.Walk.{extended_twice}
 use Rattle.tbr_wrap.proofs.wrapper.Wrapper.lay_here.Goals as goal
 
@@ -14,6 +13,6 @@ returns-clause-laid g c = λ before given p s.
     let r = extended p.laid (space_text p.space) (pending_width p.space) in
     let k = c.in_ok-place_word.ensures in
     let laid = k.placed columns p.word t.word (sym t.word_width ∙ sym c.replace-width.ensures.value) before given r t.lays in
-    let lays = subst (λ q. HoldsRule columns eq c.place_word.new.self before given q) (extended_twice p.laid (space_text p.space) p.word (pending_width p.space) (items_width columns p.word) _ refl) laid in
+    let lays = rw (extended_twice p.laid (space_text p.space) p.word (pending_width p.space) (items_width columns p.word) _ refl) at laid in
     let word : SameItems eq c.place_word.new.self.flat.word [] = rw k.word tt in
     search (rules, lays, word, c.replace-width.ensures.after)

@@ -1,4 +1,4 @@
-use Rattle.std.proofs.Common.{◌≡◌, ◌<◌, ◌++◌, if◌then◌else◌, chars, length, refl, ap, ◌∙◌, subst, arith}
+use Rattle.std.proofs.Common.{◌≡◌, ◌<◌, ◌++◌, if◌then◌else◌, chars, length, refl, ap, ◌∙◌, arith}
 use Rattle.tbr_model.specs.Run.{has_character, items_width}
 use Rattle.tbr_model.specs.Laid.{extended}
 use Rattle.tbr_model.specs.Rule.{space_text, pending_width}
@@ -7,7 +7,6 @@ use Rattle.tbr_model.proofs.rule.Walk.{extended_twice}
 use Rattle.tbr_model.proofs.words.Items.{items_width-append}
 use Rattle.tbr_tagged.specs.Elements.{text_items}
 use Rattle.tbr_tagged.proofs.TextColumns.{items_width-text}
-use Rattle.tbr_wrap.specs.LaidLines.{HoldsRule}
 use Rattle.tbr_wrap.proofs.words.PlainText.{joined_text}
 use Rattle.tbr_wrap.proofs.wrapper.Wrapper.lay_with.Goals as goal
 
@@ -24,7 +23,7 @@ returns-clause-laid g c = λ a wide same before given p s.
     let laid = k.placed columns a p.word same t.word width before given r t.lays in
     rw (joined_text cs a Normal p some)
     (record {
-      lays = subst (λ q. HoldsRule columns eq c.place_with.new.self before given q) (extended_twice p.laid (space_text p.space) is (pending_width p.space) (items_width columns is) _ refl) laid;
+      lays = rw (extended_twice p.laid (space_text p.space) is (pending_width p.space) (items_width columns is) _ refl) at laid;
       space = t.space;
       word = rw k.word tt;
       word_width = refl;

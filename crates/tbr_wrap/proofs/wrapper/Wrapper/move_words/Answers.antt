@@ -1,13 +1,7 @@
-use Rattle.std.proofs.Common.{◌≡◌, ◌++◌, ◌∷◌, [], None, false, ◌∙◌, sym, ap, subst, chars, fold, length, take, arith, refl, length-append}
-use Rattle.std.proofs.lemmas.Result.{on_ok_weaker}
+use Rattle.std.proofs.Common.{◌≡◌, ◌++◌, ◌∷◌, [], None, false, ◌∙◌, sym, ap, chars, length, arith, refl, length-append}
 use Rattle.std.proofs.lemmas.Str.{chars-IsAscii}
-use Rattle.tbr_model.specs.declared.white_space.WhiteSpace.TheVariants.{Normal}
 use Rattle.tbr_model.specs.Laid.{end_if_character}
-use Rattle.tbr_model.specs.Rule.{enter}
 use Rattle.tbr_tagged.proofs.SameItems.{same_has}
-use Rattle.tbr_wrap.specs.Plain.{JoinWord}
-use Rattle.tbr_wrap.specs.Runs.{text_entries}
-use Rattle.tbr_wrap.specs.Wrapper.{IsAtProgress}
 use Rattle.tbr_wrap.proofs.words.PlainWords.{words_moved, all_ascii}
 use Rattle.tbr_wrap.proofs.words.WordsLaid.{same_held_width, drops_pending, spaced_stands, stands_laid}
 use Rattle.tbr_wrap.proofs.wrapper.Wrapper.move_words.Goals as goal
@@ -27,9 +21,8 @@ returns-clause-entered g c = λ before given p s.
     let t = stands_laid columns eq (record b { space = None }) c.end_if_character.new.self before given (record p { space = None }) (end_if_character p.laid) (spaced_stands columns eq b None before given p None s tt) e.0 (rw k.flat s.word) in
     let none = sym (same_has eq b.lines.flat.word p.word s.word) ∙ c.requires.word in
     let same = words_moved columns (g.met.W.CharWidth.drawn_in_one 32 refl) b.lines.width a d false w.front m.first p w.read none (drops_pending eq b.space p.space s.space m.space) (omega (arith, e.1, e.0.holds.width, e.0.shows.width))
-    (subst (λ cs. JoinWord columns false (take m.first cs)) w.is m.letters)
+    (rw w.is at m.letters)
     (omega (arith, m.wide, s.word_width, s.lays.holds.width, s.lays.shows.width, same_held_width eq b.space p.space s.space))
     (omega (arith, m.fits, s.word_width, ap length w.is, length-append w.front (32 ∷ []))) in
     let whole : chars text ≡ w.front ++ 32 ∷ [] = chars-IsAscii text (all_ascii columns text w) ∙ w.is in
-    rw (whole, same) (on_ok_weaker c.add_words.result (λ x. subst (λ cs. IsAtProgress columns eq c.add_words.new.self before given (fold (enter columns b.lines.width) q (text_entries cs a d Normal))) whole
-    (subst (λ n. IsAtProgress columns eq c.add_words.new.self before given (fold (enter columns n) q (text_entries (chars text) a d Normal))) k.limits.width x)) (c.add_words.ensures.entered before given q t))
+    rw (whole, same) (rw (k.limits.width, whole) at (c.add_words.ensures.entered before given q t))

@@ -1,7 +1,6 @@
-use Rattle.std.proofs.Common.{◌≡◌, ℕ, refl, ◌∙◌, sym, subst, Err}
+use Rattle.std.proofs.Common.{◌≡◌, refl, ◌∙◌, sym, Err}
 use Rattle.std.proofs.lemmas.Result.{err_from_is_err_and}
 use Rattle.tbr_model.specs.Rule.{tag_of, flush_word, newline, tab}
-use Rattle.tbr_wrap.specs.Wrapper.{IsAtProgress}
 use Rattle.tbr_tagged.specs.declared.error.Error.TheVariants as E
 use Rattle.tbr_wrap.proofs.words.ModeCases.{preserve_newline, preserve_tab, preserve_space, preserve_kept, preserve_none}
 use Rattle.tbr_wrap.proofs.runs.LinesLeft.{unfailed}
@@ -22,11 +21,11 @@ tab-requires-clause-stands g c =
 
 pub returns-then-c-eq9-clause-preserved : goal.returns-then-c-eq9-clause-preserved
 returns-then-c-eq9-clause-preserved g c = λ before given p s.
-    let columns = g.W.CharWidth.columns in let eq = g.T.PartialEq.eq in
+    let columns = g.W.CharWidth.columns in
     let width = c.args.self.now.lines.width in let a = c.args.main_tag.now in let b = c.args.wrap_tag.now in
     let same = c.call_tag-tag.ensures columns before given p s in
     rw (preserve_tab columns width c.args.c a b c.args.mode p c.if-c-eq9.true)
-    (subst (λ (n : ℕ). IsAtProgress columns eq c.tab.new.self before given (tab n (tag_of p a b) (flush_word columns width p))) c.in_ok-flush_word-2.ensures.limits.width
+    (rw c.in_ok-flush_word-2.ensures.limits.width at
     (c.in_ok-tab.ensures.put columns (tag_of p a b) (g.met.W.CharWidth.drawn_in_one 32 refl) same before given (flush_word columns width p) (c.in_ok-flush_word-2.ensures.laid before given p s)))
 
 pub returns-in_default-clause-preserved : goal.returns-in_default-clause-preserved

@@ -1,9 +1,8 @@
-use Rattle.std.proofs.Common.{◌≡◌, sym, ◌∙◌, arith, subst, rules, []}
+use Rattle.std.proofs.Common.{◌≡◌, sym, ◌∙◌, arith, rules, []}
 use Rattle.std.proofs.lemmas.Result.{on_ok_weaker}
 use Rattle.tbr_model.specs.Run.{items_width}
 use Rattle.tbr_model.specs.Laid.{extended, put_items}
 use Rattle.tbr_tagged.specs.Elements.{SameItems}
-use Rattle.tbr_wrap.specs.LaidLines.{HoldsRule}
 use Rattle.tbr_wrap.proofs.words.WordsLaid.{put_fitting, same_narrow, on_ok_both}
 use Rattle.tbr_wrap.proofs.wrapper.Wrapper.put_fresh.Goals as goal
 
@@ -15,7 +14,7 @@ returns-then-width-self-clause-put g c = λ before given p s.
     let fits : put_items columns b.width p.laid p.word ≡ extended p.laid p.word (items_width columns p.word) =
     put_fitting columns b.width p.laid p.word (omega (arith, c.if-width-self.true, c.replace-width.ensures.value, s.word_width, s.lays.holds.width, s.lays.shows.width, b.fits)) in
     let word : SameItems eq c.place_word.new.self.flat.word [] = rw k.word tt in
-    search (rules, subst (λ q. HoldsRule columns eq c.place_word.new.self before given q) (sym fits) laid, word, c.replace-width.ensures.after)
+    rw fits (search (rules, laid, word, c.replace-width.ensures.after))
 
 pub returns-clause-put : goal.returns-clause-put
 returns-clause-put g c = λ before given p s.

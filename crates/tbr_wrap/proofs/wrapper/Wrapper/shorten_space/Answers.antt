@@ -1,9 +1,6 @@
-use Rattle.std.proofs.Common.{◌≡◌, ◌-◌, false, nat_le, refl, arith, subst, rules}
+use Rattle.std.proofs.Common.{◌≡◌, ◌-◌, false, nat_le, refl, arith, rules}
 use borrow.Author.Tests.{lt-leb}
 use Rattle.std.proofs.lemmas.Result.{on_ok_weaker}
-use Rattle.tbr_model.specs.Laid.{extended}
-use Rattle.tbr_model.specs.Rule.{spaces}
-use Rattle.tbr_wrap.specs.LaidLines.{HoldsRule}
 use Rattle.tbr_tagged.proofs.SameItems.{same_items_trans}
 use Rattle.tbr_wrap.proofs.words.WordsLaid.{on_ok_both}
 use Rattle.tbr_wrap.proofs.wrapper.Wrapper.shorten_space.Goals as goal
@@ -15,6 +12,6 @@ returns-then-space-room-clause-shortened g c = λ before given p s t same.
     let less : nat_le (b.width - p.laid.width) s.width ≡ false = lt-leb _ _ (omega (arith, c.if-space-room.true, same.0, t.lays.holds.width, t.lays.shows.width)) in
     let both = on_ok_both c.place_spaces.result _ _ (k.placed columns s.tag (g.met.W.CharWidth.drawn_in_one 32 refl) same.1 before given p.laid t.lays) k.word in
     rw less (on_ok_weaker c.place_spaces.result (λ x.
-    let lays = subst (λ n. HoldsRule columns eq new before given (extended p.laid (spaces n s.tag) n)) same.0 x.0 in
+    let lays = rw same.0 at x.0 in
     let word = same_items_trans eq g.met.T.Eq.laws new.flat.word b.flat.word p.word x.1 t.word in
     search (rules, lays, word)) both)

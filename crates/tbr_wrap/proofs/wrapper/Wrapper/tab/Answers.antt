@@ -1,9 +1,7 @@
-use Rattle.std.proofs.Common.{◌≡◌, ℕ, ◌+◌, true, false, OnOk, nat_lt, ap, arith, subst, lt-ltb, le-ltb}
+use Rattle.std.proofs.Common.{◌≡◌, ◌+◌, true, false, nat_lt, arith, lt-ltb, le-ltb}
 use Rattle.std.proofs.lemmas.Result.{on_ok_weaker}
 use Rattle.tbr_model.specs.Laid.{end_if_character}
 use Rattle.tbr_model.specs.Rule.{pending_width, put_tab}
-use Rattle.tbr_tagged.specs.Elements.{SameItems}
-use Rattle.tbr_wrap.specs.LaidLines.{HoldsRule}
 use Rattle.tbr_tagged.proofs.SameItems.{same_items_trans}
 use Rattle.tbr_wrap.proofs.words.WordsLaid.{same_held_width}
 use Rattle.tbr_wrap.proofs.words.ModeCases.{stands_put}
@@ -15,7 +13,7 @@ returns-then-pending-self-clause-put g c = λ columns a one h before given p s.
     let k = c.put_tab.ensures in
     let is : b.lines.line_width + c.pending_width-pending.result ≡ p.laid.width + pending_width p.space = omega (arith, s.lays.holds.width, s.lays.shows.width, c.pending_width-pending.ensures, same_held_width eq b.space p.space s.space) in
     let test : nat_lt (p.laid.width + pending_width p.space) b.lines.width ≡ true = lt-ltb _ _ (omega (arith, is, c.if-pending-self.true)) in
-    let put = subst (λ (n : ℕ). OnOk c.put_tab.result (HoldsRule columns eq c.put_tab.new.self before given (put_tab b.lines.width n a p.laid))) is (k.put columns a one h before given p.laid s.lays) in
+    let put = rw is at (k.put columns a one h before given p.laid s.lays) in
     let word = on_ok_weaker c.put_tab.result (λ w. same_items_trans eq laws c.put_tab.new.self.flat.word b.lines.flat.word p.word w s.word) k.word in
     rw test (stands_put columns eq b c.put_tab.new.self before given p (put_tab b.lines.width (p.laid.width + pending_width p.space) a p.laid) c.put_tab.result s put word)
 
@@ -30,6 +28,6 @@ returns-clause-put g c = λ columns a one h before given p s.
     let f = c.in_ok-end_if_character.ensures in let k = c.put_tab-2.ensures in
     let is : b.lines.line_width + c.pending_width-pending.result ≡ p.laid.width + pending_width p.space = omega (arith, s.lays.holds.width, s.lays.shows.width, c.pending_width-pending.ensures, same_held_width eq b.space p.space s.space) in
     let test : nat_lt (p.laid.width + pending_width p.space) b.lines.width ≡ false = le-ltb _ _ (omega (arith, is, c.if-pending-self.false)) in
-    let put = subst (λ (n : ℕ). OnOk c.put_tab-2.result (HoldsRule columns eq c.put_tab-2.new.self before given (put_tab n 0 a (end_if_character p.laid)))) f.limits.width (k.put columns a one h before given (end_if_character p.laid) (f.ended columns before given p.laid s.lays).0) in
-    let word = on_ok_weaker c.put_tab-2.result (λ w. same_items_trans eq laws c.put_tab-2.new.self.flat.word b.lines.flat.word p.word (subst (λ is. SameItems eq c.put_tab-2.new.self.flat.word is) (ap (λ t. t.word) f.flat) w) s.word) k.word in
+    let put = rw f.limits.width at (k.put columns a one h before given (end_if_character p.laid) (f.ended columns before given p.laid s.lays).0) in
+    let word = on_ok_weaker c.put_tab-2.result (λ w. same_items_trans eq laws c.put_tab-2.new.self.flat.word b.lines.flat.word p.word (rw f.flat at w) s.word) k.word in
     rw test (stands_put columns eq b c.put_tab-2.new.self before given p (put_tab b.lines.width 0 a (end_if_character p.laid)) c.put_tab-2.result s put word)

@@ -3,11 +3,6 @@ use Rattle.tbr_model.specs.Rule.{without_leading}
 use Rattle.tbr_tagged.proofs.SameItems.{same_width}
 use Rattle.tbr_wrap.proofs.wrapper.Wrapper.trim_word.Goals as goal
 
-pub trim-requires : goal.trim-requires
-trim-requires g c =
-    let w = c.requires.stands in
-    record { lays = (g.W.CharWidth.columns, w.0, w.1, w.2.laid, g.met.W.CharWidth.drawn_in_one 32 refl, w.3.lays) }
-
 pub returns-clause-trimmed : goal.returns-clause-trimmed
 returns-clause-trimmed g c = λ before given p s t.
     let columns = g.W.CharWidth.columns in let eq = g.T.PartialEq.eq in let k = c.trim.ensures in

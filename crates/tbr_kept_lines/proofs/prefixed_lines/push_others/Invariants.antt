@@ -1,0 +1,11 @@
+use Rattle.std.proofs.Common.{◌++◌, map, length}
+use Rattle.tbr_tagged.specs.Elements.{items_of}
+use Rattle.tbr_kept_lines.proofs.KeptParts.{HasPushed}
+use Rattle.tbr_kept_lines.proofs.prefixed_lines.push_others.Given as goal
+
+abbrev pub invariant-loop-ended : goal.invariant-loop-ended
+invariant-loop-ended g l =
+    HasPushed g.T.PartialEq.eq l.initial.lines.items (map (λ is. items_of l.prefix ++ is) l.initial.ended) l.lines.items (map (λ is. items_of l.prefix ++ is) l.ended)
+
+abbrev pub decreases-loop-ended : goal.decreases-loop-ended
+decreases-loop-ended g l = length l.ended

@@ -1,0 +1,260 @@
+//! Lines that a block has ended, after prefixes.
+ghost use Rattle.std.specs.Prelude.{◌≡◌, ◌++◌, ◌&&◌, ◌||◌, [], map, length, nat_lt, chars, IfOk, OnOk};
+ghost use Rattle.std.specs.List.{AllZip, list_any};
+ghost use Rattle.tbr_model.specs.Run.{has_character};
+ghost use Rattle.tbr_tagged.specs.Copies.{CopiesAreEqual};
+ghost use Rattle.tbr_tagged.specs.Elements.{SameItems, IsMerged, items_of, text_items, has_piece};
+ghost use Rattle.tbr_tagged.specs.View.{chars_of};
+ghost use Rattle.tbr_wrap.specs.EndedLines.{lines_characters};
+ghost use Rattle.tbr_kept_lines.specs.Prefixed.{after_prefixes, Pushes};
+
+use std::alloc::Global;
+use std::fmt;
+use std::marker::Model;
+use tbr_lines::{EndedLines, OutOfMemory, RenderLine, TaggedLine};
+
+/// Lines that a block has ended, in its one text. Where there are prefixes, the first line comes after its own, and each
+/// other one after that of the others, which no line takes memory for. A contract sees the lines, each as its items.
+#[derive(Drop)]
+pub(crate) struct PrefixedLines<T: Eq> {
+    ended: EndedLines<T>,
+    prefixes: Option<Prefixes<T>>,
+}
+
+/// What comes before the first line, and before each other one.
+#[derive(Drop)]
+pub(crate) struct Prefixes<T> {
+    first: TaggedLine<T>,
+    others: TaggedLine<T>,
+}
+
+impl<T: Eq> Model for PrefixedLines<T> {
+    ghost use Rattle.std.specs.Prelude.{List};
+    ghost use Rattle.tbr_model.specs.Run.{Item};
+    ghost use Rattle.tbr_kept_lines.specs.Prefixed.{texts_after};
+    ghost use Rattle.tbr_kept_lines.specs.Prefixed.{AreMerged};
+
+    ghost Value = { List (List (Item T)) };
+
+    ghost view = { λ l. texts_after l.prefixes l.ended };
+
+    ghost invariant = { λ l. AreMerged T.eq l.prefixes };
+}
+
+impl<T: Eq> PrefixedLines<T> {
+    /// These lines, after no prefix.
+    pub(crate) fn of(ended: EndedLines<T>) -> PrefixedLines<T>
+        ensures { result ≡ ended }
+    {
+        PrefixedLines {
+            ended,
+            prefixes: None,
+        }
+    }
+
+    /// How many lines there are.
+    pub(crate) fn len(&self) -> usize
+        ensures { result ≡ length self.now }
+    {
+        self.ended.len()
+    }
+
+    /// Whether a line has a character.
+    pub(crate) fn has_character(&self) -> bool
+        ensures { result ≡ list_any has_character self.now }
+    {
+        match &self.prefixes {
+            Some(prefixes) => prefixes.are_seen(self.ended.len()) || self.ended.has_character(),
+            None => self.ended.has_character(),
+        }
+    }
+}
+
+impl<T: Eq + Drop> PrefixedLines<T> {
+    /// Appends the text of each line and a newline to `text`. Where memory is refused, part of them may have been
+    /// appended.
+    pub(crate) fn append_to(self, text: &mut String) -> Result<(), OutOfMemory>
+        ensures { OnOk result (chars_of text.new ≡ chars_of text.old ++ lines_characters self) }
+    {
+        let PrefixedLines { ended, prefixes } = self;
+        match prefixes {
+            Some(prefixes) => append_prefixed(text, ended, &prefixes),
+            None => ended.append_to(text),
+        }
+    }
+}
+
+impl<T: Eq + Clone + Drop> PrefixedLines<T> {
+    /// Adds each line to others, by itself. Where memory is refused lines are lost.
+    pub(crate) fn push_to(self, lines: &mut Vec<RenderLine<T>>) -> Result<(), OutOfMemory>
+        requires { CopiesAreEqual T.is_clone T.eq }
+        ensures { OnOk result (Pushes T.eq lines.old.items self lines.new.items) }
+    {
+        let PrefixedLines { ended, prefixes } = self;
+        match prefixes {
+            Some(prefixes) => push_prefixed(lines, ended, prefixes),
+            None => push_lines(lines, ended),
+        }
+    }
+
+    /// Puts a text before the first line, and another one before all others, under copies of the tag. Where memory is
+    /// refused lines are lost.
+    pub(crate) fn put_in_front(
+        self,
+        alloc: Global,
+        first: &str,
+        others: &str,
+        tag: &T,
+    ) -> Result<PrefixedLines<T>, OutOfMemory>
+        requires { CopiesAreEqual T.is_clone T.eq }
+        ensures { let in_front = after_prefixes (text_items (chars first.now) tag.now)
+            (text_items (chars others.now) tag.now) self in
+            IfOk result (λ lines. AllZip (SameItems T.eq) lines in_front) }
+    {
+        let PrefixedLines { ended, prefixes } = self;
+        let mut prefixes = prefixes.unwrap_or(Prefixes::none(alloc));
+        put_in_front(&mut prefixes.first, first, tag)?;
+        put_in_front(&mut prefixes.others, others, tag)?;
+        Ok(PrefixedLines {
+            ended,
+            prefixes: Some(prefixes),
+        })
+    }
+}
+
+impl<T> Prefixes<T> {
+    /// Nothing before any line.
+    fn none(alloc: Global) -> Prefixes<T>
+        ensures { result ≡ record { first = []; others = [] } }
+    {
+        Prefixes {
+            first: TaggedLine::new(alloc),
+            others: TaggedLine::new(alloc),
+        }
+    }
+
+    /// Whether one of so many lines has a character before it.
+    fn are_seen(&self, lines: usize) -> bool
+        ensures { result
+            ≡ (nat_lt 0 lines && has_piece self.now.first) || (nat_lt 1 lines && has_piece self.now.others) }
+    {
+        (lines > 0 && !self.first.is_empty()) || (lines > 1 && !self.others.is_empty())
+    }
+}
+
+/// Puts text in front of a line, under a copy of the tag. The empty text does nothing.
+pub(crate) fn put_in_front<T: Eq + Clone + Drop>(
+    line: &mut TaggedLine<T>,
+    text: &str,
+    tag: &T,
+) -> Result<(), OutOfMemory>
+    requires { CopiesAreEqual T.is_clone T.eq }
+    ensures items { OnOk result
+        (SameItems T.eq (items_of line.new) (text_items (chars text.now) tag.now ++ items_of line.old)) }
+    ensures merged { IsMerged T.eq line.old → OnOk result (IsMerged T.eq line.new) }
+{
+    if text.is_empty() {
+        return Ok(());
+    }
+    line.insert_front_str(text, tag.clone()?)
+}
+
+/// Appends the text of each line after its prefix, and a newline.
+fn append_prefixed<T: Drop>(
+    text: &mut String,
+    mut ended: EndedLines<T>,
+    prefixes: &Prefixes<T>,
+) -> Result<(), OutOfMemory>
+    ensures { OnOk result (chars_of text.new ≡ chars_of text.old
+        ++ lines_characters (after_prefixes (items_of prefixes.now.first) (items_of prefixes.now.others) ended)) }
+{
+    if ended.is_empty() {
+        return Ok(());
+    }
+    prefixes.first.append_to(text)?;
+    ended.append_line(text)?;
+    append_others(text, ended, &prefixes.others)
+}
+
+/// Appends the text of each line after the prefix, and a newline.
+fn append_others<T: Drop>(
+    text: &mut String,
+    mut ended: EndedLines<T>,
+    prefix: &TaggedLine<T>,
+) -> Result<(), OutOfMemory>
+    ensures { OnOk result (chars_of text.new ≡ chars_of text.old
+        ++ lines_characters (map (λ is. items_of prefix.now ++ is) ended)) }
+{
+    while !ended.is_empty() {
+        prefix.append_to(text)?;
+        ended.append_line(text)?;
+    }
+    Ok(())
+}
+
+/// Adds the lines that a block has ended, each by itself.
+fn push_lines<T: Eq + Clone + Drop>(
+    lines: &mut Vec<RenderLine<T>>,
+    mut ended: EndedLines<T>,
+) -> Result<(), OutOfMemory>
+    requires { CopiesAreEqual T.is_clone T.eq }
+    ensures { OnOk result (Pushes T.eq lines.old.items ended lines.new.items) }
+{
+    while let Some(line) = ended.next_line()? {
+        lines.push(RenderLine::Text(line))?;
+    }
+    Ok(())
+}
+
+/// Adds the lines that a block has ended, each by itself after its prefix.
+fn push_prefixed<T: Eq + Clone + Drop>(
+    lines: &mut Vec<RenderLine<T>>,
+    mut ended: EndedLines<T>,
+    prefixes: Prefixes<T>,
+) -> Result<(), OutOfMemory>
+    requires copies { CopiesAreEqual T.is_clone T.eq }
+    requires first { IsMerged T.eq prefixes.first }
+    requires others { IsMerged T.eq prefixes.others }
+    ensures { let texts = after_prefixes (items_of prefixes.first) (items_of prefixes.others) ended in
+        OnOk result (Pushes T.eq lines.old.items texts lines.new.items) }
+{
+    let Some(line) = ended.next_line()? else {
+        return Ok(());
+    };
+    let mut first = prefixes.first;
+    first.append(line)?;
+    lines.push(RenderLine::Text(first))?;
+    push_others(lines, ended, &prefixes.others)
+}
+
+/// Adds the lines that a block has ended, each by itself after the prefix.
+fn push_others<T: Eq + Clone + Drop>(
+    lines: &mut Vec<RenderLine<T>>,
+    mut ended: EndedLines<T>,
+    prefix: &TaggedLine<T>,
+) -> Result<(), OutOfMemory>
+    requires copies { CopiesAreEqual T.is_clone T.eq }
+    requires merged { IsMerged T.eq prefix.now }
+    ensures { let texts = map (λ is. items_of prefix.now ++ is) ended in
+        OnOk result (Pushes T.eq lines.old.items texts lines.new.items) }
+{
+    while let Some(line) = ended.next_line()? {
+        let mut text = prefix.clone()?;
+        text.append(line)?;
+        lines.push(RenderLine::Text(text))?;
+    }
+    Ok(())
+}
+
+/// Each line between `<` and `>` on a line of its own, without its markers.
+impl<T: Eq> fmt::Display for PrefixedLines<T> {
+    fn fmt<W: fmt::Write>(&self, f: &mut fmt::Formatter<W>) -> fmt::Result {
+        let Some(prefixes) = &self.prefixes else {
+            return write!(f, "{}", self.ended);
+        };
+        let (Ok(first), Ok(others)) = (prefixes.first.to_text(), prefixes.others.to_text()) else {
+            return Err(fmt::Error);
+        };
+        self.ended.fmt_after(f, first.as_str(), others.as_str())
+    }
+}

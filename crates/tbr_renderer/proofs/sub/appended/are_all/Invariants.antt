@@ -1,0 +1,7 @@
+use Rattle.std.proofs.Common.{◌≡◌, take, replicate}
+use Rattle.std.specs.Prelude.{chars}
+use Rattle.tbr_renderer.specs.Appended.{texts_of}
+use Rattle.tbr_renderer.proofs.sub.appended.are_all.Given as goal
+
+abbrev pub invariant-loop-prefix : goal.invariant-loop-prefix
+invariant-loop-prefix g l = texts_of g.P.AsStr.text (take l.prefix-index l.given) ≡ replicate l.prefix-index (chars l.text)

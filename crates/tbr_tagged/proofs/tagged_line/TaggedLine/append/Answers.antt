@@ -1,0 +1,26 @@
+use Rattle.std.proofs.Common.{◌≡◌, ap, sym, map-id, ◌∙◌, map, fold, refl}
+use Rattle.std.proofs.lemmas.Iterator.Consumers.{YieldsList-from_first, YieldsList-end}
+use Rattle.tbr_tagged.specs.Elements.{push_element}
+use Rattle.tbr_tagged.specs.View.{element_of}
+use Rattle.tbr_tagged.specs.Walks.{elements_to_come}
+use Rattle.tbr_tagged.proofs.AppendedLines.{appended_items, appended_merged}
+use Rattle.tbr_tagged.proofs.tagged_line.TaggedLine.append.Goals as goal
+use Rattle.tbr_tagged.proofs.tagged_line.TaggedLine.append.Goals.{In-None}
+
+appended : (g : _) (c : In-None g) → c.loop-element.self ≡ fold (push_element g.T.PartialEq.eq) c.args.self.now c.args.other
+appended g c =
+    let list = YieldsList-from_first (λ x. x) elements_to_come (elements_to_come c.into_iter-element-iterator.result) refl in
+    let end = YieldsList-end list c.loop-element.yielded c.loop-element.element-iterator c.loop-element.yielded_by c.next.result c.next.new.self c.in-None.is c.next.ensures.steps in
+    c.loop-element.invariant
+    ∙ ap (fold (push_element g.T.PartialEq.eq) c.args.self.now) (ap (map element_of) (sym (map-id c.loop-element.yielded) ∙ end.0) ∙ c.into_iter-element-iterator.ensures.into_iter_gives.0)
+
+pub returns-clause-ok : goal.returns-clause-ok
+returns-clause-ok g c = appended g (goal.at.returns-clause-ok g c).In-None
+
+pub returns-clause-items : goal.returns-clause-items
+returns-clause-items g c =
+    rw (appended g (goal.at.returns-clause-items g c).In-None) (appended_items g.T.PartialEq.eq g.met.T.Eq.laws c.args.self.now c.args.other)
+
+pub returns-clause-merged : goal.returns-clause-merged
+returns-clause-merged g c = λ h.
+    rw (appended g (goal.at.returns-clause-merged g c).In-None) (appended_merged g.T.PartialEq.eq c.args.self.now c.args.other h)

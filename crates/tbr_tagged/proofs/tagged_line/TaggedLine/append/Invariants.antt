@@ -1,0 +1,7 @@
+use Rattle.std.proofs.Common.{◌≡◌, fold, map}
+use Rattle.tbr_tagged.specs.Elements.{push_element}
+use Rattle.tbr_tagged.specs.View.{element_of}
+use Rattle.tbr_tagged.proofs.tagged_line.TaggedLine.append.Given as goal
+
+abbrev pub invariant-loop-element : goal.invariant-loop-element
+invariant-loop-element g l = l.self ≡ fold (push_element g.T.PartialEq.eq) l.initial.self (map element_of l.yielded)
