@@ -19,7 +19,7 @@ use Rattle.tbr_tagged.specs.Walks.{item_character, item_characters}
 use Rattle.tbr_tagged.proofs.LineWalks.{items_have_characters}
 use Rattle.tbr_tagged.proofs.MappedTags.{merged_piece_has}
 use Rattle.tbr_tagged.proofs.TextAfter.{same_merged}
-use Rattle.tbr_wrap.specs.EndedLines.{line_characters, lines_characters}
+use Rattle.tbr_wrap.specs.EndedLines.{line_characters, lines_characters, prefixed_characters}
 use Rattle.tbr_tagged.proofs.SameItems.{all_zip_append, same_items, same_items_trans, same_items_append, same_items_of, same_texts}
 use Rattle.tbr_kept_lines.specs.KeptLines.{part_seen, parts_seen, HoldsPart}
 use Rattle.tbr_kept_lines.specs.declared.kept_lines.Part.{Part}
@@ -99,15 +99,27 @@ module _ {T : Type 0} where
   length_after f o [] = refl
   length_after f o (is ∷ texts) = ap suc (length-map texts (λ js. o ++ js))
 
-  -- the text of a line after its prefix, and of lines after it
-  pub line_after : (old mid new : List ℕ) (prefix : List (Element T)) (is : List (Item T)) (rest : List (List (Item T))) → mid ≡ old ++ characters prefix → new ≡ mid ++ line_characters is →
-      new ++ lines_characters rest ≡ old ++ lines_characters ((items_of prefix ++ is) ∷ rest)
-  line_after old mid new prefix is rest h k =
-      let whole : line_characters (items_of prefix ++ is) ≡ characters prefix ++ line_characters is =
+  whole_line : (prefix : List (Element T)) (is : List (Item T)) → line_characters (items_of prefix ++ is) ≡ characters prefix ++ line_characters is
+  whole_line prefix is =
       ap (λ cs. cs ++ newline_character ∷ []) (flat_map-append item_character (items_of prefix) is ∙ ap (λ cs. cs ++ item_characters is) (items_have_characters prefix))
-      ∙ append_assoc (characters prefix) (item_characters is) (newline_character ∷ []) in
-      ap (λ cs. cs ++ lines_characters rest) (k ∙ ap (λ cs. cs ++ line_characters is) h ∙ append_assoc old (characters prefix) (line_characters is) ∙ ap (λ cs. old ++ cs) (sym whole))
-      ∙ append_assoc old (line_characters (items_of prefix ++ is)) (lines_characters rest)
+      ∙ append_assoc (characters prefix) (item_characters is) (newline_character ∷ [])
+
+  shown_after : (f o : List (Element T)) (texts : List (List (Item T))) → prefixed_characters (characters f) (characters o) texts ≡ lines_characters (after_prefixes (items_of f) (items_of o) texts)
+  shown_after f o [] = refl
+  shown_after f o (is ∷ texts) =
+      λ i. sym (whole_line f is) i ++ (shown_after o o texts ∙ ap lines_characters (same_prefix (items_of o) texts)) i
+
+  after_nothing : (texts : List (List (Item T))) → after_prefixes [] [] texts ≡ texts
+  after_nothing [] = refl
+  after_nothing (is ∷ texts) = ap (λ ls. is ∷ ls) (sym (same_prefix [] texts) ∙ after_nothing texts)
+
+  -- the text of lines after the prefixes that there are, or after none
+  pub shown_with : (o : Option (Prefixes T)) (none p : Prefixes T) → none ≡ record { first = []; others = [] } → p ≡ unwrap_or o none → (texts : List (List (Item T))) →
+      prefixed_characters (characters p.first) (characters p.others) texts ≡ lines_characters (texts_after o texts)
+  shown_with None none p nothing is texts =
+      ap (λ (q : Prefixes T). prefixed_characters (characters q.first) (characters q.others) texts) (is ∙ nothing) ∙ shown_after [] [] texts ∙ ap lines_characters (after_nothing texts)
+  shown_with (Some q) none p nothing is texts =
+      shown_after p.first p.others texts ∙ ap (λ (r : Prefixes T). lines_characters (after_prefixes (items_of r.first) (items_of r.others) texts)) is
 
   -- whether texts after prefixes have a character, by their pieces
   pub any_shown : (eq : T → T → Bool) (o : Option (Prefixes T)) (p : Prefixes T) → o ≡ Some p → AreMerged eq o → (n : ℕ) (texts lines : List (List (Item T))) → texts_after o texts ≡ lines → n ≡ length texts →

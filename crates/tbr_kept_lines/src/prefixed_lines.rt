@@ -77,10 +77,9 @@ impl<T: Eq + Drop> PrefixedLines<T> {
         ensures { OnOk result (chars_of text.new ≡ chars_of text.old ++ lines_characters self) }
     {
         let PrefixedLines { ended, prefixes } = self;
-        match prefixes {
-            Some(prefixes) => append_prefixed(text, ended, &prefixes),
-            None => ended.append_to(text),
-        }
+        let prefixes = prefixes.unwrap_or(Prefixes::none(*text.allocator()));
+        let (first, others) = (prefixes.first.to_text()?, prefixes.others.to_text()?);
+        ended.append_after(text, first.as_str(), others.as_str())
     }
 }
 
@@ -157,39 +156,6 @@ pub(crate) fn put_in_front<T: Eq + Clone + Drop>(
         return Ok(());
     }
     line.insert_front_str(text, tag.clone()?)
-}
-
-/// Appends the text of each line after its prefix, and a newline.
-fn append_prefixed<T: Drop>(
-    text: &mut String,
-    mut ended: EndedLines<T>,
-    prefixes: &Prefixes<T>,
-) -> Result<(), OutOfMemory>
-    ensures { OnOk result (chars_of text.new ≡ chars_of text.old
-        ++ lines_characters (after_prefixes (items_of prefixes.now.first) (items_of prefixes.now.others) ended)) }
-{
-    if ended.is_empty() {
-        return Ok(());
-    }
-    prefixes.first.append_to(text)?;
-    ended.append_line(text)?;
-    append_others(text, ended, &prefixes.others)
-}
-
-/// Appends the text of each line after the prefix, and a newline.
-fn append_others<T: Drop>(
-    text: &mut String,
-    mut ended: EndedLines<T>,
-    prefix: &TaggedLine<T>,
-) -> Result<(), OutOfMemory>
-    ensures { OnOk result (chars_of text.new ≡ chars_of text.old
-        ++ lines_characters (map (λ is. items_of prefix.now ++ is) ended)) }
-{
-    while !ended.is_empty() {
-        prefix.append_to(text)?;
-        ended.append_line(text)?;
-    }
-    Ok(())
 }
 
 /// Adds the lines that a block has ended, each by itself.

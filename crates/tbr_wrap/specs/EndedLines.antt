@@ -23,3 +23,8 @@ line_characters is = item_characters is ++ newline_character ∷ []
 
 abbrev pub lines_characters : {A : Type 0} → List (List (Item A)) → List ℕ
 lines_characters lines = flat_map line_characters lines
+
+-- the same after prefixes: the first line after its own, and each other one after that of the others
+abbrev pub prefixed_characters : {A : Type 0} → List ℕ → List ℕ → List (List (Item A)) → List ℕ
+prefixed_characters first others [] = []
+prefixed_characters first others (is ∷ lines) = first ++ line_characters is ++ prefixed_characters others others lines

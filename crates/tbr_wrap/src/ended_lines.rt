@@ -1,12 +1,12 @@
 //! Lines that a block has ended, in one text.
-ghost use Rattle.std.specs.Prelude.{◌≡◌, ◌==◌, ◌++◌, ◌∷◌, [], List, None, Ok, OnOk, IfOk, IsSomeAnd, length, drop};
+ghost use Rattle.std.specs.Prelude.{◌≡◌, ◌==◌, ◌++◌, ◌∷◌, [], chars, List, None, Ok, OnOk, IfOk, IsSomeAnd, length, drop};
 ghost use Rattle.std.specs.List.{list_any};
 ghost use Rattle.std.specs.VecDeque.{deque_len};
 ghost use Rattle.tbr_model.specs.Run.{Item, has_character};
 ghost use Rattle.tbr_tagged.specs.Copies.{CopiesAreEqual};
 ghost use Rattle.tbr_tagged.specs.Elements.{SameItems, IsMerged, items_of};
 ghost use Rattle.tbr_tagged.specs.View.{chars_of};
-ghost use Rattle.tbr_wrap.specs.EndedLines.{AreLines, line_characters, lines_characters};
+ghost use Rattle.tbr_wrap.specs.EndedLines.{AreLines, line_characters, prefixed_characters};
 
 use std::collections::VecDeque;
 use std::fmt;
@@ -112,28 +112,42 @@ impl<T> EndedLines<T> {
 }
 
 impl<T: Drop> EndedLines<T> {
-    /// Appends the text of each line and a newline to `text`. Where memory is refused, part of them may have been
-    /// appended.
-    pub fn append_to(mut self, text: &mut String) -> Result<(), OutOfMemory>
-        ensures { OnOk result (chars_of text.new ≡ chars_of text.old ++ lines_characters self) }
+    /// Appends the text of each line and a newline to `text`, the first line after a prefix of its own, and each other
+    /// one after that of the others. Where memory is refused, part of them may have been appended.
+    pub fn append_after<'a>(
+        mut self,
+        text: &mut String,
+        first: &'a str,
+        others: &'a str,
+    ) -> Result<(), OutOfMemory>
+        ensures { let prefixed = prefixed_characters (chars first.now) (chars others.now) self in
+            OnOk result (chars_of text.new ≡ chars_of text.old ++ prefixed) }
     {
-        self.append_lines(text)
+        self.append_lines(text, first, others)
     }
 
-    /// Moves the text of each line, and a newline, to the end of a text.
-    fn append_lines(&mut self, text: &mut String) -> Result<(), OutOfMemory>
-        ensures { OnOk result (chars_of text.new ≡ chars_of text.old ++ lines_characters self.old) }
+    /// Moves the text of each line after its prefix, and a newline, to the end of a text.
+    fn append_lines<'a>(
+        &mut self,
+        text: &mut String,
+        first: &'a str,
+        others: &'a str,
+    ) -> Result<(), OutOfMemory>
+        ensures { let prefixed = prefixed_characters (chars first.now) (chars others.now) self.old in
+            OnOk result (chars_of text.new ≡ chars_of text.old ++ prefixed) }
     {
+        let mut prefix = first;
         while !self.is_empty() {
+            append_prefix(text, prefix)?;
             self.append_line(text)?;
+            prefix = others;
         }
         Ok(())
     }
 
     /// Moves the text of the first line, if one is left, and a newline, to the end of a text. Where memory is refused
     /// lines may be lost.
-    #[inline]
-    pub fn append_line(&mut self, text: &mut String) -> Result<(), OutOfMemory>
+    fn append_line(&mut self, text: &mut String) -> Result<(), OutOfMemory>
         ensures { (is : List (Item T)) (rest : List (List (Item T))) → self.old ≡ is ∷ rest →
             OnOk result ((chars_of text.new ≡ chars_of text.old ++ line_characters is) × (self.new ≡ rest)) }
     {
@@ -169,6 +183,17 @@ impl<T: Eq + Clone + Drop> EndedLines<T> {
             }
         }
     }
+}
+
+/// Appends what comes before a line. The empty text does nothing.
+fn append_prefix(text: &mut String, prefix: &str) -> Result<(), OutOfMemory>
+    ensures { OnOk result (chars_of text.new ≡ chars_of text.old ++ chars prefix.now) }
+{
+    if prefix.is_empty() {
+        return Ok(());
+    }
+    text.push_str(prefix)?;
+    Ok(())
 }
 
 /// Forgets all lines.

@@ -39,7 +39,7 @@ fn ended<W: CharWidth + Drop>(
 /// The text of lines.
 fn text_of(alloc: Global, lines: EndedLines<Voice>) -> Result<String, Error> {
     let mut text = String::new(alloc);
-    lines.append_to(&mut text)?;
+    lines.append_after(&mut text, "", "")?;
     Ok(text)
 }
 
@@ -55,6 +55,18 @@ fn lines_in_one_text_are_counted_shown_and_appended(rt: HostRuntime) -> Result<(
         "<Hello,>\n<world.>\n<Superlon>\n<gwordrea>\n<lly>\n"
     );
     assert_eq!(rt; text_of(alloc, lines)?.as_str(), WRAPPED);
+    Ok(())
+}
+
+#[test]
+fn the_first_line_comes_after_its_own_prefix_and_each_other_one_after_theirs(
+    rt: HostRuntime,
+) -> Result<(), Fail> {
+    let alloc = rt.alloc();
+    let mut text = String::new(alloc);
+    let lines = ended::<UnicodeColumns>(alloc, 6, "an item in lines")?;
+    lines.append_after(&mut text, "* ", "  ")?;
+    assert_eq!(rt; text.as_str(), "* an\n  item\n  in\n  lines\n");
     Ok(())
 }
 

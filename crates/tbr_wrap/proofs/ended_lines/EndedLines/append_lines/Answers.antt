@@ -1,25 +1,35 @@
-use Rattle.std.proofs.Common.{◌≡◌, [], ◌++◌, length, ap, sym, ◌∙◌, arith, append_assoc, append-nil}
+use Rattle.std.proofs.Common.{◌≡◌, ℕ, List, [], ◌∷◌, ◌++◌, length, ap, sym, ◌∙◌, arith, append_assoc, append-nil}
+use Rattle.tbr_model.specs.Run.{Item}
+use Rattle.std.specs.Prelude.{chars}
 use Rattle.std.proofs.lemmas.Bool.{eqb-false, eqb-true}
 use Rattle.tbr_tagged.specs.View.{chars_of}
-use Rattle.tbr_wrap.specs.EndedLines.{line_characters, lines_characters}
+use Rattle.tbr_wrap.specs.EndedLines.{line_characters, prefixed_characters}
 use Rattle.tbr_wrap.proofs.runs.LinesLeft.{first_of}
 use Rattle.std.proofs.lemmas.List.{nil_from_length}
 use Rattle.tbr_wrap.proofs.ended_lines.EndedLines.append_lines.Goals as goal
 
-pub loop-self-smaller : goal.loop-self-smaller
-loop-self-smaller g c =
-    let f = first_of c.loop-self.self (λ none. eqb-false _ 0 (sym c.is_empty.ensures ∙ c.loop-self-test.true) (ap length none)) in
+pub loop-prefix-smaller : goal.loop-prefix-smaller
+loop-prefix-smaller g c =
+    let f = first_of c.loop-prefix.self (λ none. eqb-false _ 0 (sym c.is_empty.ensures ∙ c.loop-prefix-test.true) (ap length none)) in
     omega (arith, ap length f.2, ap length (c.in_ok-append_line.ensures f.0 f.1 f.2).1)
 
-pub loop-self-preserved : goal.loop-self-preserved
-loop-self-preserved g c =
-    let f = first_of c.loop-self.self (λ none. eqb-false _ 0 (sym c.is_empty.ensures ∙ c.loop-self-test.true) (ap length none)) in
-    let k = c.in_ok-append_line.ensures f.0 f.1 f.2 in let text = chars_of c.loop-self.text in
-    ap (λ cs. cs ++ lines_characters c.append_line.new.self) k.0 ∙ ap (λ ls. (text ++ line_characters f.0) ++ lines_characters ls) k.1
-    ∙ append_assoc text (line_characters f.0) (lines_characters f.1) ∙ ap (λ ls. text ++ lines_characters ls) (sym f.2) ∙ c.loop-self.invariant
+one_more : {A : Type 0} (text mid new prefix others : List ℕ) (is : List (Item A)) (rest all now : List (List (Item A))) → all ≡ is ∷ rest → now ≡ rest →
+    mid ≡ text ++ prefix → new ≡ mid ++ line_characters is → new ++ prefixed_characters others others now ≡ text ++ prefixed_characters prefix others all
+one_more text mid new prefix others is rest all now first left before written =
+    let more = prefixed_characters others others rest in
+    rw (first, left, written, before) (ap (λ cs. cs ++ more) (append_assoc text prefix (line_characters is)) ∙ append_assoc text (prefix ++ line_characters is) more)
+
+pub loop-prefix-preserved : goal.loop-prefix-preserved
+loop-prefix-preserved g c =
+    let f = first_of c.loop-prefix.self (λ none. eqb-false _ 0 (sym c.is_empty.ensures ∙ c.loop-prefix-test.true) (ap length none)) in
+    let k = c.in_ok-append_line.ensures f.0 f.1 f.2 in record {
+      text = one_more (chars_of c.loop-prefix.text) (chars_of c.append_prefix.new.text) (chars_of c.append_line.new.text) (chars c.loop-prefix.prefix.now) (chars c.args.others.now) f.0 f.1 c.loop-prefix.self c.append_line.new.self f.2 k.1 c.in_ok-append_prefix.ensures k.0
+          ∙ c.loop-prefix.invariant.text;
+      utf8 = c.utf8.others;
+    }
 
 pub returns : goal.returns
 returns g c =
-    let none : c.loop-self.self ≡ [] = nil_from_length c.loop-self.self (eqb-true _ 0 (sym c.is_empty.ensures ∙ c.loop-self-test.false)) in
-    let text = chars_of c.loop-self.text in
-    sym (append-nil text) ∙ ap (λ ls. text ++ lines_characters ls) (sym none) ∙ c.loop-self.invariant
+    let none : c.loop-prefix.self ≡ [] = nil_from_length c.loop-prefix.self (eqb-true _ 0 (sym c.is_empty.ensures ∙ c.loop-prefix-test.false)) in
+    let text = chars_of c.loop-prefix.text in
+    sym (append-nil text) ∙ ap (λ ls. text ++ prefixed_characters (chars c.loop-prefix.prefix.now) (chars c.args.others.now) ls) (sym none) ∙ c.loop-prefix.invariant.text

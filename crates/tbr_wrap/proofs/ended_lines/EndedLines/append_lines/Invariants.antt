@@ -1,10 +1,16 @@
 use Rattle.std.proofs.Common.{◌≡◌, ◌++◌, length}
+use Rattle.std.specs.Prelude.{chars}
+use denote.Text.{Utf8}
+use denote.Shadow.{shadow}
 use Rattle.tbr_tagged.specs.View.{chars_of}
-use Rattle.tbr_wrap.specs.EndedLines.{lines_characters}
+use Rattle.tbr_wrap.specs.EndedLines.{prefixed_characters}
 use Rattle.tbr_wrap.proofs.ended_lines.EndedLines.append_lines.Given as goal
 
-abbrev pub invariant-loop-self : goal.invariant-loop-self
-invariant-loop-self g l = chars_of l.text ++ lines_characters l.self ≡ chars_of l.fn.text ++ lines_characters l.fn.self
+abbrev pub invariant-loop-prefix : goal.invariant-loop-prefix
+invariant-loop-prefix g l = record {
+  text : chars_of l.text ++ prefixed_characters (chars l.prefix) (chars l.others) l.self ≡ chars_of l.fn.text ++ prefixed_characters (chars l.first) (chars l.others) l.fn.self;
+  utf8 : shadow (Utf8 l.prefix);
+}
 
-abbrev pub decreases-loop-self : goal.decreases-loop-self
-decreases-loop-self g l = length l.self
+abbrev pub decreases-loop-prefix : goal.decreases-loop-prefix
+decreases-loop-prefix g l = length l.self
