@@ -1,6 +1,5 @@
 -- A text with markers among its characters: what each call leaves.
-use Rattle.std.proofs.Common.{◌≡◌, ℕ, ◌+◌, ◌-◌, ◌<◌, ◌≤◌, ◌⊎◌, inl, inr, Bool, true, false, Result, Ok, Err, List, [], ◌∷◌, ◌++◌, length, take, drop, refl, ap, sym, ◌∙◌, arith, append_assoc}
-use Rattle.std.specs.Cmp.{IsEquivalence}
+use Rattle.std.proofs.Common.{◌≡◌, ℕ, ◌+◌, ◌-◌, ◌<◌, ◌≤◌, ◌⊎◌, inl, inr, true, false, Result, Ok, Err, List, [], ◌∷◌, ◌++◌, length, take, drop, refl, ap, sym, ◌∙◌, arith, append_assoc}
 use Rattle.std.specs.Result.{OnOk, OnErr}
 use Rattle.std.specs.List.{AllByRecursion as Each}
 use Rattle.std.proofs.lemmas.Bool.{or_parts}
@@ -8,12 +7,10 @@ use Rattle.std.proofs.lemmas.List.{length-append, length-take, take-append-drop,
 use Rattle.tbr_model.specs.Entry.{is_glyph}
 use Rattle.tbr_model.specs.Run.{Item, marker, has_character}
 use Rattle.tbr_model.proofs.words.Items.{has_character-append}
-use Rattle.tbr_tagged.specs.Elements.{SameItems}
 use Rattle.tbr_flat.specs.Flat.{MarkerPlaces, marked, covered, before_first, before_last}
 use Rattle.tbr_flat.proofs.RepeatedTags.{take_after}
 use Rattle.tbr_flat.proofs.MarkerPlaces.{covered_push, some_before, no_marks}
-use Rattle.tbr_tagged.proofs.SameItems.{same_items, same_items_trans, same_items_append}
-use Rattle.tbr_flat.proofs.MarkedItems.{length-marked, marked_push, taken_front, no_character, none_at_end}
+use Rattle.tbr_flat.proofs.MarkedItems.{length-marked, marked_push, no_character, none_at_end}
 
 -- where memory is refused nothing has changed
 pub covered_pushed : {T E : Type 0} (r : Result T E) (m new : MarkerPlaces) (name : List ℕ) → OnOk r (new ≡ record { markers = m.markers ++ (m.after, name) ∷ []; after = 0 }) → OnErr r (new ≡ m) → covered new ≡ covered m
@@ -30,15 +27,6 @@ module _ {A : Type 0} where
   pub character_first : (is : List (Item A)) (m : MarkerPlaces) → covered m ≡ length is → 0 < length (marked is m.markers) →
       ((name : List ℕ) (rest : List (ℕ × List ℕ)) → m.markers ≡ (0, name) ∷ rest → ⊥) → 0 < before_first m
   character_first is m h some other = some_before m (omega (arith, length-marked is m.markers)) other
-
--- ---- elements that are handed out
-
-module _ {A : Type 0} (eq : A → A → Bool) (laws : IsEquivalence eq) where
-  -- a piece after a line
-  pub piece_handed : (old new text is : List (Item A)) (m : MarkerPlaces) (n : ℕ) → n ≤ before_first m → covered m ≡ length is → SameItems eq text (take n is) → SameItems eq new (old ++ text) →
-      SameItems eq new (old ++ take n (marked is m.markers))
-  piece_handed old new text is m n h e same is_new =
-      rw (taken_front is m n h e) (same_items_trans eq laws new (old ++ text) (old ++ take n is) is_new (same_items_append eq laws old old text (take n is) (same_items eq laws old) same))
 
 module _ {A : Type 0} where
   -- ---- markers that are taken out of the word, or put back in front of it

@@ -123,11 +123,6 @@ module _ {A : Type 0} (eq : A → A → Bool) where
       ((refl, rw p h), taken_same n cs ts a b q h (omega arith))
   taken_same _ _ ts a b e h k = tt
 
-  -- a piece that is handed out
-  pub piece_items : (ds cs : List ℕ) (ts : List A) (n : ℕ) (a b : A) → ds ≡ take n cs → take n ts ≡ replicate n a → eq b a ≡ true → n ≤ length cs →
-      (length ds ≡ n) × SameItems eq (text_items ds b) (take n (glyphs cs ts))
-  piece_items ds cs ts n a b e t h k = rw e (omega (arith, length-take n cs), taken_same n cs ts a b t h k)
-
   same_glyphs : (cs : List ℕ) (ts us : List A) → AllZip (λ x y. eq x y ≡ true) ts us → SameItems eq (glyphs cs ts) (glyphs cs us)
   same_glyphs [] ts us h = tt
   same_glyphs (c ∷ cs) [] [] h = tt
@@ -170,11 +165,18 @@ pub taken_fits : {A : Type 0} (p w : List ℕ) (ts : List A) (n : ℕ) → lengt
 taken_fits p w ts n h k = omega (arith, h, k, length-drop n ts, length-drop n p)
 
 module _ {A : Type 0} (eq : A → A → Bool) (laws : IsEquivalence eq) where
-  -- the line has the items that are handed out
-  pub line_turn : (is js ps qs : List (Item A)) (m n k : ℕ) → k ≡ m + n → qs ≡ drop m ps → SameItems eq is (take m ps) → SameItems eq js (is ++ take n qs) → SameItems eq js (take k ps)
-  line_turn is js ps qs m n k e q h j =
-      rw (e, take-add m n ps, ← q)
-      (same_items_trans eq laws js (is ++ take n qs) (take m ps ++ take n qs) j (same_items_append eq laws is (take m ps) (take n qs) (take n qs) h (same_items eq laws (take n qs))))
+  -- a piece that is moved to the end of a line
+  pub piece_moved : (is js : List (Item A)) (cs : List ℕ) (ts : List A) (n : ℕ) (a b : A) → take n ts ≡ replicate n a → eq b a ≡ true → n ≤ length cs →
+      SameItems eq js (is ++ text_items (take n cs) b) → SameItems eq js (is ++ take n (glyphs cs ts))
+  piece_moved is js cs ts n a b t h k moved =
+      same_items_trans eq laws js (is ++ text_items (take n cs) b) (is ++ take n (glyphs cs ts)) moved
+      (same_items_append eq laws is is (text_items (take n cs) b) (take n (glyphs cs ts)) (same_items eq laws is) (taken_same eq n cs ts a b t h k))
+
+  -- the line has the items that are handed out after its own
+  pub line_turn : (front is js ps qs : List (Item A)) (m n k : ℕ) → k ≡ m + n → qs ≡ drop m ps → SameItems eq is (front ++ take m ps) → SameItems eq js (is ++ take n qs) → SameItems eq js (front ++ take k ps)
+  line_turn front is js ps qs m n k e q h j =
+      rw (e, take-add m n ps, ← q, ← append_assoc front (take m ps) (take n qs))
+      (same_items_trans eq laws js (is ++ take n qs) ((front ++ take m ps) ++ take n qs) j (same_items_append eq laws is (front ++ take m ps) (take n qs) (take n qs) h (same_items eq laws (take n qs))))
 
 -- ---- the characters that are placed
 

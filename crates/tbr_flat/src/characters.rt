@@ -5,7 +5,7 @@ ghost use Rattle.tbr_tagged.specs.Copies.{CopiesAreEqual};
 ghost use Rattle.tbr_model.specs.Run.{Item, glyph, items_width};
 ghost use Rattle.tbr_model.specs.Entry.{is_glyph};
 ghost use Rattle.tbr_model.specs.Rule.{spaces, without_leading, without_trailing};
-ghost use Rattle.tbr_tagged.specs.Elements.{SameItems, text_items};
+ghost use Rattle.tbr_tagged.specs.Elements.{items_of, text_items, SameItems, IsMerged};
 ghost use Rattle.tbr_tagged.specs.View.{chars_of};
 ghost use Rattle.tbr_tagged.specs.Walks.{item_characters};
 
@@ -15,7 +15,7 @@ use std::alloc::Global;
 use std::marker::Model;
 use std::str::Chars;
 use tbr_model::CharWidth;
-use tbr_tagged::{OutOfMemory, TaggedString};
+use tbr_tagged::{OutOfMemory, TaggedLine};
 
 /// Characters under tags: those that are placed on lines, and after them those of the current word.
 ///
@@ -250,21 +250,27 @@ impl<T: Eq + Clone + Drop> Characters<T> {
         Ok(())
     }
 
-    /// Hands out the first placed characters, at most `most` and all under one tag, and answers how many they are.
+    /// Moves the first placed characters, at most `most` and all under one tag, to the end of a line, and answers how
+    /// many they are.
     ///
     /// Where memory is refused the characters may be lost.
-    pub fn take_piece(&mut self, most: usize) -> Result<(usize, TaggedString<T>), OutOfMemory>
+    pub fn move_piece(
+        &mut self,
+        most: usize,
+        line: &mut TaggedLine<T>,
+    ) -> Result<usize, OutOfMemory>
         requires faithful { CopiesAreEqual T.is_clone T.eq }
         requires some { 0 < most }
         requires placed { most ≤ length self.old.placed }
-        ensures some { IfOk result (λ r. (0 < r.0) × (r.0 ≤ most)) }
-        ensures items { IfOk result (λ r. (length (chars (string_bytes r.1.s)) ≡ r.0)
-            × SameItems T.eq (text_items (chars (string_bytes r.1.s)) r.1.tag) (take r.0 self.old.placed)) }
-        ensures rest { IfOk result (λ r. self.new ≡ record self.old { placed = drop r.0 self.old.placed }) }
+        ensures some { IfOk result (λ n. (0 < n) × (n ≤ most)) }
+        ensures items { IfOk result (λ n.
+            SameItems T.eq (items_of line.new) (items_of line.old ++ take n self.old.placed)) }
+        ensures merged { IsMerged T.eq line.old → OnOk result (IsMerged T.eq line.new) }
+        ensures rest { IfOk result (λ n. self.new ≡ record self.old { placed = drop n self.old.placed }) }
     {
         let (count, tag) = self.tags.take(most)?;
-        match self.placed.take(count) {
-            Ok(s) => Ok((count, TaggedString { s, tag })),
+        match self.placed.move_under(count, tag, line) {
+            Ok(()) => Ok(count),
             Err(e) => {
                 clear(&mut self.placed, &mut self.word, &mut self.tags);
                 Err(e)

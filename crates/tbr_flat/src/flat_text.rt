@@ -405,15 +405,28 @@ impl<T: Eq + Clone + Drop> FlatText<T> {
         ensures rest { OnOk result (self.new ≡ record self.old { placed = drop items self.old.placed }) }
     {
         let mut line = TaggedLine::new(self.alloc);
-        let mut left = items;
-        while left > 0 {
-            left -= self.move_element(&mut line, left)?;
-        }
+        self.move_line(items, &mut line)?;
         Ok(line)
     }
 
-    /// Hands the first placed items to a line, a marker, or at most `most` characters, all under one tag. It answers
-    /// how many they are.
+    /// Moves the first `items` placed items to the end of a line. It takes the time of their number.
+    pub fn move_line(&mut self, items: usize, line: &mut TaggedLine<T>) -> Result<(), OutOfMemory>
+        requires faithful { CopiesAreEqual T.is_clone T.eq }
+        requires placed { items ≤ length self.old.placed }
+        ensures items { OnOk result
+            (SameItems T.eq (items_of line.new) (items_of line.old ++ take items self.old.placed)) }
+        ensures merged { IsMerged T.eq line.old → OnOk result (IsMerged T.eq line.new) }
+        ensures rest { OnOk result (self.new ≡ record self.old { placed = drop items self.old.placed }) }
+    {
+        let mut left = items;
+        while left > 0 {
+            left -= self.move_element(line, left)?;
+        }
+        Ok(())
+    }
+
+    /// Moves the first placed items to the end of a line, a marker, or at most `most` characters, all under one tag. It
+    /// answers how many they are.
     fn move_element(&mut self, line: &mut TaggedLine<T>, most: usize) -> Result<usize, OutOfMemory>
         requires faithful { CopiesAreEqual T.is_clone T.eq }
         requires some { 0 < most }
@@ -428,10 +441,9 @@ impl<T: Eq + Clone + Drop> FlatText<T> {
             line.push(TaggedLineElement::FragmentStart(name))?;
             return Ok(1);
         }
-        match self.text.take_piece(most.min(self.placed.before())) {
-            Ok((count, piece)) => {
+        match self.text.move_piece(most.min(self.placed.before()), line) {
+            Ok(count) => {
                 self.placed.remove_first(count);
-                line.push_str(piece)?;
                 Ok(count)
             }
             Err(e) => {

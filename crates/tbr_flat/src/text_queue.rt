@@ -4,19 +4,17 @@ ghost use lib.Utf8.{encodes};
 ghost use Rattle.std.specs.Char.{is_whitespace};
 ghost use Rattle.std.specs.List.{AllByRecursion as Each};
 ghost use Rattle.tbr_model.specs.Width.{width_of_text};
+ghost use Rattle.tbr_tagged.specs.Elements.{items_of, text_items, SameItems, IsMerged};
 ghost use Rattle.tbr_tagged.specs.View.{chars_of};
 
 use std::alloc::Global;
 use std::marker::Model;
 use std::str::Chars;
 use tbr_model::CharWidth;
-use tbr_tagged::{OutOfMemory, append_spaces, text_width};
+use tbr_tagged::{OutOfMemory, TaggedLine, append_spaces, text_width};
 
 /// While fewer bytes than these were taken, they stay in memory.
 const FEW: usize = 1024;
-
-/// The room of a text that is taken, beyond its own bytes. A prefix or padding then mostly needs no request.
-const SPARE_ROOM: usize = 24;
 
 /// A text that is taken from its front. What is taken is forgotten. A contract sees the characters that are left.
 #[derive(Drop)]
@@ -185,22 +183,27 @@ impl TextQueue {
         bytes_of(left, count)
     }
 
-    /// Takes the first `count` characters. It takes the time of going over them.
+    /// Moves the first `count` characters to the end of a line, under a tag. It takes the time of going over them.
     ///
-    /// Where memory is refused the text stays as it was.
-    pub fn take(&mut self, count: usize) -> Result<String, OutOfMemory>
+    /// Where memory is refused both stay as they were.
+    pub fn move_under<T: Eq + Drop>(
+        &mut self,
+        count: usize,
+        tag: T,
+        line: &mut TaggedLine<T>,
+    ) -> Result<(), OutOfMemory>
         requires { count ≤ length self.old }
-        ensures taken { IfOk result (λ s. chars (string_bytes s) ≡ take count self.old) }
-        ensures rest { IfOk result (λ _. self.new ≡ drop count self.old) }
-        ensures err { OnErr result (self.new ≡ self.old) }
+        ensures items { OnOk result
+            (SameItems T.eq (items_of line.new) (items_of line.old ++ text_items (take count self.old) tag)) }
+        ensures merged { IsMerged T.eq line.old → OnOk result (IsMerged T.eq line.new) }
+        ensures rest { OnOk result (self.new ≡ drop count self.old) }
+        ensures err { OnErr result ((self.new ≡ self.old) × (line.new ≡ line.old)) }
     {
-        let text = self.as_str();
+        let left = self.as_str();
         let bytes = self.front_bytes(count);
-        let room = bytes.saturating_add(SPARE_ROOM);
-        let mut taken = String::with_capacity(*self.text.allocator(), room)?;
-        taken.push_str(front(text, count, bytes))?;
+        line.push_text(front(left, count, bytes), tag)?;
         self.forget(count, bytes);
-        Ok(taken)
+        Ok(())
     }
 
     /// Moves the first `count` characters to the end of another text. It takes the time of going over them.

@@ -1,7 +1,7 @@
 -- Lines that are kept by themselves or in texts of blocks.
 use Rattle.std.proofs.Common.{◌≡◌, ℕ, zero, suc, ◌+◌, ◌-◌, ◌≤◌, ◌<◌, arith, take, get_or, not, None, if◌then◌else◌, Bool, true, false, ◌||◌, List, [], ◌∷◌, ◌++◌, map, length, refl, ap, sym, ◌∙◌, subst, append_assoc, append-nil, length-append, lt-ltb}
 use mir.Val.{bool_byte}
-use Rattle.std.specs.Prelude.{filter, nat_lt, drop, ◌==◌}
+use Rattle.std.specs.Prelude.{filter, nat_lt, ◌==◌}
 use Rattle.std.specs.List.{AllZip, AllByRecursion as Each, list_any}
 use Rattle.std.proofs.lemmas.Bool.{eqb-true}
 use Rattle.std.proofs.lemmas.List.{map-append, take_more}
@@ -9,7 +9,6 @@ use Rattle.std.proofs.lemmas.List.Elements.{filter-append}
 use Rattle.std.proofs.lemmas.List.Concat.{flat_map-append}
 use Rattle.tbr_model.specs.Run.{Item, has_character}
 use Rattle.tbr_border.specs.Border.{Border, has_holes}
-use Rattle.tbr_tagged.specs.Elements.{Element, SameItems, IsMerged, items_of}
 use Rattle.tbr_tagged.proofs.SameItems.{all_zip_append, same_items}
 use Rattle.std.specs.Cmp.{IsEquivalence}
 use Rattle.tbr_wrap.specs.EndedLines.{line_characters, lines_characters}
@@ -206,38 +205,9 @@ content_appended lines more =
 -- ---- a block's lines, one by one
 
 -- Lines of a block were pushed, and the others are left.
-pub record HasPushed {T : Type 0} (eq : T → T → Bool) (before : List (RenderLine T)) (ended : List (List (Item T))) (now : List (RenderLine T)) (left : List (List (Item T))) : Type 0 where
-  pub more : List (RenderLine T)
-  pub given : List (List (Item T))
-  pub items : now ≡ before ++ more
-  pub parts : ended ≡ given ++ left
-  pub same : AllZip (SameSeen eq) (map line_seen more) (text_lines given)
-  pub merged : Each (IsMergedText eq) more
-
 pub text_lines_append : {T : Type 0} (xs ys : List (List (Item T))) → text_lines (xs ++ ys) ≡ text_lines xs ++ text_lines ys
 text_lines_append [] ys = refl
 text_lines_append (x ∷ xs) ys = ap (λ ls. text x ∷ ls) (text_lines_append xs ys)
-
-module _ {T : Type 0} (eq : T → T → Bool) (before now : List (RenderLine T)) (ended left : List (List (Item T))) (h : HasPushed eq before ended now left) where
-  -- one line more
-  pub one_pushed : (line : List (Element T)) (is : List (Item T)) (rest after : List (List (Item T))) (lines : List (RenderLine T)) → left ≡ is ∷ rest → SameItems eq (items_of line) is × IsMerged eq line →
-      lines ≡ now ++ Text line ∷ [] → after ≡ drop 1 left → HasPushed eq before ended lines after
-  one_pushed line is rest after lines first shows pushed taken = record {
-    more = h.more ++ Text line ∷ [];
-    given = h.given ++ is ∷ [];
-    items = pushed ∙ ap (λ ls. ls ++ Text line ∷ []) h.items ∙ append_assoc before h.more (Text line ∷ []);
-    parts = h.parts ∙ ap (λ ls. h.given ++ ls) first ∙ sym (append_assoc h.given (is ∷ []) rest) ∙ ap (λ ls. (h.given ++ is ∷ []) ++ ls) (sym (taken ∙ ap (drop 1) first));
-    same =
-        let ends = all_zip_append (SameSeen eq) (map line_seen h.more) (text (items_of line) ∷ []) (text_lines h.given) (text is ∷ []) h.same (shows.0, tt) in
-        subst (λ ls. AllZip (SameSeen eq) ls (text_lines (h.given ++ is ∷ []))) (sym (map-append line_seen h.more (Text line ∷ [])))
-        (subst (λ ls. AllZip (SameSeen eq) (map line_seen h.more ++ text (items_of line) ∷ []) ls) (sym (text_lines_append h.given (is ∷ []))) ends);
-    merged = each_after (IsMergedText eq) h.more (Text line) h.merged shows.1;
-  }
-
-  -- all of them
-  pub all_pushed : left ≡ [] → (more : List (RenderLine T)) × (now ≡ before ++ more) × AllZip (SameSeen eq) (map line_seen more) (text_lines ended) × Each (IsMergedText eq) more
-  all_pushed none =
-      (h.more, h.items, subst (λ ls. AllZip (SameSeen eq) (map line_seen h.more) (text_lines ls)) (sym (append-nil h.given) ∙ ap (λ ls. h.given ++ ls) (sym none) ∙ sym h.parts) h.same, h.merged)
 
 -- ---- texts
 

@@ -58,10 +58,6 @@ module _ {T : Type 0} where
   after_twice f o g p [] = refl
   after_twice f o g p (is ∷ texts) = λ i. sym (append_assoc f g is) i ∷ map_twice o p texts i
 
-  -- before texts that come after no prefix
-  pub after_none : (f o : List (Item T)) (texts : List (List (Item T))) → after_prefixes (f ++ []) (o ++ []) texts ≡ after_prefixes f o texts
-  after_none f o texts = λ i. after_prefixes (append-nil f i) (append-nil o i) texts
-
   has-append : (is js : List (Item T)) → has_character (is ++ js) ≡ has_character is || has_character js
   has-append [] js = refl
   has-append (glyph c a ∷ is) js = refl
@@ -113,13 +109,21 @@ module _ {T : Type 0} where
   after_nothing [] = refl
   after_nothing (is ∷ texts) = ap (λ ls. is ∷ ls) (sym (same_prefix [] texts) ∙ after_nothing texts)
 
-  -- the text of lines after the prefixes that there are, or after none
+  -- texts after the prefixes that there are, or after none
+  pub texts_with : (o : Option (Prefixes T)) (none p : Prefixes T) → none ≡ record { first = []; others = [] } → p ≡ unwrap_or o none → (texts : List (List (Item T))) →
+      after_prefixes (items_of p.first) (items_of p.others) texts ≡ texts_after o texts
+  texts_with None none p nothing is texts = ap (λ (q : Prefixes T). after_prefixes (items_of q.first) (items_of q.others) texts) (is ∙ nothing) ∙ after_nothing texts
+  texts_with (Some q) none p nothing is texts = ap (λ (r : Prefixes T). after_prefixes (items_of r.first) (items_of r.others) texts) is
+
+  -- their pieces
+  pub merged_with : (eq : T → T → Bool) (o : Option (Prefixes T)) (none p : Prefixes T) → none ≡ record { first = []; others = [] } → p ≡ unwrap_or o none → AreMerged eq o → IsMerged eq p.first × IsMerged eq p.others
+  merged_with eq None none p nothing is merged = subst (λ (q : Prefixes T). IsMerged eq q.first × IsMerged eq q.others) (sym (is ∙ nothing)) (tt, tt)
+  merged_with eq (Some q) none p nothing is merged = subst (λ (r : Prefixes T). IsMerged eq r.first × IsMerged eq r.others) (sym is) merged
+
+  -- and their characters
   pub shown_with : (o : Option (Prefixes T)) (none p : Prefixes T) → none ≡ record { first = []; others = [] } → p ≡ unwrap_or o none → (texts : List (List (Item T))) →
       prefixed_characters (characters p.first) (characters p.others) texts ≡ lines_characters (texts_after o texts)
-  shown_with None none p nothing is texts =
-      ap (λ (q : Prefixes T). prefixed_characters (characters q.first) (characters q.others) texts) (is ∙ nothing) ∙ shown_after [] [] texts ∙ ap lines_characters (after_nothing texts)
-  shown_with (Some q) none p nothing is texts =
-      shown_after p.first p.others texts ∙ ap (λ (r : Prefixes T). lines_characters (after_prefixes (items_of r.first) (items_of r.others) texts)) is
+  shown_with o none p nothing is texts = shown_after p.first p.others texts ∙ ap lines_characters (texts_with o none p nothing is texts)
 
   -- whether texts after prefixes have a character, by their pieces
   pub any_shown : (eq : T → T → Bool) (o : Option (Prefixes T)) (p : Prefixes T) → o ≡ Some p → AreMerged eq o → (n : ℕ) (texts lines : List (List (Item T))) → texts_after o texts ≡ lines → n ≡ length texts →
@@ -212,20 +216,17 @@ module _ {T : Type 0} (eq : T → T → Bool) (laws : IsEquivalence eq) where
   pub in_front_of : (o : Option (Prefixes T)) (none p : Prefixes T) → none ≡ record { first = []; others = [] } → p ≡ unwrap_or o none → (f others : List (Item T)) (first after : List (Element T)) →
       SameItems eq (items_of first) (f ++ items_of p.first) → SameItems eq (items_of after) (others ++ items_of p.others) → (texts : List (List (Item T))) →
       AllZip (SameItems eq) (after_prefixes (items_of first) (items_of after) texts) (after_prefixes f others (texts_after o texts))
-  in_front_of None none p nothing is f others first after h k texts =
-      subst (AllZip (SameItems eq) (after_prefixes (items_of first) (items_of after) texts)) (after_none f others texts)
-      (same_after eq laws (items_of first) (items_of after) (f ++ []) (others ++ []) (subst (λ (q : Prefixes T). SameItems eq (items_of first) (f ++ items_of q.first)) (is ∙ nothing) h)
-      (subst (λ (q : Prefixes T). SameItems eq (items_of after) (others ++ items_of q.others)) (is ∙ nothing) k) texts)
-  in_front_of (Some q) none p nothing is f others first after h k texts =
-      subst (AllZip (SameItems eq) (after_prefixes (items_of first) (items_of after) texts)) (sym (after_twice f others (items_of q.first) (items_of q.others) texts))
-      (same_after eq laws (items_of first) (items_of after) (f ++ items_of q.first) (others ++ items_of q.others) (subst (λ (r : Prefixes T). SameItems eq (items_of first) (f ++ items_of r.first)) is h)
-      (subst (λ (r : Prefixes T). SameItems eq (items_of after) (others ++ items_of r.others)) is k) texts)
+  in_front_of o none p nothing is f others first after h k texts =
+      let front = after_prefixes (items_of first) (items_of after) texts in
+      subst (λ ts. AllZip (SameItems eq) front (after_prefixes f others ts)) (texts_with o none p nothing is texts)
+      (subst (AllZip (SameItems eq) front) (sym (after_twice f others (items_of p.first) (items_of p.others) texts))
+      (same_after eq laws (items_of first) (items_of after) (f ++ items_of p.first) (others ++ items_of p.others) h k texts))
 
   -- a line after a copy of its prefix
-  pub after_copy : (prefix copy line whole : List (Element T)) (is : List (Item T)) → IsMerged eq prefix → SameElements eq copy prefix → SameItems eq (items_of line) is → SameItems eq (items_of whole) (items_of copy ++ items_of line) →
+  pub after_copy : (prefix copy whole : List (Element T)) (is : List (Item T)) → IsMerged eq prefix → SameElements eq copy prefix → SameItems eq (items_of whole) (items_of copy ++ is) →
       (IsMerged eq copy → IsMerged eq whole) → SameItems eq (items_of whole) (items_of prefix ++ is) × IsMerged eq whole
-  after_copy prefix copy line whole is merged same shows joined keeps = (
-    same_items_trans eq laws (items_of whole) (items_of copy ++ items_of line) (items_of prefix ++ is) joined (same_items_append eq laws (items_of copy) (items_of prefix) (items_of line) is (same_items_of eq laws copy prefix same) shows),
+  after_copy prefix copy whole is merged same joined keeps = (
+    same_items_trans eq laws (items_of whole) (items_of copy ++ is) (items_of prefix ++ is) joined (same_items_append eq laws (items_of copy) (items_of prefix) is is (same_items_of eq laws copy prefix same) (same_items eq laws is)),
     keeps (same_merged eq laws copy prefix same merged),
   )
 
@@ -234,9 +235,11 @@ module _ {T : Type 0} (eq : T → T → Bool) where
   pub pushes_none : (a : List (RenderLine T)) → Pushes eq a [] a
   pushes_none a = ([], sym (append-nil a), tt, tt)
 
-  -- and one
-  pub pushes_one : (a b : List (RenderLine T)) (line : List (Element T)) (is : List (Item T)) → b ≡ a ++ Text line ∷ [] → SameItems eq (items_of line) is × IsMerged eq line → Pushes eq a (is ∷ []) b
-  pushes_one a b line is pushed (same, merged) = (Text line ∷ [], pushed, (same, tt), (merged, tt))
+  -- one text is pushed after its prefix, and then the others
+  pub pushes_first : (a b all : List (RenderLine T)) (line : List (Element T)) (prefix others is : List (Item T)) (rest : List (List (Item T))) → b ≡ a ++ Text line ∷ [] → SameItems eq (items_of line) (prefix ++ is) × IsMerged eq line →
+      Pushes eq b (after_prefixes others others rest) all → Pushes eq a (after_prefixes prefix others (is ∷ rest)) all
+  pushes_first a b all line prefix others is rest pushed (same, merged) h =
+      pushes_more eq a b all ((prefix ++ is) ∷ []) (map (λ js. others ++ js) rest) (Text line ∷ [], pushed, (same, tt), (merged, tt)) (subst (λ ls. Pushes eq b ls all) (same_prefix others rest) h)
 
 -- ---- lines, one by one
 

@@ -90,10 +90,8 @@ impl<T: Eq + Clone + Drop> PrefixedLines<T> {
         ensures { OnOk result (Pushes T.eq lines.old.items self lines.new.items) }
     {
         let PrefixedLines { ended, prefixes } = self;
-        match prefixes {
-            Some(prefixes) => push_prefixed(lines, ended, prefixes),
-            None => push_lines(lines, ended),
-        }
+        let Prefixes { first, others } = prefixes.unwrap_or(Prefixes::none(*lines.allocator()));
+        push_after(lines, ended, &first, &others)
     }
 
     /// Puts a text before the first line, and another one before all others, under copies of the tag. Where memory is
@@ -158,56 +156,26 @@ pub(crate) fn put_in_front<T: Eq + Clone + Drop>(
     line.insert_front_str(text, tag.clone()?)
 }
 
-/// Adds the lines that a block has ended, each by itself.
-fn push_lines<T: Eq + Clone + Drop>(
+/// Adds the lines that a block has ended, each by itself: the first one after its prefix, and each other one after that
+/// of the others.
+fn push_after<'a, T: Eq + Clone + Drop>(
     lines: &mut Vec<RenderLine<T>>,
     mut ended: EndedLines<T>,
-) -> Result<(), OutOfMemory>
-    requires { CopiesAreEqual T.is_clone T.eq }
-    ensures { OnOk result (Pushes T.eq lines.old.items ended lines.new.items) }
-{
-    while let Some(line) = ended.next_line()? {
-        lines.push(RenderLine::Text(line))?;
-    }
-    Ok(())
-}
-
-/// Adds the lines that a block has ended, each by itself after its prefix.
-fn push_prefixed<T: Eq + Clone + Drop>(
-    lines: &mut Vec<RenderLine<T>>,
-    mut ended: EndedLines<T>,
-    prefixes: Prefixes<T>,
+    first: &'a TaggedLine<T>,
+    others: &'a TaggedLine<T>,
 ) -> Result<(), OutOfMemory>
     requires copies { CopiesAreEqual T.is_clone T.eq }
-    requires first { IsMerged T.eq prefixes.first }
-    requires others { IsMerged T.eq prefixes.others }
-    ensures { let texts = after_prefixes (items_of prefixes.first) (items_of prefixes.others) ended in
+    requires first { IsMerged T.eq first.now }
+    requires others { IsMerged T.eq others.now }
+    ensures { let texts = after_prefixes (items_of first.now) (items_of others.now) ended in
         OnOk result (Pushes T.eq lines.old.items texts lines.new.items) }
 {
-    let Some(line) = ended.next_line()? else {
-        return Ok(());
-    };
-    let mut first = prefixes.first;
-    first.append(line)?;
-    lines.push(RenderLine::Text(first))?;
-    push_others(lines, ended, &prefixes.others)
-}
-
-/// Adds the lines that a block has ended, each by itself after the prefix.
-fn push_others<T: Eq + Clone + Drop>(
-    lines: &mut Vec<RenderLine<T>>,
-    mut ended: EndedLines<T>,
-    prefix: &TaggedLine<T>,
-) -> Result<(), OutOfMemory>
-    requires copies { CopiesAreEqual T.is_clone T.eq }
-    requires merged { IsMerged T.eq prefix.now }
-    ensures { let texts = map (λ is. items_of prefix.now ++ is) ended in
-        OnOk result (Pushes T.eq lines.old.items texts lines.new.items) }
-{
-    while let Some(line) = ended.next_line()? {
+    let mut prefix = first;
+    while !ended.is_empty() {
         let mut text = prefix.clone()?;
-        text.append(line)?;
+        ended.move_line(&mut text)?;
         lines.push(RenderLine::Text(text))?;
+        prefix = others;
     }
     Ok(())
 }

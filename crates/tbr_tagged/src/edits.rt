@@ -1,5 +1,5 @@
 //! Text in front of a line's elements and after them.
-ghost use Rattle.std.specs.Prelude.{◌≡◌, ◌<◌, ◌∷◌, [], chars, string_len, IfOk, OnOk, OnErr};
+ghost use Rattle.std.specs.Prelude.{◌≡◌, ◌<◌, ◌∷◌, [], chars, length, string_len, IfOk, OnOk, OnErr};
 ghost use Rattle.std.specs.Option.{option_map};
 ghost use Rattle.tbr_tagged.specs.Copies.{CopiesAreEqual};
 ghost use Rattle.tbr_tagged.specs.Elements.{push_text, insert_text, SameElements};
@@ -10,6 +10,9 @@ ghost use Rattle.tbr_tagged.specs.View.{chars_of, elements_of};
 use crate::element::{TaggedLineElement, TaggedString, new_piece};
 use crate::element_list::ElementList;
 use crate::error::OutOfMemory;
+
+/// The room of a text that is copied, beyond its own bytes. A prefix or padding then mostly needs no request.
+const SPARE_ROOM: usize = 24;
 
 /// Appends text that isn't empty. Where memory is refused nothing changes, and the text is dropped.
 pub fn push_piece<T: Eq + Drop>(
@@ -25,6 +28,27 @@ pub fn push_piece<T: Eq + Drop>(
         return elements.extend_last(ts.s.as_str());
     }
     elements.push(TaggedLineElement::Str(ts))
+}
+
+/// Appends a copy of a text that isn't empty. Where it begins a piece, that has room for a prefix or padding. Where memory
+/// is refused nothing changes.
+pub fn push_copy<T: Eq + Drop>(
+    elements: &mut ElementList<T>,
+    text: &str,
+    tag: T,
+) -> Result<(), OutOfMemory>
+    requires { 0 < length text.now }
+    ensures ok { OnOk result (elements_of (stored elements.new)
+        ≡ push_text T.eq (elements_of (stored elements.old)) (chars text.now) tag) }
+    ensures err { OnErr result (elements_of (stored elements.new) ≡ elements_of (stored elements.old)) }
+{
+    if elements.ends_under(&tag) {
+        return elements.extend_last(text);
+    }
+    let room = text.len().saturating_add(SPARE_ROOM);
+    let mut s = String::with_capacity(elements.allocator(), room)?;
+    s.push_str(text)?;
+    elements.push(TaggedLineElement::Str(TaggedString { s, tag }))
 }
 
 /// Appends a character under a tag, of which a new piece gets a copy. Where memory is refused nothing changes.

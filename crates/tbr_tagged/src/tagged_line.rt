@@ -11,7 +11,7 @@ ghost use Rattle.tbr_tagged.specs.Sums.{GivesSum};
 ghost use Rattle.tbr_tagged.specs.View.{chars_of, element_of, elements_of};
 ghost use Rattle.tbr_tagged.specs.Walks.{elements_left, strings_left, characters_left, pieces_of, piece_of, item_characters};
 
-use crate::edits::{push_glyph, push_piece, put_in_front, put_str_in_front};
+use crate::edits::{push_copy, push_glyph, push_piece, put_in_front, put_str_in_front};
 use crate::element::{TaggedLineElement, TaggedString};
 use crate::element_list::ElementList;
 use crate::error::OutOfMemory;
@@ -144,6 +144,25 @@ impl<T: Eq> TaggedLine<T> {
             return Ok(());
         }
         push_piece(&mut self.elements, ts)
+    }
+
+    /// Appends a copy of a text, as [`push_str`](TaggedLine::push_str) does. The empty text does nothing.
+    ///
+    /// Where memory is refused the line stays as it was. The empty text takes none.
+    pub fn push_text(&mut self, text: &str, tag: T) -> Result<(), OutOfMemory>
+    where
+        T: Drop,
+        ensures ok { OnOk result (self.new ≡ push_text T.eq self.old (chars text.now) tag) }
+        ensures items { OnOk result
+            (SameItems T.eq (items_of self.new) (items_of self.old ++ text_items (chars text.now) tag)) }
+        ensures merged { IsMerged T.eq self.old → OnOk result (IsMerged T.eq self.new) }
+        ensures err { OnErr result (self.new ≡ self.old) }
+        ensures some { OnErr result (0 < length text.now) }
+    {
+        if text.is_empty() {
+            return Ok(());
+        }
+        push_copy(&mut self.elements, text, tag)
     }
 
     /// Makes room ahead of time for a text of so many bytes, if the line is of one piece, and there is memory for them.

@@ -164,24 +164,23 @@ impl<T: Drop> EndedLines<T> {
 }
 
 impl<T: Eq + Clone + Drop> EndedLines<T> {
-    /// Hands out the first line, if one is left. Where memory is refused lines may be lost.
-    pub fn next_line(&mut self) -> Result<Option<TaggedLine<T>>, OutOfMemory>
+    /// Moves the first line, if one is left, to the end of another. Where memory is refused lines may be lost.
+    pub fn move_line(&mut self, line: &mut TaggedLine<T>) -> Result<(), OutOfMemory>
         requires { CopiesAreEqual T.is_clone T.eq }
-        ensures some { (text : List (Item T)) (rest : List (List (Item T))) → self.old ≡ text ∷ rest →
-            IfOk result (λ o. IsSomeAnd o (λ line. SameItems T.eq (items_of line) text × IsMerged T.eq line)) }
+        ensures items { (is : List (Item T)) (rest : List (List (Item T))) → self.old ≡ is ∷ rest →
+            OnOk result (SameItems T.eq (items_of line.new) (items_of line.old ++ is)) }
+        ensures merged { IsMerged T.eq line.old → OnOk result (IsMerged T.eq line.new) }
         ensures rest { OnOk result (self.new ≡ drop 1 self.old) }
-        ensures none { self.old ≡ [] → result ≡ Ok None }
+        ensures none { self.old ≡ [] → OnOk result (line.new ≡ line.old) }
     {
         let Some(len) = self.lens.pop_front() else {
-            return Ok(None);
+            return Ok(());
         };
-        match self.flat.take_line(len) {
-            Ok(line) => Ok(Some(line)),
-            Err(e) => {
-                clear(&mut self.flat, &mut self.lens);
-                Err(e)
-            }
+        let moved = self.flat.move_line(len, line);
+        if moved.is_err() {
+            clear(&mut self.flat, &mut self.lens);
         }
+        moved
     }
 }
 

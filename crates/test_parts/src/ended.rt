@@ -5,7 +5,9 @@ use crate::compared::counts;
 use crate::steps::{add, mark_with, plain};
 use std::alloc::Global;
 use std::test::Fail;
-use tbr_lines::{CharWidth, EndedLines, Error, UnicodeColumns, WhiteSpace, WrappedBlock};
+use tbr_lines::{
+    CharWidth, EndedLines, Error, OutOfMemory, TaggedLine, UnicodeColumns, WhiteSpace, WrappedBlock,
+};
 use test_support::columns::EveryOne;
 use test_support::texts::{Voice, append_marked_line};
 
@@ -34,6 +36,13 @@ fn ended<W: CharWidth + Drop>(
     fill(&mut block, alloc, text)?;
     block.flush()?;
     Ok(block.into_ended())
+}
+
+/// A line of one piece.
+fn line_of(alloc: Global, text: &str) -> Result<TaggedLine<Voice>, OutOfMemory> {
+    let mut line = TaggedLine::new(alloc);
+    line.push_text(text, Voice::First)?;
+    Ok(line)
 }
 
 /// The text of lines.
@@ -71,16 +80,16 @@ fn the_first_line_comes_after_its_own_prefix_and_each_other_one_after_theirs(
 }
 
 #[test]
-fn a_line_is_handed_out_with_its_marker_and_the_others_appended(
+fn a_line_is_moved_with_its_marker_after_another_and_the_rest_appended(
     rt: HostRuntime,
 ) -> Result<(), Fail> {
     let alloc = rt.alloc();
     let mut lines = ended::<EveryOne>(alloc, 2, "a 漢字 d")?;
+    let mut line = line_of(alloc, "> ")?;
+    lines.move_line(&mut line)?;
     let mut first = String::new(alloc);
-    if let Some(line) = lines.next_line()? {
-        append_marked_line(&mut first, &line)?;
-    }
-    assert_eq!(rt; first.as_str(), "<m>a\n");
+    append_marked_line(&mut first, &line)?;
+    assert_eq!(rt; first.as_str(), "> <m>a\n");
     assert_eq!(rt; text_of(alloc, lines)?.as_str(), "漢字\nd\n");
     Ok(())
 }
@@ -89,7 +98,10 @@ fn a_line_is_handed_out_with_its_marker_and_the_others_appended(
 fn a_block_without_text_has_no_line(rt: HostRuntime) -> Result<(), Fail> {
     let alloc = rt.alloc();
     let mut lines = ended::<UnicodeColumns>(alloc, 8, " ")?;
-    assert!(rt; lines.is_empty() && !lines.has_character() && lines.next_line()?.is_none());
+    let mut line = line_of(alloc, "> ")?;
+    lines.move_line(&mut line)?;
+    assert!(rt; lines.is_empty() && !lines.has_character());
+    assert_eq!(rt; line.to_text()?.as_str(), "> ");
     Ok(())
 }
 

@@ -1,27 +1,24 @@
-use Rattle.std.proofs.Common.{◌≤◌, ap, ◌∙◌, refl, arith}
-use Rattle.std.specs.Str.{chars}
-use Rattle.std.specs.String.{string_bytes}
-use Rattle.tbr_tagged.specs.Elements.{items_of, text_items}
+use Rattle.std.proofs.Common.{◌≤◌, ◌++◌, sym, subst, ap, ◌∙◌, refl, arith}
+use Rattle.tbr_tagged.specs.Elements.{items_of, SameItems}
 use Rattle.tbr_flat.specs.Flat.{MarkerPlaces, before_first, shortened}
-use Rattle.tbr_flat.proofs.MarkedItems.{marked_shortened}
-use Rattle.tbr_flat.proofs.MarkedText.{character_first, piece_handed}
+use Rattle.tbr_flat.proofs.MarkedItems.{marked_shortened, taken_front}
+use Rattle.tbr_flat.proofs.MarkedText.{character_first}
 use Rattle.tbr_flat.proofs.flat_text.FlatText.move_element.Goals as goal
 
-pub take_piece-requires-clause-some : goal.take_piece-requires-clause-some
-take_piece-requires-clause-some g c =
+pub move_piece-requires-clause-some : goal.move_piece-requires-clause-some
+move_piece-requires-clause-some g c =
     let some = character_first c.self.inside.text.placed c.self.inside.placed c.self.invariant.0 (omega (arith, c.requires.some, rw (← c.self.view_is) at c.requires.placed)) c.in_default.ensures.1 in
     omega (arith, some, c.requires.some, c.before-2.ensures, ap before_first c.in_default.ensures.0, c.min.ensures)
 
-pub returns-in_ok-push_str-in-Ok-clause-items : goal.returns-in_ok-push_str-in-Ok-clause-items
-returns-in_ok-push_str-in-Ok-clause-items g c =
-    let count = c.in-Ok.count in let piece = c.in-Ok.piece in
+pub returns-in-Ok-clause-items : goal.returns-in-Ok-clause-items
+returns-in-Ok-clause-items g c =
+    let count = c.in-Ok.count in
     let within : count ≤ before_first c.self.inside.placed = omega (arith, c.in-Ok.ensures.some.1, c.min.ensures, c.before-2.ensures, ap before_first c.in_default.ensures.0) in
     rw (← c.self.view_is)
-    (piece_handed g.T.PartialEq.eq g.met.T.Eq.laws (items_of c.args.line.now) (items_of c.push_str.new.self) (text_items (chars (string_bytes piece.s)) piece.tag)
-    c.self.inside.text.placed c.self.inside.placed count within c.self.invariant.0 c.in-Ok.ensures.items.1 c.in_ok-push_str-in-Ok.ensures.items)
+    (subst (λ is. SameItems g.T.PartialEq.eq (items_of c.move_piece.new.line) (items_of c.args.line.now ++ is)) (sym (taken_front c.self.inside.text.placed c.self.inside.placed count within c.self.invariant.0)) c.in-Ok.ensures.items)
 
-pub returns-in_ok-push_str-in-Ok-clause-rest : goal.returns-in_ok-push_str-in-Ok-clause-rest
-returns-in_ok-push_str-in-Ok-clause-rest g c =
+pub returns-in-Ok-clause-rest : goal.returns-in-Ok-clause-rest
+returns-in-Ok-clause-rest g c =
     let count = c.in-Ok.count in
     let within : count ≤ before_first c.self.inside.placed = omega (arith, c.in-Ok.ensures.some.1, c.min.ensures, c.before-2.ensures, ap before_first c.in_default.ensures.0) in
     let shorter = c.remove_first.ensures ∙ ap (λ (m : MarkerPlaces). shortened count m) c.in_default.ensures.0 in

@@ -1,14 +1,13 @@
 use Rattle.std.proofs.Common.{◌≤◌, length, arith}
-use Rattle.std.specs.Str.{chars}
-use Rattle.std.specs.String.{string_bytes}
-use Rattle.tbr_flat.proofs.TaggedCharacters.{placed_len, taken_fits, flat_take, piece_items}
-use Rattle.tbr_flat.proofs.characters.Characters.take_piece.Goals as goal
+use Rattle.tbr_tagged.specs.Elements.{items_of}
+use Rattle.tbr_flat.proofs.TaggedCharacters.{placed_len, taken_fits, flat_take, piece_moved}
+use Rattle.tbr_flat.proofs.characters.Characters.move_piece.Goals as goal
 
 pub take-requires-clause-within : goal.take-requires-clause-within
 take-requires-clause-within g c = omega (arith, placed_len _ _ _ _ c.self.invariant c.self.view_is, c.requires.placed, c.self.invariant)
 
-pub take-requires-2 : goal.take-requires-2
-take-requires-2 g c = omega (arith, placed_len _ _ _ _ c.self.invariant c.self.view_is, c.requires.placed, c.in_ok-count.ensures.count.1)
+pub move_under-requires : goal.move_under-requires
+move_under-requires g c = omega (arith, placed_len _ _ _ _ c.self.invariant c.self.view_is, c.requires.placed, c.in_ok-count.ensures.count.1)
 
 pub invariant_of-self-in-Ok : goal.invariant_of-self-in-Ok
 invariant_of-self-in-Ok g c =
@@ -20,7 +19,7 @@ returns-in-Ok-clause-items g c =
     let within : c.in_ok-count.count ≤ length c.self.inside.placed = omega (arith, placed_len _ _ _ _ c.self.invariant c.self.view_is, c.requires.placed, c.in_ok-count.ensures.count.1) in
     let t = c.in_ok-count.ensures.tags in
     rw (← c.self.view_is)
-    (piece_items g.T.PartialEq.eq (chars (string_bytes c.in-Ok.s)) c.self.inside.placed c.self.inside.tags c.in_ok-count.count t.0 c.in_ok-count.tag c.in-Ok.ensures.taken t.2 t.1 within)
+    (piece_moved g.T.PartialEq.eq g.met.T.Eq.laws (items_of c.args.line.now) (items_of c.move_under.new.line) c.self.inside.placed c.self.inside.tags c.in_ok-count.count t.0 c.in_ok-count.tag t.2 t.1 within c.in-Ok.ensures.items)
 
 pub returns-in-Ok-clause-rest : goal.returns-in-Ok-clause-rest
 returns-in-Ok-clause-rest g c =

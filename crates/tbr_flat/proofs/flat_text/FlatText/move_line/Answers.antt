@@ -1,0 +1,31 @@
+use Rattle.std.proofs.Common.{◌≡◌, ◌+◌, ◌-◌, ap, refl, arith, append-nil}
+use Rattle.std.proofs.lemmas.Result.{IfOk-at_ok}
+use Rattle.std.proofs.lemmas.List.{drop-drop}
+use Rattle.tbr_tagged.specs.Elements.{items_of, IsMerged}
+use Rattle.tbr_tagged.proofs.SameItems.{same_items}
+use Rattle.tbr_flat.specs.Flat.{Flat}
+use Rattle.tbr_flat.proofs.TaggedCharacters.{line_turn}
+use Rattle.tbr_flat.proofs.flat_text.FlatText.move_line.Goals as goal
+
+pub loop-left-init : goal.loop-left-init
+loop-left-init g c =
+    let none : c.args.items - c.args.items ≡ 0 = omega arith in
+    let eq = g.T.PartialEq.eq in
+    record {
+      within = omega arith;
+      items = rw (none, append-nil) (same_items eq g.met.T.Eq.laws (items_of c.args.line.now));
+      merged = λ h. h;
+      rest = rw none refl;
+    }
+
+pub loop-left-preserved : goal.loop-left-preserved
+loop-left-preserved g c =
+    let n = c.in_ok-left.field-0 in let m = c.args.items - c.loop-left.left in let inv = c.loop-left.invariant in
+    let k : c.args.items - (c.loop-left.left - n) ≡ m + n = omega (arith, inv.within, c.in_ok-left.ensures.some.1) in
+    record {
+      within = omega (arith, inv.within);
+      items = line_turn g.T.PartialEq.eq g.met.T.Eq.laws (items_of c.args.line.now) (items_of c.loop-left.line) (items_of c.move_element.new.line) c.args.self.now.placed c.loop-left.self.placed m n
+          (c.args.items - (c.loop-left.left - n)) k (ap (λ (f : Flat g.row.T.Denot). f.placed) inv.rest) inv.items c.in_ok-left.ensures.items;
+      merged = λ h. IfOk-at_ok (λ _. IsMerged g.T.PartialEq.eq c.move_element.new.line) c.in_ok-left.was (c.move_element.ensures.merged (inv.merged h));
+      rest = rw (c.in_ok-left.ensures.rest, inv.rest, k, drop-drop) refl;
+    }
