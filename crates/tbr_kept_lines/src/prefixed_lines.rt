@@ -170,6 +170,7 @@ fn push_after<'a, T: Eq + Clone + Drop>(
     ensures { let texts = after_prefixes (items_of first.now) (items_of others.now) ended in
         OnOk result (Pushes T.eq lines.old.items texts lines.new.items) }
 {
+    lines.reserve(ended.len())?;
     let mut prefix = first;
     while !ended.is_empty() {
         let mut text = prefix.clone()?;
