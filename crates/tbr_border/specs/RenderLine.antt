@@ -11,6 +11,11 @@ abbrev pub line_items : {A : Type 0} → RenderLine A → List (Item A)
 line_items (Text line) = items_of line
 line_items (Line border) = shown border.tag border
 
+-- the same with a border's cells under another tag
+abbrev pub items_under : {A : Type 0} → A → RenderLine A → List (Item A)
+items_under a (Text line) = items_of line
+items_under a (Line border) = shown a border
+
 -- a text line with a piece, or a border without holes
 abbrev pub has_content : {A : Type 0} → RenderLine A → Bool
 has_content (Text line) = has_piece line

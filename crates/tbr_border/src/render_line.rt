@@ -66,6 +66,19 @@ impl<T: Eq + Clone + Drop> RenderLine<T> {
         }
     }
 
+    /// A line of text itself, or a border as a line of pieces, with its cells under copies of `tag`. It refuses only
+    /// where memory is refused.
+    pub fn into_tagged_line_with(self, tag: &T) -> Result<TaggedLine<T>, OutOfMemory>
+        requires { CopiesAreEqual T.is_clone T.eq }
+        ensures items { IfOk result (λ line. SameItems T.eq (items_of line) (model.items_under tag.now self)) }
+        ensures merged { model.IsMergedText T.eq self → IfOk result (λ line. IsMerged T.eq line) }
+    {
+        match self {
+            RenderLine::Text(line) => Ok(line),
+            RenderLine::Line(border) => border.into_tagged_line_with(tag),
+        }
+    }
+
     /// The same line, its pieces and cells under copies of their tags. It refuses only where memory is refused.
     pub fn clone(&self) -> Result<RenderLine<T>, OutOfMemory>
         requires { CopiesAreEqual T.is_clone T.eq }

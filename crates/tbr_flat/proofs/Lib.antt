@@ -7,3 +7,4 @@ pub mod TextBytes
 pub mod TextEnds
 pub mod TrimmedCharacters
 pub mod TrimmedItems
+pub mod WalkedItems

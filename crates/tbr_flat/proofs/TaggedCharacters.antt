@@ -187,7 +187,7 @@ module _ {A : Type 0} where
       (λ t. nil_from_length (flat p w ts).placed (len ∙ ap length (k.0 t)), λ none. k.1 (nil_from_length p (sym len ∙ ap length none)))
 
   -- without their tags
-  glyphs_characters : (cs : List ℕ) (ts : List A) → length cs ≤ length ts → item_characters (glyphs cs ts) ≡ cs
+  pub glyphs_characters : (cs : List ℕ) (ts : List A) → length cs ≤ length ts → item_characters (glyphs cs ts) ≡ cs
   glyphs_characters [] ts h = refl
   glyphs_characters (c ∷ cs) [] h = absurd (omega arith)
   glyphs_characters (c ∷ cs) (t ∷ ts) h = ap (λ ds. c ∷ ds) (glyphs_characters cs ts (omega arith))

@@ -1,2 +1,3 @@
 pub mod Tags
 pub mod Flat
+pub mod Walk

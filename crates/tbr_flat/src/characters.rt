@@ -13,7 +13,6 @@ use crate::tags::Tags;
 use crate::text_queue::TextQueue;
 use std::alloc::Global;
 use std::marker::Model;
-use std::str::Chars;
 use tbr_model::CharWidth;
 use tbr_tagged::{OutOfMemory, TaggedLine};
 
@@ -67,9 +66,11 @@ impl<T> Characters<T> {
         self.word_len() == 0
     }
 
-    /// The characters that are placed, without their tags.
-    pub fn chars(&self) -> Chars<'_> {
-        self.placed.chars()
+    /// The text that is placed, without its tags.
+    pub fn placed_text(&self) -> &str
+        ensures { chars result.now ≡ item_characters self.now.placed }
+    {
+        self.placed.as_str()
     }
 
     /// Whether no character is placed.

@@ -7,6 +7,7 @@ ghost use Rattle.tbr_model.specs.Markers.{names_in_items};
 ghost use Rattle.tbr_tagged.specs.Elements.{SameItems, IsMerged, items_of, marker_element, text_items};
 ghost use Rattle.tbr_tagged.specs.View.{chars_of, element_of};
 ghost use Rattle.tbr_tagged.specs.Walks.{item_characters};
+ghost use Rattle.tbr_flat.specs.Walk.{character_in};
 
 use crate::characters::Characters;
 use crate::markers::Markers;
@@ -92,8 +93,11 @@ impl<T> FlatText<T> {
     }
 
     /// Begins a walk over the placed items.
-    pub fn items(&self) -> PlacedItems<'_> {
-        PlacedItems::new(self.text.chars(), self.placed.iter())
+    pub fn items(&self) -> PlacedItems<'_>
+        ensures { result ≡ map character_in self.now.placed }
+    {
+        self.text.holds_characters();
+        PlacedItems::new(self.text.placed_text(), self.placed.iter())
     }
 
     /// How many items the word has.

@@ -1,5 +1,7 @@
 //! Where markers are among characters.
-ghost use Rattle.std.specs.Prelude.{◌≡◌, ◌≤◌, ◌<◌, ◌+◌, ◌-◌, ◌^◌, ◌++◌, ◌∷◌, ◌⊎◌, [], ℕ, List, length, string_bytes, OnOk, OnErr, MatchOption, IsTrue, ◌↔◌};
+ghost use Rattle.std.specs.Prelude.{◌≡◌, ◌≤◌, ◌<◌, ◌+◌, ◌-◌, ◌^◌, ◌++◌, ◌∷◌, ◌⊎◌, [], ℕ, List, length, map, string_bytes, OnOk, OnErr, MatchOption, IsTrue, ◌↔◌};
+ghost use Rattle.std.specs.VecDeque.Iter.{deque_iter_rest};
+ghost use Rattle.tbr_flat.specs.Walk.{places_of};
 ghost use Rattle.tbr_flat.specs.Flat.{MarkerPlaces, before_first, shortened, followed};
 
 use std::alloc::Global;
@@ -59,7 +61,9 @@ impl Markers {
     }
 
     /// The markers in order.
-    pub fn iter(&self) -> Iter<'_, Marker> {
+    pub fn iter(&self) -> Iter<'_, Marker>
+        ensures { places_of (deque_iter_rest result) ≡ map (λ m. m.0) self.now.markers }
+    {
         self.markers.iter()
     }
 

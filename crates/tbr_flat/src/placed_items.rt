@@ -1,9 +1,16 @@
 //! A walk over placed items.
+ghost use Rattle.std.specs.Prelude.{◌≡◌, ◌-◌, ◌^◌, min, take, drop, chars};
+ghost use Rattle.std.specs.VecDeque.Iter.{deque_iter_rest};
+ghost use Rattle.tbr_flat.specs.Walk.{first_given, given, given_width, places_of, places_left};
+
 use crate::markers::Marker;
 use std::collections::vec_deque::Iter;
+use std::marker::Model;
 use std::str::Chars;
+use tbr_model::CharWidth;
 
-/// A walk over placed items, which gives their characters.
+/// A walk over placed items, which gives their characters. A contract sees what it has still to give: for each item its
+/// character, or `None` for a marker.
 #[derive(Drop)]
 pub struct PlacedItems<'a> {
     characters: Chars<'a>,
@@ -12,34 +19,67 @@ pub struct PlacedItems<'a> {
     before: Option<usize>,
 }
 
+impl<'a> Model for PlacedItems<'a> {
+    ghost use Rattle.std.specs.Prelude.{◌≡◌, ℕ, List, Option, true, chars};
+    ghost use Rattle.std.specs.Str.{is_utf8};
+    ghost use Rattle.std.specs.Str.Iter.{chars_rest};
+    ghost use Rattle.std.specs.VecDeque.Iter.{deque_iter_rest};
+    ghost use Rattle.tbr_flat.specs.Walk.{given, places_left};
+
+    ghost Value = { List (Option ℕ) };
+
+    ghost view = { λ a. given (chars (chars_rest a.characters)) (places_left a.before (deque_iter_rest a.markers)) };
+
+    ghost invariant = { λ a. is_utf8 (chars_rest a.characters) ≡ true };
+}
+
 impl<'a> PlacedItems<'a> {
-    /// A walk over these characters and the markers among them.
-    pub(crate) fn new(characters: Chars<'a>, markers: Iter<'a, Marker>) -> PlacedItems<'a> {
-        let mut markers = markers;
+    /// A walk over the characters of a text and the markers among them.
+    pub(crate) fn new(text: &'a str, mut markers: Iter<'a, Marker>) -> PlacedItems<'a>
+        ensures { result ≡ given (chars text.now) (places_of (deque_iter_rest markers.entry)) }
+    {
         let before = next_place(&mut markers);
         PlacedItems {
-            characters,
+            characters: text.chars(),
             markers,
             before,
         }
     }
 
     /// Goes past the next item, and answers its character. A marker has none.
-    pub fn next_character(&mut self) -> Option<char> {
-        match self.before {
-            Some(0) => {
+    pub fn next_character(&mut self) -> Option<char>
+        ensures first { result ≡ first_given self.old }
+        ensures rest { self.new ≡ drop 1 self.old }
+    {
+        if let Some(left) = self.before {
+            if left == 0 {
                 self.before = next_place(&mut self.markers);
                 return None;
             }
-            Some(left) => self.before = Some(left - 1),
-            None => {}
+            self.before = Some(left - 1);
         }
         self.characters.next()
+    }
+
+    /// Goes past the next `count` items, and answers their columns, or `usize::MAX` where they are more.
+    pub fn next_width<W: CharWidth>(&mut self, count: usize) -> usize
+        ensures width { result ≡ min (given_width W.columns (take count self.old)) (2 ^ 64 - 1) }
+        ensures rest { self.new ≡ drop count self.old }
+    {
+        let mut width = 0usize;
+        for _ in 0..count {
+            if let Some(c) = self.next_character() {
+                width = width.saturating_add(W::width(c).unwrap_or(0));
+            }
+        }
+        width
     }
 }
 
 /// How many characters come before the next marker.
-fn next_place(markers: &mut Iter<'_, Marker>) -> Option<usize> {
+fn next_place(markers: &mut Iter<'_, Marker>) -> Option<usize>
+    ensures { places_left result (deque_iter_rest markers.new) ≡ places_of (deque_iter_rest markers.old) }
+{
     let marker = markers.next()?;
     Some(marker.before)
 }

@@ -9,7 +9,6 @@ ghost use Rattle.tbr_tagged.specs.View.{chars_of};
 
 use std::alloc::Global;
 use std::marker::Model;
-use std::str::Chars;
 use tbr_model::CharWidth;
 use tbr_tagged::{OutOfMemory, TaggedLine, append_spaces, text_width};
 
@@ -62,11 +61,6 @@ impl TextQueue {
         ensures { IsTrue result ↔ (self.now ≡ []) }
     {
         self.len() == 0
-    }
-
-    /// The characters that are left.
-    pub fn chars(&self) -> Chars<'_> {
-        self.as_str().chars()
     }
 
     /// The text that is left.

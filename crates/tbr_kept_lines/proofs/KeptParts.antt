@@ -265,3 +265,9 @@ all_merged eq lines before more all h k m is =
 pub each_at : {X : Type 0} (P : X → Type 0) (xs : List X) (x : X) (ys : List X) → Each P (xs ++ x ∷ ys) → P x
 each_at P [] x ys h = h.0
 each_at P (z ∷ xs) x ys h = each_at P xs x ys h.1
+
+-- one part, and no line after it
+pub part_alone : {T : Type 0} (ps rest : List (Part T)) (last : List (RenderLine T)) (p : Part T) → ps ≡ rest ++ p ∷ [] → length ps ≡ 1 → length last ≡ 0 → part_seen p ≡ parts_seen ps ++ map line_seen last
+part_alone ps [] [] p is one none = rw is (sym (append-nil (part_seen p ++ []) ∙ append-nil (part_seen p)))
+part_alone ps (q ∷ rest) last p is one none = absurd (omega (arith, one, ap length is, length-append rest (p ∷ [])))
+part_alone ps rest (l ∷ last) p is one none = absurd (omega (arith, none))

@@ -11,8 +11,8 @@ use Rattle.std.proofs.lemmas.Str.{chars-nil}
 use Rattle.tbr_model.specs.Run.{Item, glyph, marker, has_character}
 use Rattle.tbr_wrap.specs.Runs.{is_some_list}
 use Rattle.tbr_border.specs.declared.RenderLine.{RenderLine}
-use Rattle.tbr_border.specs.declared.RenderLine.TheVariants.{Text}
-use Rattle.tbr_border.specs.RenderLine.{IsMergedText}
+use Rattle.tbr_border.specs.declared.RenderLine.TheVariants.{Text, Line as Rule}
+use Rattle.tbr_border.specs.RenderLine.{items_under, IsMergedText}
 use Rattle.tbr_model.specs.Codes.{newline_character}
 use Rattle.tbr_tagged.specs.Elements.{Element, items_of, characters, has_piece, SameItems, SameElements, IsMerged, text_items}
 use Rattle.tbr_tagged.specs.Walks.{item_character, item_characters}
@@ -242,6 +242,11 @@ module _ {T : Type 0} (eq : T → T → Bool) where
       pushes_more eq a b all ((prefix ++ is) ∷ []) (map (λ js. others ++ js) rest) (Text line ∷ [], pushed, (same, tt), (merged, tt)) (subst (λ ls. Pushes eq b ls all) (same_prefix others rest) h)
 
 -- ---- lines, one by one
+
+-- a line with a border's cells under a tag, as a contract sees it
+pub under_seen : {T : Type 0} (tag : T) (line : RenderLine T) → items_under tag line ≡ as_text tag (line_seen line)
+under_seen tag (Text es) = refl
+under_seen tag (Rule b) = refl
 
 -- an item that is as it was
 still_there : {X : Type 0} (all now : List X) (i : ℕ) (d : X) → drop i now ≡ drop i all → get_or all i d ≡ get_or now i d

@@ -1,5 +1,5 @@
 //! Lines as a renderer keeps them.
-ghost use Rattle.std.specs.Prelude.{◌≡◌, ◌≢◌, ◌+◌, ◌++◌, chars, ◌∷◌, [], List, None, Some, true, not, map, filter, length, IfOk, IfSome, OnErr, OnOk};
+ghost use Rattle.std.specs.Prelude.{◌≡◌, ◌≢◌, ◌+◌, ◌++◌, chars, ◌∷◌, [], List, None, Some, true, not, map, filter, length, IfOk, IfErr, IfSome, OnErr, OnOk};
 ghost use Rattle.std.specs.List.{AllZip, AllByRecursion as Each, list_any};
 ghost use Rattle.tbr_tagged.specs.Copies.{CopiesAreEqual};
 ghost use Rattle.tbr_tagged.specs.Elements.{SameItems, IsMerged, items_of, text_items};
@@ -231,6 +231,27 @@ impl<T: Eq + Clone + Drop> KeptLines<T> {
         self.extend(lines)
     }
 
+    /// The lines, where one block has ended all of them and they come after no prefix. Else they stay as they are. It
+    /// takes no memory.
+    pub fn into_ended(mut self) -> Result<EndedLines<T>, KeptLines<T>>
+        ensures ended { IfOk result (λ ended. text_lines ended ≡ self) }
+        ensures kept { IfErr result (λ kept. kept ≡ self) }
+    {
+        if self.above.len() != 1 || !self.last.is_empty() {
+            return Err(self);
+        }
+        let Some(part) = self.above.pop() else {
+            return Err(self);
+        };
+        match part.into_ended() {
+            Ok(ended) => Ok(ended),
+            Err(part) => {
+                self.above.push_reserved(part);
+                Err(self)
+            }
+        }
+    }
+
     /// All lines, each by itself, of pieces that are the longest stretches under equal tags. Where memory is refused all
     /// are lost.
     pub fn into_vec(self) -> Result<Vec<RenderLine<T>>, OutOfMemory>
@@ -244,6 +265,23 @@ impl<T: Eq + Clone + Drop> KeptLines<T> {
         let mut lines = lines_of(self.alloc, self.above)?;
         append_all(&mut lines, self.last)?;
         Ok(lines)
+    }
+}
+
+impl<T: Eq + Drop> Part<T> {
+    /// Its lines, where a block has ended all of them and they come after no prefix. Else they stay as they are.
+    fn into_ended(self) -> Result<EndedLines<T>, Part<T>>
+        ensures ended { IfOk result (λ ended. text_lines ended ≡ part_seen self) }
+        ensures kept { IfErr result (λ part. part ≡ self) }
+    {
+        let Part { before, ended } = self;
+        if !before.is_empty() {
+            return Err(Part { before, ended });
+        }
+        match ended.into_ended() {
+            Ok(ended) => Ok(ended),
+            Err(ended) => Err(Part { before, ended }),
+        }
     }
 }
 
@@ -381,23 +419,10 @@ fn put_prefix<T: Eq + Clone + Drop>(
         return put_in_front(text, prefix, tag);
     }
     let border = mem::replace(line, RenderLine::Text(TaggedLine::new(alloc)));
-    let mut text = text_of(border, tag)?;
+    let mut text = border.into_tagged_line_with(tag)?;
     put_in_front(&mut text, prefix, tag)?;
     *line = RenderLine::Text(text);
     Ok(())
-}
-
-/// A line as text: a border's cells are under a copy of the tag.
-fn text_of<T: Eq + Clone + Drop>(line: RenderLine<T>, tag: &T) -> Result<TaggedLine<T>, OutOfMemory>
-    requires copies { CopiesAreEqual T.is_clone T.eq }
-    requires merged { IsMergedText T.eq line }
-    ensures items { IfOk result (λ text. SameItems T.eq (items_of text) (as_text tag.now (line_seen line))) }
-    ensures merged { IfOk result (λ text. IsMerged T.eq text) }
-{
-    match line {
-        RenderLine::Text(text) => Ok(text),
-        RenderLine::Line(border) => border.into_tagged_line_with(tag),
-    }
 }
 
 /// Appends the text of each line of parts, and a newline to each.

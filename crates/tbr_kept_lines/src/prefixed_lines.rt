@@ -1,5 +1,5 @@
 //! Lines that a block has ended, after prefixes.
-ghost use Rattle.std.specs.Prelude.{◌≡◌, ◌++◌, ◌&&◌, ◌||◌, [], map, length, nat_lt, chars, IfOk, OnOk};
+ghost use Rattle.std.specs.Prelude.{◌≡◌, ◌++◌, ◌&&◌, ◌||◌, [], map, length, nat_lt, chars, IfErr, IfOk, OnOk};
 ghost use Rattle.std.specs.List.{AllZip, list_any};
 ghost use Rattle.tbr_model.specs.Run.{has_character};
 ghost use Rattle.tbr_tagged.specs.Copies.{CopiesAreEqual};
@@ -71,6 +71,18 @@ impl<T: Eq> PrefixedLines<T> {
 }
 
 impl<T: Eq + Drop> PrefixedLines<T> {
+    /// The lines, where they come after no prefix. Else they stay as they are.
+    pub(crate) fn into_ended(self) -> Result<EndedLines<T>, PrefixedLines<T>>
+        ensures ended { IfOk result (λ ended. ended ≡ self) }
+        ensures kept { IfErr result (λ lines. lines ≡ self) }
+    {
+        let PrefixedLines { ended, prefixes } = self;
+        if prefixes.is_some() {
+            return Err(PrefixedLines { ended, prefixes });
+        }
+        Ok(ended)
+    }
+
     /// Appends the text of each line and a newline to `text`. Where memory is refused, part of them may have been
     /// appended.
     pub(crate) fn append_to(self, text: &mut String) -> Result<(), OutOfMemory>

@@ -8,6 +8,7 @@ use Rattle.tbr_model.specs.Mapped.{map_item, map_items}
 use Rattle.tbr_tagged.specs.Outcome.{Outcome, done}
 use Rattle.tbr_renderer.specs.Outcomes.{gathered}
 use Rattle.tbr_renderer.proofs.OutcomeParts.{gathered_last}
+use Rattle.tbr_border.specs.RenderLine.{items_under}
 use Rattle.tbr_border.specs.declared.RenderLine.{RenderLine}
 use Rattle.tbr_tagged.specs.Elements.{text_items}
 use Rattle.tbr_footnotes.specs.Tags.{tag_meant}
@@ -15,6 +16,7 @@ use Rattle.tbr_footnotes.proofs.Tags.{text_items-map}
 use Rattle.tbr_rows.proofs.MeantTexts.{shown-map}
 use Rattle.tbr_renderer.specs.Meant.{map_line, meant}
 use Rattle.tbr_kept_lines.specs.Line.{Line, text, border, line_seen}
+use Rattle.tbr_kept_lines.proofs.Prefixes.{under_seen}
 use Rattle.tbr_kept_lines.specs.Prefixed.{as_text, after_prefixes, prefixed_lines, Appends}
 use Rattle.tbr_renderer.proofs.MeantLines.{same_meant, added_at_once}
 use Rattle.tbr_renderer.specs.Renderer.{Renderer, Settings, KeepsSettings, with_line}
@@ -84,6 +86,10 @@ module _ {T U : Type 0} (f : T → U) where
   as_text-map : (tag : T) (line : Line T) → map_items f (as_text tag line) ≡ as_text (f tag) (map_line f line)
   as_text-map tag (text is) = refl
   as_text-map tag (border b) = sym (shown-map f tag b)
+
+  -- a line with a border's cells under a tag
+  pub under_meant : (tag : T) (line : RenderLine T) → map_items f (items_under tag line) ≡ as_text (f tag) (map_line f (line_seen line))
+  under_meant tag line = ap (map_items f) (under_seen tag line) ∙ as_text-map tag (line_seen line)
 
   before-map : (prefix : List (Item T)) (texts : List (List (Item T))) → map (map_items f) (map (λ is. prefix ++ is) texts) ≡ map (λ is. map_items f prefix ++ is) (map (map_items f) texts)
   before-map prefix [] = refl

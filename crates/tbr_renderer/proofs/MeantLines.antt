@@ -32,7 +32,6 @@ use Rattle.tbr_rows.proofs.MeantTexts.{shown-map}
 use Rattle.tbr_renderer.specs.Appended.{with_border}
 use Rattle.tbr_wrap.specs.Wrapped.{padding_of}
 use Rattle.tbr_renderer.specs.Flush.{line_meant}
-use Rattle.tbr_wrap.specs.Block as block
 
 -- ---- padding
 

@@ -10,25 +10,30 @@ use Rattle.tbr_model.specs.Run.{Item, items_width}
 use Rattle.tbr_model.specs.Mapped.{map_items}
 use Rattle.tbr_border.specs.Border.{Border}
 use Rattle.tbr_annotations.specs.Annotations.{equal_annotations}
-use Rattle.tbr_tagged.specs.Elements.{items_of}
+use Rattle.std.specs.Cmp.{IsEquivalence}
+use Rattle.tbr_border.specs.Border.{with_cells, stretched}
+use Rattle.tbr_model.proofs.maps.Words.{items_width-map}
+use Rattle.tbr_model.proofs.lists.Each.{zip-map}
+use Rattle.tbr_tagged.specs.Elements.{items_of, text_items, SameItems}
+use Rattle.tbr_tagged.proofs.SameItems.{same_items, same_items_trans, same_items_append, same_width}
 use Rattle.tbr_tagged.specs.Mapped.{MeansEqual}
-use Rattle.tbr_tagged.specs.Padding.{aligned_items}
+use Rattle.tbr_tagged.specs.Padding.{spaces, columns_in_front, aligned_items}
 use Rattle.tbr_border.specs.RenderLine.{IsMergedText}
 use Rattle.tbr_tagged.specs.declared.CellAlign.{CellAlign}
 use Rattle.tbr_tagged.specs.declared.CellAlign.TheVariants.{Left}
 use Rattle.tbr_border.specs.declared.RenderLine.{RenderLine}
 use Rattle.tbr_border.specs.declared.RenderLine.TheVariants.{Text, Line as Rule}
 use Rattle.tbr_rows.specs.Cells.{AreSideBySide, IsAsFree, first_line, look, spot_of, spots_from, row_fits}
-use Rattle.tbr_rows.specs.Filled.{FillsLine, cell_after}
-use Rattle.tbr_rows.specs.Meant.{map_border, map_cell, map_element, map_line as map_row_line, EqualIfMeant, SeenRow, row_meant, MeansRow}
+use Rattle.tbr_rows.specs.Filled.{FillsLine, FillsText, cell_after}
+use Rattle.tbr_rows.specs.Meant.{map_border, map_cell, map_line as map_row_line, EqualIfMeant, SeenRow, row_meant, MeansRow}
 use Rattle.tbr_rows.specs.Rows.{IsRow}
 use Rattle.tbr_rows.specs.declared.Row.{Row}
 use Rattle.tbr_rows.specs.declared.RowStyle.{RowStyle}
 use Rattle.tbr_rows.specs.declared.LineSet.{LineSet as Cell}
 use Rattle.tbr_rows.proofs.Fitted.{spots_are, fits_with_fewer_lines}
-use Rattle.tbr_rows.proofs.MeantRows.{filled_means, fits_mean, row_means}
+use Rattle.tbr_rows.proofs.MeantRows.{aligned_means, fits_mean, row_means}
 use Rattle.tbr_rows.proofs.MeantTexts.{items-map, longest_means}
-use Rattle.tbr_kept_lines.specs.Line.{Line, text, border, line_seen}
+use Rattle.tbr_kept_lines.specs.Line.{Line, text, border, line_seen, text_lines, SameSeen}
 use Rattle.tbr_renderer.specs.Renderer.{Renderer, with_line}
 use Rattle.tbr_kept_lines.specs.LastBorder.{border_in, without_last, last_border, before_border}
 use Rattle.tbr_footnotes.specs.Tags.{tag_meant}
@@ -37,7 +42,7 @@ use Rattle.tbr_tagged.specs.Outcome.{done}
 use Rattle.tbr_renderer.specs.Flush.{after_flush}
 use Rattle.tbr_renderer.specs.Appended.{handed_out}
 use Rattle.tbr_renderer.proofs.FlushedBlocks.{flush_keeps}
-use Rattle.tbr_renderer.specs.Rows.{is_blank, looks, spots_of, LeavesFree, GivenCell, FillsCell, ComesAs, next_align, cells_meant, style_in, with_row_after, with_row}
+use Rattle.tbr_renderer.specs.Rows.{is_blank, looks, spots_of, LeavesFree, GivenCell, FillsKept, FillsCell, ComesAs, next_align, cells_meant, style_in, with_row_after, with_row}
 use Rattle.tbr_renderer.proofs.GivenCells.{given_last}
 use Rattle.tbr_renderer.proofs.BlankRenderers.{blank_hands_none, blank_meant}
 
@@ -141,24 +146,59 @@ still_fits f columns r s cols cells flushes stand free fits =
 
 -- a line of a cell is filled, by what its annotations mean
 module _ {A M : Type 0} (f : A → M) (eq : A → A → Bool) (means : MeansEqual (tag_meant f) (equal_annotations eq)) (told : EqualIfMeant (tag_meant f) (equal_annotations eq)) (columns : ℕ → Option ℕ) (align : CellAlign) (width : ℕ) (tag : List A) where
-  line_fills : (l filled : RenderLine (List A)) → IsMergedText (equal_annotations eq) l → FillsLine columns (equal_annotations eq) align width tag l filled →
-      FillsCell columns align width (tag_meant f tag) (map_line (tag_meant f) (line_seen l)) (map_row_line (tag_meant f) filled)
-  line_fills (Text es) (Text filled) merged h =
-      let g = tag_meant f in
-      let same : items_of (map (map_element g) es) ≡ map_items g (items_of es) = items-map g es in (
-        filled_means g (equal_annotations eq) means columns align width tag (Text es) (Text filled) h ∙ ap (λ (is : List (Item (List M))). aligned_items align is (width - items_width columns is) (g tag)) same,
-        longest_means g (equal_annotations eq) means told filled (h.1 merged),
+  line_fills : (l : Line (List A)) (filled : RenderLine (List A)) → FillsKept columns (equal_annotations eq) align width tag l filled →
+      FillsCell columns align width (tag_meant f tag) (map_line (tag_meant f) l) (map_row_line (tag_meant f) filled)
+  line_fills (text is) (Text filled) h =
+      let g = tag_meant f in (
+        items-map g filled ∙ aligned_means g (equal_annotations eq) means align (width - items_width columns is) tag is (items_of filled) h.0
+            ∙ ap (λ n. aligned_items align (map_items g is) (width - n) (g tag)) (sym (items_width-map g columns is)),
+        longest_means g (equal_annotations eq) means told filled h.1,
       )
-  line_fills (Rule b) (Rule filled) merged h = filled_means (tag_meant f) (equal_annotations eq) means columns align width tag (Rule b) (Rule filled) h
-  line_fills (Text es) (Rule filled) merged h = absurd h
-  line_fills (Rule b) (Text filled) merged h = absurd h
+  line_fills (border b) (Rule filled) h = ap (map_border (tag_meant f)) h
+  line_fills (text is) (Rule filled) h = absurd h
+  line_fills (border b) (Text filled) h = absurd h
 
-  pub lines_fill : (ls filled : List (RenderLine (List A))) → Each (IsMergedText (equal_annotations eq)) ls → AllZip (FillsLine columns (equal_annotations eq) align width tag) ls filled →
-      AllZip (FillsCell columns align width (tag_meant f tag)) (map (map_line (tag_meant f)) (map line_seen ls)) (map (map_row_line (tag_meant f)) filled)
-  lines_fill [] [] merged h = tt
-  lines_fill [] (d ∷ ds) merged h = absurd h
-  lines_fill (l ∷ ls) [] merged h = absurd h
-  lines_fill (l ∷ ls) (d ∷ ds) merged h = (line_fills l d merged.0 h.0, lines_fill ls ds merged.1 h.1)
+  pub lines_fill : (ls : List (Line (List A))) (filled : List (RenderLine (List A))) → AllZip (FillsKept columns (equal_annotations eq) align width tag) ls filled →
+      AllZip (FillsCell columns align width (tag_meant f tag)) (map (map_line (tag_meant f)) ls) (map (map_row_line (tag_meant f)) filled)
+  lines_fill = zip-map (FillsKept columns (equal_annotations eq) align width tag) _ (map_line (tag_meant f)) (map_row_line (tag_meant f)) line_fills
+
+-- lines of a cell, as they are handed to a row
+module _ {A : Type 0} (eq : A → A → Bool) (laws : IsEquivalence eq) (columns : ℕ → Option ℕ) (align : CellAlign) (width : ℕ) (a : A) where
+  -- one by one
+  by_itself : (line : RenderLine A) (l : Line A) (filled : RenderLine A) → SameSeen eq (line_seen line) l → IsMergedText eq line → FillsLine columns eq align width a line filled → FillsKept columns eq align width a l filled
+  by_itself (Text es) (text is) (Text fs) same merged h =
+      let missing = width - items_width columns (items_of es) in
+      let front = text_items (spaces (columns_in_front align missing)) a in
+      let after = text_items (spaces (missing - columns_in_front align missing)) a in
+      let join = same_items_append eq laws in
+      let aligned : SameItems eq (aligned_items align (items_of es) missing a) (aligned_items align is missing a) =
+      join (front ++ items_of es) (front ++ is) after after (join front front (items_of es) is (same_items eq laws front) same) (same_items eq laws after) in (
+        subst (λ n. SameItems eq (items_of fs) (aligned_items align is (width - n) a)) (same_width columns eq (items_of es) is same) (same_items_trans eq laws (items_of fs) (aligned_items align (items_of es) missing a) (aligned_items align is missing a) h.0 aligned),
+        h.1 merged,
+      )
+  by_itself (Rule b) (border c) (Rule d) same merged h = h ∙ ap (λ (e : Border A). with_cells (stretched width e.cells) e) same
+  by_itself (Text es) (text is) (Rule d) same merged h = absurd h
+  by_itself (Rule b) (border c) (Text fs) same merged h = absurd h
+  by_itself (Text es) (border c) filled same merged h = absurd same
+  by_itself (Rule b) (text is) filled same merged h = absurd same
+
+  pub all_by_themselves : (lines : List (RenderLine A)) (ls : List (Line A)) (filled : List (RenderLine A)) → AllZip (SameSeen eq) (map line_seen lines) ls → Each (IsMergedText eq) lines → AllZip (FillsLine columns eq align width a) lines filled →
+      AllZip (FillsKept columns eq align width a) ls filled
+  all_by_themselves [] [] filled same merged h = h
+  all_by_themselves [] (l ∷ ls) filled same merged h = absurd same
+  all_by_themselves (line ∷ lines) [] filled same merged h = absurd same
+  all_by_themselves (line ∷ lines) (l ∷ ls) [] same merged h = absurd h
+  all_by_themselves (line ∷ lines) (l ∷ ls) (d ∷ ds) same merged h = (by_itself line l d same.0 merged.0 h.0, all_by_themselves lines ls ds same.1 merged.1 h.1)
+
+  -- in a block's text
+  in_text : (is : List (Item A)) (filled : RenderLine A) → FillsText columns eq align width a is filled → FillsKept columns eq align width a (text is) filled
+  in_text is (Text fs) h = h
+  in_text is (Rule d) h = absurd h
+
+  pub all_in_text : (texts : List (List (Item A))) (filled : List (RenderLine A)) → AllZip (FillsText columns eq align width a) texts filled → AllZip (FillsKept columns eq align width a) (text_lines texts) filled
+  all_in_text [] filled h = h
+  all_in_text (is ∷ texts) [] h = absurd h
+  all_in_text (is ∷ texts) (d ∷ ds) h = (in_text is d h.0, all_in_text texts ds h.1)
 
 module _ {D A M : Type 0} (f : A → M) (columns : ℕ → Option ℕ) (aligns : List CellAlign) (tag : List M) where
   -- the cells of some renderers, and the alignments that are left

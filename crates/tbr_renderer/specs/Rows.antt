@@ -5,7 +5,7 @@ use Rattle.std.specs.List.{AllZip}
 use Rattle.tbr_model.specs.Run.{items_width}
 use Rattle.tbr_wrap.specs.Block.{any_line, has_no_character}
 use Rattle.tbr_border.specs.Border.{Border, with_cells, stretched}
-use Rattle.tbr_tagged.specs.Elements.{items_of}
+use Rattle.tbr_tagged.specs.Elements.{items_of, SameItems, IsMerged}
 use Rattle.tbr_tagged.specs.Padding.{aligned_items}
 use Rattle.tbr_wrap.specs.Runs.{is_some_list}
 use Rattle.tbr_tagged.specs.declared.CellAlign.{CellAlign}
@@ -14,7 +14,8 @@ use Rattle.tbr_border.specs.declared.RenderLine.{RenderLine}
 use Rattle.tbr_border.specs.declared.RenderLine.TheVariants.{Text, Line as Rule}
 use Rattle.tbr_rows.specs.Cells.{AreSideBySide, Spot, spots_from}
 use Rattle.tbr_rows.specs.Meant.{AreLongest, SeenRow, MeansRow}
-use Rattle.tbr_rows.specs.Computed.{longest, row_of}
+use Rattle.tbr_rows.specs.Computed.{row_of}
+use Rattle.tbr_rows.specs.Stretches.{longest}
 use Rattle.tbr_rows.specs.declared.LineSet.{LineSet as Cell}
 use Rattle.tbr_rows.specs.declared.RowStyle.{RowStyle}
 use Rattle.tbr_kept_lines.specs.LastBorder.{last_border, before_border}
@@ -59,6 +60,16 @@ pub record GivenCell (T : Type 0) : Type 0 where
   pub span : ℕ
   pub align : CellAlign
   pub lines : List (Line T)
+
+-- A line as a renderer keeps it is filled up to a width. A text is filled with spaces as the alignment says, in pieces
+-- that are the longest stretches under equal tags, and a border with `─`.
+abbrev pub FillsKept : {A : Type 0} →
+    (ℕ → Option ℕ) → (A → A → Bool) → CellAlign → ℕ → A → Line A → RenderLine A → Type 0
+FillsKept columns eq align width a (text is) (Text es) =
+    SameItems eq (items_of es) (aligned_items align is (width - items_width columns is) a) × IsMerged eq es
+FillsKept columns eq align width a (border b) (Rule filled) = filled ≡ with_cells (stretched width b.cells) b
+FillsKept columns eq align width a (text is) (Rule filled) = ⊥
+FillsKept columns eq align width a (border b) (Text es) = ⊥
 
 -- A line of a cell is filled up to its width. A text is filled with spaces as the alignment says, in pieces that are
 -- the longest stretches under one annotation, and a border with `─`.

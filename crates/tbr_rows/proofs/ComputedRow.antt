@@ -12,7 +12,8 @@ use Rattle.tbr_rows.specs.declared.row.RowStyle.{RowStyle}
 use Rattle.tbr_rows.specs.Cells.{first_line, with_hanging}
 use Rattle.tbr_rows.specs.Gaps.{has_gap, with_elements}
 use Rattle.tbr_rows.specs.Meant.{EndsStretch, AreLongest, IsGapOf, HasGapIf, HasGaps, SeenRow, MeansRow}
-use Rattle.tbr_rows.specs.Computed.{TellsApart, character_before, longest, gap_of, with_gap, left_of, border_below, row_under, row_of}
+use Rattle.tbr_rows.specs.Computed.{TellsApart, gap_of, with_gap, left_of, border_below, row_under, row_of}
+use Rattle.tbr_rows.specs.Stretches.{character_before, longest}
 use Rattle.tbr_rows.specs.Rows.{shown_in}
 use Rattle.tbr_rows.proofs.OneRow.{one_row}
 

@@ -9,6 +9,9 @@ pub mod FilledCells
 pub mod MeantTexts
 pub mod MeantRows
 pub mod OneRow
+pub mod Stretches
+pub mod AlignedLines
+pub mod CellLines
 pub mod ComputedRow
 pub mod Among
 pub mod ColumnsOfRows

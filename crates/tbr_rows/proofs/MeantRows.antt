@@ -1,11 +1,12 @@
 -- Cells, their places, borders and rows by what tags mean.
 use Rattle.std.proofs.Common.{◌≡◌, ℕ, Bool, Option, None, Some, List, [], ◌∷◌, ◌&&◌, map, ap, sym, ◌∙◌, refl, ◌-◌, true, false, take, drop, length, option_map, replicate, is_some, is_none}
-use Rattle.tbr_model.specs.Run.{glyph}
+use Rattle.tbr_model.specs.Run.{Item, glyph}
+use Rattle.tbr_model.specs.Mapped.{map_items}
 use Rattle.tbr_border.specs.Border.{Border, without_holes, Hole, has_holes}
 use Rattle.tbr_border.specs.Cell.{horizontal, Side, above, below}
 use Rattle.tbr_tagged.specs.Mapped.{MeansEqual}
 use Rattle.tbr_tagged.specs.declared.padding.CellAlign.{CellAlign}
-use Rattle.tbr_tagged.specs.Elements.{items_of}
+use Rattle.tbr_tagged.specs.Elements.{items_of, SameItems}
 use Rattle.tbr_tagged.specs.Padding.{aligned_items, columns_missing}
 use Rattle.tbr_tagged.proofs.MappedTags.{means_same_items}
 use Rattle.tbr_model.proofs.maps.Words.{items_width-map}
@@ -162,15 +163,12 @@ module _ {A B : Type 0} (f : A → B) (eq : A → A → Bool) (means : MeansEqua
 
   -- ---- what comes into a row
 
+  pub aligned_means : (align : CellAlign) (missing : ℕ) (a : A) (is js : List (Item A)) → SameItems eq js (aligned_items align is missing a) → map_items f js ≡ aligned_items align (map_items f is) missing (f a)
+  aligned_means align missing a is js h = rw (means_same_items f eq means js (aligned_items align is missing a) h) (simp (map-append, text-map f))
+
   pub filled_means : (columns : ℕ → Option ℕ) (align : CellAlign) (width : ℕ) (a : A) (l done : RenderLine A) → FillsLine columns eq align width a l done → MeansFilled columns align width (f a) (map_line f l) (map_line f done)
   filled_means columns align width a (Text es) (Text done) h =
-      rw (
-        items-map f done,
-        items-map f es,
-        items_width-map f columns (items_of es),
-        means_same_items f eq means (items_of done) (aligned_items align (items_of es) (columns_missing columns width es) a) h.0,
-      )
-      (simp (map-append, text-map f))
+      rw (items-map f done, items-map f es, items_width-map f columns (items_of es)) (aligned_means align (columns_missing columns width es) a (items_of es) (items_of done) h.0)
   filled_means columns align width a (Line b) (Line done) h = ap (map_border f) h
   filled_means columns align width a (Text es) (Line done) h = absurd h
   filled_means columns align width a (Line b) (Text done) h = absurd h

@@ -15,7 +15,8 @@ use Rattle.tbr_tagged.proofs.MappedTags.{means_same_items}
 use Rattle.tbr_rows.specs.declared.line_set.LineSet.{LineSet as Cell}
 use Rattle.tbr_rows.specs.declared.column.Column.{Column}
 use Rattle.tbr_rows.specs.Cells.{cell_height, first_line}
-use Rattle.tbr_rows.specs.Texts.{row_height, text_in_row, filler_above, text_of_lines, cell_text, row_text, numbers_below, line_text, line_texts, HaveTexts}
+use Rattle.tbr_rows.specs.Texts.{row_height, filler_above, text_of_lines, cell_text, row_text, numbers_below, line_text, line_texts, HaveTexts}
+use Rattle.tbr_border.specs.RenderLine.{items_under}
 use Rattle.tbr_rows.specs.Gaps.{has_gap, with_element, with_elements, IsGapText, FillsGapIf, FillsGaps, overhang_of, overhang}
 use Rattle.tbr_rows.specs.Rows.{cells_left}
 use Rattle.tbr_rows.specs.Meant.{map_element, map_hole, map_border, map_line, map_cell, map_column, EqualIfMeant, EndsStretch, AreLongest, IsGapOf, HasGapIf, HasGaps}
@@ -48,13 +49,13 @@ module _ {A B : Type 0} (f : A → B) where
   filler-map width None = refl
   filler-map width (Some b) = refl
 
-  text_in_row-map : (a : A) (l : RenderLine A) → text_in_row (f a) (map_line f l) ≡ map_items f (text_in_row a l)
-  text_in_row-map a (Text es) = items-map es
-  text_in_row-map a (Line b) = shown-map a b
+  items_under-map : (a : A) (l : RenderLine A) → items_under (f a) (map_line f l) ≡ map_items f (items_under a l)
+  items_under-map a (Text es) = items-map es
+  items_under-map a (Line b) = shown-map a b
 
   text_of_lines-map : (a : A) (c : Column A) (ls : List (RenderLine A)) → text_of_lines (f a) (map_column f c) (map (map_line f) ls) ≡ map_items f (text_of_lines a c ls)
   text_of_lines-map a c [] = rw (filler-map c.cell.width c.bottom) (sym (text-map (filler_above c.cell.width c.bottom) a))
-  text_of_lines-map a c (l ∷ ls) = text_in_row-map a l
+  text_of_lines-map a c (l ∷ ls) = items_under-map a l
 
   row_text-map : (separator : Item A) (ts : List (List (Item A))) → row_text (map_item f separator) (map (map_items f) ts) ≡ map_items f (row_text separator ts)
   row_text-map separator [] = refl
@@ -129,7 +130,7 @@ module _ {A B : Type 0} (f : A → B) where
 
     gap_means : (a : A) (width : ℕ) (o : Option (RenderLine A)) (es : List (Element A)) → IsGapText eq a width o es → IsGapOf (f a) width (option_map (map_line f) o) (map (map_element f) es)
     gap_means a width None es h = zip_same (SameElement eq) (map_element f) (map_element f) element_means es (piece (spaces width) a ∷ []) h
-    gap_means a width (Some (Text line)) es h = ap (map (map_element f)) h
+    gap_means a width (Some (Text line)) es h = zip_same (SameElement eq) (map_element f) (map_element f) element_means es line h
     gap_means a width (Some (Line b)) es h = (items-map es ∙ means_same_items f eq means (items_of es) (shown b.tag b) h.0 ∙ sym (shown-map b.tag b), longest_means es h.1)
 
     gap_if_means : (b : Bool) (columns : ℕ → Option ℕ) (a : A) (c : Cell A) (x y : Border A) → FillsGapIf b columns eq a c x y → HasGapIf b columns (f a) (map_cell f c) (map_border f x) (map_border f y)

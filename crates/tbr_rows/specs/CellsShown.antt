@@ -11,7 +11,8 @@ use Rattle.tbr_tagged.specs.Elements.{items_of}
 use Rattle.tbr_rows.specs.declared.line_set.LineSet.{LineSet as Cell}
 use Rattle.tbr_rows.specs.declared.row.RowStyle.{RowStyle}
 use Rattle.tbr_rows.specs.Cells.{AreSideBySide, AreApart}
-use Rattle.tbr_rows.specs.Texts.{text_in_row, row_height}
+use Rattle.tbr_rows.specs.Texts.{row_height}
+use Rattle.tbr_border.specs.RenderLine.{items_under}
 use Rattle.tbr_rows.specs.Gaps.{has_gap}
 use Rattle.tbr_rows.specs.Meant.{SeenRow, MeansRow}
 use Rattle.tbr_rows.specs.Shown.{Meeting, meeting, met, continued, parts_of, texts_in, HolesFill}
@@ -64,7 +65,7 @@ module _ {A : Type 0} (columns : ℕ → Option ℕ) where
   ShowsAt r c i =
       (line : List (Item A)) × (slice_get r.row.lines i ≡ Some line)
       × HasInColumns line c.place c.width (λ here. (l : RenderLine A) → slice_get (met (meeting_in r) c).lines i ≡ Some l →
-      here ≡ text_in_row r.tag l)
+      here ≡ items_under r.tag l)
 
   -- The border below the row has in the cell's columns its line after those of the row, if it has one.
   abbrev pub ShowsBelow : MadeRow A columns → Cell A → Type 0

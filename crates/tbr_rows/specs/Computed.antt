@@ -1,11 +1,11 @@
 -- A row by what its tags mean, computed where tags can be told apart.
 use Rattle.std.specs.Prelude.{◌≡◌, ◌↔◌, IsTrue, ℕ, Bool, if◌then◌else◌, Option, None, Some, List, [], ◌∷◌, fold, replicate, option_map}
-use Rattle.tbr_model.specs.Run.{Item, glyph, marker}
+use Rattle.tbr_model.specs.Run.{glyph}
 use Rattle.tbr_border.specs.declared.render_line.RenderLine.{RenderLine}
 use Rattle.tbr_border.specs.declared.render_line.RenderLine.TheVariants.{Text, Line}
 use Rattle.tbr_border.specs.Cell.{horizontal}
 use Rattle.tbr_border.specs.Border.{Border, without_holes, shown}
-use Rattle.tbr_tagged.specs.Elements.{Element, piece, marker_element}
+use Rattle.tbr_tagged.specs.Elements.{Element, piece}
 use Rattle.tbr_tagged.specs.Padding.{spaces}
 use Rattle.tbr_rows.specs.declared.line_set.LineSet.{LineSet as Cell}
 use Rattle.tbr_rows.specs.declared.row.RowStyle.{RowStyle}
@@ -14,25 +14,11 @@ use Rattle.tbr_rows.specs.Texts.{row_height, line_texts}
 use Rattle.tbr_rows.specs.Gaps.{has_gap, with_elements, overhang}
 use Rattle.tbr_rows.specs.Rows.{border_above, next_begun, shown_in, left_in, separator_in, drawn_in}
 use Rattle.tbr_rows.specs.Meant.{SeenRow}
+use Rattle.tbr_rows.specs.Stretches.{longest}
 
 -- It tells whether two tags are the same.
 abbrev pub TellsApart : {A : Type 0} → (A → A → Bool) → Type 0
 TellsApart {A} same = (a b : A) → IsTrue (same a b) ↔ (a ≡ b)
-
--- ---- pieces
-
--- a character before these elements, in the first one if that is a piece under the same tag
-abbrev pub character_before : {A : Type 0} → (A → A → Bool) → ℕ → A → List (Element A) → List (Element A)
-character_before same c a [] = piece (c ∷ []) a ∷ []
-character_before same c a (marker_element name ∷ es) = piece (c ∷ []) a ∷ marker_element name ∷ es
-character_before same c a (piece cs b ∷ es) =
-    if same a b then piece (c ∷ cs) b ∷ es else piece (c ∷ []) a ∷ piece cs b ∷ es
-
--- items as elements, whose pieces are the longest stretches of characters under one tag
-abbrev pub longest : {A : Type 0} → (A → A → Bool) → List (Item A) → List (Element A)
-longest same [] = []
-longest same (glyph c a ∷ is) = character_before same c a (longest same is)
-longest same (marker name ∷ is) = marker_element name ∷ longest same is
 
 -- ---- the border below
 

@@ -25,7 +25,7 @@ with_elements columns place b es = fold (with_element columns place) b es
 -- line they are one piece of spaces.
 abbrev pub IsGapText : {A : Type 0} → (A → A → Bool) → A → ℕ → Option (RenderLine A) → List (Element A) → Type 0
 IsGapText eq a width None es = SameElements eq es (piece (spaces width) a ∷ [])
-IsGapText eq a width (Some (Text line)) es = es ≡ line
+IsGapText eq a width (Some (Text line)) es = SameElements eq es line
 IsGapText eq a width (Some (Line b)) es = SameItems eq (items_of es) (shown b.tag b) × IsMerged eq es
 
 -- The first line of a cell comes in front of a border, if it spans rows and borders are drawn.

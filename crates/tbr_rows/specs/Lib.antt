@@ -8,4 +8,7 @@ pub mod Fitting
 pub mod Shown
 pub mod Meant
 pub mod CellsShown
+pub mod Stretches
+pub mod AlignedLines
+pub mod CellLines
 pub mod Computed

@@ -11,7 +11,8 @@ use Rattle.tbr_rows.specs.declared.line_set.LineSet.{LineSet as Cell}
 use Rattle.tbr_rows.specs.declared.column.Column.{Column}
 use Rattle.tbr_rows.specs.Cells.{cell_height}
 use Rattle.tbr_rows.specs.Borders.{first_mergeable, last_mergeable, after_mergeable, before_mergeable, without_first_border}
-use Rattle.tbr_rows.specs.Texts.{cell_text, text_in_row}
+use Rattle.tbr_rows.specs.Texts.{cell_text}
+use Rattle.tbr_border.specs.RenderLine.{items_under}
 use Rattle.tbr_rows.specs.Gaps.{has_gap, overhang_of}
 
 -- the lines that a row of a height shows of a cell, with the one in the border below it
@@ -110,7 +111,7 @@ LineFits columns width (Line b) = (length b.cells ≤ width) × HolesFill column
 
 -- a line takes so many columns in a row
 abbrev pub TakesColumns : {A : Type 0} → (ℕ → Option ℕ) → A → ℕ → RenderLine A → Type 0
-TakesColumns columns a width l = items_width columns (text_in_row a l) ≡ width
+TakesColumns columns a width l = items_width columns (items_under a l) ≡ width
 
 -- what is below the lines of a cell takes its columns
 abbrev pub FillsBelow : {A : Type 0} → ℕ → Option (Border A) → Type 0

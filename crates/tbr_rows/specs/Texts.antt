@@ -3,8 +3,8 @@ use Rattle.std.specs.Prelude.{ℕ, Bool, suc, zero, max, Option, None, Some, Lis
 use Rattle.std.specs.List.{AllZip}
 use Rattle.tbr_model.specs.Run.{Item}
 use Rattle.tbr_border.specs.declared.render_line.RenderLine.{RenderLine}
-use Rattle.tbr_border.specs.declared.render_line.RenderLine.TheVariants.{Text, Line}
-use Rattle.tbr_border.specs.Border.{Border, shown, lines_above}
+use Rattle.tbr_border.specs.Border.{Border, lines_above}
+use Rattle.tbr_border.specs.RenderLine.{items_under}
 use Rattle.tbr_tagged.specs.Elements.{Element, items_of, text_items, SameItems}
 use Rattle.tbr_tagged.specs.Padding.{spaces}
 use Rattle.tbr_rows.specs.declared.column.Column.{Column}
@@ -14,11 +14,6 @@ use Rattle.tbr_rows.specs.Cells.{cell_height}
 abbrev pub row_height : {A : Type 0} → List (Column A) → ℕ
 row_height cs = fold (λ h c. max h (cell_height c.cell)) 0 cs
 
--- what a row shows of a line: a border's cells are drawn under the row's tag
-abbrev pub text_in_row : {A : Type 0} → A → RenderLine A → List (Item A)
-text_in_row a (Text line) = items_of line
-text_in_row a (Line b) = shown a b
-
 -- what is there where a cell has no line: spaces, or the vertical lines above its merged border
 abbrev pub filler_above : {A : Type 0} → ℕ → Option (Border A) → List ℕ
 filler_above width None = spaces width
@@ -27,7 +22,7 @@ filler_above width (Some b) = lines_above b
 -- what a row shows of a cell that has these lines left
 abbrev pub text_of_lines : {A : Type 0} → A → Column A → List (RenderLine A) → List (Item A)
 text_of_lines a c [] = text_items (filler_above c.cell.width c.bottom) a
-text_of_lines a c (l ∷ ls) = text_in_row a l
+text_of_lines a c (l ∷ ls) = items_under a l
 
 -- what its line i shows of a cell
 abbrev pub cell_text : {A : Type 0} → A → ℕ → Column A → List (Item A)

@@ -4,16 +4,15 @@ ghost use Rattle.tbr_border.specs.Cell.{above as top};
 ghost use Rattle.tbr_rows.specs.Cells.{separators};
 ghost use Rattle.tbr_rows.specs.Borders as model;
 
-use crate::cell_lines::CellLines;
 use crate::column::Column;
 use crate::line_set::{LineSet, row_width};
 use std::alloc::Global;
-use tbr_border::{BorderHoriz, RenderLine};
+use tbr_border::BorderHoriz;
 use tbr_tagged::OutOfMemory;
 
 /// Joins the separators of a row to the border above it and to the one below. It stretches the one above to the row's
 /// width. Where it refuses, both may be joined in part.
-pub(crate) fn join<T>(
+pub(crate) fn join<T: Eq>(
     above: &mut BorderHoriz<T>,
     next: &mut BorderHoriz<T>,
     cells: &[LineSet<T>],
@@ -30,7 +29,7 @@ pub(crate) fn join<T>(
 }
 
 /// Merges the first borders of cells into the border above their row, and takes them out.
-pub(crate) fn merge_first<T: Drop>(
+pub(crate) fn merge_first<T: Eq + Drop>(
     alloc: Global,
     above: &mut BorderHoriz<T>,
     cells: Vec<LineSet<T>>,
@@ -40,7 +39,7 @@ pub(crate) fn merge_first<T: Drop>(
 {
     let mut rest = Vec::with_capacity(alloc, cells.len())?;
     for mut cell in cells {
-        if let Some(border) = take_first(&mut cell.lines) {
+        if let Some(border) = cell.lines.take_first_border() {
             above.merge_from_below(&border, cell.place)?;
         }
         rest.push(cell)?;
@@ -49,7 +48,7 @@ pub(crate) fn merge_first<T: Drop>(
 }
 
 /// Merges the last borders of cells into the border below their row, and takes them out of the lines.
-pub(crate) fn merge_last<T: Drop>(
+pub(crate) fn merge_last<T: Eq + Drop>(
     alloc: Global,
     next: &mut BorderHoriz<T>,
     cells: Vec<LineSet<T>>,
@@ -59,7 +58,7 @@ pub(crate) fn merge_last<T: Drop>(
 {
     let mut columns = Vec::with_capacity(alloc, cells.len())?;
     for mut cell in cells {
-        let bottom = take_last(&mut cell.lines);
+        let bottom = cell.lines.take_last_border();
         if let Some(border) = &bottom {
             next.merge_from_above(border, cell.place)?;
         }
@@ -69,7 +68,7 @@ pub(crate) fn merge_last<T: Drop>(
 }
 
 /// Cells of which no border is merged.
-pub(crate) fn whole<T: Drop>(
+pub(crate) fn whole<T: Eq + Drop>(
     alloc: Global,
     cells: Vec<LineSet<T>>,
 ) -> Result<Vec<Column<T>>, OutOfMemory>
@@ -80,40 +79,4 @@ pub(crate) fn whole<T: Drop>(
         columns.push(Column { cell, bottom: None })?;
     }
     Ok(columns)
-}
-
-/// Takes the first line, if it is a border without holes.
-fn take_first<T: Drop>(lines: &mut CellLines<T>) -> Option<BorderHoriz<T>>
-    ensures border { result ≡ model.first_mergeable lines.old }
-    ensures rest { lines.new ≡ model.after_mergeable lines.old }
-{
-    if is_mergeable(lines.front())
-        && let Some(RenderLine::Line(border)) = lines.pop_front()
-    {
-        return Some(border);
-    }
-    None
-}
-
-/// Takes the last line, if it is a border without holes.
-fn take_last<T: Drop>(lines: &mut CellLines<T>) -> Option<BorderHoriz<T>>
-    ensures border { result ≡ model.last_mergeable lines.old }
-    ensures rest { lines.new ≡ model.before_mergeable lines.old }
-{
-    if is_mergeable(lines.back())
-        && let Some(RenderLine::Line(border)) = lines.pop_back()
-    {
-        return Some(border);
-    }
-    None
-}
-
-/// Whether a line is a border without holes.
-fn is_mergeable<T>(line: Option<&RenderLine<T>>) -> bool
-    ensures { result ≡ model.is_mergeable line.entry }
-{
-    match line {
-        Some(RenderLine::Line(border)) => !border.has_holes(),
-        _ => false,
-    }
 }

@@ -1,36 +1,53 @@
 //! The lines of a cell.
-ghost use Rattle.std.specs.Prelude.{◌≡◌, ◌<◌, ◌-◌, ◌==◌, ◌++◌, ◌↔◌, [], length, drop, take, slice_index_or, IsSome, IfSome};
-ghost use Rattle.std.specs.Option.{option_to_list};
+ghost use Rattle.std.specs.Prelude.{◌≡◌, ◌==◌, ◌++◌, ◌∷◌, [], List, length, drop, IfOk, OnOk};
+ghost use Rattle.tbr_border.specs.declared.render_line.RenderLine.{RenderLine as Line};
+ghost use Rattle.tbr_tagged.specs.Copies.{CopiesAreEqual};
+ghost use Rattle.tbr_tagged.specs.Elements.{items_of, SameItems, IsMerged};
+ghost use Rattle.tbr_rows.specs.Borders as borders;
+ghost use Rattle.tbr_rows.specs.CellLines as model;
 ghost use Rattle.tbr_rows.specs.Cells.{first_line};
+ghost use Rattle.tbr_rows.specs.Gaps.{IsGapText};
+ghost use Rattle.tbr_border.specs.RenderLine.{items_under};
 
+use crate::aligned_lines::AlignedLines;
 use std::alloc::Global;
 use std::collections::VecDeque;
 use std::fmt;
 use std::marker::Model;
-use tbr_border::RenderLine;
+use tbr_border::{BorderHoriz, RenderLine};
+use tbr_tagged::{OutOfMemory, TaggedLine, spaces};
 
 /// The lines that a cell has still to show. They are taken from both ends. A contract sees their list.
-#[derive(Debug, Drop)]
-pub(crate) struct CellLines<T> {
-    lines: VecDeque<RenderLine<T>>,
+#[derive(Drop)]
+pub(crate) struct CellLines<T: Eq> {
+    kept: Kept<T>,
 }
 
-impl<T> Model for CellLines<T> {
+/// Lines one by one, or in the text of the block that has ended them.
+#[derive(Drop)]
+pub(crate) enum Kept<T> {
+    Each(VecDeque<RenderLine<T>>),
+    InText(AlignedLines<T>),
+}
+
+impl<T: Eq> Model for CellLines<T> {
     ghost use Rattle.std.specs.Prelude.{List};
     ghost use Rattle.tbr_border.specs.declared.render_line.RenderLine.{RenderLine};
 
     ghost Value = { List (RenderLine T) };
 
-    ghost view = { λ c. c.lines.items };
+    ghost use Rattle.tbr_rows.specs.CellLines.{lines_kept};
+
+    ghost view = { λ c. lines_kept T.eq c.kept };
 }
 
-impl<T> CellLines<T> {
+impl<T: Eq> CellLines<T> {
     /// No lines. It takes no memory.
     pub(crate) fn none(alloc: Global) -> CellLines<T>
         ensures { result ≡ [] }
     {
         CellLines {
-            lines: VecDeque::new(alloc),
+            kept: Kept::Each(VecDeque::new(alloc)),
         }
     }
 
@@ -39,7 +56,16 @@ impl<T> CellLines<T> {
         ensures { result ≡ lines.items }
     {
         CellLines {
-            lines: VecDeque::from_vec(lines),
+            kept: Kept::Each(VecDeque::from_vec(lines)),
+        }
+    }
+
+    /// These lines, which stay in the text of their block.
+    pub(crate) fn in_text(lines: AlignedLines<T>) -> CellLines<T>
+        ensures { result ≡ model.as_lines T.eq lines }
+    {
+        CellLines {
+            kept: Kept::InText(lines),
         }
     }
 
@@ -47,61 +73,187 @@ impl<T> CellLines<T> {
     pub(crate) fn len(&self) -> usize
         ensures { result ≡ length self.now }
     {
-        self.lines.len()
+        match &self.kept {
+            Kept::Each(lines) => lines.len(),
+            Kept::InText(lines) => lines.len(),
+        }
     }
 
     /// Whether there is none.
     pub(crate) fn is_empty(&self) -> bool
         ensures { result ≡ (length self.now == 0) }
     {
-        self.lines.is_empty()
-    }
-
-    /// The first one, if there is one.
-    pub(crate) fn front(&self) -> Option<&RenderLine<T>>
-        ensures some { IsSome result ↔ (0 < length self.now) }
-        ensures line { IfSome result (λ line. line.now ≡ slice_index_or self.now 0 line.now) }
-    {
-        self.lines.front()
-    }
-
-    /// The last one, if there is one.
-    pub(crate) fn back(&self) -> Option<&RenderLine<T>>
-        ensures some { IsSome result ↔ (0 < length self.now) }
-        ensures line { IfSome result (λ line. line.now ≡ slice_index_or self.now (length self.now - 1) line.now) }
-    {
-        self.lines.back()
-    }
-
-    /// Takes the first one, if there is one.
-    pub(crate) fn pop_front(&mut self) -> Option<RenderLine<T>>
-        ensures first { result ≡ first_line self.old }
-        ensures line { self.old ≡ option_to_list result ++ self.new }
-        ensures rest { self.new ≡ drop 1 self.old }
-    {
-        self.lines.pop_front()
-    }
-
-    /// Takes the last one, if there is one.
-    pub(crate) fn pop_back(&mut self) -> Option<RenderLine<T>>
-        ensures line { self.old ≡ self.new ++ option_to_list result }
-        ensures some { IsSome result ↔ (0 < length self.old) }
-        ensures last { IfSome result (λ line. line ≡ slice_index_or self.old (length self.old - 1) line) }
-        ensures rest { self.new ≡ take (length self.old - 1) self.old }
-    {
-        self.lines.pop_back()
+        self.len() == 0
     }
 }
 
-/// Each line between `<` and `>`, after a space.
-impl<T> fmt::Display for CellLines<T> {
-    fn fmt<W: fmt::Write>(&self, f: &mut fmt::Formatter<W>) -> fmt::Result {
-        for line in &self.lines {
-            let Ok(text) = line.to_text() else {
-                return Err(fmt::Error);
-            };
-            write!(f, " <{}>", text.as_str())?;
-        }
-        Ok(())
+impl<T: Eq + Drop> CellLines<T> {
+    /// Takes the first line, if it is a border without holes.
+    pub(crate) fn take_first_border(&mut self) -> Option<BorderHoriz<T>>
+        ensures border { result ≡ borders.first_mergeable self.old }
+        ensures rest { self.new ≡ borders.after_mergeable self.old }
+    {
+        let Kept::Each(lines) = &mut self.kept else {
+            return None;
+        };
+        take_first(lines)
     }
+
+    /// Takes the last line, if it is a border without holes.
+    pub(crate) fn take_last_border(&mut self) -> Option<BorderHoriz<T>>
+        ensures border { result ≡ borders.last_mergeable self.old }
+        ensures rest { self.new ≡ borders.before_mergeable self.old }
+    {
+        let Kept::Each(lines) = &mut self.kept else {
+            return None;
+        };
+        take_last(lines)
+    }
+}
+
+impl<T: Eq + Clone + Drop> CellLines<T> {
+    /// Moves the first line, if there is one, to the end of another. A border's cells are drawn under a copy of the tag.
+    /// Where memory is refused lines may be lost.
+    pub(crate) fn move_first(
+        &mut self,
+        line: &mut TaggedLine<T>,
+        tag: &T,
+    ) -> Result<(), OutOfMemory>
+        requires { CopiesAreEqual T.is_clone T.eq }
+        ensures items { (l : Line T) (rest : List (Line T)) → self.old ≡ l ∷ rest →
+            OnOk result (SameItems T.eq (items_of line.new) (items_of line.old ++ items_under tag.now l)) }
+        ensures merged { IsMerged T.eq line.old → OnOk result (IsMerged T.eq line.new) }
+        ensures rest { OnOk result (self.new ≡ drop 1 self.old) }
+    {
+        let lines = match &mut self.kept {
+            Kept::InText(lines) => return lines.move_line(line),
+            Kept::Each(lines) => lines,
+        };
+        let Some(first) = lines.pop_front() else {
+            return Ok(());
+        };
+        line.append(first.into_tagged_line_with(tag)?)
+    }
+
+    /// Takes the first line as text, for the border below its row. Where there is no line it is spaces of that width.
+    /// Where memory is refused lines may be lost.
+    pub(crate) fn take_gap_text(
+        &mut self,
+        alloc: Global,
+        width: usize,
+        tag: &T,
+    ) -> Result<TaggedLine<T>, OutOfMemory>
+        requires { CopiesAreEqual T.is_clone T.eq }
+        ensures text { IfOk result (λ text. IsGapText T.eq tag.now width (first_line self.old) text) }
+        ensures rest { OnOk result (self.new ≡ drop 1 self.old) }
+    {
+        match &mut self.kept {
+            Kept::Each(lines) => gap_text(alloc, lines.pop_front(), width, tag),
+            Kept::InText(lines) => first_in_gap(alloc, lines, width, tag),
+        }
+    }
+}
+
+/// Takes the first line, if it is a border without holes.
+fn take_first<T: Drop>(lines: &mut VecDeque<RenderLine<T>>) -> Option<BorderHoriz<T>>
+    ensures border { result ≡ borders.first_mergeable lines.old.items }
+    ensures rest { lines.new.items ≡ borders.after_mergeable lines.old.items }
+{
+    if is_mergeable(lines.front())
+        && let Some(RenderLine::Line(border)) = lines.pop_front()
+    {
+        return Some(border);
+    }
+    None
+}
+
+/// Takes the last line, if it is a border without holes.
+fn take_last<T: Drop>(lines: &mut VecDeque<RenderLine<T>>) -> Option<BorderHoriz<T>>
+    ensures border { result ≡ borders.last_mergeable lines.old.items }
+    ensures rest { lines.new.items ≡ borders.before_mergeable lines.old.items }
+{
+    if is_mergeable(lines.back())
+        && let Some(RenderLine::Line(border)) = lines.pop_back()
+    {
+        return Some(border);
+    }
+    None
+}
+
+/// Whether a line is a border without holes.
+fn is_mergeable<T>(line: Option<&RenderLine<T>>) -> bool
+    ensures { result ≡ borders.is_mergeable line.entry }
+{
+    match line {
+        Some(RenderLine::Line(border)) => !border.has_holes(),
+        _ => false,
+    }
+}
+
+/// The text of a cell in the border below its row: a line, or, where it has none left, spaces.
+fn gap_text<T: Eq + Clone + Drop>(
+    alloc: Global,
+    line: Option<RenderLine<T>>,
+    width: usize,
+    tag: &T,
+) -> Result<TaggedLine<T>, OutOfMemory>
+    requires { CopiesAreEqual T.is_clone T.eq }
+    ensures { IfOk result (λ text. IsGapText T.eq tag.now width line text) }
+{
+    match line {
+        Some(line) => line.into_tagged_line(),
+        None => TaggedLine::from_string(alloc, spaces(alloc, width)?, tag),
+    }
+}
+
+/// The text of a cell in the border below its row, where the cell's lines are in a block's text: the first one, which it
+/// takes out, or, where there is none left, spaces.
+fn first_in_gap<T: Eq + Clone + Drop>(
+    alloc: Global,
+    lines: &mut AlignedLines<T>,
+    width: usize,
+    tag: &T,
+) -> Result<TaggedLine<T>, OutOfMemory>
+    requires { CopiesAreEqual T.is_clone T.eq }
+    ensures text { IfOk result (λ text.
+        IsGapText T.eq tag.now width (first_line (model.as_lines T.eq lines.old)) text) }
+    ensures rest { OnOk result (lines.new ≡ drop 1 lines.old) }
+{
+    if lines.len() == 0 {
+        return gap_text(alloc, None, width, tag);
+    }
+    let mut line = TaggedLine::new(alloc);
+    lines.move_line(&mut line)?;
+    Ok(line)
+}
+
+/// Each line between `<` and `>`, after a space.
+impl<T: Eq> fmt::Display for CellLines<T> {
+    fn fmt<W: fmt::Write>(&self, f: &mut fmt::Formatter<W>) -> fmt::Result {
+        match &self.kept {
+            Kept::Each(lines) => print_each(f, lines),
+            Kept::InText(lines) => write!(f, "{lines}"),
+        }
+    }
+}
+
+/// As they are displayed.
+impl<T: Eq> fmt::Debug for CellLines<T> {
+    fn fmt<W: fmt::Write>(&self, f: &mut fmt::Formatter<W>) -> fmt::Result {
+        write!(f, "{self}")
+    }
+}
+
+/// Prints each line between `<` and `>`, after a space.
+fn print_each<T, W: fmt::Write>(
+    f: &mut fmt::Formatter<W>,
+    lines: &VecDeque<RenderLine<T>>,
+) -> fmt::Result {
+    for line in lines {
+        let Ok(text) = line.to_text() else {
+            return Err(fmt::Error);
+        };
+        write!(f, " <{}>", text.as_str())?;
+    }
+    Ok(())
 }

@@ -7,13 +7,13 @@ use tbr_border::BorderHoriz;
 
 /// A cell in a row, and its last border, where that is merged into the border below.
 #[derive(Drop)]
-pub(crate) struct Column<T> {
+pub(crate) struct Column<T: Eq> {
     pub(crate) cell: LineSet<T>,
     pub(crate) bottom: Option<BorderHoriz<T>>,
 }
 
 /// How many lines a row of these has: as many as the cell that asks for most.
-pub(crate) fn height<T>(columns: &[Column<T>]) -> usize
+pub(crate) fn height<T: Eq>(columns: &[Column<T>]) -> usize
     ensures { result ≡ model.row_height columns.now }
 {
     let mut height = 0;

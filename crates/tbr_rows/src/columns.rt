@@ -6,6 +6,7 @@ ghost use Rattle.tbr_tagged.specs.Copies.{CopiesAreEqual};
 ghost use Rattle.tbr_rows.specs.Cells.{AreSideBySide, row_fits, spot_of};
 ghost use Rattle.tbr_rows.specs.Filled as model;
 
+use crate::aligned_lines::AlignedLines;
 use crate::cell_lines::CellLines;
 use crate::line_set::{LineSet, next_place};
 use crate::overhang::Overhang;
@@ -14,14 +15,15 @@ use std::marker::Model;
 use tbr_border::RenderLine;
 use tbr_model::CharWidth;
 use tbr_tagged::{CellAlign, OutOfMemory};
+use tbr_wrap::EndedLines;
 
 /// The cells that come with a row, side by side. A contract sees their list.
 #[derive(Debug, Drop)]
-pub struct Columns<T> {
+pub struct Columns<T: Eq> {
     pub(crate) cells: Vec<LineSet<T>>,
 }
 
-impl<T> Model for Columns<T> {
+impl<T: Eq> Model for Columns<T> {
     ghost use Rattle.std.specs.Prelude.{List};
     ghost use Rattle.tbr_rows.specs.declared.line_set.LineSet.{LineSet};
 
@@ -34,7 +36,7 @@ impl<T> Model for Columns<T> {
     ghost invariant = { λ c. AreSideBySide 0 c.cells.items };
 }
 
-impl<T> Columns<T> {
+impl<T: Eq> Columns<T> {
     /// No cells. It takes no memory.
     pub fn new(alloc: Global) -> Columns<T>
         ensures { result ≡ [] }
@@ -79,7 +81,40 @@ impl<T: Eq + Clone + Drop> Columns<T> {
     }
 }
 
-impl<T: Drop> Columns<T> {
+impl<T: Eq + Clone + Drop> Columns<T> {
+    /// Adds a cell as [`push`](Columns::push) does, of lines that a block has ended. They stay in the block's text until
+    /// they are shown.
+    ///
+    /// Where memory is refused, or a place passes `usize`, the cell and its lines are dropped, and the others stay.
+    pub fn push_ended<W: CharWidth>(
+        &mut self,
+        width: usize,
+        span: usize,
+        align: CellAlign,
+        lines: EndedLines<T>,
+        tag: &T,
+    ) -> Result<(), OutOfMemory>
+        requires { CopiesAreEqual T.is_clone T.eq }
+        ensures ok { OnOk result ((filled : List (Line T))
+            × AllZip (model.FillsText W.columns T.eq align width tag.now) lines filled
+            × (self.new ≡ self.old ++ model.cell_after self.old width span filled ∷ [])) }
+        ensures side_by_side { AreSideBySide 0 self.new }
+        ensures err { OnErr result (self.new ≡ self.old) }
+    {
+        let place = next_place(&self.cells)?;
+        let alloc = *self.cells.allocator();
+        let lines = AlignedLines::new::<W>(alloc, lines, width, align, tag.clone()?)?;
+        self.cells.push(LineSet {
+            place,
+            width,
+            span,
+            lines: CellLines::in_text(lines),
+        })?;
+        Ok(())
+    }
+}
+
+impl<T: Eq + Drop> Columns<T> {
     /// Whether a row of these cells has a place for each cell that overhangs. It takes no memory.
     pub fn fits(&self, hanging: &Overhang<T>) -> bool
         ensures { result ≡ row_fits hanging.now (map spot_of self.now) }

@@ -10,14 +10,14 @@ use std::marker::Model;
 /// Whether a row has a place for each cell that overhangs. It is given the row's own cells one after another, and takes
 /// no memory.
 #[derive(Drop)]
-pub struct Fitting<'a, T> {
+pub struct Fitting<'a, T: Eq> {
     first: Option<&'a LineSet<T>>,
     rest: linked_list::Iter<'a, LineSet<T>>,
     at: usize,
     fits: bool,
 }
 
-impl<'a, T> Model for Fitting<'a, T> {
+impl<'a, T: Eq> Model for Fitting<'a, T> {
     ghost use Rattle.tbr_rows.specs.Cells.{AreApart};
     ghost use Rattle.tbr_rows.specs.Fitting.{Fitting, waiting_cells};
 
@@ -28,7 +28,7 @@ impl<'a, T> Model for Fitting<'a, T> {
     ghost invariant = { λ f. AreApart f.at (waiting_cells f.first f.rest) };
 }
 
-impl<'a, T> Fitting<'a, T> {
+impl<'a, T: Eq> Fitting<'a, T> {
     /// Asks about these overhanging cells, before any of the row's own.
     pub(crate) fn of(mut cells: linked_list::Iter<'a, LineSet<T>>) -> Fitting<'a, T>
         requires { AreApart 0 cells }

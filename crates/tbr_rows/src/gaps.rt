@@ -8,9 +8,9 @@ use crate::column::Column;
 use crate::line_set::LineSet;
 use std::alloc::Global;
 use std::collections::LinkedList;
-use tbr_border::{BorderHoriz, RenderLine};
+use tbr_border::BorderHoriz;
 use tbr_model::CharWidth;
-use tbr_tagged::{OutOfMemory, TaggedLine, spaces};
+use tbr_tagged::{OutOfMemory, TaggedLine};
 
 /// Ends a row. The first line of each spanning cell comes in front of the border below, where borders are drawn, and
 /// the rest overhangs.
@@ -52,28 +52,12 @@ fn hang_cell<T: Eq + Clone + Drop, W: CharWidth>(
         return Ok(());
     }
     if draws {
-        let text = gap_text(alloc, cell.lines.pop_front(), cell.width, tag)?;
+        let text = cell.lines.take_gap_text(alloc, cell.width, tag)?;
         add_text::<T, W>(next, cell.place, text)?;
     }
     cell.span -= 1;
     rest.push_back(cell)?;
     Ok(())
-}
-
-/// The text of a cell in the border below its row: a line, or, where it has none left, spaces.
-fn gap_text<T: Eq + Clone + Drop>(
-    alloc: Global,
-    line: Option<RenderLine<T>>,
-    width: usize,
-    tag: &T,
-) -> Result<TaggedLine<T>, OutOfMemory>
-    requires { CopiesAreEqual T.is_clone T.eq }
-    ensures { IfOk result (λ text. model.IsGapText T.eq tag.now width line text) }
-{
-    match line {
-        Some(line) => line.into_tagged_line(),
-        None => TaggedLine::from_string(alloc, spaces(alloc, width)?, tag),
-    }
 }
 
 /// Puts a text in front of a border, from a place on, or after what is there.

@@ -7,6 +7,7 @@ pub use line_set::LineSet;
 pub use overhang::Overhang;
 pub use row::{Row, RowStyle};
 
+mod aligned_lines;
 mod borders;
 mod cell_lines;
 mod column;

@@ -10,14 +10,14 @@ use tbr_tagged::OutOfMemory;
 /// A cell of a row. It has the column at which it begins, how many columns it takes, how many rows it still spans, and
 /// the lines that it still has to show.
 #[derive(Debug, Drop)]
-pub struct LineSet<T> {
+pub struct LineSet<T: Eq> {
     pub(crate) place: usize,
     pub(crate) width: usize,
     pub(crate) span: usize,
     pub(crate) lines: CellLines<T>,
 }
 
-impl<T> LineSet<T> {
+impl<T: Eq> LineSet<T> {
     /// A cell without lines, in one row.
     pub(crate) fn empty(alloc: Global, place: usize, width: usize) -> LineSet<T>
         ensures { result ≡ model.empty_cell place width }
@@ -51,7 +51,7 @@ impl<T> LineSet<T> {
 }
 
 /// Where the cell is and how many rows it spans, and then each of its lines between `<` and `>`.
-impl<T> fmt::Display for LineSet<T> {
+impl<T: Eq> fmt::Display for LineSet<T> {
     fn fmt<W: fmt::Write>(&self, f: &mut fmt::Formatter<W>) -> fmt::Result {
         write!(
             f,
@@ -62,7 +62,7 @@ impl<T> fmt::Display for LineSet<T> {
 }
 
 /// How many columns cells side by side take. It refuses where that passes `usize`.
-pub(crate) fn row_width<T>(cells: &[LineSet<T>]) -> Result<usize, OutOfMemory>
+pub(crate) fn row_width<T: Eq>(cells: &[LineSet<T>]) -> Result<usize, OutOfMemory>
     ensures { IfOk result (λ width. width ≡ model.row_width cells.now) }
 {
     match cells.last() {
@@ -72,7 +72,7 @@ pub(crate) fn row_width<T>(cells: &[LineSet<T>]) -> Result<usize, OutOfMemory>
 }
 
 /// The place of a cell after these. It refuses where that passes `usize`.
-pub(crate) fn next_place<T>(cells: &[LineSet<T>]) -> Result<usize, OutOfMemory>
+pub(crate) fn next_place<T: Eq>(cells: &[LineSet<T>]) -> Result<usize, OutOfMemory>
     ensures { IfOk result (λ place. place ≡ model.next_place cells.now) }
 {
     if cells.is_empty() {

@@ -17,11 +17,11 @@ use tbr_tagged::OutOfMemory;
 /// The cells that overhang from the rows before, in order. It is what has to be kept between two rows. A contract sees
 /// their list.
 #[derive(Debug, Drop)]
-pub struct Overhang<T> {
+pub struct Overhang<T: Eq> {
     cells: LinkedList<LineSet<T>>,
 }
 
-impl<T> Model for Overhang<T> {
+impl<T: Eq> Model for Overhang<T> {
     ghost use Rattle.std.specs.Prelude.{List};
     ghost use Rattle.tbr_rows.specs.declared.line_set.LineSet.{LineSet};
 
@@ -35,7 +35,7 @@ impl<T> Model for Overhang<T> {
 }
 
 /// Each cell on a line of its own.
-impl<T> fmt::Display for Overhang<T> {
+impl<T: Eq> fmt::Display for Overhang<T> {
     fn fmt<W: fmt::Write>(&self, f: &mut fmt::Formatter<W>) -> fmt::Result {
         for cell in &self.cells {
             writeln!(f, "{cell}")?;
@@ -44,7 +44,7 @@ impl<T> fmt::Display for Overhang<T> {
     }
 }
 
-impl<T: Drop> Overhang<T> {
+impl<T: Eq + Drop> Overhang<T> {
     /// No cells. It takes no memory.
     pub fn new(alloc: Global) -> Overhang<T>
         ensures { result ≡ [] }

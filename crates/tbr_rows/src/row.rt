@@ -50,7 +50,7 @@ impl RowStyle {
 
 /// A row that is laid out.
 #[derive(Debug, Drop)]
-pub struct Row<T> {
+pub struct Row<T: Eq> {
     /// The border above it, joined and merged.
     pub above: Option<BorderHoriz<T>>,
     /// Its lines.
@@ -109,7 +109,7 @@ fn plain<T: Eq + Clone + Drop>(
 }
 
 /// Joins a row to the border above it, if there is one, and merges with it what collapses.
-fn meet_above<T: Drop>(
+fn meet_above<T: Eq + Drop>(
     alloc: Global,
     above: Option<BorderHoriz<T>>,
     next: &mut BorderHoriz<T>,
@@ -132,7 +132,7 @@ fn meet_above<T: Drop>(
 }
 
 /// Merges with the border below a row what collapses.
-fn meet_next<T: Drop>(
+fn meet_next<T: Eq + Drop>(
     alloc: Global,
     next: &mut BorderHoriz<T>,
     cells: Vec<LineSet<T>>,

@@ -9,7 +9,7 @@ use tbr_tagged::OutOfMemory;
 
 /// The cells of a row, once overhanging ones have taken their places among its own. Those that come after all others
 /// are appended, with an empty cell before them where columns are free.
-pub(crate) fn seated<T: Drop>(
+pub(crate) fn seated<T: Eq + Drop>(
     alloc: Global,
     cells: Vec<LineSet<T>>,
     mut hanging: LinkedList<LineSet<T>>,
@@ -25,7 +25,7 @@ pub(crate) fn seated<T: Drop>(
 }
 
 /// The cell at a place: the first overhanging one, if that is there, or else the row's own.
-fn seat<T: Drop>(cell: LineSet<T>, hanging: &mut LinkedList<LineSet<T>>) -> LineSet<T>
+fn seat<T: Eq + Drop>(cell: LineSet<T>, hanging: &mut LinkedList<LineSet<T>>) -> LineSet<T>
     ensures cell { result ≡ model.taker hanging.old cell }
     ensures waiting { hanging.new ≡ model.still_waiting hanging.old cell }
 {
@@ -38,7 +38,7 @@ fn seat<T: Drop>(cell: LineSet<T>, hanging: &mut LinkedList<LineSet<T>>) -> Line
 }
 
 /// Whether the first of these cells is at a place.
-fn stands_first<T>(cells: &LinkedList<LineSet<T>>, place: usize) -> bool
+fn stands_first<T: Eq>(cells: &LinkedList<LineSet<T>>, place: usize) -> bool
     ensures { result ≡ model.stands_first cells.now place }
 {
     match cells.front() {
@@ -48,7 +48,7 @@ fn stands_first<T>(cells: &LinkedList<LineSet<T>>, place: usize) -> bool
 }
 
 /// Appends overhanging cells.
-fn append_all<T: Drop>(
+fn append_all<T: Eq + Drop>(
     alloc: Global,
     row: &mut Vec<LineSet<T>>,
     hanging: LinkedList<LineSet<T>>,
@@ -62,7 +62,7 @@ fn append_all<T: Drop>(
 }
 
 /// Appends an overhanging cell, after an empty one where columns are free.
-fn append<T: Drop>(
+fn append<T: Eq + Drop>(
     alloc: Global,
     row: &mut Vec<LineSet<T>>,
     cell: LineSet<T>,

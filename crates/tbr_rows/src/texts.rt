@@ -8,7 +8,6 @@ ghost use Rattle.tbr_rows.specs.Texts as model;
 
 use crate::column::Column;
 use std::alloc::Global;
-use tbr_border::RenderLine;
 use tbr_tagged::{OutOfMemory, TaggedLine, TaggedString};
 
 /// The lines of a row: as many as asked for. They are taken out of its cells.
@@ -57,7 +56,7 @@ fn line_of<T: Eq + Clone + Drop>(
 }
 
 /// How many bytes a line of a row mostly has: one for each column, and three for what parts two cells.
-fn room_for<T>(columns: &[Column<T>]) -> usize {
+fn room_for<T: Eq>(columns: &[Column<T>]) -> usize {
     let mut bytes = 0usize;
     for column in columns {
         bytes = bytes.saturating_add(column.cell.width).saturating_add(3);
@@ -95,24 +94,10 @@ fn push_first<T: Eq + Clone + Drop>(
     ensures merged { IsMerged T.eq line.old → OnOk result (IsMerged T.eq line.new) }
     ensures rest { OnOk result (column.new ≡ model.dropped 1 column.old) }
 {
-    match column.cell.lines.pop_front() {
-        Some(first) => line.append(text_in_row(first, tag)?),
-        None => push_filler(line, column, tag),
+    if column.cell.lines.is_empty() {
+        return push_filler(line, column, tag);
     }
-}
-
-/// A line as it is in a row: a border's cells are drawn under a copy of the tag.
-fn text_in_row<T: Eq + Clone + Drop>(
-    line: RenderLine<T>,
-    tag: &T,
-) -> Result<TaggedLine<T>, OutOfMemory>
-    requires { CopiesAreEqual T.is_clone T.eq }
-    ensures { IfOk result (λ text. SameItems T.eq (items_of text) (model.text_in_row tag.now line)) }
-{
-    match line {
-        RenderLine::Text(text) => Ok(text),
-        RenderLine::Line(border) => border.into_tagged_line_with(tag),
-    }
+    column.cell.lines.move_first(line, tag)
 }
 
 /// Appends what fills the place of a cell that has no line left: the vertical lines above its merged border, or spaces.

@@ -4,7 +4,7 @@
 pub use element::{TaggedLineElement, TaggedString};
 pub use error::{Error, OutOfMemory, TooNarrow};
 pub use iterators::{Chars, IntoIter, Iter, TaggedStrings};
-pub use padding::CellAlign;
+pub use padding::{CellAlign, columns_in_front};
 pub use space::{always_takes_space, append_spaces, is_wordbreak_point, spaces};
 pub use tagged_line::TaggedLine;
 pub use width::{UnicodeColumns, text_width};

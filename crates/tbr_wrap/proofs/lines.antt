@@ -1,6 +1,7 @@
 pub mod CountedMarkers
 pub mod CutLines
 pub mod HeldLines
+pub mod LackingColumns
 pub mod LaidByRule
 pub mod LineWidths
 pub mod ManySpaces

@@ -1,17 +1,19 @@
 //! Lines that a block has ended, in one text.
-ghost use Rattle.std.specs.Prelude.{◌≡◌, ◌==◌, ◌++◌, ◌∷◌, [], chars, List, None, Ok, OnOk, IfOk, IsSomeAnd, length, drop};
+ghost use Rattle.std.specs.Prelude.{◌≡◌, ◌==◌, ◌-◌, ◌++◌, ◌∷◌, [], chars, List, None, Ok, OnOk, IfOk, IsSomeAnd, length, map, drop};
 ghost use Rattle.std.specs.List.{list_any};
 ghost use Rattle.std.specs.VecDeque.{deque_len};
-ghost use Rattle.tbr_model.specs.Run.{Item, has_character};
+ghost use Rattle.tbr_model.specs.Run.{Item, has_character, items_width};
 ghost use Rattle.tbr_tagged.specs.Copies.{CopiesAreEqual};
 ghost use Rattle.tbr_tagged.specs.Elements.{SameItems, IsMerged, items_of};
 ghost use Rattle.tbr_tagged.specs.View.{chars_of};
 ghost use Rattle.tbr_wrap.specs.EndedLines.{AreLines, line_characters, prefixed_characters};
 
+use std::alloc::Global;
 use std::collections::VecDeque;
 use std::fmt;
 use std::marker::Model;
 use tbr_flat::{FlatText, PlacedItems};
+use tbr_model::CharWidth;
 use tbr_tagged::{OutOfMemory, TaggedLine};
 
 /// Lines that a block has ended, kept in its one text: a line costs a number, and no allocation. A contract sees the
@@ -40,7 +42,7 @@ impl<T> Model for EndedLines<T> {
 /// Each line between `<` and `>` on a line of its own, without its markers.
 impl<T> fmt::Display for EndedLines<T> {
     fn fmt<W: fmt::Write>(&self, f: &mut fmt::Formatter<W>) -> fmt::Result {
-        self.fmt_after(f, "", "")
+        self.fmt_between(f, "<", ">\n")
     }
 }
 
@@ -78,6 +80,24 @@ impl<T> EndedLines<T> {
         Ok(())
     }
 
+    /// How many columns each line lacks of a width: none where it is as wide already, or wider. It refuses only where
+    /// memory is refused.
+    pub fn missing<W: CharWidth>(
+        &self,
+        alloc: Global,
+        width: usize,
+    ) -> Result<VecDeque<usize>, OutOfMemory>
+        ensures missing { IfOk result (λ m. m.items ≡ map (λ is. width - items_width W.columns is) self.now) }
+        ensures counted { IfOk result (λ m. deque_len m ≡ length self.now) }
+    {
+        let mut items = self.flat.items();
+        let mut missing = VecDeque::with_capacity(alloc, self.lens.len())?;
+        for len in &self.lens {
+            missing.push_back(width.saturating_sub(items.next_width::<W>(*len)))?;
+        }
+        Ok(missing)
+    }
+
     /// Lines of these lengths, of the first items that are placed.
     pub(crate) fn new(flat: FlatText<T>, lens: VecDeque<usize>) -> EndedLines<T>
         requires counted { deque_len lens ≡ length lens.items }
@@ -100,6 +120,22 @@ impl<T> EndedLines<T> {
         ensures { result ≡ (length self.now == 0) }
     {
         self.len() == 0
+    }
+
+    /// Prints the text of each line between two others.
+    pub fn fmt_between<'a, W: fmt::Write>(
+        &self,
+        f: &mut fmt::Formatter<W>,
+        before: &'a str,
+        after: &'a str,
+    ) -> fmt::Result {
+        let mut items = self.flat.items();
+        for len in &self.lens {
+            f.write_str(before)?;
+            print_items(f, &mut items, *len)?;
+            f.write_str(after)?;
+        }
+        Ok(())
     }
 
     /// Whether a line has a character.

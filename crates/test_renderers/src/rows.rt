@@ -16,6 +16,12 @@ const EMPTY: Cell<'static> = Cell(1, Block(1, &[]));
 /// It has three lines, for two rows.
 const OF_TWO_ROWS: Cell<'static> = Cell(2, Block(1, &[Inner::Text("x y z")]));
 
+/// It has five lines, which one block ends.
+const LONG: Cell<'static> = Cell(1, Block(4, &[Inner::Text("a bcd efgh ijk l")]));
+
+/// So it is over two rows.
+const LONG_OF_TWO_ROWS: Cell<'static> = Cell(2, Block(1, &[Inner::Text("v w x y z")]));
+
 /// A character of two columns, and room for it.
 const WIDE: Cell<'static> = Cell(1, Block(2, &[Inner::Text("漢")]));
 
@@ -84,6 +90,28 @@ const EXAMPLES: &[Example] = &[
             Lines("─┬─\nx│a\ny├─\nz│b\n─┴─\n"),
             LinesUnder(Under::OneColumnEach, "─┬─\nx│a\ny├─\nz│b\n─┴─\n"),
         ],
+        ..ROW
+    },
+    Example {
+        name: "each line of a long cell is aligned",
+        width: 14,
+        calls: &[AlignedRow(
+            &[LONG, LONG, LONG],
+            &[CellAlign::Left, CellAlign::Centre, CellAlign::Right],
+        )],
+        expected: &[Lines(
+            "a   │ a  │   a\nbcd │bcd │ bcd\nefgh│efgh│efgh\nijk │ijk │ ijk\nl   │ l  │   l\n──────────────\n",
+        )],
+        ..ROW
+    },
+    Example {
+        name: "a long cell of two rows shows the line after those of the first in the border between them",
+        calls: &[
+            BorderWidth(3),
+            Row(&[LONG_OF_TWO_ROWS, A], false),
+            Row(&[EMPTY, B], false),
+        ],
+        expected: &[Lines("─┬─\nv│a\nw│ \nx├─\ny│b\nz│ \n─┴─\n")],
         ..ROW
     },
     Example {

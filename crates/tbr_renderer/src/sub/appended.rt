@@ -36,13 +36,8 @@ impl<D: TextDecorator, W: CharWidth> SubRenderer<D, W> {
             ≡ as_text (map D.meaning self.now.annotations) (map_line (tag_meant D.meaning) (line_seen line))) }
         ensures merged { IfOk result (λ text. IsMerged (equal_annotations D.Annotation.eq) text) }
     {
-        match line {
-            RenderLine::Text(text) => Ok(text),
-            RenderLine::Line(border) => {
-                let tag = self.tag()?;
-                border.into_tagged_line_with(&tag)
-            }
-        }
+        let tag = self.tag()?;
+        line.into_tagged_line_with(&tag)
     }
 
     /// Puts a prefix in front of a text, under a copy of the annotations. An empty one takes no memory.

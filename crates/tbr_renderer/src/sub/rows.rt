@@ -1,10 +1,13 @@
 //! Rows of cells side by side.
-ghost use Rattle.std.specs.Prelude.{◌≡◌, ◌≢◌, ◌≤◌, ◌==◌, ◌++◌, [], None, Some, Err, true, not, List, length, map, fold, OnOk, IfOk};
+ghost use Rattle.std.specs.Prelude.{◌≡◌, ◌≢◌, ◌≤◌, ◌==◌, ◌++◌, ◌∷◌, [], None, Some, Err, true, not, List, length, map, fold, OnOk, IfOk};
 ghost use Rattle.std.specs.Option.{option_map};
 ghost use Rattle.std.specs.Cmp.Lexicographic.{pointwise};
 ghost use Rattle.std.specs.List.{AllZip, AllByRecursion as Each, list_any};
 ghost use Rattle.tbr_annotations.specs.Annotations.{equal_annotations};
+ghost use Rattle.tbr_border.specs.declared.RenderLine.{RenderLine};
+ghost use Rattle.tbr_tagged.specs.Copies.{CopiesAreEqual};
 ghost use Rattle.tbr_tagged.specs.Elements.{items_of, IsMerged};
+ghost use Rattle.tbr_rows.specs.Filled.{cell_after};
 ghost use Rattle.tbr_tagged.specs.declared.Error.TheVariants as E;
 ghost use Rattle.tbr_rows.specs.Cells.{AreSideBySide, has_lines, row_fits, spot_of};
 ghost use Rattle.tbr_rows.specs.Meant.{map_border, map_cell, row_meant, MeansRow, SeenRow};
@@ -23,6 +26,7 @@ use crate::sub::SubRenderer;
 use std::mem;
 use tbr_annotations::Annotations;
 use tbr_decor::TextDecorator;
+use tbr_kept_lines::KeptLines;
 use tbr_lines::{BorderHoriz, CellAlign, CharWidth, Error, OutOfMemory, RenderLine, TaggedLine};
 use tbr_rows::{Columns, Overhang, Row, RowStyle};
 
@@ -121,9 +125,9 @@ impl<D: TextDecorator, W: CharWidth> SubRenderer<D, W> {
         let mut columns = Columns::new(self.alloc);
         for (col, span) in cols {
             let width = col.width();
-            let lines = col.into_shared_lines()?;
+            let lines = col.into_kept()?;
             let align = aligns.next().copied().unwrap_or(CellAlign::Left);
-            columns.push::<W>(width, span, align, lines, &tag)?;
+            push_cell::<_, W>(&mut columns, lines, width, span, align, &tag)?;
         }
         Ok(columns)
     }
@@ -240,5 +244,26 @@ impl<D: TextDecorator, W: CharWidth> SubRenderer<D, W> {
             Some(border) => self.add_border(border),
             None => Ok(()),
         }
+    }
+}
+
+/// Adds a cell of these lines to a row, each filled up to its width. Those in a block's text stay there.
+fn push_cell<T: Eq + Clone + Drop, W: CharWidth>(
+    columns: &mut Columns<T>,
+    lines: KeptLines<T>,
+    width: usize,
+    span: usize,
+    align: CellAlign,
+    tag: &T,
+) -> Result<(), OutOfMemory>
+    requires { CopiesAreEqual T.is_clone T.eq }
+    ensures ok { OnOk result ((filled : List (RenderLine T))
+        × AllZip (model.FillsKept W.columns T.eq align width tag.now) lines filled
+        × (columns.new ≡ columns.old ++ cell_after columns.old width span filled ∷ [])) }
+    ensures side_by_side { OnOk result (AreSideBySide 0 columns.new) }
+{
+    match lines.into_ended() {
+        Ok(ended) => columns.push_ended::<W>(width, span, align, ended, tag),
+        Err(lines) => columns.push::<W>(width, span, align, lines.into_vec()?, tag),
     }
 }

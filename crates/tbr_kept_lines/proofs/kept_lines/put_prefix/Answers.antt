@@ -2,8 +2,10 @@ use Rattle.std.proofs.Common.{◌++◌, subst}
 use Rattle.std.specs.Prelude.{chars}
 use Rattle.tbr_tagged.specs.Elements.{SameItems, items_of, text_items}
 use Rattle.tbr_tagged.proofs.SameItems.{same_items, same_items_trans, same_items_append}
+use Rattle.tbr_border.specs.RenderLine.{items_under}
 use Rattle.tbr_kept_lines.specs.Line.{line_seen}
 use Rattle.tbr_kept_lines.specs.Prefixed.{as_text}
+use Rattle.tbr_kept_lines.proofs.Prefixes.{under_seen}
 use Rattle.tbr_kept_lines.proofs.kept_lines.put_prefix.Goals as goal
 
 pub returns-clause-seen : goal.returns-clause-seen
@@ -13,6 +15,6 @@ returns-clause-seen g c =
     let tag = c.args.tag.now in
     let prefix = text_items (chars c.args.prefix.now) tag in
     let text = items_of c.in_ok-text.text in
-    let shown = subst (λ l. SameItems eq text (as_text tag (line_seen l))) c.replace-border.ensures.value c.in_ok-text.ensures.items in
+    let shown = subst (SameItems eq text) (under_seen tag c.args.line.now) (subst (λ l. SameItems eq text (items_under tag l)) c.replace-border.ensures.value c.in_ok-text.ensures.items) in
     same_items_trans eq laws (items_of c.put_in_front-2.new.line) (prefix ++ text) (prefix ++ as_text tag (line_seen c.args.line.now)) c.in_ok-put_in_front.ensures.items
     (same_items_append eq laws prefix prefix text (as_text tag (line_seen c.args.line.now)) (same_items eq laws prefix) shown)

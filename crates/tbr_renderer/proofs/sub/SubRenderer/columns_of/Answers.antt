@@ -9,7 +9,6 @@ use Rattle.tbr_rows.specs.Meant.{map_line as map_row_line}
 use Rattle.tbr_footnotes.specs.Tags.{tag_meant}
 use Rattle.tbr_renderer.specs.Meant.{map_line, meant}
 use Rattle.tbr_renderer.specs.Rows.{LeavesFree, FillsCell, cells_meant}
-use Rattle.tbr_kept_lines.specs.Line.{line_seen}
 use Rattle.tbr_renderer.specs.Appended.{handed_out}
 use Rattle.tbr_renderer.proofs.GivenCells.{given_stops}
 use Rattle.tbr_footnotes.proofs.Tags.{tags_mean, copies_are_equal}
@@ -37,7 +36,7 @@ returns-in_err-lines-clause-too_narrow g c = λ is.
     let whole = sym c.into_iter-col-iterator.ensures.into_iter_gives.0 ∙ items_left all all c.loop-col.col-iterator c.next.new.self c.loop-col.yielded (c.in-Some.col, c.in-Some.span) refl c.loop-col.yielded_by c.in-Some.ensures.steps.0 in
     let inv = c.loop-col.invariant.0 in
     ap (λ cols. cells_meant columns f cols c.args.aligns.now) whole
-    ∙ given_stops (λ r. r.width) (λ r. handed_out columns (meant f r)) c.loop-col.yielded c.args.aligns.now inv.cells (c.in-Some.col, c.in-Some.span) inv.given (into_iter_items c.next.new.self) TooNarrow (c.into_shared_lines.ensures.too_narrow e)
+    ∙ given_stops (λ r. r.width) (λ r. handed_out columns (meant f r)) c.loop-col.yielded c.args.aligns.now inv.cells (c.in-Some.col, c.in-Some.span) inv.given (into_iter_items c.next.new.self) TooNarrow (c.into_kept.ensures.too_narrow e)
 
 pub returns-in_err-lines-clause-two_columns : goal.returns-in_err-lines-clause-two_columns
 returns-in_err-lines-clause-two_columns g c = λ wide is.
@@ -45,31 +44,31 @@ returns-in_err-lines-clause-two_columns g c = λ wide is.
     let all = c.into_iter-col-iterator.result in
     let whole = sym c.into_iter-col-iterator.ensures.into_iter_gives.0 ∙ items_left all all c.loop-col.col-iterator c.next.new.self c.loop-col.yielded (c.in-Some.col, c.in-Some.span) refl c.loop-col.yielded_by c.in-Some.ensures.steps.0 in
     let here = each_at _ c.loop-col.yielded (c.in-Some.col, c.in-Some.span) (into_iter_items c.next.new.self) (subst (Each _) whole wide) in
-    c.into_shared_lines.ensures.two_columns here.0 here.1 e
+    c.into_kept.ensures.two_columns here.0 here.1 e
 
-pub push-requires : goal.push-requires
-push-requires g c = copies_are_equal g.D.Annotation.PartialEq.eq g.D.TextDecorator.meaning g.met.D.TextDecorator.equal_by_meaning
+pub push_cell-requires : goal.push_cell-requires
+push_cell-requires g c = copies_are_equal g.D.Annotation.PartialEq.eq g.D.TextDecorator.meaning g.met.D.TextDecorator.equal_by_meaning
 
 pub loop-col-preserved : goal.loop-col-preserved
 loop-col-preserved g c =
     let f = g.D.TextDecorator.meaning in
     let eq = g.D.Annotation.PartialEq.eq in
     let columns = g.W.CharWidth.columns in
-    let lines = c.in_ok-lines.lines.items in
-    let seen = map (map_line (tag_meant f)) (map line_seen lines) in
+    let lines = c.in_ok-lines.lines in
+    let seen = map (map_line (tag_meant f)) lines in
     let own = c.loop-col.columns in
     let col = c.in-Some.col in
-    let filled = c.in_ok-push.ensures.ok.0 in
-    let zip = c.in_ok-push.ensures.ok.1 in
+    let filled = c.in_ok-push_cell.ensures.ok.0 in
+    let zip = c.in_ok-push_cell.ensures.ok.1 in
     let next = next_taken (λ it. it.rest.now) c.loop-col.aligns c.next-in-loop-col.new.self c.next-in-loop-col.result c.unwrap_or-align.result c.next-in-loop-col.ensures.steps (c.unwrap_or-align.ensures ∙ ap (λ o. unwrap_or o Left) c.copied.ensures) in
-    let fills = lines_fill f eq (tags_mean eq f g.met.D.TextDecorator.equal_by_meaning) (tags_told eq f g.met.D.TextDecorator.equal_by_meaning) columns c.unwrap_or-align.result c.width-width.result c.in_ok-tag.tag lines filled c.in_ok-lines.ensures.merged zip in (
-      columns_go_on f columns c.args.aligns.now (map f c.args.self.now.annotations) c.loop-col.yielded own c.push.new.self c.loop-col.aligns.rest.now c.next-in-loop-col.new.self.rest.now col c.in-Some.span c.unwrap_or-align.result seen filled c.loop-col.invariant.0
+    let fills = lines_fill f eq (tags_mean eq f g.met.D.TextDecorator.equal_by_meaning) (tags_told eq f g.met.D.TextDecorator.equal_by_meaning) columns c.unwrap_or-align.result c.width-width.result c.in_ok-tag.tag lines filled zip in (
+      columns_go_on f columns c.args.aligns.now (map f c.args.self.now.annotations) c.loop-col.yielded own c.push_cell.new.columns c.loop-col.aligns.rest.now c.next-in-loop-col.new.self.rest.now col c.in-Some.span c.unwrap_or-align.result seen filled c.loop-col.invariant.0
           c.in_ok-lines.ensures.lines
           next.0 next.1
           (subst (λ tag. AllZip (FillsCell columns c.unwrap_or-align.result col.width tag) seen (map (map_row_line (tag_meant f)) filled)) c.in_ok-tag.ensures
           (subst (λ (n : ℕ). AllZip (FillsCell columns c.unwrap_or-align.result n (tag_meant f c.in_ok-tag.tag)) seen (map (map_row_line (tag_meant f)) filled)) c.width-width.ensures fills))
-          (c.in_ok-push.ensures.ok.2 ∙ ap (λ n. own ++ cell_after own n c.in-Some.span filled ∷ []) c.width-width.ensures),
-      c.in_ok-push.ensures.side_by_side,
+          (c.in_ok-push_cell.ensures.ok.2 ∙ ap (λ n. own ++ cell_after own n c.in-Some.span filled ∷ []) c.width-width.ensures),
+      c.in_ok-push_cell.ensures.side_by_side,
     )
 
 pub returns-clause-cells : goal.returns-clause-cells

@@ -1,6 +1,0 @@
-use Rattle.tbr_tagged.specs.Elements.{items_of}
-use Rattle.tbr_tagged.proofs.SameItems.{same_items}
-use Rattle.tbr_kept_lines.proofs.kept_lines.text_of.Goals as goal
-
-pub returns-in-Text-clause-items : goal.returns-in-Text-clause-items
-returns-in-Text-clause-items g c = rw c.in-Text.is (same_items g.T.PartialEq.eq g.met.T.Eq.laws (items_of c.in-Text.text))

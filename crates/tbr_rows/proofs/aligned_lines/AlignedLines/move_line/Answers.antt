@@ -1,0 +1,37 @@
+use Rattle.std.proofs.Common.{◌≡◌, ◌-◌, ◌++◌, [], ◌∷◌, drop, length, ap, sym, ◌∙◌, subst, arith}
+use Rattle.std.proofs.lemmas.List.{nil_from_length}
+use Rattle.std.proofs.lemmas.Result.{on_ok_weaker}
+use Rattle.tbr_tagged.specs.Elements.{items_of, text_items, SameItems}
+use Rattle.tbr_tagged.specs.Padding.{spaces}
+use Rattle.tbr_rows.proofs.AlignedLines.{first_aligned, none_aligned, aligned_moved}
+use Rattle.tbr_rows.proofs.aligned_lines.AlignedLines.move_line.Goals as goal
+
+pub returns-in_default-clause-items : goal.returns-in_default-clause-items
+returns-in_default-clause-items g c = λ is rest e.
+    let i = c.self.inside in
+    let none = nil_from_length i.missing.items (omega (arith, c.self.invariant.0, c.in_default.ensures.cases.0)) in
+    absurd (let nothing : [] ≡ is ∷ rest = sym (none_aligned i.align i.tag i.ended i.missing.items none) ∙ c.self.view_is ∙ e in cc)
+
+pub returns-in_default-clause-rest : goal.returns-in_default-clause-rest
+returns-in_default-clause-rest g c =
+    let i = c.self.inside in
+    let none = nil_from_length i.missing.items (omega (arith, c.self.invariant.0, c.in_default.ensures.cases.0)) in
+    let left = nil_from_length c.pop_front.new.self.items (omega (arith, ap length c.in_default.ensures.rest, ap length none)) in
+    none_aligned i.align i.tag i.ended c.pop_front.new.self.items left ∙ ap (drop 1) (sym (none_aligned i.align i.tag i.ended i.missing.items none) ∙ c.self.view_is)
+
+pub returns-clause-items : goal.returns-clause-items
+returns-clause-items g c = λ is rest e.
+    let eq = g.T.PartialEq.eq in
+    let i = c.self.inside in
+    let n = c.in-Some.missing in
+    let f = first_aligned i.align i.tag i.ended i.missing.items c.pop_front.new.self.items n c.args.self.now rest is c.in-Some.ensures.items c.self.view_is e in
+    let old = items_of c.args.line.now in
+    let one = items_of c.push_spaces.new.self in
+    let two = items_of c.move_line.new.line in
+    let front = text_items (spaces c.columns_in_front-front.result) i.tag in
+    let after = text_items (spaces (n - c.columns_in_front-front.result)) i.tag in
+    let whole : front ++ f.0 ++ after ≡ is = ap (λ k. text_items (spaces k) i.tag ++ f.0 ++ text_items (spaces (n - k)) i.tag) c.columns_in_front-front.ensures.value ∙ f.3 in
+    on_ok_weaker c.push_spaces-2.result (λ h.
+    subst (λ js. SameItems eq (items_of c.push_spaces-2.new.self) (old ++ js)) whole
+    (aligned_moved eq g.met.T.Eq.laws old one two (items_of c.push_spaces-2.new.self) front f.0 after c.in_ok-push_spaces.ensures.items (c.in_default-move_line.ensures.items f.0 f.1 f.2) h))
+    c.push_spaces-2.ensures.items
