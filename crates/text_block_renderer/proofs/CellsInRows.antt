@@ -23,7 +23,8 @@ use Rattle.tbr_rows.specs.Meant.{IsGapOf, HasGapIf, HasGaps, SeenRow, MeansRow}
 use Rattle.tbr_rows.specs.Shown.{part_of, later_of, Meeting, met, meeting, as_lines, merged_first, merged_last}
 use Rattle.tbr_rows.specs.Borders.{first_mergeable, without_first_border}
 use Rattle.tbr_rows.specs.Rows.{separator_in, cells_left}
-use Rattle.tbr_rows.specs.Texts.{row_height, row_text, cell_text, dropped, text_in_row, text_of_lines as cell_shows, line_text, numbers_below}
+use Rattle.tbr_border.specs.RenderLine.{items_under}
+use Rattle.tbr_rows.specs.Texts.{row_height, row_text, cell_text, dropped, text_of_lines as cell_shows, line_text, numbers_below}
 use Rattle.tbr_rows.proofs.Among.{among_cons, among_front, none_among, among_map, each_among}
 use Rattle.tbr_rows.proofs.AllLines.{part_and_later, merged_and_left, row_is_high_enough}
 use Rattle.tbr_rows.proofs.ColumnsOfRows.{column_of, columns_are, cell_is, span_stays}
@@ -99,11 +100,11 @@ module _ {T : Type 0} (columns : ℕ → Option ℕ) (a : T) where
 
   -- ---- the lines of a cell
 
-  line_within : (l : RenderLine T) → StandWithin (seen (items_in (l ∷ []))) (seen (text_in_row a l))
+  line_within : (l : RenderLine T) → StandWithin (seen (items_in (l ∷ []))) (seen (items_under a l))
   line_within (Text es) = subst (λ is. StandWithin (seen is) (seen (items_of es))) (sym (append-nil (items_of es))) (itself_within columns (items_of es))
   line_within (Rule b) = subst (λ is. StandWithin (seen is) (seen (shown a b))) (sym (append-nil (text_before b))) (border_shown columns a b)
 
-  one_within : (shows : List (RenderLine T) → List (Item T)) → ((l : RenderLine T) (ls : List (RenderLine T)) → shows (l ∷ ls) ≡ text_in_row a l) → (ls : List (RenderLine T)) → StandWithin (seen (items_in (take 1 ls))) (seen (shows ls))
+  one_within : (shows : List (RenderLine T) → List (Item T)) → ((l : RenderLine T) (ls : List (RenderLine T)) → shows (l ∷ ls) ≡ items_under a l) → (ls : List (RenderLine T)) → StandWithin (seen (items_in (take 1 ls))) (seen (shows ls))
   one_within shows each [] = tt
   one_within shows each (l ∷ ls) = subst (λ is. StandWithin (seen (items_in (l ∷ []))) (seen is)) (sym (each l ls)) (line_within l)
 
