@@ -95,6 +95,20 @@ fn a_line_is_moved_with_its_marker_after_another_and_the_rest_appended(
 }
 
 #[test]
+fn a_line_lacks_the_columns_that_its_characters_leave_of_a_width(
+    rt: HostRuntime,
+) -> Result<(), Fail> {
+    let alloc = rt.alloc();
+    let lines = ended::<UnicodeColumns>(alloc, 6, "an item in 漢字")?;
+    let mut missing = lines.missing::<UnicodeColumns>(alloc, 3)?;
+    for expected in [1, 0, 1, 0] {
+        assert!(rt; missing.pop_front() == Some(expected));
+    }
+    assert!(rt; missing.is_empty());
+    Ok(())
+}
+
+#[test]
 fn a_block_without_text_has_no_line(rt: HostRuntime) -> Result<(), Fail> {
     let alloc = rt.alloc();
     let mut lines = ended::<UnicodeColumns>(alloc, 8, " ")?;

@@ -218,6 +218,22 @@ const WORKED: &[Worked] = &[
         ..WORDS
     },
     Worked {
+        width: 12,
+        calls: &[
+            BorderWidth(3),
+            Row(&[LONG, Cell(1, Block(1, &[Inner::Text("a")]))], false),
+            Row(
+                &[
+                    Cell(1, Block(1, &[])),
+                    Cell(1, Block(1, &[Inner::Text("b")])),
+                ],
+                false,
+            ),
+        ],
+        lines: "─┬─\nv│a\nw│ \nx├─\ny│b\nz│ \n─┴─\n",
+        ..WORDS
+    },
+    Worked {
         width: 3,
         calls: &[Text("ab "), Marker("x"), Text("cde")],
         lines: "ab\n<x>cde\n",
@@ -273,6 +289,9 @@ const SECOND_ROW: Call<'static> = Row(
     ],
     false,
 );
+
+/// A cell of two rows, whose five lines one block has ended.
+const LONG: Cell<'static> = Cell(2, Block(1, &[Inner::Text("v w x y z")]));
 
 /// A cell with a border and a row.
 const NESTED: Cell<'static> = Cell(1, Block(3, &[Inner::Border, Inner::Row("1", "2")]));
