@@ -21,8 +21,8 @@ with_element columns place b e = with_span columns (max place (span_end b.holes)
 abbrev pub with_elements : {A : Type 0} → (ℕ → Option ℕ) → ℕ → Border A → List (Element A) → Border A
 with_elements columns place b es = fold (with_element columns place) b es
 
--- The elements of a cell's first line: those of a text, or of a border as text under its own tag. Where there is no
--- line they are one piece of spaces.
+-- The elements of a cell's first line, under equal tags: those of a text, or of a border as text under its own tag.
+-- Where there is no line they are one piece of spaces.
 abbrev pub IsGapText : {A : Type 0} → (A → A → Bool) → A → ℕ → Option (RenderLine A) → List (Element A) → Type 0
 IsGapText eq a width None es = SameElements eq es (piece (spaces width) a ∷ [])
 IsGapText eq a width (Some (Text line)) es = SameElements eq es line

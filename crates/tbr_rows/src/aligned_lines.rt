@@ -1,5 +1,5 @@
 //! A block's lines, filled up to a width.
-ghost use Rattle.std.specs.Prelude.{◌≡◌, ◌-◌, ◌++◌, ◌∷◌, List, length, map, drop, IfOk, OnOk};
+ghost use Rattle.std.specs.Prelude.{◌≡◌, ◌-◌, ◌++◌, ◌∷◌, [], List, length, map, drop, IfOk, OnOk};
 ghost use Rattle.tbr_model.specs.Run.{Item, items_width};
 ghost use Rattle.tbr_tagged.specs.Copies.{CopiesAreEqual};
 ghost use Rattle.tbr_tagged.specs.Elements.{items_of, SameItems, IsMerged};
@@ -49,8 +49,8 @@ impl<T> AlignedLines<T> {
 }
 
 impl<T: Drop> AlignedLines<T> {
-    /// These lines, each filled up to `width` columns as the alignment says, under the tag. It refuses only where memory
-    /// is refused.
+    /// These lines, each filled up to `width` columns as the alignment says, under the tag. It refuses only where
+    /// memory is refused.
     pub(crate) fn new<W: CharWidth>(
         alloc: Global,
         ended: EndedLines<T>,
@@ -79,6 +79,7 @@ impl<T: Eq + Clone + Drop> AlignedLines<T> {
             OnOk result (SameItems T.eq (items_of line.new) (items_of line.old ++ is)) }
         ensures merged { IsMerged T.eq line.old → OnOk result (IsMerged T.eq line.new) }
         ensures rest { OnOk result (self.new ≡ drop 1 self.old) }
+        ensures none { self.old ≡ [] → OnOk result (line.new ≡ line.old) }
     {
         let Some(missing) = self.missing.pop_front() else {
             return Ok(());

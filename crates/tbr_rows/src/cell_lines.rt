@@ -112,8 +112,8 @@ impl<T: Eq + Drop> CellLines<T> {
 }
 
 impl<T: Eq + Clone + Drop> CellLines<T> {
-    /// Moves the first line, if there is one, to the end of another. A border's cells are drawn under a copy of the tag.
-    /// Where memory is refused lines may be lost.
+    /// Moves the first line, if there is one, to the end of another. A border's cells are drawn under a copy of the
+    /// tag. Where memory is refused lines may be lost.
     pub(crate) fn move_first(
         &mut self,
         line: &mut TaggedLine<T>,
@@ -124,6 +124,7 @@ impl<T: Eq + Clone + Drop> CellLines<T> {
             OnOk result (SameItems T.eq (items_of line.new) (items_of line.old ++ items_under tag.now l)) }
         ensures merged { IsMerged T.eq line.old → OnOk result (IsMerged T.eq line.new) }
         ensures rest { OnOk result (self.new ≡ drop 1 self.old) }
+        ensures none { self.old ≡ [] → OnOk result (line.new ≡ line.old) }
     {
         let lines = match &mut self.kept {
             Kept::InText(lines) => return lines.move_line(line),
@@ -206,8 +207,8 @@ fn gap_text<T: Eq + Clone + Drop>(
     }
 }
 
-/// The text of a cell in the border below its row, where the cell's lines are in a block's text: the first one, which it
-/// takes out, or, where there is none left, spaces.
+/// The text of a cell in the border below its row, where the cell's lines are in a block's text: the first one, which
+/// it takes out, or, where there is none left, spaces.
 fn first_in_gap<T: Eq + Clone + Drop>(
     alloc: Global,
     lines: &mut AlignedLines<T>,

@@ -82,8 +82,8 @@ impl<T: Eq + Clone + Drop> Columns<T> {
 }
 
 impl<T: Eq + Clone + Drop> Columns<T> {
-    /// Adds a cell as [`push`](Columns::push) does, of lines that a block has ended. They stay in the block's text until
-    /// they are shown.
+    /// Adds a cell as [`push`](Columns::push) does, of lines that a block has ended. They stay in the block's text
+    /// until they are shown.
     ///
     /// Where memory is refused, or a place passes `usize`, the cell and its lines are dropped, and the others stay.
     pub fn push_ended<W: CharWidth>(
