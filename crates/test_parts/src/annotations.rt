@@ -26,19 +26,30 @@ fn expect(
 fn what_opens_and_closes_leaves_other_lists_as_they_are(rt: HostRuntime) -> Result<(), Fail> {
     let alloc = rt.alloc();
     let mut open = OpenAnnotations::new();
-    open.pop();
     open.push(alloc, Voice::First)?;
     let outer = open.list()?;
     open.push(alloc, Voice::Second)?;
     let inner = open.list()?;
     open.pop();
-    open.push(alloc, Voice::Second)?;
-    assert!(rt; open.list()? == inner && outer != inner);
-    open.pop();
     open.push(alloc, Voice::First)?;
     expect(&rt, alloc, &open.list()?, &[Voice::First, Voice::First])?;
     expect(&rt, alloc, &inner, &[Voice::First, Voice::Second])?;
     expect(&rt, alloc, &outer, &[Voice::First])?;
+    Ok(())
+}
+
+#[test]
+fn what_opens_again_is_the_same_list(rt: HostRuntime) -> Result<(), Fail> {
+    let alloc = rt.alloc();
+    let mut open = OpenAnnotations::new();
+    open.pop();
+    open.push(alloc, Voice::First)?;
+    let outer = open.list()?;
+    open.pop();
+    open.push(alloc, Voice::First)?;
+    assert!(rt; open.list()? == outer);
+    open.push(alloc, Voice::Second)?;
+    assert!(rt; open.list()? != outer);
     Ok(())
 }
 
