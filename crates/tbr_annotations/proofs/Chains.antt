@@ -1,5 +1,5 @@
 -- Equality from the last annotation down is equality from the first one up.
-use Rattle.std.proofs.Common.{◌≡◌, ◌++◌, ◌∷◌, [], ◌&&◌, Bool, true, false, List, refl, sym, ◌∙◌, ap}
+use Rattle.std.proofs.Common.{◌≡◌, ◌++◌, ◌∷◌, [], ◌&&◌, Bool, true, false, List, refl, sym, arith}
 use Rattle.std.specs.Cmp.Lexicographic.{pointwise}
 use Rattle.tbr_annotations.specs.declared.chain.Chain.{Chain, End, Last'}
 use Rattle.tbr_annotations.specs.Chain.{annotations_of, equal_down}
@@ -22,9 +22,7 @@ module _ {A : Type 0} (eq : A → A → Bool) where
   up_to_the_last [] (b ∷ (c ∷ ys)) x y = both (eq x b) false
   up_to_the_last (a ∷ []) [] x y = both (eq a y) false
   up_to_the_last (a ∷ (c ∷ xs)) [] x y = both (eq a y) false
-  up_to_the_last (a ∷ xs) (b ∷ ys) x y =
-      ap (λ (rest : Bool). eq a b && rest) (up_to_the_last xs ys x y)
-      ∙ first_of_three (eq a b) (pointwise eq xs ys) (eq x y)
+  up_to_the_last (a ∷ xs) (b ∷ ys) x y = grind (arith, first_of_three, up_to_the_last xs ys x y)
 
   some_against_none : (xs : List A) (x : A) → pointwise eq (xs ++ x ∷ []) [] ≡ false
   some_against_none [] x = refl
@@ -38,7 +36,4 @@ module _ {A : Type 0} (eq : A → A → Bool) where
   down_is_up End End = refl
   down_is_up End (Last' q y n ys) = sym (none_against_some (annotations_of ys) y)
   down_is_up (Last' p x m xs) End = sym (some_against_none (annotations_of xs) x)
-  down_is_up (Last' p x m xs) (Last' q y n ys) =
-      ap (λ (rest : Bool). eq x y && rest) (down_is_up xs ys)
-      ∙ both (eq x y) (pointwise eq (annotations_of xs) (annotations_of ys))
-      ∙ sym (up_to_the_last (annotations_of xs) (annotations_of ys) x y)
+  down_is_up (Last' p x m xs) (Last' q y n ys) = grind (arith, both, up_to_the_last, down_is_up xs ys)

@@ -1,6 +1,6 @@
 -- What a border shows.
 use Rattle.std.proofs.lemmas.Bool.{cond_both}
-use Rattle.std.proofs.Common.{◌≡◌, ℕ, zero, suc, ◌+◌, ◌-◌, ◌<◌, ◌≤◌, Bool, true, false, List, [], ◌∷◌, ◌++◌, map, length, get_or, take, drop, drop-cons, length-drop, subst, refl, ap, sym, ◌∙◌, arith, append_assoc}
+use Rattle.std.proofs.Common.{◌≡◌, ℕ, zero, suc, ◌+◌, ◌-◌, ◌<◌, ◌≤◌, Bool, true, false, List, [], ◌∷◌, ◌++◌, map, length, get_or, take, drop, drop-cons, length-drop, refl, ap, ◌∙◌, arith, append_assoc}
 use Rattle.std.specs.List.{slice_range}
 use Rattle.std.specs.Prelude.{replicate}
 use Rattle.std.specs.Char.{IsScalar}
@@ -9,7 +9,7 @@ use Rattle.std.proofs.lemmas.List.{map-append, take_all, take-map, drop-map}
 use Rattle.std.proofs.lemmas.List.Concat.{flat_map-append}
 use Rattle.tbr_model.specs.Run.{Item}
 use Rattle.tbr_tagged.specs.Elements.{element_items, element_characters, SameItems}
-use Rattle.tbr_tagged.specs.Walks.{item_character, item_characters}
+use Rattle.tbr_tagged.specs.Walks.{item_characters}
 use Rattle.tbr_border.specs.Cell.{Cell, slash, arms, character, line_above, is_among}
 use Rattle.tbr_border.specs.Border.{Hole, AreInOrder, drawn, shown_from}
 use Rattle.tbr_tagged.proofs.SameItems.{same_items, same_items_append, same_from_path, same_items_trans}
@@ -52,17 +52,7 @@ in_order_within from (g ∷ hs) end h = omega (arith, h.0, in_order_within (g.pl
 pub text_step : {A : Type 0} (tag : A) (cells : List Cell) (at : ℕ) (h : Hole A) (rest : List (Hole A)) (text more all : List ℕ) →
     more ≡ text ++ map character (slice_range cells at h.place) → all ≡ more ++ element_characters h.element →
     all ++ item_characters (shown_from tag cells (h.place + h.width) rest) ≡ text ++ item_characters (shown_from tag cells at (h ∷ rest))
-text_step tag cells at h rest text more all e f =
-    let between = map character (slice_range cells at h.place) in
-    let after = shown_from tag cells (h.place + h.width) rest in
-    rw (
-      f,
-      e,
-      flat_map-append item_character (drawn (slice_range cells at h.place) tag) (element_items h.element ++ after),
-      text_characters between tag,
-      flat_map-append item_character (element_items h.element) after,
-      element_has h.element,
-    ) (simp append_assoc)
+text_step tag cells at h rest text more all e f = grind (arith, flat_map-append, text_characters, element_has, append_assoc)
 
 pub text_end : {A : Type 0} (tag : A) (cells : List Cell) (at : ℕ) (text all : List ℕ) → all ≡ text ++ map character (drop at cells) → all ≡ text ++ item_characters (shown_from tag cells at [])
 text_end tag cells at text all e = rw (e, text_characters (map character (drop at cells)) tag) refl
@@ -92,10 +82,7 @@ hole_here f all xs rest x at len e fit = fit (f x ∷ map f rest) (ap (map f) e 
 -- the same of a loop over a slice
 pub hole_at : {X : Type 0} {A : Type 0} (f : X → Hole A) (xs : List X) (i : ℕ) (x : X) (at len : ℕ) → i < length xs → x ≡ get_or xs i x →
     AreInOrder at (map f (drop i xs)) len → (at ≤ (f x).place) × AreInOrder ((f x).place + (f x).width) (map f (drop (i + 1) xs)) len
-hole_at f xs i x at len below is fit =
-    let next : suc i ≡ i + 1 = omega arith in
-    let parts : drop i xs ≡ x ∷ drop (i + 1) xs = drop-cons xs i x below ∙ ap (λ y. y ∷ drop (suc i) xs) (sym is) ∙ ap (λ n. x ∷ drop n xs) next in
-    subst (λ hs. AreInOrder at hs len) (ap (map f) parts) fit
+hole_at f xs i x at len below is fit = grind (arith, drop-cons)
 
 -- the cells from a place on
 pub cells_from : {X : Type 0} (cell : X → Cell) (xs : List X) (at : ℕ) → map cell (take (length xs - at) (drop at xs)) ≡ drop at (map cell xs)

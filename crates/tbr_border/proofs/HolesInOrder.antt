@@ -1,5 +1,5 @@
 -- Holes in order.
-use Rattle.std.proofs.Common.{◌≡◌, ℕ, suc, ◌+◌, ◌-◌, ◌<◌, ◌≤◌, Bool, List, [], ◌∷◌, ◌++◌, map, length, get_or, refl, sym, arith, ◌↔◌}
+use Rattle.std.proofs.Common.{◌≡◌, ℕ, ◌+◌, ◌-◌, ◌<◌, ◌≤◌, Bool, List, [], ◌∷◌, ◌++◌, map, length, get_or, refl, sym, arith, ◌↔◌}
 use Rattle.std.proofs.lemmas.List.{map_push}
 use Rattle.std.specs.List.{AllZip}
 use Rattle.tbr_border.specs.Border.{Hole, span_end, AreInOrder, SameHole, MapsHole}
@@ -33,9 +33,7 @@ in_order_end from (g ∷ hs) end h = in_order_end (g.place + g.width) hs end h.1
 pub span_end-last : {X : Type 0} {A : Type 0} (f : X → Hole A) (xs : List X) (d : X) → 0 < length xs → (f (get_or xs (length xs - 1) d)).place + (f (get_or xs (length xs - 1) d)).width ≡ span_end (map f xs)
 span_end-last f [] d h = absurd (omega arith)
 span_end-last f (x ∷ []) d h = refl
-span_end-last f (x ∷ y ∷ xs) d h =
-    let e : length (x ∷ y ∷ xs) - 1 ≡ suc (length (y ∷ xs) - 1) = omega arith in
-    rw e (span_end-last f (y ∷ xs) d (omega arith))
+span_end-last f (x ∷ y ∷ xs) d h = grind (arith, span_end-last f (y ∷ xs) d (omega arith))
 
 -- holes of the same places are in the same order
 same_places : {A B : Type 0} (R : Hole A → Hole B → Type 0) → ((h : Hole A) (k : Hole B) → R h k → (h.place ≡ k.place) × (h.width ≡ k.width)) →

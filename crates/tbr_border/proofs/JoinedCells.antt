@@ -65,31 +65,22 @@ pub stretched_wide : (n : ℕ) (cs : List Cell) → n ≤ length cs → stretche
 stretched_wide n cs h = let none : n - length cs ≡ 0 = omega arith in rw (none, append-nil) refl
 
 stretched_again : (m n : ℕ) (cs : List Cell) → stretched n (stretched m cs) ≡ stretched (max m n) cs
-stretched_again m n cs =
-    let sum : (m - length cs) + (n - length (stretched m cs)) ≡ max m n - length cs = omega (arith, length-stretched m cs) in
-    rw (append_assoc, replicate-append-replicate, sum) refl
+stretched_again m n cs = grind (arith, length-stretched, append_assoc, replicate-append-replicate)
 
 stretched_changed : (f : Cell → Cell) (i n : ℕ) (cs : List Cell) → i < length cs → stretched n (changed_at f i cs) ≡ changed_at f i (stretched n cs)
 stretched_changed f i n cs h = rw (length-changed f i cs, changed-append f i cs (replicate (n - length cs) horizontal) h) refl
 
 -- what `resize` gives
 pub stretched_items : {X : Type 0} (cell : X → Cell) (xs : List X) (d : X) (n m : ℕ) → cell d ≡ horizontal → m ≡ length xs → m ≤ n → map cell (take n xs ++ replicate (n - m) d) ≡ stretched n (map cell xs)
-stretched_items cell xs d n m drawn count h =
-    let all : take n xs ≡ xs = take_all n xs (omega (arith, count)) in
-    let same : n - m ≡ n - length (map cell xs) = omega (arith, count, length-map xs cell) in
-    rw (map-append, all, map-copies, drawn, same) refl
+stretched_items cell xs d n m drawn count h = grind (arith, take_all, length-map, map-append, map-copies)
 
 -- ---- joins at places
 
 pub joined_at_twice : (side : Side) (x : ℕ) (cs : List Cell) → joined_at side x (joined_at side x cs) ≡ joined_at side x cs
-joined_at_twice side x cs =
-    let wide : x + 1 ≤ length (joined_at side x cs) = omega (arith, length-changed (joined side) x (stretched (x + 1) cs), length-stretched (x + 1) cs) in
-    rw (stretched_wide (x + 1) (joined_at side x cs) wide) (changed_twice (joined side) (joined_twice side) x (stretched (x + 1) cs))
+joined_at_twice side x cs = grind (arith, length-changed, length-stretched, stretched_wide, changed_twice, joined_twice)
 
 joined_at_two : (side other : Side) (x y : ℕ) (cs : List Cell) → joined_at side x (joined_at other y cs) ≡ changed_at (joined side) x (changed_at (joined other) y (stretched (max (y + 1) (x + 1)) cs))
-joined_at_two side other x y cs =
-    let within : y < length (stretched (y + 1) cs) = omega (arith, length-stretched (y + 1) cs) in
-    rw (stretched_changed (joined other) y (x + 1) (stretched (y + 1) cs) within, stretched_again (y + 1) (x + 1) cs) refl
+joined_at_two side other x y cs = grind (arith, length-stretched, stretched_changed, stretched_again)
 
 pub joined_at_both : (side other : Side) (x y : ℕ) (cs : List Cell) → joined_at side x (joined_at other y cs) ≡ joined_at other y (joined_at side x cs)
 joined_at_both side other x y cs =
@@ -157,13 +148,9 @@ cond_into f false x y = refl
 pub under-push : (side : Side) (cs : List Cell) (place : ℕ) (os : List Cell) (o : Cell) →
     joined_under side cs place (os ++ o ∷ []) ≡ cond (merges side o) (changed_at (joined side) (place + length os) (joined_under side cs place os)) (joined_under side cs place os)
 under-push side [] place os o = cond_into (λ (c : Cell). []) (merges side o) slash slash
-under-push side (c ∷ cs) (suc place) os o =
-    let next : suc place + length os ≡ suc (place + length os) = omega arith in
-    rw (next, under-push side cs place os o) (cond_into (λ ds. c ∷ ds) (merges side o) _ _)
+under-push side (c ∷ cs) (suc place) os o = grind (arith, cond_into, under-push side cs place os o)
 under-push side (c ∷ cs) zero [] o = rw (under_all_none side cs zero [] refl) (cond_into (λ d. d ∷ cs) (merges side o) (joined side c) c)
-under-push side (c ∷ cs) zero (p ∷ os) o =
-    let next : 0 + length (p ∷ os) ≡ suc (0 + length os) = omega arith in
-    rw (next, under-push side cs zero os o) (cond_into (λ ds. cond (merges side p) (joined side c) c ∷ ds) (merges side o) _ _)
+under-push side (c ∷ cs) zero (p ∷ os) o = grind (arith, cond_into, cond, under-push side cs zero os o)
 
 module _ {X : Type 0} (cell : X → Cell) (side : Side) (xs : List X) (i : ℕ) (d : X) (below : i < length xs) where
   one_cell : map cell (take (i + 1) xs) ≡ map cell (take i xs) ++ cell (get_or xs i d) ∷ []

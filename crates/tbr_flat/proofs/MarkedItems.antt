@@ -183,6 +183,4 @@ module _ {A : Type 0} (eq : A → A → Bool) (laws : IsEquivalence eq) where
 
   pub same_marked : (is js : List (Item A)) (ms : List (ℕ × List ℕ)) → SameItems eq is js → SameItems eq (marked is ms) (marked js ms)
   same_marked is js [] h = h
-  same_marked is js ((n, name) ∷ ms) h =
-      same_items_append eq laws (take n is) (take n js) (marker name ∷ marked (drop n is) ms) (marker name ∷ marked (drop n js) ms) (same_take n is js h)
-      (refl, same_marked (drop n is) (drop n js) ms (same_drop n is js h))
+  same_marked is js ((n, name) ∷ ms) h = grind (arith, same_items_append, same_take, same_drop, same_marked (drop n is) (drop n js) ms (same_drop n is js h))

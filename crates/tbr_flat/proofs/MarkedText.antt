@@ -34,9 +34,7 @@ module _ {A : Type 0} where
   -- where no marker comes first in a word without characters there is none
   pub nothing_left : (is : List (Item A)) (m : MarkerPlaces) → Each (λ i. is_glyph i ≡ true) is → covered m ≡ length is → has_character (marked is m.markers) ≡ false →
       ((name : List ℕ) (rest : List (ℕ × List ℕ)) → m.markers ≡ (0, name) ∷ rest → ⊥) → marked is m.markers ≡ []
-  nothing_left is m glyphs h none other =
-      let empty = no_character is m.markers glyphs none in
-      rw (no_marks m (h ∙ ap length empty) other, empty) refl
+  nothing_left is m glyphs h none other = grind (arith, no_character, no_marks)
 
   -- the last marker
   pub marker_back : (is js : List (Item A)) (m n : MarkerPlaces) (front ms : List (ℕ × List ℕ)) (k : ℕ) (name : List ℕ) → covered m ≡ length is → m ≡ record { markers = front ++ (k, name) ∷ []; after = 0 } → n ≡ record { markers = front; after = k } →

@@ -1,5 +1,5 @@
 -- Markers among characters, as they are kept.
-use Rattle.std.proofs.Common.{◌≡◌, ℕ, suc, zero, ◌+◌, ◌<◌, ◌≤◌, inl, inr, IsTrue, ◌↔◌, nat_eq, List, [], ◌∷◌, ◌++◌, map, length, drop, get_or, refl, ap, sym, ◌∙◌, arith}
+use Rattle.std.proofs.Common.{◌≡◌, ℕ, suc, zero, ◌+◌, ◌<◌, ◌≤◌, inl, inr, IsTrue, ◌↔◌, nat_eq, List, [], ◌∷◌, ◌++◌, map, length, drop, get_or, refl, ap, sym, arith}
 use Rattle.std.specs.String.{string_bytes}
 use Rattle.std.proofs.lemmas.Bool.{eqb-true, eq-eqb, cases_lt}
 use Rattle.std.proofs.lemmas.List.{nil_from_length}
@@ -20,10 +20,7 @@ map_first f (y ∷ ys) x h e = ap (λ z. f z ∷ map f ys) (sym e)
 -- it comes first where no character is before it
 pub begins_with_marker : (ms rest : List (ℕ × List ℕ)) (n : ℕ) (name : List ℕ) → ms ≡ (n, name) ∷ rest →
     IsTrue (nat_eq n 0) ↔ ((first : List ℕ) × (after : List (ℕ × List ℕ)) × (ms ≡ (0, first) ∷ after))
-begins_with_marker ms rest n name e = (
-  λ t. let z : n ≡ 0 = eqb-true n 0 t in (name, rest, e ∙ ap (λ k. (k, name) ∷ rest) z),
-  λ w. eq-eqb n 0 (ap (λ ns. before_first (record { markers = ns; after = 0 })) (sym e ∙ w.2)),
-)
+begins_with_marker ms rest n name e = grind (arith, eqb-true, eq-eqb)
 
 -- ---- how many characters the markers are among
 

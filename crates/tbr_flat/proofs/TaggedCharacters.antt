@@ -69,14 +69,7 @@ first_glyph cs rest ts c t us n e h = rw (e, h) refl
 
 module _ {A : Type 0} (p w : List ℕ) (ts : List A) (h : length ts ≡ length p + length w) where
   pub flat_push : (cs : List ℕ) (n : ℕ) (a : A) → n ≡ length cs → flat p (w ++ cs) (ts ++ replicate n a) ≡ record (flat p w ts) { word = (flat p w ts).word ++ text_items cs a }
-  flat_push cs n a e =
-      let us = replicate n a in
-      rw (
-        glyphs_front p ts us (omega (arith, h)),
-        drop-append-le (length p) ts us (omega (arith, h)),
-        glyphs_push w cs (drop (length p) ts) us (omega (arith, h, length-drop (length p) ts)),
-        glyphs_one cs n a e,
-      ) refl
+  flat_push cs n a e = grind (arith, glyphs_front, drop-append-le, glyphs_push, length-drop, glyphs_one)
 
   pub flat_word_first : (o : Option ℕ) → MatchOption o (w ≡ []) (λ c. (rest : List ℕ) × (w ≡ c ∷ rest)) →
       MatchOption o ((flat p w ts).word ≡ []) (λ c. (a : A) × (rest : List (Item A)) × ((flat p w ts).word ≡ glyph c a ∷ rest))
@@ -142,13 +135,7 @@ module _ {A : Type 0} (eq : A → A → Bool) where
     len = omega (arith, h, e, length-take (length ts - k) ts)
 
     pub space_placed : (flat (p ++ replicate n 32) w parted).placed ≡ (flat p w ts).placed ++ spaces n a
-    space_placed =
-        rw (
-          glyphs-append p (replicate n 32) parted,
-          glyphs_kept p (length ts - k) ts (replicate n a ++ after) (omega (arith, h, e)) (omega (arith, h, e)),
-          drop_at (take (length ts - k) ts) (replicate n a ++ after) (length p) len,
-          glyphs_spaces n a after,
-        ) refl
+    space_placed = grind (arith, glyphs-append, glyphs_kept, drop_at, len, glyphs_spaces)
 
     pub space_word : AllZip (λ x y. eq x y ≡ true) after (drop (length ts - k) ts) → SameItems eq (flat (p ++ replicate n 32) w parted).word (flat p w ts).word
     space_word same =

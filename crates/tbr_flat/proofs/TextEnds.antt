@@ -1,5 +1,5 @@
 -- What is counted and taken away at the end of a text and at its beginning.
-use Rattle.std.proofs.Common.{◌≡◌, true, ℕ, suc, ◌+◌, ◌-◌, ◌<◌, ◌≤◌, List, ◌++◌, length, take, drop, get_or, replicate, refl, ap, sym, ◌∙◌, subst, arith, append_assoc}
+use Rattle.std.proofs.Common.{◌≡◌, true, ℕ, suc, ◌+◌, ◌-◌, ◌<◌, ◌≤◌, List, ◌++◌, length, take, drop, get_or, replicate, refl, ap, sym, ◌∙◌, arith, append_assoc}
 use Rattle.std.specs.Str.{IsUtf8, chars, IsCharBoundary}
 use Rattle.std.proofs.Math.Seq.{take-append_seam, get_or-append_seam}
 use Rattle.std.proofs.lemmas.List.{take-append-drop, take_at, drop_at, length-append, length-take, length-replicate}
@@ -51,9 +51,7 @@ module _ (bytes front : List ℕ) (i n m k : ℕ) (cs : List ℕ) (h : IsLeft by
   seam = omega (arith, spaces_short bytes kept m parted, end)
 
   pub spaces_boundary : IsCharBoundary bytes k
-  spaces_boundary =
-      IsCharBoundary-from_drop bytes k (omega (arith, end))
-      (subst IsUtf8 (sym (ap (drop k) parted ∙ drop_at kept (replicate m 32) k seam)) (IsUtf8-from_ascii (replicate m 32) (spaces_ascii m)))
+  spaces_boundary = grind (arith, IsCharBoundary-from_drop, parted, drop_at, seam, IsUtf8-from_ascii, spaces_ascii)
 
   pub spaces_gone : (xs : List ℕ) → xs ≡ take k bytes → IsAfter xs i (n - m) front
   spaces_gone xs is =

@@ -55,9 +55,7 @@ module _ {A : Type 0} where
   trailing_left [] n us h most = trailing_spaces_none n us (omega arith)
   trailing_left (c ∷ []) n (u ∷ us) h most =
       trailing_none (glyph c u) (glyphs (replicate n 32) us) false (trailing_spaces_none n us (omega arith)) (ne_eqb c 32 (λ e. most [] (ap (λ d. d ∷ []) e)))
-  trailing_left (c ∷ d ∷ mid) n (u ∷ v ∷ us) h most =
-      trailing_some (glyph c u) (glyph d v) (glyphs (d ∷ mid ++ replicate n 32) (v ∷ us)) (take (length mid) (glyphs (mid ++ replicate n 32) us))
-      (trailing_left (d ∷ mid) n (v ∷ us) (omega arith) (λ f e. most (c ∷ f) (ap (λ es. c ∷ es) e)))
+  trailing_left (c ∷ d ∷ mid) n (u ∷ v ∷ us) h most = grind (arith, trailing_some, trailing_left (d ∷ mid) n (v ∷ us) (omega arith) (λ f e. most (c ∷ f) (ap (λ es. c ∷ es) e)))
   trailing_left _ n _ h most = absurd (omega arith)
 
   -- white space in front is dropped, up to a place

@@ -3,7 +3,7 @@ use Rattle.std.proofs.Common.{◌≡◌, ℕ, ◌+◌, ◌-◌, ◌<◌, ◌≤�
 use Rattle.std.proofs.lemmas.Bool.{cases_lt, cases_Bool}
 use Rattle.std.proofs.lemmas.List.{take-append-drop, length-append, length-take, length-drop, take_at, take_all, drop_all, drop_at, append_cancel_right, nil_from_length}
 use Rattle.tbr_model.specs.Run.{Item, marker}
-use Rattle.tbr_model.specs.Rule.{without_leading, without_trailing, is_white_item}
+use Rattle.tbr_model.specs.Rule.{without_leading, without_trailing}
 use Rattle.tbr_model.proofs.lists.Joined.{cut_twice}
 use Rattle.tbr_flat.specs.Flat.{MarkerPlaces, marked, before_last, covered, before_first, shortened}
 use Rattle.tbr_flat.proofs.TrimmedCharacters.{trailing_none, trailing_some}
@@ -92,10 +92,7 @@ module _ {A : Type 0} where
 
   leading_marker : (front : List (Item A)) (name : List ℕ) (is : List (Item A)) → without_leading (front ++ marker name ∷ is) ≡ without_leading front ++ marker name ∷ is
   leading_marker [] name is = refl
-  leading_marker (i ∷ front) name is = elim (cases_Bool (is_white_item i)) [
-    | inl white ↦ rw white (leading_marker front name is)
-    | inr other ↦ rw other refl
-  ]
+  leading_marker (i ∷ front) name is = grind (arith, cases_Bool, leading_marker front name is)
 
   -- The characters before the first marker lose the white space at their beginning, and so does the word.
   module _ (is new : List (Item A)) (m : MarkerPlaces) (n : ℕ) (covers : covered m ≡ length is)

@@ -1,10 +1,10 @@
 -- Footnotes that are cut into lines.
-use Rattle.std.proofs.Common.{◌≡◌, ◌≢◌, ℕ, ◌+◌, ◌≤◌, ◌==◌, Bool, true, false, if◌then◌else◌, Option, Some, None, List, [], ◌∷◌, ◌++◌, map, refl, ap, sym, ◌∙◌, append_assoc, append-nil, arith}
+use Rattle.std.proofs.Common.{◌≡◌, ◌≢◌, ℕ, ◌+◌, ◌≤◌, ◌==◌, Bool, true, false, if◌then◌else◌, Option, Some, None, List, [], ◌∷◌, ◌++◌, map, refl, ap, sym, ◌∙◌, append_assoc, append-nil, arith, rules}
 use Rattle.std.proofs.lemmas.Bool.{cond_both, eqb-true, leb-true, le-leb}
 use Rattle.std.proofs.lemmas.List.{map-append}
 use Rattle.std.proofs.lemmas.Grind.{fold-append}
-use Rattle.tbr_model.specs.Codes.{newline_character, space_character}
-use Rattle.tbr_model.specs.Run.{Item, glyph, item_width, items_width}
+use Rattle.tbr_model.specs.Codes.{newline_character}
+use Rattle.tbr_model.specs.Run.{Item, glyph, item_width}
 use Rattle.tbr_model.specs.Mapped.{map_item}
 use Rattle.tbr_model.specs.Width.{width_of_text}
 use Rattle.tbr_model.proofs.words.Items.{items_width-append}
@@ -35,9 +35,7 @@ footnote_items-append (marker_element name ∷ es) fs = footnote_items-append es
 
 -- one more that is no newline
 pub unbroken_more : (cs : List ℕ) (c : ℕ) → map unbroken cs ≡ cs → c ≢ newline_character → map unbroken (cs ++ c ∷ []) ≡ cs ++ c ∷ []
-unbroken_more cs c so_far other =
-    map-append unbroken cs (c ∷ []) ∙ ap (λ ds. ds ++ unbroken c ∷ []) so_far
-    ∙ cond_both (c == newline_character) space_character c (λ d. cs ++ d ∷ [] ≡ cs ++ c ∷ []) (λ e. absurd (other (eqb-true c newline_character e))) (λ _. refl)
+unbroken_more cs c so_far other = search (rules, map-append, cond_both, eqb-true)
 
 module _ {T : Type 0} (columns : ℕ → Option ℕ) where
   -- characters and then characters
@@ -104,10 +102,7 @@ module _ {T : Type 0} (columns : ℕ → Option ℕ) where
 module _ {A M : Type 0} (f : A → M) (columns : ℕ → Option ℕ) where
   pub elements_go_on : (c d e : Cutting (List M)) (es : List (TaggedLineElement A)) (x : TaggedLineElement A) → d ≡ with_items columns c (footnote_items (map (element_meant f) (map element_of es))) →
       e ≡ with_items columns d (footnote_items (element_meant f (element_of x) ∷ [])) → e ≡ with_items columns c (footnote_items (map (element_meant f) (map element_of (es ++ x ∷ []))))
-  elements_go_on c d e es x so_far next =
-      then_items columns c d e (footnote_items (map (element_meant f) (map element_of es))) (footnote_items (element_meant f (element_of x) ∷ [])) so_far next
-      ∙ ap (with_items columns c) (sym (ap (λ xs. footnote_items (map (element_meant f) xs)) (map-append element_of es (x ∷ [])) ∙ ap footnote_items (map-append (element_meant f) (map element_of es) (element_of x ∷ []))
-      ∙ footnote_items-append (map (element_meant f) (map element_of es)) (element_meant f (element_of x) ∷ [])))
+  elements_go_on c d e es x so_far next = search (rules, then_items, map-append, footnote_items-append)
 
   -- the whole line
   pub elements_end : (c d : Cutting (List M)) (es : List (TaggedLineElement A)) (line : List (Element A)) → d ≡ with_items columns c (footnote_items (map (element_meant f) (map element_of es))) → map element_of es ≡ line →
@@ -140,15 +135,4 @@ module _ {A M : Type 0} (f : A → M) where
     line_extended p is = ap (λ (held : List (Item (List M))). record (cut_meant f (cutting_of c)) { held = held }) held_more ∙ ap (λ (q : Cutting (List A)). extended (cut_meant f q) (text_items cs (tag_meant f tag))) is
 
     pub holds_extended : (columns : ℕ) → HoldsCutting widths eq f c → columns ≡ c.columns + width_of_text widths cs → IsMerged (equal_annotations eq) new → HoldsCutting widths eq f (record c { held = new; columns = columns })
-    holds_extended columns h sum merged = record {
-      taken = omega (
-        arith,
-        sum,
-        h.taken,
-        items_width-append widths (items_meant f (items_of c.held)) (text_items cs (tag_meant f tag)),
-        items_width-text widths cs (tag_meant f tag),
-        ap (items_width widths) held_more,
-      );
-      merged = h.merged;
-      merged_held = merged;
-    }
+    holds_extended columns h sum merged = search (rules, items_width-append, items_width-text, held_more)

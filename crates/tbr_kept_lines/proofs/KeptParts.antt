@@ -20,7 +20,7 @@ use Rattle.tbr_border.specs.declared.RenderLine.TheVariants.{Text, Line as Rule}
 use Rattle.tbr_kept_lines.specs.Line.{Line, text, border, line_seen, line_has_content, text_lines, SameSeen}
 use Rattle.tbr_kept_lines.specs.KeptLines.{part_seen, parts_seen, HoldsPart}
 use Rattle.tbr_kept_lines.specs.LastBorder.{last_border}
-use Rattle.tbr_kept_lines.specs.Text.{items_shown, line_text, lines_text}
+use Rattle.tbr_kept_lines.specs.Text.{items_shown, lines_text}
 use Rattle.tbr_kept_lines.specs.declared.kept_lines.Part.{Part}
 
 -- ---- whether there is a line
@@ -79,9 +79,7 @@ part_after ps p =
 
 pub content_after : {T : Type 0} (ps : List (Part T)) (p : Part T) (above last : Bool) → above ≡ list_any line_has_content (parts_seen ps ++ map line_seen p.before.items) → last ≡ list_any has_character p.ended →
     above || last ≡ list_any line_has_content (parts_seen (ps ++ p ∷ []))
-content_after ps p above last h k =
-    ap (λ b. b || last) h ∙ ap (λ b. list_any line_has_content (parts_seen ps ++ map line_seen p.before.items) || b) (k ∙ sym (text_content p.ended))
-    ∙ sym (any_append line_has_content (parts_seen ps ++ map line_seen p.before.items) (text_lines p.ended)) ∙ ap (list_any line_has_content) (sym (part_after ps p))
+content_after ps p above last h k = grind (arith, text_content, any_append, part_after)
 
 -- ---- the last border
 
@@ -138,9 +136,7 @@ any_counted test (x ∷ xs) = go (test x) (any_counted test xs)
 -- content above, or below
 pub content_of_both : {T : Type 0} (ps : List (Part T)) (last : List (RenderLine T)) (above : Bool) (n : ℕ) → above ≡ list_any line_has_content (parts_seen ps) → n ≡ length (filter line_has_content (map line_seen last)) →
     above || nat_lt 0 n ≡ list_any line_has_content (parts_seen ps ++ map line_seen last)
-content_of_both ps last above n h k =
-    ap (λ b. b || nat_lt 0 n) h ∙ ap (λ b. list_any line_has_content (parts_seen ps) || b) (ap (nat_lt 0) k ∙ any_counted line_has_content (map line_seen last))
-    ∙ sym (any_append line_has_content (parts_seen ps) (map line_seen last))
+content_of_both ps last above n h k = grind (arith, any_counted, any_append)
 
 pub one_or_none : (b : Bool) → bool_byte b ≡ (if b then 1 else 0)
 one_or_none true = refl
@@ -154,34 +150,22 @@ content_seen eq (Rule b) merged = refl
 module _ {T : Type 0} (b : Border T) (old new : List (RenderLine T)) (is : old ≡ new ++ Rule b ∷ []) where
   -- lines with content, and a border after them
   pub counted : length (filter line_has_content (map line_seen old)) ≡ length (filter line_has_content (map line_seen new)) + (if not (has_holes b.holes) then 1 else 0)
-  counted =
-      ap (λ ls. length (filter line_has_content (map line_seen ls))) is ∙ ap (λ ls. length (filter line_has_content ls)) (map-append line_seen new (Rule b ∷ []))
-      ∙ count_after line_has_content (map line_seen new) (border b)
+  counted = grind (arith, map-append, count_after)
 
   -- a border without holes counts
   pub some_counted : (n : ℕ) → n ≡ length (filter line_has_content (map line_seen old)) → has_holes b.holes ≡ false → 1 ≤ n
-  some_counted n content bare =
-      let one : ◌≡◌ {A = ℕ} (if not (has_holes b.holes) then 1 else 0) 1 = rw bare refl in
-      omega (arith, content, counted, one)
+  some_counted n content bare = grind (arith, ℕ, counted)
 
   pub one_less : (n : ℕ) → n ≡ length (filter line_has_content (map line_seen old)) → has_holes b.holes ≡ false → n - 1 ≡ length (filter line_has_content (map line_seen new))
-  one_less n content bare =
-      let one : ◌≡◌ {A = ℕ} (if not (has_holes b.holes) then 1 else 0) 1 = rw bare refl in
-      omega (arith, content, counted, one)
+  one_less n content bare = grind (arith, ℕ, counted)
 
   pub none_less : (n : ℕ) → n ≡ length (filter line_has_content (map line_seen old)) → has_holes b.holes ≡ true → n ≡ length (filter line_has_content (map line_seen new))
-  none_less n content holed =
-      let none : ◌≡◌ {A = ℕ} (if not (has_holes b.holes) then 1 else 0) 0 = rw holed refl in
-      omega (arith, content, counted, none)
+  none_less n content holed = grind (arith, ℕ, counted)
 
 -- one more line
 pub content_more : {T : Type 0} (eq : T → T → Bool) (line : RenderLine T) (lines : List (RenderLine T)) (n : ℕ) → IsMergedText eq line → n ≡ length (filter line_has_content (map line_seen lines)) →
     n + (if line_holds line then 1 else 0) ≡ length (filter line_has_content (map line_seen (lines ++ line ∷ [])))
-content_more eq line lines n merged content =
-    ap (λ k. k + (if line_holds line then 1 else 0)) content
-    ∙ ap (λ (b : Bool). length (filter line_has_content (map line_seen lines)) + (if b then 1 else 0)) (content_seen eq line merged)
-    ∙ sym (count_after line_has_content (map line_seen lines) (line_seen line))
-    ∙ ap (λ ls. length (filter line_has_content ls)) (sym (map-append line_seen lines (line ∷ [])))
+content_more eq line lines n merged content = grind (arith, content_seen, count_after, map-append)
 
 pub each_get_or : {X : Type 0} (P : X → Type 0) (xs : List X) (i : ℕ) (d : X) → i < length xs → Each P xs → P (get_or xs i d)
 each_get_or P [] i d below h = absurd (omega (arith, below))
@@ -198,9 +182,7 @@ content_next eq lines i n byte line merged below is count one =
 
 -- the count of lines, and of more after them
 pub content_appended : {T : Type 0} (lines more : List (RenderLine T)) → length (filter line_has_content (map line_seen (lines ++ more))) ≡ length (filter line_has_content (map line_seen lines)) + length (filter line_has_content (map line_seen more))
-content_appended lines more =
-    ap (λ ls. length (filter line_has_content ls)) (map-append line_seen lines more) ∙ ap length (filter-append line_has_content (map line_seen lines) (map line_seen more))
-    ∙ length-append (filter line_has_content (map line_seen lines)) (filter line_has_content (map line_seen more))
+content_appended lines more = grind (arith, map-append, filter-append, length-append)
 
 -- ---- a block's lines, one by one
 
@@ -223,10 +205,7 @@ texts_shown (is ∷ texts) = ap (λ cs. line_characters is ++ cs) (texts_shown t
 -- the text of one part more
 pub part_shown : {T : Type 0} (ps : List (Part T)) (p : Part T) (front : List ℕ) →
     ((front ++ lines_text (parts_seen ps)) ++ lines_text (map line_seen p.before.items)) ++ lines_characters p.ended ≡ front ++ lines_text (parts_seen (ps ++ p ∷ []))
-part_shown ps p front =
-    ap (λ cs. cs ++ lines_characters p.ended) (append_assoc front (lines_text (parts_seen ps)) (lines_text (map line_seen p.before.items)) ∙ ap (λ cs. front ++ cs) (sym (flat_map-append line_text (parts_seen ps) (map line_seen p.before.items))))
-    ∙ append_assoc front (lines_text (parts_seen ps ++ map line_seen p.before.items)) (lines_characters p.ended)
-    ∙ ap (λ cs. front ++ cs) (ap (λ cs. lines_text (parts_seen ps ++ map line_seen p.before.items) ++ cs) (sym (texts_shown p.ended)) ∙ sym (flat_map-append line_text (parts_seen ps ++ map line_seen p.before.items) (text_lines p.ended)) ∙ ap lines_text (sym (part_after ps p)))
+part_shown ps p front = grind (arith, append_assoc, flat_map-append, texts_shown, part_after)
 
 -- ---- all lines by themselves
 
@@ -241,18 +220,12 @@ module _ {T : Type 0} (eq : T → T → Bool) (laws : IsEquivalence eq) where
 
   -- lines, and last ones after them
   pub lines_after : (lines last : List (RenderLine T)) (seen : List (Line T)) → AllZip (SameSeen eq) (map line_seen lines) seen → AllZip (SameSeen eq) (map line_seen (lines ++ last)) (seen ++ map line_seen last)
-  lines_after lines last seen h =
-      subst (λ ls. AllZip (SameSeen eq) ls (seen ++ map line_seen last)) (sym (map-append line_seen lines last))
-      (all_zip_append (SameSeen eq) (map line_seen lines) (map line_seen last) seen (map line_seen last) h (same_lines (map line_seen last)))
+  lines_after lines last seen h = grind (arith, map-append, all_zip_append, same_lines)
 
   -- the lines of one part more
   pub part_listed : (ps : List (Part T)) (p : Part T) (lines more all : List (RenderLine T)) → AllZip (SameSeen eq) (map line_seen lines) (parts_seen ps) → AllZip (SameSeen eq) (map line_seen more) (text_lines p.ended) →
       all ≡ (lines ++ p.before.items) ++ more → AllZip (SameSeen eq) (map line_seen all) (parts_seen (ps ++ p ∷ []))
-  part_listed ps p lines more all h k is =
-      let front = lines ++ p.before.items in
-      let ends = all_zip_append (SameSeen eq) (map line_seen front) (map line_seen more) (parts_seen ps ++ map line_seen p.before.items) (text_lines p.ended) (lines_after lines p.before.items (parts_seen ps) h) k in
-      subst (λ ls. AllZip (SameSeen eq) (map line_seen all) ls) (sym (part_after ps p))
-      (subst (λ ls. AllZip (SameSeen eq) ls ((parts_seen ps ++ map line_seen p.before.items) ++ text_lines p.ended)) (sym (ap (map line_seen) is ∙ map-append line_seen front more)) ends)
+  part_listed ps p lines more all h k is = grind (arith, all_zip_append, lines_after, part_after, map-append)
 
 pub each_append : {X : Type 0} (P : X → Type 0) (xs ys : List X) → Each P xs → Each P ys → Each P (xs ++ ys)
 each_append P [] ys h k = k

@@ -128,10 +128,7 @@ module _ {T : Type 0} where
   -- whether texts after prefixes have a character, by their pieces
   pub any_shown : (eq : T → T → Bool) (o : Option (Prefixes T)) (p : Prefixes T) → o ≡ Some p → AreMerged eq o → (n : ℕ) (texts lines : List (List (Item T))) → texts_after o texts ≡ lines → n ≡ length texts →
       ((nat_lt 0 n && has_piece p.first) || (nat_lt 1 n && has_piece p.others)) || list_any has_character texts ≡ list_any has_character lines
-  any_shown eq o p is merged n texts lines seen count =
-      let (first, others) = subst (AreMerged eq) is merged in
-      (λ i. ((nat_lt 0 (count i) && merged_piece_has eq p.first first i) || (nat_lt 1 (count i) && merged_piece_has eq p.others others i)) || list_any has_character texts)
-      ∙ sym (any_after (items_of p.first) (items_of p.others) texts) ∙ ap (list_any has_character) (ap (λ q. texts_after q texts) (sym is) ∙ seen)
+  any_shown eq o p is merged n texts lines seen count = grind (arith, merged_piece_has, any_after)
 
 -- an empty prefix shows nothing
 pub no_prefix : {T : Type 0} (prefix : List ℕ) (tag : T) (is : List (Item T)) → (length prefix == 0) ≡ true → is ≡ text_items (chars prefix) tag ++ is
@@ -151,13 +148,7 @@ module _ {T : Type 0} (tag : T) (f o : List ℕ) where
 
   -- lines, and more after them
   pub prefixed_append : (xs ys : List (Line T)) → prefixed_lines tag f o (xs ++ ys) ≡ prefixed_lines tag f o xs ++ prefixed_lines tag (if is_some_list xs then o else f) o ys
-  prefixed_append xs ys =
-      let F = text_items f tag in
-      let O = text_items o tag in
-      let texts = map (as_text tag) in
-      ap (map text) (ap (after_prefixes F O) (map-append (as_text tag) xs ys) ∙ after_append F O (texts xs) (texts ys)
-      ∙ ap (λ p. after_prefixes F O (texts xs) ++ after_prefixes p O (texts ys)) (ap (λ b. if b then O else F) (some_texts xs) ∙ if_prefix (is_some_list xs)))
-      ∙ map-append text (after_prefixes F O (texts xs)) (after_prefixes (text_items (if is_some_list xs then o else f) tag) O (texts ys))
+  prefixed_append xs ys = grind (arith, map-append, after_append, some_texts, if_prefix)
 
   texts_as_text : (texts : List (List (Item T))) → map (as_text tag) (text_lines texts) ≡ texts
   texts_as_text [] = refl

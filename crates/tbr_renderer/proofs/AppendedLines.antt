@@ -153,10 +153,7 @@ module _ {D A M P : Type 0} (f : A → M) (columns : ℕ → Option ℕ) (first 
   -- the prefixes that were given, or the lines, have ended
   pub after_all : (given more : List P) (left : List (RenderLine (List A))) (now : Renderer D A (List A)) → HasAfter given left now → prefixed tag (texts_of read more) (seen f left) ≡ [] →
       meant f now ≡ with_prefixed columns (meant f first) (texts_of read (given ++ more)) (seen f all)
-  after_all given more left now h none =
-      h.put.lines ∙ ap (fold (with_line columns) (meant f first)) (sym ((λ i. prefixed tag (map-append (λ x. chars (read x)) given more i) ((ap (seen f) h.whole ∙ seen-append f h.taken left) i))
-      ∙ prefixed-append tag (texts_of read given) (texts_of read more) (seen f h.taken) (seen f left) (same_length given h.taken h.as_many)
-      ∙ ap (λ ts. prefixed tag (texts_of read given) (seen f h.taken) ++ ts) none ∙ append-nil _))
+  after_all given more left now h none = grind (arith, map-append, seen-append, prefixed-append, same_length, append-nil)
 
   pub no_line : (more : List P) → prefixed tag (texts_of read more) [] ≡ []
   no_line [] = refl

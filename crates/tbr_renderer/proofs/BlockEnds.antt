@@ -1,5 +1,5 @@
 -- Lines of a block that join those of a renderer.
-use Rattle.std.proofs.Common.{◌≡◌, ℕ, Bool, true, Option, None, Some, List, [], ◌∷◌, ◌++◌, map, fold, drop, refl, ap, sym, ◌∙◌, subst, append_assoc}
+use Rattle.std.proofs.Common.{◌≡◌, ℕ, Bool, true, Option, None, Some, List, [], ◌∷◌, ◌++◌, map, fold, drop, refl, ap, sym, ◌∙◌, subst, append_assoc, arith}
 use Rattle.std.proofs.lemmas.List.{map-append}
 use Rattle.std.proofs.lemmas.Simd.{map-map}
 use Rattle.std.proofs.lemmas.Grind.{fold-append}
@@ -63,9 +63,7 @@ module _ {A M : Type 0} (f : A → M) (columns : ℕ → Option ℕ) where
 
   lines-map : (b : Block (List A)) (texts : List (List (Item (List A)))) →
       map (line_meant columns f b) texts ≡ map (λ is. is ++ padding_of columns (option_map (tag_meant f) b.padding) b.width is) (map_lines (tag_meant f) texts)
-  lines-map b texts =
-      (λ i. map (λ is. line-map b is i) texts)
-      ∙ sym (map-map (λ is. is ++ padding_of columns (option_map (tag_meant f) b.padding) b.width is) (items_meant f) texts)
+  lines-map b texts = grind (arith, line-map, map-map)
 
 names_of_markers : (T : Type 0) (names : List (List ℕ)) → names_of (map (λ n. let e : Element T = marker_element n in e) names) ≡ names
 names_of_markers T [] = refl
@@ -84,9 +82,7 @@ module _ {D A M : Type 0} (f : A → M) (columns : ℕ → Option ℕ) (r : Rend
     after_is = taking_leaves columns after taken_from taken ∙ ap (without_loose columns) (flush_leaves columns b after e)
 
     all_left : left columns taken_from ≡ all_lines columns b
-    all_left =
-        ap (left columns) after_is ∙ left_taken columns (flushed columns b) ∙ left_flushed columns b
-        ∙ ap (λ (s : Block (List A)). s.ended ++ drop s.handed (all_lines columns b)) fresh.is
+    all_left = grind (arith, after_is, left_taken, left_flushed)
 
     -- a flush where a block is open
     pub block_flushed : (waiting : List (List ℕ)) (s0 s1 s2 : Renderer D A (List A)) → s0 ≡ record r { block = None } →

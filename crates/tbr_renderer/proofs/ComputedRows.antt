@@ -1,5 +1,5 @@
 -- What a row leaves is what is computed, where annotations can be told apart.
-use Rattle.std.proofs.Common.{◌≡◌, ◌↔◌, ℕ, ◌+◌, ◌-◌, Bool, Option, None, Some, List, [], ◌∷◌, map, ap, sym, ◌∙◌, subst, refl}
+use Rattle.std.proofs.Common.{◌≡◌, ◌↔◌, ℕ, ◌+◌, Bool, Option, None, Some, List, [], ◌∷◌, map, ap, sym, ◌∙◌, subst, refl, arith}
 use Rattle.std.specs.Option.{option_map}
 use Rattle.std.specs.List.{AllZip}
 use Rattle.std.proofs.lemmas.Option.{same_Some}
@@ -8,9 +8,7 @@ use Rattle.std.specs.Cmp.Lexicographic.{pointwise}
 use Rattle.tbr_tagged.specs.declared.CellAlign.{CellAlign}
 use Rattle.tbr_border.specs.declared.RenderLine.{RenderLine}
 use Rattle.tbr_border.specs.declared.RenderLine.TheVariants.{Text, Line as Rule}
-use Rattle.tbr_tagged.specs.Padding.{aligned_items}
 use Rattle.tbr_tagged.specs.Outcome.{Outcome, done, if_live}
-use Rattle.tbr_model.specs.Run.{items_width}
 use Rattle.tbr_rows.specs.Cells.{AreSideBySide}
 use Rattle.tbr_rows.specs.Meant.{SeenRow, MeansRow}
 use Rattle.tbr_rows.specs.Computed.{TellsApart, row_of}
@@ -55,11 +53,7 @@ one_each R one (x ∷ xs) (y ∷ ys) (z ∷ zs) h k = ap (λ v. v ∷ ys) (one x
 
 module _ {A : Type 0} (columns : ℕ → Option ℕ) (a : A) where
   one_cell : (given : GivenCell A) (c d : Cell A) → c.place ≡ d.place → ComesAs columns a given c → ComesAs columns a given d → c ≡ d
-  one_cell given c d place h k =
-      let wide : c.width ≡ d.width = h.0 ∙ sym k.0 in
-      let span : c.span ≡ d.span = h.1 ∙ sym k.1 in
-      let lines : c.lines ≡ d.lines = one_each (FillsCell columns given.align given.width a) (one_line columns given.align given.width a) given.lines c.lines d.lines h.2 k.2 in
-      λ i. record { place = place i; width = wide i; span = span i; lines = lines i }
+  one_cell given c d place h k = grind (arith, one_each, one_line)
 
   pub one_own : (at : ℕ) (given : List (GivenCell A)) (cs ds : List (Cell A)) → AllZip (ComesAs columns a) given cs → AllZip (ComesAs columns a) given ds → AreSideBySide at cs → AreSideBySide at ds → cs ≡ ds
   one_own at [] [] [] h k p q = refl
@@ -76,9 +70,7 @@ module _ {A : Type 0} (columns : ℕ → Option ℕ) (a : A) where
 
 module _ {A : Type 0} (same : A → A → Bool) (tells : TellsApart same) (columns : ℕ → Option ℕ) (a : A) where
   fills : (align : CellAlign) (width : ℕ) (l : Line A) → FillsCell columns align width a l (filled same columns align width a l)
-  fills align width (text is) =
-      let whole = aligned_items align is (width - items_width columns is) a in
-      (longest_items same tells whole, longest_are same tells whole)
+  fills align width (text is) = grind (arith, longest_items, longest_are)
   fills align width (border b) = refl
 
   all_fill : (align : CellAlign) (width : ℕ) (ls : List (Line A)) → AllZip (FillsCell columns align width a) ls (map (filled same columns align width a) ls)

@@ -1,5 +1,5 @@
 -- What the fields of a renderer hold after they change.
-use Rattle.std.proofs.Common.{◌≡◌, ℕ, Option, None, Some, List, [], ◌∷◌, ◌++◌, map, refl, ap, sym, ◌∙◌, subst}
+use Rattle.std.proofs.Common.{◌≡◌, ℕ, Option, None, Some, List, [], ◌∷◌, ◌++◌, map, refl, ap, ◌∙◌, arith}
 use Rattle.std.specs.Global.{Box, Vec}
 use Rattle.tbr_wrap.specs.Block.{Block}
 use Rattle.std.proofs.lemmas.List.{map-append}
@@ -8,7 +8,7 @@ use Rattle.tbr_tagged.specs.View.{element_of}
 use Rattle.tbr_tagged.specs.declared.TaggedLineElement.{TaggedLineElement}
 use Rattle.tbr_renderer.specs.declared.sub.SubRenderer.TheInside.{Inside}
 use Rattle.tbr_renderer.specs.Renderer.{Renderer, block_width, may_overflow}
-use Rattle.tbr_renderer.specs.View.{unboxed, block_seen, names_of, AreMarkers, IsFresh, IsOpened, renderer_of, HoldsRenderer}
+use Rattle.tbr_renderer.specs.View.{block_seen, names_of, AreMarkers, IsFresh, renderer_of, HoldsRenderer}
 
 -- ---- markers
 
@@ -18,9 +18,7 @@ names_append (piece cs a ∷ es) fs = names_append es fs
 names_append (marker_element name ∷ es) fs = ap (λ ns. name ∷ ns) (names_append es fs)
 
 pub markers_append : {T : Type 0} (es fs : List (Element T)) → AreMarkers es → AreMarkers fs → AreMarkers (es ++ fs)
-markers_append {T} es fs h k =
-    ap (map (λ n. let e : Element T = marker_element n in e)) (names_append es fs) ∙ map-append (λ n. let e : Element T = marker_element n in e) (names_of es) (names_of fs)
-    ∙ ap (λ xs. xs ++ map (λ n. let e : Element T = marker_element n in e) (names_of fs)) h ∙ ap (λ xs. es ++ xs) k
+markers_append {T} es fs h k = grind (arith, names_append, map-append)
 
 module _ {D W A : Type 0} (columns : ℕ → Option ℕ) (r : Inside D W A) (more : List (TaggedLineElement (List A))) (waiting : Vec (TaggedLineElement (List A))) (is : waiting.items ≡ r.waiting.items ++ more) where
   elements : map element_of waiting.items ≡ map element_of r.waiting.items ++ map element_of more
@@ -28,18 +26,10 @@ module _ {D W A : Type 0} (columns : ℕ → Option ℕ) (r : Inside D W A) (mor
 
   -- more markers wait
   pub holds_waiting : HoldsRenderer columns r → AreMarkers (map element_of more) → HoldsRenderer columns (record r { waiting = waiting })
-  holds_waiting h markers = record {
-    some = h.some;
-    fresh = λ live. let f = h.fresh live in record {
-      opened = f.opened;
-      markers = subst AreMarkers (sym elements) (markers_append (map element_of r.waiting.items) (map element_of more) f.markers markers);
-    };
-  }
+  holds_waiting h markers = grind (arith, elements, markers_append)
 
   pub waiting_seen : (s : Renderer D A (List A)) → renderer_of r ≡ s → renderer_of (record r { waiting = waiting }) ≡ record s { waiting = s.waiting ++ names_of (map element_of more) }
-  waiting_seen s view =
-      ap (λ ns. record (renderer_of r) { waiting = ns }) (ap names_of elements ∙ names_append (map element_of r.waiting.items) (map element_of more))
-      ∙ ap (λ (q : Renderer D A (List A)). record q { waiting = q.waiting ++ names_of (map element_of more) }) view
+  waiting_seen s view = grind (arith, elements, names_append)
 
 -- ---- the open block
 
@@ -47,9 +37,4 @@ module _ {D W A : Type 0} (columns : ℕ → Option ℕ) (r : Inside D W A) (mor
 pub boxed_opens : {D W A : Type 0} (columns : ℕ → Option ℕ) (inside : Inside D W A) (r : Renderer D A (List A)) (boxed : Box (Block (List A))) →
     HoldsRenderer columns inside → renderer_of inside ≡ r → r.failure ≡ None → inside.wrapping ≡ Some boxed →
     (block_seen (Some boxed.value) ≡ r.block) × IsFresh columns (block_width r) (may_overflow r) boxed.value
-boxed_opens {D} {W} {A} columns inside r boxed holds view live is =
-    let fresh = holds.fresh (ap (λ (q : Renderer D A (List A)). q.failure) view ∙ live) in (
-      ap (λ o. block_seen (unboxed o)) (sym is) ∙ ap (λ (q : Renderer D A (List A)). q.block) view,
-      subst (λ (q : Renderer D A (List A)). IsFresh columns (block_width q) (may_overflow q) boxed.value) view
-          (subst (λ o. IsOpened columns (block_width (renderer_of inside)) (may_overflow (renderer_of inside)) (unboxed o)) is fresh.opened),
-    )
+boxed_opens {D} {W} {A} columns inside r boxed holds view live is = grind arith

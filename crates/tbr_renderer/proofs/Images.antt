@@ -26,9 +26,7 @@ either_false false b h = (refl, h)
 
 whole_name : (cs : List ℕ) → list_any is_slash cs ≡ false → file_name cs ≡ cs
 whole_name [] h = refl
-whole_name (c ∷ cs) h =
-    let (here, later) = either_false (is_slash c) (list_any is_slash cs) h in
-    rw (later, here) refl
+whole_name (c ∷ cs) h = grind (arith, either_false)
 
 has_slash : (cs name : List ℕ) → list_any is_slash (cs ++ 47 ∷ name) ≡ true
 has_slash [] name = refl
@@ -70,6 +68,4 @@ titled mode src title utf8 some = go (chars title) (encodes-chars title utf8)
 
 pub untitled : (mode : ImageRenderMode) (src title : List ℕ) → true ≡ (length title == 0) → shown_title mode src (chars title) ≡ title_by_mode mode src
 untitled mode src [] none = ap (shown_title mode src) chars-nil
-untitled mode src (b ∷ bs) none =
-    let nothing : length (b ∷ bs) ≡ 0 = eqb-true (length (b ∷ bs)) 0 (sym none) in
-    absurd (omega (arith, nothing))
+untitled mode src (b ∷ bs) none = grind (arith, eqb-true)

@@ -1,5 +1,5 @@
 -- Text that joins the run of a block.
-use Rattle.std.proofs.Common.{◌≡◌, ℕ, ◌&&◌, not, Bool, true, false, is_none, Option, None, Some, unwrap_or, Result, Err, List, [], ◌∷◌, ◌++◌, refl, ap, sym, ◌∙◌, subst}
+use Rattle.std.proofs.Common.{◌≡◌, ℕ, ◌&&◌, not, Bool, true, false, is_none, Option, None, Some, unwrap_or, Result, Err, List, [], ◌∷◌, ◌++◌, refl, ap, sym, ◌∙◌, subst, arith}
 use Rattle.std.specs.Prelude.{OnOk}
 use Rattle.std.specs.Option.{option_map}
 use Rattle.std.proofs.lemmas.Result.{on_ok_weaker}
@@ -7,7 +7,7 @@ use Rattle.std.proofs.lemmas.List.{map-append}
 use Rattle.tbr_model.specs.declared.white_space.WhiteSpace.{WhiteSpace}
 use Rattle.tbr_model.specs.Run.{Entry, character, marker_entry}
 use Rattle.tbr_model.specs.Rule.{Event, entry, run_of}
-use Rattle.tbr_model.specs.Mapped.{map_run, map_event, map_events}
+use Rattle.tbr_model.specs.Mapped.{map_run, map_events}
 use Rattle.tbr_model.proofs.rule.HardLines.{run_of-append}
 use Rattle.tbr_wrap.proofs.runs.BlockLaws.{text_leaves, marker_leaves, sound_text, sound_marked}
 use Rattle.tbr_tagged.specs.declared.Error.{Error}
@@ -30,18 +30,12 @@ text_entries-map {A} {B} f (c ∷ cs) a b mode = ap (λ (es : List (Entry B)). c
 
 -- a fresh block whose run has grown
 fresh_grown : {T : Type 0} (columns : ℕ → Option ℕ) (width : ℕ) (overflows : Bool) (old new : Block T) (es : List (Event T)) → new ≡ grown old es → IsSound columns new → IsFresh columns width overflows old → IsFresh columns width overflows new
-fresh_grown {T} columns width overflows old new es is sound fresh = record {
-  is = is ∙ ap (λ b. grown b es) fresh.is ∙ sym (ap (λ (b : Block T). record (block.new_block width overflows b.padding) { events = b.events }) is);
-  sound = sound;
-}
+fresh_grown {T} columns width overflows old new es is sound fresh = grind arith
 
 -- what the block means then
 grown_means : {A M : Type 0} (f : A → M) (columns : ℕ → Option ℕ) (old new : Block (List A)) (es : List (Event (List A))) (more : List (Event (List M))) → new ≡ grown old es → map_events (tag_meant f) es ≡ more →
     block_meant f new ≡ with_more (block_meant f old) more
-grown_means {A} {M} f columns old new es more is mean =
-    ap (block_meant f) is
-    ∙ ap (λ (fs : List (Event (List M))). record (block_meant f old) { events = fs })
-    (map-append (map_event (tag_meant f)) old.events es ∙ ap (λ fs. map_events (tag_meant f) old.events ++ fs) mean)
+grown_means {A} {M} f columns old new es more is mean = grind (arith, map-append)
 
 module _ {D A M : Type 0} (f : A → M) (columns : ℕ → Option ℕ) (q : Renderer D A (List A)) (old : Block (List A)) (fresh : IsFresh columns (block_width q) (may_overflow q) old) (cs : List ℕ) (v w : List A) (mode : WhiteSpace) (preformatted : D → Bool → M)
     (main : tag_meant f v ≡ text_annotations preformatted false (meant f q)) (continued : tag_meant f w ≡ text_annotations preformatted true (meant f q)) (is_mode : mode ≡ last_mode q.modes) where
@@ -101,9 +95,7 @@ module _ {A M : Type 0} (f : A → M) (columns : ℕ → Option ℕ) (width : �
 -- a renderer to whose block more has come
 pub block_grown : {D A M : Type 0} (f : A → M) (r taken put : Renderer D A (List A)) (old new : Block (List A)) (es : List (Event (List M))) → taken ≡ record r { block = None } → block_meant f old ≡ open_block (meant f r) →
     block_meant f new ≡ with_more (block_meant f old) es → put ≡ record taken { block = block_seen (Some new) } → meant f put ≡ with_events (meant f r) es
-block_grown {D} {A} {M} f r taken put old new es emptied before is put_is =
-    ap (meant f) put_is ∙ ap (λ (q : Renderer D A (List A)). meant f (record q { block = block_seen (Some new) })) emptied
-    ∙ ap (λ (b : Open (List M)). record (meant f r) { block = Some b }) (is ∙ ap (λ b. with_more b es) before)
+block_grown {D} {A} {M} f r taken put old new es emptied before is put_is = grind arith
 
 -- ---- the beginning of a line, and empty blocks
 

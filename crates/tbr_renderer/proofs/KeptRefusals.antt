@@ -1,5 +1,5 @@
 -- What a call ensures once its refusal is kept.
-use Rattle.std.proofs.Common.{◌≡◌, ◌≢◌, ◌≤◌, ℕ, Option, None, Some, Result, Ok, Err, List, ap, ◌∙◌, sym, subst}
+use Rattle.std.proofs.Common.{◌≡◌, ◌≢◌, ◌≤◌, ℕ, Option, None, Some, Result, Ok, Err, List, ◌∙◌, sym, subst, arith}
 use Rattle.std.specs.Prelude.{OnOk, OnErr, IfErr}
 use Rattle.std.proofs.lemmas.Result.{on_ok_weaker}
 use Rattle.tbr_tagged.specs.declared.Error.{Error}
@@ -9,9 +9,9 @@ use Rattle.tbr_tagged.proofs.Outcomes.{live_goes}
 use Rattle.tbr_decor.specs.Decoration.{Decoration}
 use Rattle.tbr_renderer.specs.Meant.{meant}
 use Rattle.tbr_renderer.specs.Flush.{after_flush}
-use Rattle.tbr_renderer.specs.Renderer.{Renderer, Settings, KeepsSettings, kept_of, block_width}
+use Rattle.tbr_renderer.specs.Renderer.{Renderer, KeepsSettings, kept_of, block_width}
 use Rattle.tbr_renderer.specs.Outcomes.{and_then, taking}
-use Rattle.tbr_renderer.specs.Calls.{new_line, after, calls_by, Takes, Fails}
+use Rattle.tbr_renderer.specs.Calls.{calls_by, Takes, Fails}
 use Rattle.tbr_renderer.proofs.OutcomeParts.{taking_none}
 
 pub on_err : {X E P : Type 0} (r : Result X E) → P → OnErr r P
@@ -43,12 +43,4 @@ module _ {D A M R : Type 0} (f : A → M) (columns : ℕ → Option ℕ) (decora
         (tried ≡ Err E.TooNarrow → and_then (after_flush columns (meant f old)) (λ _. given) ≡ refused E.TooNarrow) →
         (2 ≤ block_width old → wide → tried ≢ Err E.TooNarrow) → KeepsSettings (meant f old) (meant f mid) →
         Takes (calls_by columns decoration f) given wide take old result new
-    settled_takes {X} {given} {wide} {take} make alike ok narrow two settings =
-        let flush = live_goes old.failure (after_flush columns (meant f old)) live in
-        let makes : taking (after columns decoration new_line) given take (meant f old) ≡ taking (after_flush columns) given make (meant f old) =
-        λ i. and_then (flush i) (λ _. and_then given (λ x. alike x i)) in record {
-          ok = kept_ok (λ s. taking (after columns decoration new_line) given take (meant f old) ≡ done (meant f s)) mid new same is (on_ok_weaker tried (λ (e : taking (after_flush columns) given make (meant f old) ≡ done (meant f mid)). makes ∙ e) ok);
-          too_narrow = λ e. makes ∙ taking_none (after_flush columns) given make (meant f old) E.TooNarrow (narrow (sym same ∙ e));
-          two_columns = λ broad others e. two broad.1 others (sym same ∙ e);
-          fails = kept_fails mid live same failed (on_err tried (ap (λ (k : Settings D M). k.kept) settings));
-        }
+    settled_takes {X} {given} {wide} {take} make alike ok narrow two settings = grind (arith, live_goes, kept_ok, on_ok_weaker, taking_none, kept_fails, on_err)

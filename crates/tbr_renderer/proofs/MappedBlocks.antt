@@ -1,11 +1,10 @@
 -- Blocks under other annotations.
-use Rattle.std.proofs.Common.{◌≡◌, ℕ, ◌<◌, ◌&&◌, ◌||◌, ◌==◌, not, nat_le, true, false, Option, None, Some, List, [], ◌∷◌, ◌++◌, map, refl, ap, sym, ◌∙◌}
+use Rattle.std.proofs.Common.{◌≡◌, ℕ, ◌<◌, ◌&&◌, ◌||◌, ◌==◌, not, nat_le, true, false, Option, None, Some, List, [], ◌∷◌, ◌++◌, map, refl, ap, sym, ◌∙◌, arith}
 use Rattle.std.specs.Option.{option_map}
 use Rattle.std.proofs.lemmas.List.{map-append}
 use Rattle.std.proofs.lemmas.Simd.{map-map}
 use Rattle.tbr_model.specs.Run.{Entry, Item, glyph, marker, items_width, has_character}
-use Rattle.tbr_model.specs.Rule.{Event, call, entry, run_of, Progress, finished, waiting}
-use Rattle.tbr_model.specs.Laid.{Laid}
+use Rattle.tbr_model.specs.Rule.{Event, call, entry, run_of, Progress, waiting}
 use Rattle.tbr_model.specs.Fits.{lines_fit}
 use Rattle.tbr_model.specs.Mapped.{map_items, map_entry, map_run, map_lines, map_event, map_events}
 use Rattle.tbr_model.specs.Markers.{names_in_items}
@@ -33,9 +32,7 @@ module _ {A : Type 0} (columns : ℕ → Option ℕ) (s : Block A) (live : s.fai
   flush_narrow e = refused_if_not (allows columns s (all_lines columns s)) (flushed columns s) (live_refused s.failure _ E.TooNarrow live e)
 
   pub text_narrow : (cs : List ℕ) (a b : A) (mode : WhiteSpace) → after_text columns cs a b mode s ≡ refused E.TooNarrow → (let g = grown s (text_events cs a b mode) in allows columns g (lines columns g) ≡ false)
-  text_narrow cs a b mode e =
-      let g = grown s (text_events cs a b mode) in
-      refused_if_not (allows columns g (lines columns g)) g (live_refused s.failure _ E.TooNarrow live e)
+  text_narrow cs a b mode e = grind (arith, refused_if_not, live_refused)
 
 -- what a block promises of the end of its run
 module _ {D A T : Type 0} (columns : ℕ → Option ℕ) (one : columns 32 ≡ Some 1) (r : Renderer D A T) (b : Open T) (wide : 0 < block_width r) where
@@ -86,9 +83,7 @@ module _ {A B : Type 0} (f : A → B) (columns : ℕ → Option ℕ) where
     lines-map = ap (λ (p : Progress B). p.laid.done) (progress-map f columns b.width b.events)
 
     pub all_lines-map : all_lines columns (map_block f b) ≡ map_lines f (all_lines columns b)
-    all_lines-map =
-        ap (λ (p : Progress B). (finished columns b.width p).done) (progress-map f columns b.width b.events)
-        ∙ ap (λ (l : Laid B). l.done) (finished-map f columns b.width (progress_of columns b))
+    all_lines-map = grind (arith, progress-map, finished-map)
 
     pub names_at_end-map : waiting_names columns (map_block f b) ≡ waiting_names columns b
     names_at_end-map =

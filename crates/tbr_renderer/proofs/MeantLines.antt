@@ -70,9 +70,7 @@ module _ {D A M : Type 0} (f : A → M) where
   -- a line that is filled
   pub filled_added : (columns : ℕ → Option ℕ) (r b : Renderer D A (List A)) (full line : List (Item (List A))) → items_meant f full ≡ items_meant f line ++ line_padding columns (meant f r) (items_meant f line) →
       b ≡ record r { lines = r.lines ++ text full ∷ [] } → meant f b ≡ with_filled columns (meant f r) (items_meant f line)
-  filled_added columns r b full line fills pushed =
-      ap (meant f) pushed ∙ ap (λ (ls : List (Line (List M))). record (meant f r) { lines = ls })
-      (map-append (map_line (tag_meant f)) r.lines (text full ∷ []) ∙ ap (λ (is : List (Item (List M))). map (map_line (tag_meant f)) r.lines ++ text is ∷ []) fills)
+  filled_added columns r b full line fills pushed = grind (arith, map-append)
 
   -- after the markers that waited
   pub line_after : (columns : ℕ → Option ℕ) (r a b : Renderer D A (List A)) (es : List (Element (List A))) (whole line : List (Item (List A))) →
@@ -148,17 +146,11 @@ module _ {A M : Type 0} (eq : A → A → Bool) (f : A → M)
   holes_mean [] [] all = refl
   holes_mean [] (k ∷ ks) all = absurd all
   holes_mean (h ∷ hs) [] all = absurd all
-  holes_mean (h ∷ hs) (k ∷ ks) all = λ i.
-      record { place = all.0.0 i; width = all.0.1 i; element = element_means h.element k.element all.0.2 i }
-      ∷ holes_mean hs ks all.1 i
+  holes_mean (h ∷ hs) (k ∷ ks) all = grind (arith, element_means, holes_mean hs ks all.1)
 
   border_means : (b : Border (List A)) (c : Border (Vec A)) → MapsBorder (Holds eq) b c →
       map_border (vector_meant f) c ≡ map_border (tag_meant f) b
-  border_means b c h = λ i. record {
-    cells = h.cells i;
-    tag = agree (vec_items c.tag) b.tag h.tag i;
-    holes = holes_mean b.holes c.holes h.holes i;
-  }
+  border_means b c h = grind (arith, holes_mean)
 
   line_means : (l : RenderLine (List A)) (k : RenderLine (Vec A)) → WritesOut eq l k →
       map_line (vector_meant f) (line_seen k) ≡ map_line (tag_meant f) (line_seen l)
@@ -191,30 +183,19 @@ module _ {D A M : Type 0} (f : A → M) (columns : ℕ → Option ℕ) (r s : Re
 module _ {D M : Type 0} (columns : ℕ → Option ℕ) where
   one_as_is : (r : Renderer D M (List M)) → r.options.pad_block_width ≡ false → r.waiting ≡ [] → (is : List (Item (List M))) →
       with_line columns r is ≡ record r { lines = r.lines ++ text is ∷ [] }
-  one_as_is r unpadded none is =
-      let shown : (marker_items r.waiting ++ is) ++ line_padding columns r (marker_items r.waiting ++ is) ≡ is =
-      ap (λ ms. (marker_items ms ++ is) ++ line_padding columns r (marker_items ms ++ is)) none
-      ∙ ap (λ (pads : Bool). is ++ padding_of columns (if pads then Some r.annotations else None) r.width is) unpadded ∙ append-nil is in
-      λ i. record r { waiting = sym none i; lines = r.lines ++ text (shown i) ∷ [] }
+  one_as_is r unpadded none is = grind (arith, append-nil)
 
   all_as_is : (r : Renderer D M (List M)) → r.options.pad_block_width ≡ false → r.waiting ≡ [] → (texts : List (List (Item (List M)))) →
       fold (with_line columns) r texts ≡ record r { lines = r.lines ++ map text texts }
   all_as_is r unpadded none [] = ap (λ ls. record r { lines = ls }) (sym (append-nil r.lines))
-  all_as_is r unpadded none (is ∷ texts) =
-      ap (λ q. fold (with_line columns) q texts) (one_as_is r unpadded none is)
-      ∙ all_as_is (record r { lines = r.lines ++ text is ∷ [] }) unpadded none texts
-      ∙ ap (λ ls. record r { lines = ls }) (append_assoc r.lines (text is ∷ []) (map text texts))
+  all_as_is r unpadded none (is ∷ texts) = grind (arith, one_as_is, append_assoc, all_as_is (record r { lines = r.lines ++ text is ∷ [] }) unpadded none texts)
 
 module _ {A M : Type 0} (f : A → M) (columns : ℕ → Option ℕ) where
   -- lines that mean these texts are added at once
   pub added_at_once : {D : Type 0} (r s : Renderer D A (List A)) (lines : List (Line (List A))) (texts : List (List (Item (List M)))) →
       map (map_line (tag_meant f)) lines ≡ map text texts → r.options.pad_block_width ≡ false → r.waiting ≡ [] →
       s ≡ record r { lines = r.lines ++ lines } → meant f s ≡ fold (with_line columns) (meant f r) texts
-  added_at_once {D} r s lines texts shown unpadded none is =
-      ap (meant f) is
-      ∙ ap (λ (ls : List (Line (List M))). record (meant f r) { lines = ls })
-      (map-append (map_line (tag_meant f)) r.lines lines ∙ ap (λ (ls : List (Line (List M))). map (map_line (tag_meant f)) r.lines ++ ls) shown)
-      ∙ sym (all_as_is columns (meant f r) unpadded none texts)
+  added_at_once {D} r s lines texts shown unpadded none is = grind (arith, map-append, all_as_is)
 
   -- lines in a block's text mean what the block's do
   pub texts_mean : (eq : A → A → Bool) → ((v w : List A) → equal_annotations eq v w ≡ true → tag_meant f v ≡ tag_meant f w) →

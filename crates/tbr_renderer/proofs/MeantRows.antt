@@ -1,5 +1,5 @@
 -- Rows under what their annotations mean.
-use Rattle.std.proofs.Common.{◌≡◌, ℕ, ◌+◌, ◌-◌, ◌↔◌, IsTrue, Bool, true, if◌then◌else◌, is_some, is_none, ◌&&◌, Option, None, Some, unwrap_or, List, [], ◌∷◌, ◌++◌, map, fold, take, drop, length, refl, ap, sym, ◌∙◌, subst}
+use Rattle.std.proofs.Common.{◌≡◌, ℕ, ◌+◌, ◌-◌, ◌↔◌, IsTrue, Bool, true, if◌then◌else◌, is_some, is_none, ◌&&◌, Option, None, Some, unwrap_or, List, [], ◌∷◌, ◌++◌, map, fold, take, drop, length, refl, ap, sym, ◌∙◌, subst, arith}
 use Rattle.std.specs.Borrow.{Bor}
 use Rattle.std.specs.Option.{MatchOption, option_copied, option_map}
 use Rattle.std.specs.List.{AllZip, AllByRecursion as Each}
@@ -242,7 +242,5 @@ module _ {D A M : Type 0} (f : A → M) (columns : ℕ → Option ℕ) (aligns :
 -- the alignment that comes next
 pub next_taken : {I : Type 0} (get : I → List CellAlign) (it next : I) (o : Option (Bor CellAlign)) (align : CellAlign) → MatchOption o ((length (get it) ≡ 0) × (next ≡ it)) (λ x. get it ≡ x.now ∷ get next) → align ≡ unwrap_or (option_copied o) Left →
     (align ≡ next_align (get it)) × (get next ≡ drop 1 (get it))
-next_taken get it next None align none is =
-    let empty : get it ≡ [] = nil_from_length (get it) none.0 in
-    (is ∙ ap next_align (sym empty), ap get none.1 ∙ empty ∙ ap (drop 1) (sym empty))
+next_taken get it next None align none is = grind (arith, nil_from_length)
 next_taken get it next (Some x) align some is = (is ∙ ap next_align (sym some), ap (drop 1) (sym some))

@@ -1,5 +1,5 @@
 -- What the outcome of calls one after another is made of.
-use Rattle.std.proofs.Common.{◌≡◌, ◌⊎◌, inl, inr, Result, Ok, Err, Bool, true, false, if◌then◌else◌, List, [], ◌∷◌, ◌++◌, refl, ap, sym, ◌∙◌, subst}
+use Rattle.std.proofs.Common.{◌≡◌, ◌⊎◌, inl, inr, Result, Ok, Err, Bool, true, false, if◌then◌else◌, List, [], ◌∷◌, ◌++◌, refl, ap, sym, ◌∙◌, subst, arith}
 use Rattle.std.specs.Prelude.{IfErr}
 use Rattle.std.specs.Result.{IsErrAnd}
 use Rattle.tbr_tagged.specs.Outcome.{Outcome, done, refused}
@@ -104,7 +104,4 @@ module _ {V X : Type 0} (flush : V → Outcome V) (given : Outcome X) (take : X 
   taking_none e h = sym (in_order (flush v) (λ _. given) (λ x. take x v)) ∙ ap (λ o. and_then o (λ x. take x v)) h
 
   pub taken : (s : V) → taking flush given take v ≡ done s → (m : V) × (x : X) × (flush v ≡ done m) × (given ≡ done x) × (take x v ≡ done s)
-  taken s h =
-      let (m, flushed, rest) = done_first (flush v) (λ _. and_then given (λ x. take x v)) s h in
-      let (x, gives, takes) = done_first given (λ y. take y v) s rest in
-      (m, x, flushed, gives, takes)
+  taken s h = grind (arith, done_first)

@@ -1,5 +1,5 @@
 -- What text and the end of a block leave of the settings and of the kept refusal.
-use Rattle.std.proofs.Common.{◌≡◌, ℕ, Bool, true, false, if◌then◌else◌, Option, None, List, [], ◌∷◌, fold, refl, ap, ◌∙◌}
+use Rattle.std.proofs.Common.{◌≡◌, ℕ, Bool, true, false, if◌then◌else◌, Option, None, List, [], ◌∷◌, fold, refl, ap, ◌∙◌, arith}
 use Rattle.std.proofs.lemmas.Bool.{cond_both}
 use Rattle.tbr_model.specs.Run.{Item}
 use Rattle.tbr_decor.specs.End.{End}
@@ -7,10 +7,10 @@ use Rattle.tbr_decor.specs.Decoration.{Decoration}
 use Rattle.tbr_tagged.specs.declared.Error.{Error}
 use Rattle.tbr_tagged.specs.Outcome.{done}
 use Rattle.tbr_renderer.specs.Decorated.{asked_to_close, after_end}
-use Rattle.tbr_renderer.specs.Renderer.{Renderer, Settings, settings_of, has_content, with_line, without_annotation, open_block, with_events, ignores}
+use Rattle.tbr_renderer.specs.Renderer.{Renderer, Settings, settings_of, has_content, with_line, without_annotation, ignores}
 use Rattle.tbr_kept_lines.specs.LastBorder.{without_last}
-use Rattle.tbr_renderer.specs.Flush.{fits_grown, after_flush}
-use Rattle.tbr_renderer.specs.Steps.{with_empty_line, after_empty_line, block_started, after_block_start, text_brings, after_joining, after_first_text, after_text}
+use Rattle.tbr_renderer.specs.Flush.{after_flush}
+use Rattle.tbr_renderer.specs.Steps.{after_empty_line, block_started, after_block_start, after_joining, after_first_text, after_text}
 use Rattle.tbr_renderer.proofs.OutcomeParts.{one_done, done_first, done_before, if_fits}
 use Rattle.tbr_renderer.proofs.FlushedBlocks.{flush_keeps}
 
@@ -31,23 +31,17 @@ module _ {D A : Type 0} (columns : ℕ → Option ℕ) where
   flushed_alike r s h = flush_keeps columns r s (λ (q : Renderer D A (List A)). steady q) (λ texts names. lines_added texts (record r { block = None })) h
 
   pub empty_added : (r s : Renderer D A (List A)) → after_empty_line columns r ≡ done s → steady s ≡ steady r
-  empty_added r s h =
-      let (m, flushes, is) = done_before (with_empty_line columns) (after_flush columns r) s h in
-      ap (λ (q : Renderer D A (List A)). steady q) is ∙ flushed_alike r m flushes
+  empty_added r s h = grind (arith, done_before, flushed_alike)
 
   begun : (r : Renderer D A (List A)) → steady (block_started columns r) ≡ steady r
   begun r = cond_both (has_content r) _ _ (λ (q : Renderer D A (List A)). steady q ≡ steady r) (λ _. refl) (λ _. refl)
 
   pub started_alike : (r s : Renderer D A (List A)) → after_block_start columns r ≡ done s → steady s ≡ steady r
-  started_alike r s h =
-      let (m, flushes, is) = done_before (block_started columns) (after_flush columns r) s h in
-      ap (λ (q : Renderer D A (List A)). steady q) is ∙ begun m ∙ flushed_alike r m flushes
+  started_alike r s h = grind (arith, done_before, begun, flushed_alike)
 
   module _ (preformatted : D → Bool → A) where
     joined : (cs : List ℕ) (r s : Renderer D A (List A)) → after_joining columns preformatted cs r ≡ done s → steady s ≡ steady r
-    joined cs r s h =
-        let more = text_brings columns preformatted cs r in
-        ap (λ (q : Renderer D A (List A)). steady q) (if_fits (fits_grown columns r (open_block r) more) (with_events r more) s h).1
+    joined cs r s h = grind (arith, if_fits)
 
     pub text_added : (cs : List ℕ) (r s : Renderer D A (List A)) → after_text columns preformatted cs r ≡ done s → steady s ≡ steady r
     text_added cs r s h = go (ignores r cs) r.block_ended h

@@ -10,14 +10,9 @@ module _ (columns : ℕ → Option ℕ) (depth c : ℕ) (old mid new : List ℕ)
 
   -- any other has
   pub struck_through : (n ≡ 0 → ⊥) → new ≡ mid ++ replicate depth stroke → new ≡ old ++ struck_character columns depth c
-  struck_through some more =
-      let test = lt-ltb 0 (unwrap_or (columns c) 0) (omega (arith, is, some)) in
-      more ∙ ap (λ cs. cs ++ replicate depth stroke) pushed ∙ append_assoc old (c ∷ []) (replicate depth stroke)
-      ∙ ap (λ b. old ++ c ∷ (if b then replicate depth stroke else [])) (sym test)
+  struck_through some more = grind (arith, lt-ltb, append_assoc)
 
 -- outside strikeouts a text is as it is
 pub struck_none : (columns : ℕ → Option ℕ) (cs : List ℕ) → struck columns 0 cs ≡ cs
 struck_none columns [] = refl
-struck_none columns (c ∷ cs) =
-    let rest = ap (λ ds. c ∷ ds) (struck_none columns cs) in
-    cond_both (nat_lt 0 (unwrap_or (columns c) 0)) [] [] (λ ds. c ∷ (ds ++ struck columns 0 cs) ≡ c ∷ cs) (λ _. rest) (λ _. rest)
+struck_none columns (c ∷ cs) = grind (arith, cond_both, struck_none columns cs)

@@ -60,9 +60,7 @@ first_and_after (Line b ∷ ls) =
 split_last : {A : Type 0} (front back : List (RenderLine A)) → length back ≤ 1 → (if is_some (first_mergeable back) then front else front ++ back) ++ as_lines (first_mergeable back) ≡ front ++ back
 split_last front [] short = append-nil (front ++ [])
 split_last front (Text es ∷ []) short = append-nil (front ++ Text es ∷ [])
-split_last front (Line b ∷ []) short =
-    let whole = front ++ Line b ∷ [] in
-    cond_both (has_holes b.holes) None (Some b) (λ o. (if is_some o then front else whole) ++ as_lines o ≡ whole) (λ e. append-nil whole) (λ e. refl)
+split_last front (Line b ∷ []) short = grind (arith, cond_both, append-nil)
 split_last front (l ∷ k ∷ ls) short = absurd (let no : ⊥ = omega (arith, short) in no)
 
 before_and_last : {A : Type 0} (ls : List (RenderLine A)) → before_mergeable ls ++ as_lines (last_mergeable ls) ≡ ls

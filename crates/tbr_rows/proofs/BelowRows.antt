@@ -8,13 +8,12 @@ use Rattle.std.proofs.lemmas.List.Folds.{drop_split}
 use Rattle.tbr_model.specs.Run.{Item, items_width}
 use Rattle.tbr_tagged.specs.Elements.{Element, element_items, items_of, text_items}
 use Rattle.tbr_border.specs.Cell.{Cell as Segment, Side, above, joined as joined_cell, character}
-use Rattle.tbr_border.specs.Border.{Hole, Border, span_end, opened, stretched, joined_under, merged, any_joins, joins_end, drawn, shown_from, shown}
+use Rattle.tbr_border.specs.Border.{Hole, Border, span_end, opened, stretched, joined_under, merged, drawn, shown_from, shown}
 use Rattle.tbr_border.proofs.HolesInOrder.{last_end, span_end-is}
 use Rattle.tbr_border.proofs.JoinedCells.{length-changed, length-stretched}
 use Rattle.tbr_rows.specs.declared.line_set.LineSet.{LineSet as Cell}
 use Rattle.tbr_border.specs.declared.render_line.RenderLine.{RenderLine}
 use Rattle.tbr_border.specs.declared.render_line.RenderLine.TheVariants.{Text, Line}
-use Rattle.tbr_tagged.specs.Padding.{spaces}
 use Rattle.tbr_rows.specs.Cells.{AreSideBySide, end_of, first_line, row_width, separators}
 use Rattle.tbr_rows.specs.CellsShown.{Fills, IsFilled, HasInColumns}
 use Rattle.tbr_rows.specs.Borders.{joined, last_mergeable, merged_with, merged_above}
@@ -40,11 +39,7 @@ length-opened zero end cells = length-changed _ end cells
 length-opened (suc place) end cells = length-changed _ end _ ∙ length-changed _ place cells
 
 merged_longer : (side : Side) (cells : List Segment) (place : ℕ) (others : List Segment) → length cells ≤ length (merged side cells place others)
-merged_longer side cells place others =
-    let end : ℕ = place + joins_end side others in
-    cond_both (any_joins side others) (stretched end cells) cells (λ cs. length cells ≤ length (joined_under side cs place others))
-    (λ e. omega (arith, length-under side (stretched end cells) place others, length-stretched end cells))
-    (λ e. omega (arith, length-under side cells place others))
+merged_longer side cells place others = grind (arith, ℕ, cond_both, length-under, length-stretched)
 
 module _ {A : Type 0} where
   -- as long at least, with nothing in front of it either
@@ -57,10 +52,7 @@ module _ {A : Type 0} where
 
   keeps_all : {X : Type 0} (step : Border A → X → Border A) → ((b : Border A) (x : X) → KeepsPlain b (step b x)) → (b : Border A) (xs : List X) → KeepsPlain b (fold step b xs)
   keeps_all step keeps b [] = (omega arith, λ e. e)
-  keeps_all step keeps b (x ∷ xs) =
-      let first = keeps b x in
-      let later = keeps_all step keeps (step b x) xs in
-      (omega (arith, first.0, later.0), λ e. later.1 (first.1 e))
+  keeps_all step keeps b (x ∷ xs) = grind (arith, keeps_all step keeps (step b x) xs)
 
   -- as a border below a row begins
   pub begins_plain : (style : RowStyle) (top : Option (Border A)) (cs : List (Cell A)) (b : Border A) → KeepsPlain b (next_begun style top cs b)
@@ -124,10 +116,7 @@ module _ {A : Type 0} (columns : ℕ → Option ℕ) where
   -- ---- elements that come in front of a border
 
   one_longer : (place : ℕ) (b : Border A) (e : Element A) → length b.cells ≤ length (with_element columns place b e).cells
-  one_longer place b e =
-      let at : ℕ = max place (span_end b.holes) in
-      let end : ℕ = at + items_width columns (element_items e) in
-      omega (arith, length-opened at end (stretched end b.cells), length-stretched end b.cells)
+  one_longer place b e = grind (arith, ℕ, length-opened, length-stretched)
 
   pub put_longer : (place : ℕ) (b : Border A) (es : List (Element A)) → length b.cells ≤ length (with_elements columns place b es).cells
   put_longer place b [] = omega arith
@@ -201,9 +190,7 @@ module _ {A : Type 0} (columns : ℕ → Option ℕ) where
     -- what is in a gap takes its cell's columns
     gap_width : (width : ℕ) (ls : List (RenderLine A)) (es : List (Element A)) → Each (Fills columns width) ls → IsGapOf tag width (first_line ls) es →
         items_width columns (items_of es) ≡ width
-    gap_width width [] es h is =
-        ap (λ xs. items_width columns (items_of xs)) is ∙ ap (items_width columns) (append-nil (text_items (spaces width) tag))
-        ∙ spaces_width columns one width tag
+    gap_width width [] es h is = grind (arith, append-nil, spaces_width)
     gap_width width (Text line ∷ ls) es h is = ap (λ xs. items_width columns (items_of xs)) is ∙ h.0
     gap_width width (Line b ∷ ls) es h is = ap (items_width columns) is.0 ∙ takes columns one b.tag width (Line b) h.0
 
@@ -212,12 +199,7 @@ module _ {A : Type 0} (columns : ℕ → Option ℕ) where
         (es : List (Element A)) × (m.holes ≡ b.holes ++ holes_from (max d.place (span_end b.holes)) es) ×
         (IsFilled columns d → items_width columns (items_of es) ≤ d.width) × (length b.cells ≤ length m.cells)
     gap_holes false d b m h = ([], rw h (sym (append-nil b.holes)), λ f. omega arith, omega (arith, ap (λ (x : Border A). length x.cells) h))
-    gap_holes true d b m (es, is, put) = (
-      es,
-      rw put (put_holes d.place _ b es refl),
-      λ f. omega (arith, gap_width d.width d.lines es f is),
-      omega (arith, ap (λ (x : Border A). length x.cells) put, put_longer d.place b es),
-    )
+    gap_holes true d b m (es, is, put) = grind (arith, put_holes, gap_width, put_longer)
 
     -- Up to one of the cells: the border has gaps before its place alone.
     gaps_in_front : (ds more : List (Cell A)) (at : ℕ) (b full : Border A) → HasGaps draws columns tag (ds ++ more) b full → AreSideBySide at (ds ++ more) →
@@ -239,15 +221,7 @@ module _ {A : Type 0} (columns : ℕ → Option ℕ) where
     gaps_after : (p : ℕ) (ds : List (Cell A)) (b full : Border A) → HasGaps draws columns tag ds b full → Each (λ (d : Cell A). p ≤ d.place) ds →
         (hs : List (Hole A)) × (full.holes ≡ b.holes ++ hs) × BeginAfter p hs × (length b.cells ≤ length full.cells)
     gaps_after p [] b full h far = ([], rw h (sym (append-nil b.holes)), tt, omega (arith, ap (λ (x : Border A). length x.cells) h))
-    gaps_after p (d ∷ ds) b full (m, here, past) far =
-        let (hs, more, after, longer) = gaps_after p ds m full past far.1 in
-        let (es, put, wide, long) = gap_holes (has_gap draws d) d b m here in
-        let own : List (Hole A) = holes_from (max d.place (span_end b.holes)) es in (
-          own ++ hs,
-          more ∙ ap (λ ks. ks ++ hs) put ∙ append_assoc b.holes own hs,
-          after_both p own hs (from_after p _ es (omega (arith, far.0))) after,
-          omega (arith, long, longer),
-        )
+    gaps_after p (d ∷ ds) b full (m, here, past) far = grind (arith, gap_holes, append_assoc, after_both, from_after, gaps_after p ds m full past far.1)
 
     places_after : (at p : ℕ) (ds : List (Cell A)) → p ≤ at → AreSideBySide at ds → Each (λ (d : Cell A). p ≤ d.place) ds
     places_after at p [] h s = tt

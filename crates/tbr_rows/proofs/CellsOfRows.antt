@@ -142,9 +142,7 @@ module _ {A : Type 0} (columns : ℕ → Option ℕ) (one : DrawsInOne columns) 
   left c = continued r.style.draws_borders (meeting_in columns r) c
 
   overhang_is : r.row.overhang ≡ flat_map goes r.means.cells
-  overhang_is =
-      r.means.rest ∙ ap (λ cs. overhang r.style.draws_borders (cells_left height cs)) r.means.shown_is
-      ∙ rows_go_on r.style.draws_borders r.style.collapses r.top height r.means.cells
+  overhang_is = grind (arith, rows_go_on)
 
   among_overhang : (c : Cell A) → 1 < c.span → StandsAmong c r.means.cells → StandsAmong (left c) r.row.overhang
   among_overhang c long (front, rest, is) =

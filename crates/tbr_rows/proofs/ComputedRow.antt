@@ -1,5 +1,5 @@
 -- A row by what its tags mean is the one that is computed.
-use Rattle.std.proofs.Common.{◌≡◌, ◌↔◌, ℕ, Bool, true, false, if◌then◌else◌, Option, None, Some, List, [], ◌∷◌, fold, ap, ◌∙◌, subst, refl, option_map}
+use Rattle.std.proofs.Common.{◌≡◌, ◌↔◌, ℕ, Bool, true, false, if◌then◌else◌, Option, None, Some, List, [], ◌∷◌, fold, ap, ◌∙◌, subst, refl, option_map, arith}
 use Rattle.std.proofs.lemmas.Option.{same_Some}
 use Rattle.std.proofs.lemmas.Bool.{cond_both, both_ways}
 use Rattle.tbr_model.specs.Run.{Item, glyph, marker}
@@ -23,9 +23,7 @@ module _ {A : Type 0} (same : A → A → Bool) (tells : TellsApart same) where
   items_before : (c : ℕ) (a : A) (es : List (Element A)) → items_of (character_before same c a es) ≡ glyph c a ∷ items_of es
   items_before c a [] = refl
   items_before c a (marker_element name ∷ es) = refl
-  items_before c a (piece cs b ∷ es) =
-      cond_both (same a b) (piece (c ∷ cs) b ∷ es) (piece (c ∷ []) a ∷ piece cs b ∷ es) (λ ds. items_of ds ≡ glyph c a ∷ items_of (piece cs b ∷ es))
-      (λ is. rw ((tells a b).0 is) refl) (λ is. refl)
+  items_before c a (piece cs b ∷ es) = grind (arith, cond_both)
 
   pub longest_items : (is : List (Item A)) → items_of (longest same is) ≡ is
   longest_items [] = refl
@@ -41,9 +39,7 @@ module _ {A : Type 0} (same : A → A → Bool) (tells : TellsApart same) where
   before_longest : (c : ℕ) (a : A) (es : List (Element A)) → AreLongest es → AreLongest (character_before same c a es)
   before_longest c a [] h = (tt, tt, tt)
   before_longest c a (marker_element name ∷ es) h = (tt, tt, h)
-  before_longest c a (piece cs b ∷ es) h =
-      cond_both (same a b) (piece (c ∷ cs) b ∷ es) (piece (c ∷ []) a ∷ piece cs b ∷ es) AreLongest (λ is. (tt, ends_alike cs (c ∷ cs) b es h.1, h.2))
-      (λ is. (tt, λ e. both_ways (same a b) is ((tells a b).1 e), h))
+  before_longest c a (piece cs b ∷ es) h = grind (arith, cond_both, ends_alike, both_ways)
 
   pub longest_are : (is : List (Item A)) → AreLongest (longest same is)
   longest_are [] = tt

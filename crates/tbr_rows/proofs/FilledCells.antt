@@ -1,15 +1,15 @@
 -- What a row has of a cell takes the cell's columns.
-use Rattle.std.proofs.Common.{◌≡◌, ℕ, zero, suc, ◌+◌, ◌-◌, ◌<◌, Bool, true, false, Option, None, Some, unwrap_or, List, [], ◌∷◌, ◌++◌, map, take, drop, length, get_or, set, drop-cons, refl, ap, ◌∙◌, arith, ◌≤◌, IsTrue, slice_range}
+use Rattle.std.proofs.Common.{◌≡◌, ℕ, zero, suc, ◌+◌, ◌<◌, Bool, true, false, Option, None, Some, unwrap_or, List, [], ◌∷◌, map, take, drop, length, get_or, set, drop-cons, refl, ap, ◌∙◌, arith, ◌≤◌, IsTrue, slice_range}
 use Rattle.std.specs.List.{AllZip, AllByRecursion as Each}
 use Rattle.tbr_model.specs.Run.{Item, items_width}
 use Rattle.tbr_model.specs.Width.{takes_one_column}
 use Rattle.tbr_border.specs.declared.render_line.RenderLine.{RenderLine}
 use Rattle.tbr_border.specs.declared.render_line.RenderLine.TheVariants.{Text, Line}
-use Rattle.tbr_border.specs.Cell.{Cell as Segment, slash, arms, character, is_among, line_above}
+use Rattle.tbr_border.specs.Cell.{Cell as Segment, slash, arms, character, line_above}
 use Rattle.tbr_border.specs.Border.{Hole, Border, stretched, drawn, shown_from, shown}
 use Rattle.tbr_tagged.specs.declared.padding.CellAlign.{CellAlign}
-use Rattle.tbr_tagged.specs.Elements.{element_items, items_of, text_items}
-use Rattle.tbr_tagged.specs.Padding.{spaces, columns_in_front, columns_missing, aligned_items}
+use Rattle.tbr_tagged.specs.Elements.{items_of, text_items}
+use Rattle.tbr_tagged.specs.Padding.{spaces, columns_missing, aligned_items}
 use Rattle.tbr_tagged.proofs.SameItems.{same_width}
 use Rattle.tbr_tagged.proofs.PaddedLines.{front_within}
 use Rattle.std.proofs.lemmas.List.{length-replicate, length-map, length-drop, length-take-le, drop-set-lt, take_more_set}
@@ -54,25 +54,11 @@ drawn_narrow (c ∷ cells) = (character_narrow c, drawn_narrow cells)
 
 above_narrow : (cells : List Segment) → Each (λ c. IsTrue (takes_one_column c)) (map line_above cells)
 above_narrow [] = tt
-above_narrow (c ∷ cells) = (
-  cond_both (is_among (character c) (0x2534 ∷ 0x253C ∷ 0x2514 ∷ 0x2518 ∷ [])) 0x2502 32 (λ d. IsTrue (takes_one_column d)) (λ e. refl) (λ e. refl),
-  above_narrow cells,
-)
+above_narrow (c ∷ cells) = grind (arith, cond_both, above_narrow cells)
 
 -- a text that is filled up takes so many columns more
 pub aligned_width : {A : Type 0} (columns : ℕ → Option ℕ) → DrawsInOne columns → (align : CellAlign) (is : List (Item A)) (missing : ℕ) (a : A) → items_width columns (aligned_items align is missing a) ≡ items_width columns is + missing
-aligned_width {A} columns one align is missing a =
-    let front : ℕ = columns_in_front align missing in
-    let before : List (Item A) = text_items (spaces front) a in
-    let last : List (Item A) = text_items (spaces (missing - front)) a in
-    omega (
-      arith,
-      width_append columns (before ++ is) last,
-      width_append columns before is,
-      spaces_width columns one front a,
-      spaces_width columns one (missing - front) a,
-      front_within align missing,
-    )
+aligned_width {A} columns one align is missing a = grind (arith, ℕ, width_append, spaces_width, front_within)
 
 -- ---- borders with text in front
 
@@ -90,19 +76,12 @@ module _ {A : Type 0} (columns : ℕ → Option ℕ) where
     drawn_width part = text_columns columns (map character part) tag one (drawn_narrow part) ∙ length-map part character
 
     pub part_width : (from to : ℕ) → from ≤ to → to ≤ length cells → from + items_width columns (drawn (slice_range cells from to) tag) ≡ to
-    part_width from to h k =
-        let some : to - from ≤ length (drop from cells) = omega (arith, h, k, length-drop from cells) in
-        omega (arith, h, drawn_width (slice_range cells from to), length-take-le (to - from) (drop from cells) some)
+    part_width from to h k = grind (arith, length-drop, drawn_width, slice_range, length-take-le)
 
     -- what a border shows takes as many columns as it has cells
     pub shown_width : (from : ℕ) (hs : List (Hole A)) → HolesFill columns from hs (length cells) → from + items_width columns (shown_from tag cells from hs) ≡ length cells
     shown_width from [] h = omega (arith, h, drawn_width (drop from cells), length-drop from cells)
-    shown_width from (g ∷ hs) h =
-        let front : List (Item A) = drawn (slice_range cells from g.place) tag in
-        let here : List (Item A) = element_items g.element in
-        let later : List (Item A) = shown_from tag cells (g.place + g.width) hs in
-        let within : g.place ≤ length cells = omega (arith, fill_forward (g.place + g.width) hs (length cells) h.2) in
-        omega (arith, part_width from g.place h.0 within, width_append columns front (here ++ later), width_append columns here later, h.1, shown_width (g.place + g.width) hs h.2)
+    shown_width from (g ∷ hs) h = grind (arith, slice_range, fill_forward, part_width, width_append, shown_width (g.place + g.width) hs h.2)
 
 -- a line that fits takes its cell's columns once it is filled
 pub filled_line : {A : Type 0} (columns : ℕ → Option ℕ) (eq : A → A → Bool) (align : CellAlign) (width : ℕ) (a t : A) (l done : RenderLine A) → DrawsInOne columns → LineFits columns width l →

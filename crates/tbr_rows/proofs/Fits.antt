@@ -10,9 +10,7 @@ abbrev pub finds : {A : Type 0} → List Spot → Cell A → Bool
 finds spots h = list_any (is_left_for h) spots || list_all (ends_before h) spots
 
 pub left_is : {A : Type 0} (h c : Cell A) → is_left_for h (spot_of c) ≡ true → (h.place ≡ c.place) × (h.width ≡ c.width)
-left_is h c e =
-    let both = and_parts _ _ e in
-    (eqb-true h.place c.place both.0, eqb-true h.width c.width (and_parts _ _ both.1).0)
+left_is h c e = grind (arith, and_parts, eqb-true)
 
 pub elsewhere : {A : Type 0} (h : Cell A) (s : Spot) → (h.place ≡ s.place → ⊥) → is_left_for h s ≡ false
 elsewhere h s n = rw (ne_eqb h.place s.place n) refl
@@ -33,11 +31,7 @@ none_after h at cs before s = rw (spots_side_by_side at cs s) (none_from h at (m
 -- cells after a place need not look at one that ends before it
 pub past : {A : Type 0} (s : Spot) (spots : List Spot) (at : ℕ) (hs : List (Cell A)) → s.place + s.width + 1 ≤ at → AreApart at hs → row_fits hs (s ∷ spots) ≡ row_fits hs spots
 past s spots at [] after a = refl
-past s spots at (h ∷ hs) after a =
-    let other = elsewhere h s (λ e. let no : ⊥ = omega (arith, after, a.0, e) in no) in
-    let ends = le-leb (s.place + s.width + 1) h.place (omega (arith, after, a.0)) in
-    let rest = past s spots (end_of h + 1) hs (omega (arith, after, a.0)) a.1 in
-    rw (other, ends, rest) refl
+past s spots at (h ∷ hs) after a = grind (arith, elsewhere, le-leb, past s spots (end_of h + 1) hs (omega (arith, after, a.0)) a.1)
 
 pub all_found : {A : Type 0} (hs : List (Cell A)) → true ≡ row_fits hs []
 all_found [] = refl

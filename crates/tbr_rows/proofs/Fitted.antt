@@ -44,20 +44,11 @@ module _ {A : Type 0} (width : ℕ) (blank : Bool) where
   pub next_after : (f : Fitting A) (k : Cell A) (ks : List (Cell A)) (at to : ℕ) (fits : Bool) → IsAsked f (record { waiting = k ∷ ks; at = at; fits = fits }) width blank →
       width < k.place - at → to ≡ at + width + 1 → (more : List (ℕ × Bool)) →
       (let t : Fitting A = record { waiting = k ∷ ks; at = to; fits = fits } in fits_with t more) ≡ fits_with f ((width, blank) ∷ more)
-  next_after f k ks at to fits asked short is more =
-      let spot : Spot = record { place = at; width = width; is_blank = blank } in
-      let apart : AreApart (at + width + 1) (k ∷ ks) = (omega (arith, short), asked.apart.1) in
-      ap (λ n. fits && row_fits (k ∷ ks) (spots_from n more)) is
-      ∙ rw (← past spot (spots_from (at + width + 1) more) (at + width + 1) (k ∷ ks) (omega arith) apart) (asked.same more)
+  next_after f k ks at to fits asked short is more = grind (arith, past)
 
   pub next_lost : (f : Fitting A) (k : Cell A) (ks : List (Cell A)) (at : ℕ) (fits : Bool) → IsAsked f (record { waiting = k ∷ ks; at = at; fits = fits }) width blank →
       k.place - at ≤ width → (more : List (ℕ × Bool)) → false ≡ fits_with f ((width, blank) ∷ more)
-  next_lost f k ks at fits asked long more =
-      let spot : Spot = record { place = at; width = width; is_blank = blank } in
-      let short : k.place < at + width + 1 = omega (arith, long, asked.apart.0) in
-      let lost : row_fits (k ∷ ks) (spot ∷ spots_from (at + width + 1) more) ≡ false =
-      rw (elsewhere k spot (eqb-false k.place at asked.passed), none_from k (at + width + 1) more short, lt-leb (at + width + 1) k.place short) refl in
-      sym (and_right fits _ lost) ∙ asked.same more
+  next_lost f k ks at fits asked long more = grind (arith, elsewhere, eqb-false, none_from, lt-leb, and_right)
 
 -- ---- where fewer cells have lines
 
@@ -68,10 +59,7 @@ and_too : (x y u v : Bool) → (x ≡ true → u ≡ true) → (y ≡ true → v
 and_too x y u v f g e = let both = and_parts x y e in and_from u v (f both.0) (g both.1)
 
 left_too : {A : Type 0} (h : Cell A) (s t : Spot) → IsAsFree s t → is_left_for h s ≡ true → is_left_for h t ≡ true
-left_too h s t z e =
-    let same = h.width == s.width in
-    rw (z.0, z.1) (and_too (h.place == s.place) (same && s.is_blank) (h.place == s.place) (same && t.is_blank) (λ k. k)
-    (and_too same s.is_blank same t.is_blank (λ k. k) z.2) e)
+left_too h s t z e = grind (arith, and_too)
 
 any_too : {A : Type 0} (h : Cell A) (spots others : List Spot) → AllZip IsAsFree spots others → list_any (is_left_for h) spots ≡ true → list_any (is_left_for h) others ≡ true
 any_too h [] [] z e = e

@@ -1,5 +1,5 @@
 -- Lines of rows, gaps and what overhangs, under other tags.
-use Rattle.std.proofs.Common.{◌≡◌, if◌then◌else◌, ℕ, ◌+◌, ◌-◌, max, Bool, true, false, Option, None, Some, List, [], ◌∷◌, map, drop, refl, ap, sym, ◌∙◌, nat_lt, slice_range, option_map}
+use Rattle.std.proofs.Common.{◌≡◌, if◌then◌else◌, ℕ, ◌+◌, ◌-◌, max, Bool, true, false, Option, None, Some, List, [], ◌∷◌, map, drop, refl, ap, sym, ◌∙◌, nat_lt, slice_range, option_map, arith}
 use Rattle.std.proofs.lemmas.List.{length-map, drop-map, map-append, map_push}
 use Rattle.tbr_model.specs.Run.{Item, glyph}
 use Rattle.tbr_model.specs.Mapped.{map_item, map_items}
@@ -135,11 +135,7 @@ module _ {A B : Type 0} (f : A → B) where
 
     gap_if_means : (b : Bool) (columns : ℕ → Option ℕ) (a : A) (c : Cell A) (x y : Border A) → FillsGapIf b columns eq a c x y → HasGapIf b columns (f a) (map_cell f c) (map_border f x) (map_border f y)
     gap_if_means false columns a c x y h = ap (map_border f) h
-    gap_if_means true columns a c x y h = (
-      map (map_element f) h.0,
-      rw (first_line-map c.lines) (gap_means a c.width (first_line c.lines) h.0 h.1),
-      ap (map_border f) h.2 ∙ sym (with_elements-map columns c.place x h.0),
-    )
+    gap_if_means true columns a c x y h = grind (arith, first_line-map, gap_means, with_elements-map)
 
     pub gaps_mean : (draws : Bool) (columns : ℕ → Option ℕ) (a : A) (cs : List (Cell A)) (x y : Border A) → FillsGaps draws columns eq a cs x y → HasGaps draws columns (f a) (map (map_cell f) cs) (map_border f x) (map_border f y)
     gaps_mean draws columns a [] x y h = ap (map_border f) h

@@ -1,5 +1,5 @@
 -- There is only one row by what tags mean.
-use Rattle.std.proofs.Common.{◌≡◌, ℕ, Bool, true, false, Option, None, Some, List, [], ◌∷◌, ◌++◌, ap, sym, ◌∙◌, subst, refl, replicate}
+use Rattle.std.proofs.Common.{◌≡◌, ℕ, Bool, true, false, Option, None, Some, List, [], ◌∷◌, ◌++◌, ap, sym, ◌∙◌, subst, refl, replicate, arith}
 use Rattle.std.proofs.lemmas.Option.{same_Some}
 use Rattle.tbr_model.specs.Run.{Item, glyph}
 use Rattle.tbr_border.specs.declared.render_line.RenderLine.{RenderLine}
@@ -27,10 +27,7 @@ stops a d xs (marker_element n ∷ es) more p l h = cc
 rest_same : {A : Type 0} (a : A) (cs ds xs ys : List ℕ) (es fs : List (Element A)) → EndsStretch (piece xs a) es → EndsStretch (piece ys a) fs → AreLongest es → AreLongest fs →
     text_items cs a ++ items_of es ≡ text_items ds a ++ items_of fs → (cs ≡ ds) × (items_of es ≡ items_of fs)
 rest_same a [] [] xs ys es fs p q l m h = (refl, h)
-rest_same a (c ∷ cs) (d ∷ ds) xs ys es fs p q l m h =
-    let first : c ≡ d = cc in
-    let k = rest_same a cs ds xs ys es fs p q l m (let e : text_items cs a ++ items_of es ≡ text_items ds a ++ items_of fs = cc in e) in
-    (rw (first, k.0) refl, k.1)
+rest_same a (c ∷ cs) (d ∷ ds) xs ys es fs p q l m h = grind (arith, rest_same a cs ds xs ys es fs p q l m (let e : text_items cs a ++ items_of es ≡ text_items ds a ++ items_of fs = cc in e))
 rest_same a [] (d ∷ ds) xs ys es fs p q l m h = absurd (stops a d xs es (text_items ds a ++ items_of fs) p l h)
 rest_same a (c ∷ cs) [] xs ys es fs p q l m h = absurd (stops a c ys fs (text_items cs a ++ items_of es) q m (sym h))
 

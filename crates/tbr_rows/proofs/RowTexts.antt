@@ -1,5 +1,5 @@
 -- Lines of a row, built text by text.
-use Rattle.std.proofs.Common.{◌≡◌, ℕ, suc, ◌+◌, ◌<◌, Bool, true, List, [], ◌∷◌, ◌++◌, map, take, drop, get_or, length, refl, ap, sym, ◌∙◌, subst, arith, append_assoc, append-nil, drop-cons}
+use Rattle.std.proofs.Common.{◌≡◌, ℕ, ◌+◌, ◌<◌, Bool, true, List, [], ◌∷◌, ◌++◌, map, take, drop, get_or, length, refl, sym, ◌∙◌, subst, arith, append_assoc, append-nil, drop-cons}
 use Rattle.std.specs.Cmp.{IsEquivalence}
 use Rattle.std.proofs.lemmas.List.{map_push, length-take-le, length-map, get_or_at, take_more}
 use Rattle.tbr_model.specs.Run.{Item}
@@ -15,10 +15,7 @@ row_text_more separator (u ∷ v ∷ ts) t = rw (row_text_more separator (v ∷ 
 
 -- the cell that a loop reads, where the cells before it have changed
 pub read_dropped : {A : Type 0} (xs : List (Column A)) (i : ℕ) (x : Column A) → i < length xs → x ≡ get_or (map (dropped 1) (take i xs) ++ drop i xs) i x → x ≡ get_or xs i x
-read_dropped {A} xs i x below is =
-    let front : List (Column A) = map (dropped 1) (take i xs) in
-    let long : length front ≡ i = length-map (take i xs) (dropped 1) ∙ length-take-le i xs (omega (arith, below)) in
-    is ∙ ap (λ (cs : List (Column A)). get_or (front ++ cs) i x) (drop-cons xs i x below) ∙ get_or_at front (get_or xs i x) (drop (suc i) xs) x i long
+read_dropped {A} xs i x below is = grind (arith, length-map, length-take-le, drop-cons, get_or_at)
 
 module _ {A : Type 0} (eq : A → A → Bool) (laws : IsEquivalence eq) where
   -- after a line comes what equals something

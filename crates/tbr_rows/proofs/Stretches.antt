@@ -1,5 +1,5 @@
 -- A line's items have one form as elements whose pieces are the longest stretches under equal tags.
-use Rattle.std.proofs.Common.{◌≡◌, ℕ, Bool, true, List, [], ◌∷◌, ◌++◌, refl, sym, ◌∙◌}
+use Rattle.std.proofs.Common.{◌≡◌, ℕ, Bool, true, List, [], ◌∷◌, ◌++◌, refl, sym, ◌∙◌, arith}
 use Rattle.std.specs.Cmp.{IsEquivalence}
 use Rattle.std.proofs.lemmas.Bool.{cond_both}
 use Rattle.tbr_model.specs.Run.{Item, glyph, marker}
@@ -22,9 +22,7 @@ module _ {A : Type 0} (eq : A → A → Bool) (laws : IsEquivalence eq) where
   -- The longest stretches of items show these items.
   pub stretches_show : (is : List (Item A)) → SameItems eq (items_of (longest eq is)) is
   stretches_show [] = tt
-  stretches_show (glyph c a ∷ is) =
-      same_items_trans eq laws (items_of (character_before eq c a (longest eq is))) (glyph c a ∷ items_of (longest eq is)) (glyph c a ∷ is)
-      (before_shows c a (longest eq is)) ((refl, laws.refl a), stretches_show is)
+  stretches_show (glyph c a ∷ is) = grind (arith, same_items_trans, before_shows, stretches_show is)
   stretches_show (marker name ∷ is) = (refl, stretches_show is)
 
   -- What a piece is parted from doesn't depend on its characters.
@@ -67,18 +65,14 @@ module _ {A : Type 0} (eq : A → A → Bool) (laws : IsEquivalence eq) where
       SameItems eq (items_of es) (glyph d b ∷ more) → ⊥
   stops a b d xs [] more e p l h = h
   stops a b d xs (piece [] x ∷ es) more e p l h = l.0
-  stops a b d xs (piece (c ∷ cs) x ∷ es) more e p l h =
-      let under : eq a x ≡ true = laws.congr a b x e ∙ laws.symm b x ∙ h.0.1 in
-      cc
+  stops a b d xs (piece (c ∷ cs) x ∷ es) more e p l h = grind arith
   stops a b d xs (marker_element n ∷ es) more e p l h = h.0
 
   -- The rests of two stretches that begin alike are the same text.
   rest_once : (a b : A) (cs ds xs ys : List ℕ) (es fs : List (Element A)) → eq a b ≡ true → IsPartedFrom eq (piece xs a) es → IsPartedFrom eq (piece ys b) fs → IsMerged eq es → IsMerged eq fs →
       SameItems eq (text_items cs a ++ items_of es) (text_items ds b ++ items_of fs) → (cs ≡ ds) × SameItems eq (items_of es) (items_of fs)
   rest_once a b [] [] xs ys es fs e p q l m h = (refl, h)
-  rest_once a b (c ∷ cs) (d ∷ ds) xs ys es fs e p q l m h =
-      let k = rest_once a b cs ds xs ys es fs e p q l m h.1 in
-      (rw (h.0.0, k.0) refl, k.1)
+  rest_once a b (c ∷ cs) (d ∷ ds) xs ys es fs e p q l m h = grind (arith, rest_once a b cs ds xs ys es fs e p q l m h.1)
   rest_once a b [] (d ∷ ds) xs ys es fs e p q l m h = absurd (stops a b d xs es (text_items ds b ++ items_of fs) e p l h)
   rest_once a b (c ∷ cs) [] xs ys es fs e p q l m h =
       absurd (stops b a c ys fs (text_items cs a ++ items_of es) (laws.symm b a ∙ e) q m (same_back (text_items (c ∷ cs) a ++ items_of es) (items_of fs) h))

@@ -1,5 +1,5 @@
 -- What is read is what is written.
-use Rattle.std.proofs.Common.{◌≡◌, ◌≢◌, ℕ, zero, suc, ◌^◌, ◌<◌, ◌≤◌, ◌==◌, ◌&&◌, Bool, true, false, if◌then◌else◌, Option, None, Some, List, [], ◌∷◌, ◌++◌, length, take, drop, flat_map, encode_utf8, codes, refl, sym, ap, ◌∙◌, subst, inl, inr, arith, append_assoc, append-nil, get_or, lit≤}
+use Rattle.std.proofs.Common.{◌≡◌, ◌≢◌, ℕ, zero, suc, ◌^◌, ◌<◌, ◌≤◌, ◌==◌, ◌&&◌, Bool, true, false, if◌then◌else◌, Option, None, Some, List, [], ◌∷◌, ◌++◌, length, take, drop, flat_map, encode_utf8, codes, refl, sym, ap, ◌∙◌, subst, inl, inr, arith, append_assoc, append-nil, get_or, lit≤, rules}
 use Rattle.std.specs.Bool.{Decides}
 use Rattle.std.specs.Prelude.{nat_lt}
 use Rattle.std.specs.Char.{digit_value, IsScalar}
@@ -71,10 +71,7 @@ scalar_decides : (c : ℕ) → Decides (all_scalars (c ∷ [])) (IsScalar c)
 scalar_decides c = Decides-like (all_scalars (c ∷ [])) (λ h. h.0) (λ is. (is, tt)) (Decides-and {Q = Unit {0}} _ true ((λ e. e), (λ e. e)) ((λ _. tt), (λ _. refl)))
 
 name_decides : (ds : List ℕ) → Decides (names_character ds) (NamesCharacter ds)
-name_decides ds =
-    let six_at_most : Decides (nat_lt (length ds) 7) (length ds ≤ 6) = Decides-like (nat_lt (length ds) 7) (λ h. omega (arith, h)) (λ h. omega (arith, h)) (Decides-ltb (length ds) 7) in
-    Decides-like (names_character ds) (λ h. (h.0, h.1.0, h.1.1)) (λ h. (h.0, (h.1, h.2)))
-    (Decides-and (is_numeral 16 ds) _ (numeral_decides 16 ds) (Decides-and _ (all_scalars (digits_value 16 ds ∷ [])) six_at_most (scalar_decides (digits_value 16 ds))))
+name_decides ds = search (rules, Decides-like, Decides-ltb, Decides-and, numeral_decides, scalar_decides)
 
 -- what is so by a test is there by it
 by_test : {X P : Type 0} (b : Bool) (x : X) (r : Option X) → Decides b P → SomeIff r P x → r ≡ when b x
@@ -99,16 +96,10 @@ pub written_number : (ds : List ℕ) (n : ℕ) → number_read ds ≡ Some n →
 written_number ds n e = let (so, same) = so_when (is_number ds) (digits_value 10 ds) n e in ((number_decides ds).0 so, same)
 
 pub size_written : (ds : List ℕ) (n : ℕ) → IsSize ds n → size_read ds ≡ Some n
-size_written ds n (is, same, some) =
-    let decides = Decides-and (is_number ds) _ (number_decides ds) (Decides-ltb 0 (digits_value 10 ds)) in
-    when_so _ (digits_value 10 ds) n (decides.1 (is, subst (λ m. 0 < m) same some)) same
+size_written ds n (is, same, some) = search (rules, Decides-and, number_decides, Decides-ltb, when_so)
 
 pub written_size : (ds : List ℕ) (n : ℕ) → size_read ds ≡ Some n → IsSize ds n
-written_size ds n e =
-    let decides = Decides-and (is_number ds) _ (number_decides ds) (Decides-ltb 0 (digits_value 10 ds)) in
-    let (so, same) = so_when _ (digits_value 10 ds) n e in
-    let (is, some) = decides.0 so in
-    (is, same, subst (λ m. 0 < m) (sym same) some)
+written_size ds n e = search (rules, Decides-and, number_decides, Decides-ltb, so_when)
 
 pub byte_written : (ds : List ℕ) (n : ℕ) → IsByte ds × (n ≡ digits_value 10 ds) → byte_read ds ≡ Some n
 byte_written ds n (is, same) = when_so _ (digits_value 10 ds) n ((byte_decides ds).1 is) same

@@ -1,5 +1,5 @@
 -- Texts, as they are read piece by piece.
-use Rattle.std.proofs.Common.{◌≡◌, ◌≢◌, ℕ, suc, ◌<◌, ◌==◌, Option, None, Some, List, [], ◌∷◌, ◌++◌, length, get_or, take, drop, take-append-drop, drop-cons, add-one, ◌+◌, ◌-◌, encode_utf8, refl, sym, ap, ◌∙◌, arith, lit<, append_assoc, append-nil}
+use Rattle.std.proofs.Common.{◌≡◌, ◌≢◌, ℕ, suc, ◌<◌, ◌==◌, Option, None, Some, List, [], ◌∷◌, ◌++◌, length, get_or, drop, take-append-drop, drop-cons, add-one, ◌+◌, ◌-◌, encode_utf8, refl, sym, ap, ◌∙◌, arith, lit<, append_assoc, append-nil, rules}
 use Rattle.std.specs.List.{slice_range}
 use Rattle.std.specs.Option.{option_map, option_and_then}
 use Rattle.std.proofs.lemmas.Bool.{eqb-true}
@@ -28,14 +28,7 @@ plain_all xs none = ap text_read (sym (append-nil xs)) ∙ plain xs [] none ∙ 
 -- a text in two, at the first byte of its kind
 pub parted_at : (b : ℕ) (bs before after : List ℕ) (k : ℕ) → k < length bs → get_or bs k 0 ≡ b → ((i : ℕ) → i < k → get_or bs i 0 ≢ b) →
     before ≡ slice_range bs 0 k → after ≡ drop (k + 1) bs → (bs ≡ before ++ b ∷ after) × ((i : ℕ) → i < length before → get_or before i 0 ≢ b)
-parted_at b bs before after k inside is none front back =
-    let all : k - 0 ≡ k = omega arith in
-    let head : before ≡ take k bs = front ∙ ap (λ n. take n bs) all in
-    let tail : drop k bs ≡ b ∷ after =
-    drop-cons bs k 0 inside ∙ (λ i. is i ∷ drop (sym (add-one k) i) bs) ∙ ap (λ zs. b ∷ zs) (sym back) in (
-      sym (take-append-drop k bs) ∙ (λ i. sym head i ++ tail i),
-      λ i lt. let same : get_or before i 0 ≡ get_or bs i 0 = grind (arith, common_steps) in λ e. none i (grind (arith, common_steps)) (sym same ∙ e),
-    )
+parted_at b bs before after k inside is none front back = search (rules, drop-cons, add-one, take-append-drop, common_steps)
 
 -- a backslash after bytes that mean themselves
 pub up_to_escape : (writing before after : List ℕ) → (writing ≡ before ++ 92 ∷ after) × ((i : ℕ) → i < length before → get_or before i 0 ≢ 92) →

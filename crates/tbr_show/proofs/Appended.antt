@@ -1,5 +1,5 @@
 -- What loops append, one part after another.
-use Rattle.std.proofs.Common.{◌≡◌, ℕ, Bool, true, false, not, Option, None, Some, Result, Ok, Err, List, [], ◌∷◌, ◌++◌, refl, ap, sym, ◌∙◌, map, append_assoc, append-nil}
+use Rattle.std.proofs.Common.{◌≡◌, ℕ, Bool, true, false, not, Option, None, Some, Result, Ok, Err, List, [], ◌∷◌, ◌++◌, refl, ap, sym, ◌∙◌, map, append_assoc, append-nil, rules}
 use Rattle.std.specs.Prelude.{flat_map, OnOk, ◌&&◌, if◌then◌else◌}
 use Rattle.std.specs.Borrow.{Bor}
 use Rattle.std.specs.Iterator.{Yields, YieldsFirstRef}
@@ -40,9 +40,7 @@ shown_of e = printable (element_characters e)
 
 pub shown_of_each : {A : Type 0} (es : List (Element A)) → flat_map shown_of es ≡ printable (characters es)
 shown_of_each [] = refl
-shown_of_each (e ∷ es) =
-    ap (λ (cs : List ℕ). printable (element_characters e) ++ cs) (shown_of_each es)
-    ∙ sym (filter-append (λ (d : ℕ). not (is_control d)) (element_characters e) (characters es))
+shown_of_each (e ∷ es) = search (rules, ℕ, filter-append, not, shown_of_each es)
 
 module _ {X Y Z : Type 0} (f : Y → List Z) (g : X → Y) where
   pub flat_map-map_push : (xs : List X) (x : X) → flat_map f (map g (xs ++ x ∷ [])) ≡ flat_map f (map g xs) ++ f (g x)
@@ -106,22 +104,14 @@ module _ (columns : ℕ → Option ℕ) (start cs : List ℕ) (text : List ℕ) 
   module _ (c : ℕ) (width : Option ℕ) (shows : is_control c ≡ false) (takes : width ≡ columns c) where
     pub shown_more : (mark marked new : List ℕ) → mark ≡ between is_wide width → marked ≡ text ++ mark → new ≡ marked ++ escaped c →
         new ≡ start ++ shown_open columns false (printable (cs ++ c ∷ []))
-    shown_more mark marked new m e f =
-        one_after start (shown_open columns false (printable cs)) (mark ++ escaped c) text new is (f ∙ ap (λ ds. ds ++ escaped c) e ∙ append_assoc text mark (escaped c))
-        ∙ ap (λ ds. start ++ (shown_open columns false (printable cs) ++ (ds ++ escaped c))) (m ∙ ap (λ b. between b width) wide ∙ ap (between (wide_after columns false (printable cs))) takes)
-        ∙ ap (λ ds. start ++ ds) (sym (shown_push columns false (printable cs) c) ∙ ap (shown_open columns false) (sym (printable_shown cs c shows)))
+    shown_more mark marked new m e f = search (rules, one_after, false, append_assoc, shown_push, printable_shown)
 
     pub wide_more : (after : Bool) → after ≡ is_wide_after is_wide width → after ≡ wide_after columns false (printable (cs ++ c ∷ []))
-    wide_more after e =
-        e ∙ ap (λ b. is_wide_after b width) wide ∙ ap (is_wide_after (wide_after columns false (printable cs))) takes
-        ∙ sym (wide_push columns false (printable cs) c) ∙ ap (wide_after columns false) (sym (printable_shown cs c shows))
+    wide_more after e = search (rules, false, wide_push, printable_shown)
 
   -- and the end
   pub shown_all : (mark new : List ℕ) → mark ≡ between is_wide (Some 1) → new ≡ text ++ mark → new ≡ start ++ shown columns (printable cs)
-  shown_all mark new m e =
-      one_after start (shown_open columns false (printable cs)) mark text new is e
-      ∙ ap (λ ds. start ++ (shown_open columns false (printable cs) ++ ds)) (m ∙ ap (λ b. between b (Some 1)) wide)
-      ∙ ap (λ ds. start ++ ds) (sym (shown_closed columns false (printable cs)))
+  shown_all mark new m e = search (rules, one_after, false, shown_closed)
 
 -- ---- an object of JSON
 

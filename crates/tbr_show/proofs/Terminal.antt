@@ -1,5 +1,5 @@
 -- What a terminal shows of what is written for it.
-use Rattle.std.proofs.Common.{◌≡◌, ◌≢◌, ℕ, zero, suc, ◌+◌, ◌%◌, ◌/◌, ◌<◌, ◌==◌, Bool, true, false, not, List, [], ◌∷◌, ◌++◌, refl, ap, sym, subst, ◌∙◌, append_assoc, arith, cond, lit<}
+use Rattle.std.proofs.Common.{◌≡◌, ◌≢◌, ℕ, zero, suc, ◌+◌, ◌%◌, ◌/◌, ◌<◌, ◌==◌, Bool, true, false, not, List, [], ◌∷◌, ◌++◌, refl, ap, sym, subst, ◌∙◌, append_assoc, arith, cond, lit<, rules}
 use Rattle.std.proofs.Math.Nat.{mod-lt}
 use Rattle.std.proofs.lemmas.Bool.{lt-ltb, false≢true}
 use Rattle.std.proofs.lemmas.Bool.Decides.{nat_tests}
@@ -66,11 +66,7 @@ unfolding IsParameter
 semicolon_is = ((refl, refl), tt)
 
 parts_are : (c : Colour) → Each IsParameter (colour_parts (codes ";") c)
-parts_are c =
-    each_both IsParameter (((decimal c.r ++ codes ";") ++ decimal c.g) ++ codes ";") (decimal c.b)
-    (each_both IsParameter ((decimal c.r ++ codes ";") ++ decimal c.g) (codes ";")
-    (each_both IsParameter (decimal c.r ++ codes ";") (decimal c.g) (each_both IsParameter (decimal c.r) (codes ";") (decimal_is c.r) semicolon_is) (decimal_is c.g)) semicolon_is)
-    (decimal_is c.b)
+parts_are c = search (rules, each_both, IsParameter, decimal_is, semicolon_is)
 
 -- ---- what a terminal shows nothing of, and which control characters it has
 
@@ -235,11 +231,7 @@ seen_piece before cs after more rest h k =
 
 seen_elements : (es : List (Element (Vec RichAnnotation Global))) (rest : List ℕ) → seen among (flat_map element es ++ rest) ≡ printable (characters es) ++ seen among rest
 seen_elements [] rest = refl
-seen_elements (piece cs tag ∷ es) rest =
-    seen_piece (flat_map begins tag.items) cs (flat_map ends tag.items) (flat_map element es) rest (all_marks begins begins_marks tag.items) (all_marks ends ends_marks tag.items)
-    ∙ ap (λ ds. printable cs ++ ds) (seen_elements es rest)
-    ∙ sym (append_assoc (printable cs) (printable (characters es)) (seen among rest))
-    ∙ ap (λ ds. ds ++ seen among rest) (sym (filter-append (λ (c : ℕ). not (is_control c)) cs (characters es)))
+seen_elements (piece cs tag ∷ es) rest = search (rules, seen_piece, all_marks, begins_marks, ends_marks, append_assoc, filter-append, ℕ, not, seen_elements es rest)
 seen_elements (marker_element name ∷ es) rest = seen_elements es rest
 
 elements_are_own : (es : List (Element (Vec RichAnnotation Global))) → Each IsOwn (flat_map element es)

@@ -5,7 +5,6 @@ use Rattle.std.specs.Cmp.Lexicographic.{pointwise, nat_list_eq_equiv}
 use Rattle.std.specs.Cmp.Lexicographic as lists
 use Rattle.std.specs.Str.{IsUtf8, chars}
 use Rattle.std.proofs.lemmas.Str.{chars-encodes, IsUtf8-string_bytes}
-use lib.Utf8.{encodes}
 use Rattle.std.specs.String.{string_bytes}
 use Rattle.std.specs.declared.string.String.{String}
 use Rattle.std.specs.declared.alloc.Global.{Global}
@@ -21,9 +20,7 @@ path_same : (cs ds : List ℕ) → cs ≡ ds → same_text cs ds ≡ true
 path_same cs ds e = ap (same_text cs) (sym e) ∙ nat_list_eq_equiv.refl cs
 
 same_characters : (bs ds : List ℕ) → IsUtf8 bs → IsUtf8 ds → chars bs ≡ chars ds → bs ≡ ds
-same_characters bs ds u v e =
-    let from : (xs : List ℕ) → (w : IsUtf8 xs) → xs ≡ encodes (chars xs) = λ xs w. sym w.1.1 ∙ ap encodes (sym (ap chars (sym w.1.1) ∙ chars-encodes w.0 w.1.0)) in
-    from bs u ∙ ap encodes e ∙ sym (from ds v)
+same_characters bs ds u v e = grind (arith, ℕ, chars-encodes)
 
 -- texts are equal by their bytes as by their characters
 pub same_bytes : (bs ds : List ℕ) → IsUtf8 bs → IsUtf8 ds → same_text bs ds ≡ same_text (chars bs) (chars ds)

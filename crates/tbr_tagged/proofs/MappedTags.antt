@@ -1,6 +1,6 @@
 -- Mapping tags keeps texts and columns, and makes equal tags the same where they mean the same.
 use Rattle.tbr_tagged.proofs.SameItems.{zip_same}
-use Rattle.std.proofs.Common.{◌≡◌, ℕ, Bool, Option, List, [], ◌∷◌, ◌++◌, refl, ap, sym, ◌∙◌}
+use Rattle.std.proofs.Common.{◌≡◌, ℕ, Bool, Option, List, [], ◌∷◌, ◌++◌, refl, ap, sym, ◌∙◌, arith}
 use Rattle.std.specs.List.{AllZip}
 use Rattle.tbr_model.specs.Run.{Item, glyph, marker, items_width, has_character}
 use Rattle.tbr_model.specs.Mapped.{map_item, map_items, map_lines}
@@ -34,10 +34,7 @@ module _ {A B : Type 0} (gives : A → B → Type 0) where
 
 module _ {A B : Type 0} (f : A → B) (eq : A → A → Bool) (means : MeansEqual f eq) where
   means_same_item : (i j : Item A) → SameItem eq i j → map_item f i ≡ map_item f j
-  means_same_item (glyph c a) (glyph d b) h =
-      let letter : c ≡ d = h.0 in
-      let under : f a ≡ f b = means a b h.1 in
-      cc
+  means_same_item (glyph c a) (glyph d b) h = grind arith
   means_same_item (marker m) (marker n) h = ap marker h
   means_same_item _ _ h = absurd h
 

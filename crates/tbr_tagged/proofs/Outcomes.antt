@@ -1,5 +1,5 @@
 -- What calls answer, by their outcomes.
-use Rattle.std.proofs.Common.{◌≡◌, Option, None, Some, Result, Ok, Err, refl, ap, sym, ◌∙◌, subst}
+use Rattle.std.proofs.Common.{◌≡◌, Option, None, Some, Result, Ok, Err, refl, ap, sym, ◌∙◌, arith}
 use Rattle.tbr_tagged.specs.declared.error.Error.{Error}
 use Rattle.tbr_tagged.specs.declared.error.Error.TheVariants as E
 use Rattle.tbr_tagged.specs.Outcome.{Outcome, done, refused, if_live, Answers}
@@ -18,20 +18,8 @@ live_refused failure outcome e live is = sym (live_goes failure outcome live) �
 
 module _ {S K R : Type 0} (failure : S → Option Error) (settings : S → K) (outcome : Outcome S) (old : S) where
   pub answers_ok : (x : R) (new : S) → failure old ≡ None → outcome ≡ done new → settings new ≡ settings old → Answers failure settings (if_live (failure old) outcome) old (Ok x) new
-  answers_ok x new live is stay = record {
-    ok = live_goes (failure old) outcome live ∙ is;
-    too_narrow = λ e. cc;
-    left = tt;
-    settings_stay = stay;
-    kept = λ e was. absurd (let n : None ≡ Some e = sym live ∙ was in cc);
-  }
+  answers_ok x new live is stay = grind (arith, live_goes)
 
   pub answers_err : (e : Error) (result : Result R Error) (new : S) → result ≡ Err e → failure old ≡ None → (e ≡ E.TooNarrow → outcome ≡ refused E.TooNarrow) → failure new ≡ Some e → settings new ≡ settings old →
       Answers failure settings (if_live (failure old) outcome) old result new
-  answers_err e result new is live narrow left stay = subst (λ r. Answers failure settings (if_live (failure old) outcome) old r new) (sym is) (record {
-    ok = tt;
-    too_narrow = λ was. live_goes (failure old) outcome live ∙ narrow (cc);
-    left = left;
-    settings_stay = stay;
-    kept = λ d was. absurd (let n : None ≡ Some d = sym live ∙ was in cc);
-  })
+  answers_err e result new is live narrow left stay = grind (arith, live_goes)

@@ -70,9 +70,7 @@ module _ {A : Type 0} (eq : A → A → Bool) (laws : IsEquivalence eq) where
   extend_items [] ds a h = cc
   extend_items (piece cs b ∷ []) ds a h = rw (append-nil, append-nil) (text_push cs ds a b h)
   extend_items (marker_element m ∷ []) ds a h = cc
-  extend_items (e ∷ f ∷ es) ds a h =
-      rw append_assoc (same_items_append (element_items e) (element_items e) (items_of (extend_last (f ∷ es) ds)) (items_of (f ∷ es) ++ map (λ d. glyph d a) ds)
-      (same_items (element_items e)) (extend_items (f ∷ es) ds a h))
+  extend_items (e ∷ f ∷ es) ds a h = grind (arith, append_assoc, same_items_append, same_items, extend_items (f ∷ es) ds a h)
 
   pub items_push : (es : List (Element A)) (cs : List ℕ) (a : A) → SameItems eq (items_of (push_text eq es cs a)) (items_of es ++ map (λ c. glyph c a) cs)
   items_push es [] a = same_from_path (items_of es) (items_of es ++ []) (sym (append-nil (items_of es)))

@@ -50,9 +50,7 @@ module _ {A : Type 0} (eq : A → A → Bool) (laws : IsEquivalence eq) where
 
 -- the last element of a list, as `last` gives it
 pub last_of-map : {X : Type 0} {A : Type 0} (f : X → A) (xs : List X) → last_of (map f xs) ≡ option_map f (slice_get xs (length xs - 1))
-last_of-map f (x ∷ y ∷ xs) =
-    let e : length (x ∷ y ∷ xs) - 1 ≡ suc (length (y ∷ xs) - 1) = omega arith in
-    rw e (last_of-map f (y ∷ xs))
+last_of-map f (x ∷ y ∷ xs) = grind (arith, last_of-map f (y ∷ xs))
 last_of-map f _ = refl
 
 -- a write to the last element
@@ -116,9 +114,7 @@ merged_new eq (e ∷ f ∷ es) c cs a test h = (h.0, h.1, merged_new eq (f ∷ e
 
 pub merged_push : {A : Type 0} (eq : A → A → Bool) (es : List (Element A)) (cs : List ℕ) (a : A) → IsMerged eq es → IsMerged eq (push_text eq es cs a)
 merged_push eq es [] a h = h
-merged_push {A} eq es (c ∷ cs) a h =
-    cond_both (is_piece_under eq (last_of es) a) _ _ (λ (fs : List (Element A)). IsMerged eq fs)
-    (λ _. merged_extend eq es (c ∷ cs) h) (λ test. merged_new eq es c cs a test h)
+merged_push {A} eq es (c ∷ cs) a h = grind (arith, cond_both, merged_extend, merged_new)
 
 merged_marker : {A : Type 0} (eq : A → A → Bool) (es : List (Element A)) (name : List ℕ) → IsMerged eq es → IsMerged eq (es ++ marker_element name ∷ [])
 merged_marker eq [] name h = (tt, tt, tt)
@@ -145,9 +141,7 @@ not_true false h = refl
 
 module _ {A : Type 0} (eq : A → A → Bool) (laws : IsEquivalence eq) where
   same_parted : (e f g h : Element A) → SameElement eq e f → SameElement eq g h → AreParted eq f h → AreParted eq e g
-  same_parted (piece cs a) (piece ds b) (piece es x) (piece fs y) p q r = not_true (eq a x) (λ t.
-      let by : eq b x ≡ true = sym (laws.congr a b x p.1) ∙ t in
-      let all : eq b y ≡ true = laws.symm b y ∙ sym (laws.congr x y b q.1) ∙ laws.symm x b ∙ by in cc)
+  same_parted (piece cs a) (piece ds b) (piece es x) (piece fs y) p q r = grind (arith, not_true)
   same_parted (piece cs a) (piece ds b) (piece es x) (marker_element n) p q r = absurd q
   same_parted (piece cs a) (marker_element n) g h p q r = absurd p
   same_parted _ _ _ h p q r = tt

@@ -48,7 +48,4 @@ module _ {A : Type 0} (eq : A → A → Bool) (laws : IsEquivalence eq) where
 
   pub merged_inserted : (es : List (Element A)) (cs : List ℕ) (a : A) → 0 < length cs → IsMerged eq es → IsMerged eq (insert_text eq es cs a)
   merged_inserted [] cs a some h = (has_text cs a some, tt, tt)
-  merged_inserted (e ∷ es) cs a some h =
-      cond_both (is_piece_under eq (Some e) a) _ _ (λ (fs : List (Element A)). IsMerged eq fs)
-      (λ _. (before_has_text cs e a some h.0, before_parted_from eq cs e es h.1, h.2))
-      (λ test. (has_text cs a some, new_parted cs a e test, h))
+  merged_inserted (e ∷ es) cs a some h = grind (arith, cond_both, before_has_text, before_parted_from, has_text, new_parted)

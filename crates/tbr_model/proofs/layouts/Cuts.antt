@@ -74,10 +74,7 @@ layout_rises n ds h = record {
 
 pub by_rising : (n : ℕ) (cuts : List ℕ) (P : List ℕ → Type 0) → ((ds : List ℕ) → RisesTo 0 ds n → P (0 ∷ ds)) → IsLayout n cuts → P cuts
 by_rising n [] P f h = absurd (let e : slice_get (let l : List ℕ = [] in l) 0 ≡ Some 0 = h.begins in cc)
-by_rising n (c ∷ ds) P f h =
-    let begins : Some c ≡ Some 0 = h.begins in
-    let first : c ≡ 0 = cc in
-    subst (λ (x : ℕ). P (x ∷ ds)) (sym first) (f ds (rises_layout n ds (subst (λ (x : ℕ). IsLayout n (x ∷ ds)) first h)))
+by_rising n (c ∷ ds) P f h = grind (arith, ℕ, rises_layout)
 
 -- ---- lines and their cuts
 
@@ -212,9 +209,7 @@ lines_legal {A} width slots c (d ∷ ds) h fits begins wider = (
 
 begins_at_cuts : {A : Type 0} (width : ℕ) (slots : List (Slot A)) (c : ℕ) (ds : List ℕ) → RisesTo c ds (length slots) → Each (IsLegalLine width) (lines_after slots c ds) →
     (k cut : ℕ) (s : Slot A) → k < length (c ∷ ds) → get_or (c ∷ ds) k cut ≡ cut → slice_get slots cut ≡ Some s → MayBegin s
-begins_at_cuts {A} width slots c ds h legal zero cut s p q e =
-    slot_begins (drop c slots) s (subst FirstMayBegin (joined_after slots c ds h) (joined_begins width (lines_after slots c ds) legal))
-    (slice_get-drop c 0 slots ∙ ap (slice_get slots) (let i : c + 0 ≡ cut = omega (arith, q) in i) ∙ e)
+begins_at_cuts {A} width slots c ds h legal zero cut s p q e = grind (arith, slot_begins, joined_after, joined_begins, slice_get-drop, slice_get)
 begins_at_cuts width slots c [] h legal (suc k) cut s p q e = absurd (omega arith)
 begins_at_cuts width slots c (d ∷ ds) h legal (suc k) cut s p q e = begins_at_cuts width slots d ds h.1 legal.1 k cut s (omega arith) q e
 

@@ -114,24 +114,12 @@ longer width (s ∷ last) v some legal fits follow = record { fits = fits; first
 
 pub longer_holds_slots : {A : Type 0} (width : ℕ) (slots : List (Slot A)) (done : List (List (Slot A))) (last v : List (Slot A)) →
     HoldsSlots width slots (record { done = done; last = last }) → IsLegalLine width (last ++ v) → HoldsSlots width (slots ++ v) (record { done = done; last = last ++ v })
-longer_holds_slots width slots done last v h legal = record {
-  whole = sym (append_assoc (joined done) last v) ∙ ap (λ x. x ++ v) h.whole;
-  each = h.each;
-  full = h.full;
-  closed = sealed_more width done last v h.closed;
-  legal = legal;
-}
+longer_holds_slots width slots done last v h legal = grind (arith, append_assoc, sealed_more)
 
 pub next_holds_slots : {A : Type 0} (width : ℕ) (slots : List (Slot A)) (done : List (List (Slot A))) (last v : List (Slot A)) → 0 < length last →
     HoldsSlots width slots (record { done = done; last = last }) → StaysLongest width last v → IsLegalLine width v →
     HoldsSlots width (slots ++ v) (record { done = done ++ last ∷ []; last = v })
-next_holds_slots width slots done last v some h stays legal = record {
-  whole = ap (λ x. x ++ v) (joined-append done (last ∷ []) ∙ simp append-nil h.whole);
-  each = each_append (IsLegalLine width) done (last ∷ []) h.each (h.legal, tt);
-  full = each_append (λ l. 0 < length l) done (last ∷ []) h.full (some, tt);
-  closed = sealed_close width done last v h.closed stays;
-  legal = legal;
-}
+next_holds_slots width slots done last v some h stays legal = grind (arith, joined-append, append-nil, each_append, sealed_close)
 
 pub fill_holds_slots : {A : Type 0} (width : ℕ) (slots : List (Slot A)) (done : List (List (Slot A))) (last v : List (Slot A)) → 0 < length last →
     HoldsSlots width slots (record { done = done; last = last }) → Each (InWider width) v → HoldsSlots width (slots ++ v) (fill width done last v)

@@ -101,11 +101,7 @@ longest_end_line {A} width slots end some within h none = record {
 -- ---- by places
 
 pub none_more : (P : ℕ → Type 0) (m n end : ℕ) → end ≡ m → ((e : ℕ) → m < e → e ≤ n → ¬ P e) → ¬ P end → (e : ℕ) → m - 1 < e → e ≤ n → ¬ P e
-none_more P m n end same h here e p q k =
-    elim (cases_lt m e) [
-      | inl above ↦ h e above q k
-      | inr at ↦ here (subst P (let i : e ≡ end = omega arith in i) k)
-    ]
+none_more P m n end same h here e p q k = grind (arith, cases_lt)
 
 pub rest_solved : {A : Type 0} (width n : ℕ) (slots : List (Slot A)) (solved : List Bool) → TellsRests width slots n solved → n ≡ length slots → (end : ℕ) → 0 < end → end ≤ n →
     IsTrue (slice_index_or solved (n - end) false) ↔ HasLegalLayout width (drop end slots)
@@ -123,24 +119,12 @@ tells_first {A} width slots solved e = record {
 
 pub tells_more : {A : Type 0} (width : ℕ) (slots : List (Slot A)) (n : ℕ) (solved : List Bool) (b : Bool) → TellsRests width slots n solved → length solved ≡ n →
     (IsTrue b ↔ HasLegalLayout width (drop (length slots - n) slots)) → TellsRests width slots (n + 1) (solved ++ b ∷ [])
-tells_more {A} width slots n solved b h long new = record {
-  long = omega (arith, length-append solved (b ∷ []));
-  at = λ k p. elim (cases_lt k n) [
-    | inl below ↦ rw (get_or_append_left solved (b ∷ []) false k (omega arith)) (h.at k below)
-    | inr here ↦ let same : k ≡ n = omega arith in rw (get_or_push solved b false k (omega arith), same) new
-  ];
-}
+tells_more {A} width slots n solved b h long new = grind (arith, length-append, cases_lt, get_or_append_left, get_or_push)
 
 -- of later slots
 pub tells_later : {A : Type 0} (width : ℕ) (slots : List (Slot A)) (n from : ℕ) (solved : List Bool) → TellsRests width slots n solved → from ≤ length slots → length slots - from ≤ n →
     TellsRests width (drop from slots) (length slots - from) solved
-tells_later {A} width slots n from solved h within enough = record {
-  long = omega (arith, h.long);
-  at = λ k p.
-      let place : from + (length (drop from slots) - k) ≡ length slots - k = omega (arith, length-drop from slots) in
-      let same : drop (length (drop from slots) - k) (drop from slots) ≡ drop (length slots - k) slots = drop-drop (length (drop from slots) - k) from slots ∙ ap (λ i. drop i slots) place in
-      rw same (h.at k (omega arith));
-}
+tells_later {A} width slots n from solved h within enough = grind (arith, length-drop, drop-drop)
 
 pub legal_if_found : {A : Type 0} (width n : ℕ) (slots : List (Slot A)) (found : Option ℕ) (b : Bool) → 0 < n → b ≡ is_some found →
     MatchOption found (0 < n → ¬ HasLegalLayout width slots) (IsLongestLine width slots) → IsTrue b ↔ HasLegalLayout width slots

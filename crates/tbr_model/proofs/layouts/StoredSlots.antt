@@ -43,11 +43,7 @@ all_if_follow (x ∷ xs) h = rw (h.0) (all_if_follow xs h.1)
 
 pub legal_line : {A : Type 0} (width : ℕ) (line others : List (StoredSlot A)) (first : StoredSlot A) → line ≡ first ∷ others →
     IsLegalLine width (slot_values line) ↔ ((first.begins || first.wider) ≡ true) × (list_all (λ s. not (s.begins && s.wider)) others ≡ true) × (line_width (slot_values line) ≤ width)
-legal_line {A} width line others first e =
-    rw e (
-      (λ h. (h.first, all_if_follow others h.others, h.fits)),
-      (λ h. record { fits = h.2; first = h.0; others = follow_if_all others h.1 }),
-    )
+legal_line {A} width line others first e = grind (arith, all_if_follow, follow_if_all)
 
 pub slot_values_part : {A : Type 0} (xs : List (StoredSlot A)) (a b : ℕ) → slot_values (slice_range xs a b) ≡ slice_range (slot_values xs) a b
 slot_values_part xs a b = sym (ap (take (b - a)) (drop-map slot_value a xs) ∙ take-map slot_value (b - a) (drop a xs))

@@ -38,9 +38,7 @@ module _ {A : Type 0} (columns : ℕ → Option ℕ) where
   none_shown : (is : List (Item A)) → items_width columns is ≡ 0 → some_shown is ≡ false
   none_shown [] h = refl
   none_shown (marker name ∷ is) h = none_shown is (omega (arith, h))
-  none_shown (glyph c a ∷ is) h =
-      let none : nat_lt 0 (unwrap_or (columns c) 0) ≡ false = le-ltb 0 (unwrap_or (columns c) 0) (omega (arith, h)) in
-      or_from (shows_columns columns c) (some_shown is) (and_right (is_visible columns c) (nat_lt 0 (unwrap_or (columns c) 0)) none) (none_shown is (omega (arith, h)))
+  none_shown (glyph c a ∷ is) h = grind (arith, le-ltb, or_from, and_right, none_shown is (omega (arith, h)))
 
   -- an open line of no columns shows none
   abbrev OpenSo : Laid A → Type 0

@@ -1,11 +1,10 @@
 -- The visible characters and the markers of a run keep their order.
-use Rattle.std.proofs.Common.{◌≡◌, ℕ, ◌⊎◌, inl, inr, false, not, Option, List, [], ◌∷◌, ◌++◌, filter, refl, ap, sym, ◌∙◌, subst}
-use Rattle.std.specs.Char.{is_whitespace}
+use Rattle.std.proofs.Common.{◌≡◌, ℕ, ◌⊎◌, inl, inr, Option, List, [], ◌∷◌, ◌++◌, filter, refl, ap, sym, ◌∙◌, subst, arith}
 use Rattle.std.specs.List.{AllZip}
 use Rattle.std.proofs.lemmas.Bool.{and_left, cases_Bool}
 use Rattle.std.proofs.lemmas.List.Elements.{filter-append}
 use Rattle.tbr_model.specs.declared.white_space.WhiteSpace.{WhiteSpace}
-use Rattle.tbr_model.specs.Run.{Entry, character, Item, glyph, marker, is_kept}
+use Rattle.tbr_model.specs.Run.{Entry, character, Item, glyph, marker}
 use Rattle.tbr_model.specs.Layout.{joined}
 use Rattle.tbr_model.specs.Rule.{Event, run_of, progress, waiting, lines_of}
 use Rattle.tbr_model.specs.Markers.{marker_items}
@@ -17,13 +16,7 @@ use Rattle.tbr_model.proofs.rule.Markers.{waiting_none, marker_items_alone}
 use Rattle.tbr_model.proofs.rule.VisibleCharacters.{white_not_visible, under}
 
 looks_in_order : {A : Type 0} (columns : ℕ → Option ℕ) → LooksAtKept {A = A} columns AnyEntry AnyMode (filter (is_visible_or_marker columns))
-looks_in_order columns = record {
-  modes = λ c a b m h. tt;
-  append = filter-append (is_visible_or_marker columns);
-  nothing = refl;
-  lost = λ c a h. (let hides : is_visible columns c ≡ false = and_left (is_kept columns c) (not (is_whitespace c)) h in rw hides refl);
-  white = λ m c a h. rw (white_not_visible columns c h) refl;
-}
+looks_in_order columns = grind (arith, filter-append, and_left, white_not_visible)
 
 markers_all : {A : Type 0} (columns : ℕ → Option ℕ) (names : List (List ℕ)) → filter (is_visible_or_marker {A = A} columns) (marker_items names) ≡ marker_items names
 markers_all columns [] = refl

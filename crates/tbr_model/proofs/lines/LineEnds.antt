@@ -1,9 +1,9 @@
 -- A line ends only at a newline, or where what comes next doesn't fit.
-use Rattle.std.proofs.Common.{◌≡◌, ◌≢◌, ℕ, ◌+◌, ◌-◌, ◌%◌, ◌≤◌, ◌⊎◌, inl, inr, ◌==◌, ◌&&◌, ◌||◌, nat_le, nat_lt, true, false, if◌then◌else◌, is_some, Option, Some, None, List, [], ◌∷◌, ◌++◌, refl, ap, sym, ◌∙◌, subst, arith, le-leb, lt-ltb}
+use Rattle.std.proofs.Common.{◌≡◌, ◌≢◌, ℕ, ◌+◌, ◌≤◌, ◌⊎◌, inl, inr, ◌==◌, ◌&&◌, ◌||◌, nat_lt, false, if◌then◌else◌, is_some, Option, Some, None, List, [], ◌∷◌, ◌++◌, refl, ap, ◌∙◌, arith, le-leb, lt-ltb}
 use Rattle.std.proofs.lemmas.Bool.{cond_both, or_parts}
 use Rattle.tbr_model.specs.declared.white_space.WhiteSpace.{WhiteSpace}
 use Rattle.tbr_model.specs.declared.white_space.WhiteSpace.TheVariants.{Normal, Pre, PreWrap}
-use Rattle.tbr_model.specs.Run.{Entry, character, marker_entry, Item, items_width, has_character, is_blank, is_break}
+use Rattle.tbr_model.specs.Run.{Entry, character, marker_entry, Item, items_width, has_character, is_break}
 use Rattle.tbr_model.specs.Laid.{Laid}
 use Rattle.tbr_model.specs.Rule.{Progress, pending_width, lay, flush_word, break_word, newline, tab, keep_space, is_pre, passes, tag_of, keep_character, preserve, enter, finished}
 use Rattle.tbr_model.specs.Shown.{columns_so_far, next_stop, is_newline_or_tab, HasOneMore}
@@ -21,9 +21,7 @@ module _ {A : Type 0} (columns : ℕ → Option ℕ) (width : ℕ) where
   unchanged p = record { done = refl; so_far = refl }
 
   lay_rests : (p : Progress A) → columns_so_far columns p ≤ width → Rests p (lay columns width p)
-  lay_rests p fits =
-      let test : nat_le (p.laid.width + (pending_width p.space + items_width columns p.word)) width ≡ true = le-leb _ _ fits in
-      rw test (record { done = refl; so_far = omega arith })
+  lay_rests p fits = grind (arith, le-leb)
 
   flush_rests : (p : Progress A) → columns_so_far columns p ≤ width → Rests p (flush_word columns width p)
   flush_rests p fits = cond_both (has_character p.word) _ _ (Rests p) (λ _. lay_rests p fits) (λ _. unchanged p)
@@ -45,12 +43,7 @@ module _ {A : Type 0} (columns : ℕ → Option ℕ) (width : ℕ) where
   keep_character_done c a b mode (Some n) p = cond_both (is_pre mode && passes columns width n p) _ _ (Ends p) (λ _. refl) (λ _. refl)
 
   preserve_done : (c : ℕ) (a b : A) (mode : WhiteSpace) (p : Progress A) → (c == 10) || (c == 9) ≡ false → Ends p (preserve columns width c a b mode p)
-  preserve_done c a b mode p other =
-      let (no_newline, no_tab) = or_parts (c == 10) (c == 9) other in
-      cond_both (c == 8203) _ _ (Ends p) (λ _. refl)
-      (λ _. cond_both (c == 10) _ _ (Ends p) (λ h. cc)
-      (λ _. cond_both (c == 9) _ _ (Ends p) (λ h. cc)
-      (λ _. cond_both (is_blank c) _ _ (Ends p) (λ _. keep_space_done c (tag_of p a b) mode (columns c) p) (λ _. keep_character_done c a b mode (columns c) p))))
+  preserve_done c a b mode p other = grind (arith, or_parts, cond_both, keep_space_done, keep_character_done)
 
   pub entry_ends_none : (p : Progress A) (e : Entry A) → columns_so_far columns p ≤ width → is_newline_or_tab e ≡ false → (enter columns width p e).laid.done ≡ p.laid.done
   entry_ends_none p (marker_entry name) fits other = refl
@@ -80,27 +73,16 @@ module _ {A : Type 0} (columns : ℕ → Option ℕ) (width : ℕ) where
       (line, is ∙ ap (λ (ls : List (List (Item A))). ls ++ line ∷ []) r.done)
 
   tab_done : (q : Progress A) (a : A) → next_stop (q.laid.width + pending_width q.space) ≤ width → Ends q (tab width a q)
-  tab_done q a fits =
-      let some : nat_lt (q.laid.width + pending_width q.space) width ≡ true = lt-ltb _ _ (omega (arith, fits)) in
-      let test : nat_le (8 - (q.laid.width + pending_width q.space) % 8) (width - (q.laid.width + pending_width q.space)) ≡ true = le-leb _ _ (omega (arith, fits)) in
-      rw (some, test) refl
+  tab_done q a fits = grind (arith, lt-ltb, le-leb)
 
   flushed_tab : (p : Progress A) (a : A) → next_stop (columns_so_far columns p) ≤ width → Ends p (tab width a (flush_word columns width p))
-  flushed_tab p a fits =
-      let q : Progress A = flush_word columns width p in
-      let r = flush_rests p (omega (arith, fits)) in
-      let none : items_width columns q.word ≡ 0 = no_character_no_width columns q.word (flush_flushes columns width p) in
-      let column : columns_so_far columns p ≡ q.laid.width + pending_width q.space = omega (arith, r.so_far, none) in
-      tab_done q a (subst (λ (n : ℕ). next_stop n ≤ width) column fits) ∙ r.done
+  flushed_tab p a fits = grind (arith, flush_rests, no_character_no_width, flush_flushes, tab_done, ℕ)
 
   pub tab_ends_none : (p : Progress A) (a b : A) (mode : WhiteSpace) → mode ≢ Normal → next_stop (columns_so_far columns p) ≤ width →
       (enter columns width p (character 9 a b mode)).laid.done ≡ p.laid.done
   tab_ends_none p a b Normal preserving fits = absurd (preserving refl)
   tab_ends_none p a b Pre preserving fits = flushed_tab p (tag_of p a b) fits
-  tab_ends_none p a b PreWrap preserving fits =
-      let r = break_rests p (omega (arith, fits)) in
-      let q : Progress A = break_word columns width p in
-      flushed_tab q (tag_of q a b) (subst (λ (n : ℕ). next_stop n ≤ width) (sym r.so_far) fits) ∙ r.done
+  tab_ends_none p a b PreWrap preserving fits = grind (arith, break_rests, flushed_tab, ℕ)
 
   -- ---- the end of a run
 

@@ -1,5 +1,5 @@
 -- A run of markers alone ends no line, and its markers wait, or are trailing.
-use Rattle.std.proofs.Common.{◌≡◌, ℕ, ◌≤◌, nat_lt, true, false, Option, None, List, [], ◌∷◌, ◌++◌, fold, length, refl, ap, sym, ◌∙◌, arith, subst, append_assoc, append-nil, lt-ltb}
+use Rattle.std.proofs.Common.{◌≡◌, ℕ, ◌≤◌, false, Option, None, List, [], ◌∷◌, ◌++◌, fold, length, refl, ap, sym, ◌∙◌, arith, subst, append_assoc, append-nil, lt-ltb}
 use Rattle.tbr_model.specs.declared.white_space.WhiteSpace.TheVariants.{Normal}
 use Rattle.tbr_model.specs.Run.{Entry, character, marker_entry, Item, marker, has_character, Reading, read, trailing}
 use Rattle.tbr_model.specs.Layout.{joined}
@@ -43,9 +43,7 @@ names_of_markers A (name ∷ names) = ap (λ ns. name ∷ ns) (names_of_markers 
 
 none_without : (A : Type 0) (names : List (List ℕ)) (n : ℕ) → length names ≤ n → without_last_markers {A = A} n (marker_run names) ≡ []
 none_without A [] n h = refl
-none_without A (name ∷ names) n h =
-    let fewer : nat_lt (length (names_in_run {A = A} (marker_run names))) n ≡ true = lt-ltb _ _ (omega (arith, ap length (names_of_markers A names))) in
-    rw fewer (none_without A names n (omega arith))
+none_without A (name ∷ names) n h = grind (arith, lt-ltb, names_of_markers, none_without A names n (omega arith))
 
 pub all_taken_out : (A : Type 0) (names : List (List ℕ)) → without_last_markers {A = A} (length names) (marker_run names) ≡ []
 all_taken_out A names = none_without A names (length names) (omega arith)

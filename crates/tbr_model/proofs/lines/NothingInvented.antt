@@ -1,5 +1,5 @@
 -- What is on the lines of a run comes from it.
-use Rattle.std.proofs.Common.{ℕ, inl, inr, ◌==◌, not, Option, List, refl}
+use Rattle.std.proofs.Common.{ℕ, inl, inr, ◌==◌, not, Option, List, refl, arith}
 use Rattle.std.specs.List.{Contains}
 use Rattle.std.specs.Prelude.{slice_index_or}
 use Rattle.std.specs.Char.{is_whitespace}
@@ -18,11 +18,7 @@ module _ {A : Type 0} (columns : ℕ → Option ℕ) (Same : A → A → Type 0)
   joins_from c mode x h (inr blank) = inr ((and_parts (is_whitespace c) (not (c == 160)) blank.0).0, h)
 
   brings : (e : Entry A) → Contains run e → Brings columns (ComesFrom columns Same run) (HasAnnotation Same run) e
-  brings (character c a b m) h = (
-    (character c a b m, h, inl (same a)),
-    (character c a b m, h, inr (same b)),
-    λ x has may. joins_from c m x has may,
-  )
+  brings (character c a b m) h = grind (arith, joins_from)
   brings (marker_entry name) h = h
 
 -- In every mode nothing is on the lines but visible characters, white space under the run's annotations, and its

@@ -1,11 +1,10 @@
 -- The hard lines of a run under other annotations, and what is shown of them.
-use Rattle.std.proofs.Common.{◌≡◌, ◌≢◌, ℕ, ◌==◌, inl, inr, Bool, true, false, Option, List, [], ◌∷◌, map, filter, take, drop, refl, ap, subst, ◌∙◌, arith}
+use Rattle.std.proofs.Common.{◌≡◌, ◌≢◌, ℕ, inl, inr, Bool, true, false, Option, List, [], ◌∷◌, map, take, drop, refl, ap, subst, ◌∙◌, arith}
 use Rattle.std.specs.List.{AllZip}
 use Rattle.std.proofs.lemmas.List.{map-append, length-map, take-map, drop-map}
-use Rattle.tbr_model.specs.Codes.{newline_character}
 use Rattle.tbr_model.specs.Run.{Entry, character, marker_entry, Item, glyph, marker}
 use Rattle.tbr_model.specs.Layout.{joined}
-use Rattle.tbr_model.specs.Hard.{onto_first, hard_lines, Parted, glyphs_of, letters_of, entry_letters, is_visible, is_visible_entry, visible_glyphs, visible_entries, IsShown, ShowsVisible, IsPrintableLine, IsTabbedLine, IsSpaces, blank_lines, StandUnder, HasMain, HasContinuation, ShowsHardLine, ShowsPre, ShowsPreWrap, ShowsTabs}
+use Rattle.tbr_model.specs.Hard.{onto_first, hard_lines, Parted, glyphs_of, letters_of, entry_letters, is_visible_entry, visible_entries, IsShown, ShowsVisible, IsPrintableLine, IsTabbedLine, IsSpaces, blank_lines, StandUnder, HasMain, HasContinuation, ShowsHardLine, ShowsPre, ShowsPreWrap, ShowsTabs}
 use Rattle.tbr_model.specs.Mapped.{map_item, map_items, map_entry, map_run, map_lines}
 use Rattle.tbr_model.proofs.lists.Each.{if_same, filter-map, zip-map}
 use Rattle.tbr_model.proofs.maps.Layouts.{joined-map}
@@ -19,10 +18,7 @@ onto_first-map g x (xs ∷ xss) = refl
 pub hard_lines-map : {A B : Type 0} (f : A → B) (run : List (Entry A)) → hard_lines (map_run f run) ≡ map (map_run f) (hard_lines run)
 hard_lines-map f [] = refl
 hard_lines-map f (marker_entry name ∷ es) = ap (onto_first (marker_entry name)) (hard_lines-map f es) ∙ onto_first-map (map_entry f) (marker_entry name) (hard_lines es)
-hard_lines-map f (character c a b m ∷ es) =
-    let rest = hard_lines-map f es in
-    if_same (map (map_run f)) (c == newline_character) _ _ _ _ (ap (λ hs. [] ∷ hs) rest)
-    (ap (onto_first (character c (f a) (f b) m)) rest ∙ onto_first-map (map_entry f) (character c a b m) (hard_lines es))
+hard_lines-map f (character c a b m ∷ es) = grind (arith, if_same, onto_first-map, hard_lines-map f es)
 
 pub parted-map : {X Y Z W : Type 0} (R : Bool → X → List Y → Type 0) (S : Bool → Z → List W → Type 0) (g : X → Z) (k : Y → W) →
     ((more : Bool) (x : X) (ys : List Y) → R more x ys → S more (g x) (map k ys)) → (xs : List X) (ys : List Y) → Parted R xs ys → Parted S (map g xs) (map k ys)
@@ -100,9 +96,7 @@ module _ {A B : Type 0} (f : A → B) where
         one g (marker_entry name) h = absurd h
 
     pub visible-map : (run : List (Entry A)) (ls : List (List (Item A))) → ShowsVisible columns Same run ls → ShowsVisible columns Other (map_run f run) (map_lines f ls)
-    visible-map run ls h =
-        let glyphs = ap (filter (λ (g : ℕ × B). is_visible columns g.0)) (joined_glyphs-map ls) ∙ filter-map (map_glyph f) (λ (g : ℕ × A). is_visible columns g.0) (λ (g : ℕ × B). is_visible columns g.0) (λ g. refl) (glyphs_of (joined ls)) in
-        rw (glyphs, visible_entries-map columns run) (shown-map (visible_glyphs columns (joined ls)) (visible_entries columns run) h)
+    visible-map run ls h = grind (arith, ℕ, joined_glyphs-map, filter-map, visible_entries-map, shown-map)
 
     stand-map : (Has : Entry A → A → Type 0) (HasNow : Entry B → B → Type 0) → ((e : Entry A) (x : A) → Has e x → HasNow (map_entry f e) (f x)) →
         (gs : List (ℕ × A)) (es : List (Entry A)) → StandUnder Has gs es → StandUnder HasNow (map (map_glyph f) gs) (map_run f es)

@@ -1,5 +1,5 @@
 -- The rule under other annotations, and after lines that are done, which have no influence on it.
-use Rattle.std.proofs.Common.{◌≡◌, ℕ, zero, suc, ◌+◌, ◌-◌, ◌%◌, ◌==◌, ◌&&◌, nat_le, nat_lt, true, false, if◌then◌else◌, is_some, is_none, Option, Some, None, List, [], ◌∷◌, ◌++◌, fold, refl, ap, sym, ◌∙◌, append_assoc}
+use Rattle.std.proofs.Common.{◌≡◌, ℕ, zero, suc, ◌+◌, ◌-◌, ◌%◌, ◌==◌, ◌&&◌, nat_le, nat_lt, false, if◌then◌else◌, is_some, is_none, Option, Some, None, List, [], ◌∷◌, ◌++◌, fold, refl, ap, sym, ◌∙◌, append_assoc, arith}
 use Rattle.std.specs.Option.{option_map}
 use Rattle.std.proofs.lemmas.List.{map-append}
 use Rattle.tbr_model.specs.declared.white_space.WhiteSpace.{WhiteSpace}
@@ -22,14 +22,10 @@ module _ {A B : Type 0} (d : List (List (Item B))) (f : A → B) (columns : ℕ 
   -- ---- what is laid
 
   extended-map : (l : Laid A) (is : List (Item A)) (js : List (Item B)) (n : ℕ) → js ≡ map_items f is → extended (moved_laid d f l) js n ≡ moved_laid d f (extended l is n)
-  extended-map l is js n e =
-      ap (λ (ks : List (Item B)). record { done = d ++ map_lines f l.done; line = ks; width = l.width + n })
-      (ap (λ ks. map_items f l.line ++ ks) e ∙ sym (map-append (map_item f) l.line is))
+  extended-map l is js n e = grind (arith, map-append)
 
   end_line-map : (l : Laid A) → end_line (moved_laid d f l) ≡ moved_laid d f (end_line l)
-  end_line-map l =
-      ap (λ (ls : List (List (Item B))). record { done = ls; line = []; width = 0 })
-      (append_assoc d (map_lines f l.done) (map_items f l.line ∷ []) ∙ ap (λ (ls : List (List (Item B))). d ++ ls) (sym (map-append (map_items f) l.done (l.line ∷ []))))
+  end_line-map l = grind (arith, append_assoc, map-append)
 
   end_if_character-map : (l : Laid A) → end_if_character (moved_laid d f l) ≡ moved_laid d f (end_if_character l)
   end_if_character-map l = rw (has_character-map f columns l.line) (if_same (moved_laid d f) (has_character l.line) (end_line l) l _ _ (end_line-map l) refl)
@@ -143,12 +139,7 @@ module _ {A B : Type 0} (d : List (List (Item B))) (f : A → B) (columns : ℕ 
       same = ap (put_pending width (option_map (map_space f) p.space)) (end_if_character-map p.laid) ∙ put_pending-map p.space (end_if_character p.laid)
 
   lay-map : (p : Progress A) → lay columns width (moved d f p) ≡ moved d f (lay columns width p)
-  lay-map p =
-      let q : Progress B = moved d f p in
-      let text = ap (λ n. n + items_width columns (map_items f p.word)) (pending_width-map p.space) ∙ ap (λ n. pending_width p.space + n) (items_width-map f columns p.word) in
-      ap (λ n. if nat_le (p.laid.width + n) width then lay_here columns q else lay_fresh columns width (wrap_space columns width q q.space)) text
-      ∙ if_same (moved d f) (nat_le (p.laid.width + (pending_width p.space + items_width columns p.word)) width) (lay_here columns p) (lay_fresh columns width (wrap_space columns width p p.space)) _ _ (lay_here-map p)
-      (ap (lay_fresh columns width) (wrap_space-map p p.space) ∙ lay_fresh-map (wrap_space columns width p p.space))
+  lay-map p = grind (arith, pending_width-map, items_width-map, if_same, lay_here-map, wrap_space-map, lay_fresh-map)
 
   flush_word-map : (p : Progress A) → flush_word columns width (moved d f p) ≡ moved d f (flush_word columns width p)
   flush_word-map p =
@@ -178,12 +169,7 @@ module _ {A B : Type 0} (d : List (List (Item B))) (f : A → B) (columns : ℕ 
   newline-map p = ap (λ (l : Laid B). record (moved d f p) { laid = l; space = None; continuation_flag = false; in_continuation = false }) (end_line-map p.laid)
 
   pub tab-map : (a : A) (p : Progress A) → tab width (f a) (moved d f p) ≡ moved d f (tab width a p)
-  tab-map a p =
-      let column : ℕ = p.laid.width + pending_width p.space in
-      rw (pending_width-map p.space)
-      (ap (λ (l : Laid B). record (moved d f p) { laid = l })
-      (if_same (moved_laid d f) (nat_lt column width) _ _ _ _ (put_tab-map column a p.laid)
-      (ap (put_tab width 0 (f a)) (end_if_character-map p.laid) ∙ put_tab-map 0 a (end_if_character p.laid))))
+  tab-map a p = grind (arith, ℕ, pending_width-map, if_same, put_tab-map, end_if_character-map)
 
   tag_of-map : (p : Progress A) (a b : A) → tag_of (moved d f p) (f a) (f b) ≡ f (tag_of p a b)
   tag_of-map p a b = if_same f p.in_continuation b a (f b) (f a) refl refl
@@ -201,10 +187,7 @@ module _ {A B : Type 0} (d : List (List (Item B))) (f : A → B) (columns : ℕ 
 
   keep_character-map : (c : ℕ) (a b : A) (m : WhiteSpace) (o : Option ℕ) (p : Progress A) → keep_character columns width c (f a) (f b) m o (moved d f p) ≡ moved d f (keep_character columns width c a b m o p)
   keep_character-map c a b m None p = refl
-  keep_character-map c a b m (Some n) p =
-      rw (passes-map n p)
-      (if_same (moved d f) (is_pre m && passes columns width n p) _ _ _ _ (join-map c b m (record p { continuation_flag = true; in_continuation = true }))
-      (ap (λ x. join c x m (moved d f p)) (tag_of-map p a b) ∙ join-map c (tag_of p a b) m p))
+  keep_character-map c a b m (Some n) p = grind (arith, passes-map, if_same, join-map, tag_of-map)
 
   pub preserve-map : (c : ℕ) (a b : A) (m : WhiteSpace) (p : Progress A) → preserve columns width c (f a) (f b) m (moved d f p) ≡ moved d f (preserve columns width c a b m p)
   preserve-map c a b m p =
@@ -243,10 +226,7 @@ module _ {A B : Type 0} (d : List (List (Item B))) (f : A → B) (columns : ℕ 
   finished_moved p = ap (λ (q : Progress B). end_if_character q.laid) (flush_word-map p) ∙ end_if_character-map (flush_word columns width p).laid
 
   waiting_moved : (p : Progress A) → waiting columns width (moved d f p) ≡ map_items f (waiting columns width p)
-  waiting_moved p =
-      let q : Progress A = flush_word columns width p in
-      ap (λ (r : Progress B). (end_if_character r.laid).line ++ r.word) (flush_word-map p)
-      ∙ ap (λ (l : Laid B). l.line ++ map_items f q.word) (end_if_character-map q.laid) ∙ sym (map-append (map_item f) (end_if_character q.laid).line q.word)
+  waiting_moved p = grind (arith, flush_word-map, end_if_character-map, map-append)
 
 module _ {A B : Type 0} (f : A → B) (columns : ℕ → Option ℕ) (width : ℕ) where
   pub progress-map : (es : List (Event A)) → progress columns width (map_events f es) ≡ map_progress f (progress columns width es)

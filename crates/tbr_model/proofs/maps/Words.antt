@@ -1,8 +1,8 @@
 -- The words of a run under other annotations.
-use Rattle.std.proofs.Common.{◌≡◌, ℕ, nat_lt, ◌&&◌, Option, None, Some, List, [], ◌∷◌, ◌++◌, map, fold, refl, ap, sym, ◌∙◌, arith}
+use Rattle.std.proofs.Common.{◌≡◌, ℕ, nat_lt, ◌&&◌, Option, None, Some, List, [], ◌∷◌, map, fold, refl, ap, ◌∙◌, arith}
 use Rattle.std.specs.Option.{option_map}
 use Rattle.std.proofs.lemmas.List.{map-append}
-use Rattle.tbr_model.specs.Run.{Entry, character, marker_entry, Item, glyph, marker, item_width, items_width, items_of, is_kept, is_blank, blank_of, first_of, is_break_entry, has_character, word_of, Reading, start, works, read, reading, words_of, trailing}
+use Rattle.tbr_model.specs.Run.{Entry, character, marker_entry, Item, glyph, marker, item_width, items_width, items_of, is_kept, is_blank, blank_of, first_of, is_break_entry, has_character, Reading, start, works, read, reading, words_of, trailing}
 use Rattle.tbr_model.proofs.lists.Each.{if_same}
 use Rattle.tbr_model.specs.Mapped.{map_item, map_items, map_entry, map_run, map_word, map_reading}
 
@@ -40,11 +40,7 @@ module _ {A B : Type 0} (f : A → B) (columns : ℕ → Option ℕ) where
   works-map r e = ap (λ b. b && nat_lt 0 (items_width columns (map_items f r.items))) (is_break-map e) ∙ ap (λ n. is_break_entry e && nat_lt 0 n) (items_width-map r.items)
 
   pub read-map : (r : Reading A) (e : Entry A) → read columns (map_reading f r) (map_entry f e) ≡ map_reading f (read columns r e)
-  read-map r e =
-      let g = ap (first_of (option_map f r.gap)) (blank_of-map e) ∙ first_of-map r.gap (blank_of e) in
-      let i = ap (λ is. map_items f r.items ++ is) (items_of-map e) ∙ sym (map-append (map_item f) r.items (items_of columns e)) in
-      rw works-map (if_same (map_reading f) (works columns r e) _ _ _ _ (λ j. record { words = sym (map-append (map_word f) r.words (word_of r ∷ [])) j; gap = blank_of-map e j; items = [] })
-      (λ j. record { words = map (map_word f) r.words; gap = g j; items = i j }))
+  read-map r e = grind (arith, blank_of-map, first_of-map, items_of-map, map-append, works-map, if_same)
 
   read_all-map : (run : List (Entry A)) (r : Reading A) → fold (read columns) (map_reading f r) (map_run f run) ≡ map_reading f (fold (read columns) r run)
   read_all-map [] r = refl
@@ -54,9 +50,7 @@ module _ {A B : Type 0} (f : A → B) (columns : ℕ → Option ℕ) where
   reading-map run = read_all-map run start
 
   pub words_of-map : (run : List (Entry A)) → words_of columns (map_run f run) ≡ map (map_word f) (words_of columns run)
-  words_of-map run =
-      let r : Reading A = reading columns run in
-      rw (reading-map run, has_character-map) (if_same (map (map_word f)) (has_character r.items) _ _ _ _ (sym (map-append (map_word f) r.words (word_of r ∷ []))) refl)
+  words_of-map run = grind (arith, reading-map, has_character-map, if_same, map-append)
 
   pub trailing-map : (run : List (Entry A)) → trailing columns (map_run f run) ≡ map_items f (trailing columns run)
   trailing-map run = rw (reading-map run, has_character-map) (if_same (map_items f) (has_character (reading columns run).items) _ _ _ _ refl refl)

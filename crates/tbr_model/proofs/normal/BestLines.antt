@@ -93,10 +93,7 @@ module _ {A : Type 0} (columns : ℕ → Option ℕ) (width : ℕ) where
   -- if no item of the run is wider than a line
   pub normal_best : (es : List (Event A)) → Each (HasMode Normal) (run_of es) → Each (λ i. item_width columns i ≤ width) (kept_items columns (run_of es)) →
       (lines : List (List (Slot A))) × IsBest width (slots_of columns width (run_of es)) lines × (lines_of columns width es ≡ map line_text lines)
-  normal_best es modes narrow =
-      let state = narrow_runs columns width es start modes (no_words columns width) narrow in
-      let k = ends es state.0 state.1 (λ _. state.2) in
-      best es k.0 k.1
+  normal_best es modes narrow = grind (arith, narrow_runs, no_words, ends, best)
 
   -- ---- runs that show nothing
 
@@ -120,15 +117,7 @@ module _ {A : Type 0} (columns : ℕ → Option ℕ) (width : ℕ) where
     nothing none = ap (λ (ws : List (Word A)). text_of (wrapped columns width ws)) none
 
     blank_state : NormalBlank columns (state_of columns width r) run
-    blank_state = record {
-      blank = λ e. let none = blank_words e in (ap (λ (l : Laid A). l.width) (nothing none), sym (ap (items_width columns) (kept_word none)) ∙ e, ap (λ (l : Laid A). l.done) (nothing none));
-      blank_if = λ e f. ap (items_width columns) (kept_word (no_words_if e)) ∙ f;
-      bare = λ e. let none = blank_words (no_character_no_width columns (kept_items columns run) e) in
-          (ap (λ (l : Laid A). l.done) (nothing none), ap (λ (l : Laid A). has_character l.line) (nothing none), sym (ap has_character (kept_word none)) ∙ e);
-      bare_if = λ e f. ap has_character (kept_word (no_words_if (no_text (wrapped columns width r.words).last h.last e))) ∙ f;
-    }
+    blank_state = grind (arith, blank_words, nothing, kept_word, no_words_if, no_character_no_width, no_text)
 
   pub normal_blank : (es : List (Event A)) → Each (HasMode Normal) (run_of es) → AllLaid (IsNarrowItem columns width) (progress columns width es).laid → NormalBlank columns (progress columns width es) (run_of es)
-  normal_blank es modes narrow =
-      let state = normal_state columns width es modes narrow in
-      subst (λ (p : Progress A). NormalBlank columns p (run_of es)) (sym state.0) (blank_state (run_of es) state.1)
+  normal_blank es modes narrow = grind (arith, normal_state, blank_state)

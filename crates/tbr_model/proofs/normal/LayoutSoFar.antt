@@ -1,12 +1,11 @@
 -- A run of Normal mode is, by the rule, at the texts of the layout of its words so far.
-use Rattle.std.proofs.Common.{◌≡◌, ℕ, ◌+◌, ◌<◌, ◌≤◌, ◌⊎◌, inl, inr, Bool, true, false, nat_lt, nat_le, ◌==◌, if◌then◌else◌, is_some, Option, None, Some, List, [], ◌∷◌, ◌++◌, map, fold, refl, ap, sym, ◌∙◌, subst, append_assoc, append-nil, ltb-true, lt-ltb}
+use Rattle.std.proofs.Common.{◌≡◌, ℕ, ◌+◌, ◌<◌, ◌≤◌, ◌⊎◌, inl, inr, Bool, true, false, nat_lt, nat_le, if◌then◌else◌, Option, None, Some, List, [], ◌∷◌, ◌++◌, map, fold, refl, ap, sym, ◌∙◌, subst, append_assoc, append-nil, ltb-true, lt-ltb, arith}
 use Rattle.std.specs.List.{AllByRecursion as Each}
 use Rattle.std.proofs.lemmas.Bool.{cond_both, or_parts, cases_Bool}
 use Rattle.std.proofs.lemmas.List.Sums.{fold-append}
 use Rattle.tbr_model.proofs.rule.LaidText.{text-extended, text-put_items}
-use Rattle.tbr_model.specs.declared.white_space.WhiteSpace.{WhiteSpace}
 use Rattle.tbr_model.specs.declared.white_space.WhiteSpace.TheVariants.{Normal, Pre, PreWrap}
-use Rattle.tbr_model.specs.Run.{Entry, character, marker_entry, Item, glyph, marker, items_width, items_of, kept_items, is_break, is_break_entry, is_blank, blank_of, first_of, has_character, Word, word_of, Reading, start, works, read, reading}
+use Rattle.tbr_model.specs.Run.{Entry, character, marker_entry, Item, marker, items_width, items_of, kept_items, is_break, is_break_entry, is_blank, blank_of, first_of, has_character, Word, word_of, Reading, start, works, read, reading}
 use Rattle.tbr_model.specs.Layout.{Slot, line_text, line_width, gap_text, gap_width}
 use Rattle.tbr_model.specs.Greedy.{Lines, place_word, no_lines, wrapped, IsNarrow}
 use Rattle.tbr_model.specs.Laid.{Laid, end_if_character, extended, put_items}
@@ -93,23 +92,10 @@ module _ {A : Type 0} (columns : ℕ → Option ℕ) (width : ℕ) where
   lined_fits words h = (wrapped_holds columns width words h.narrow).legal.fits
 
   lined_positive : (words : List (Word A)) → Lined words → IsPositive (wrapped columns width words).last
-  lined_positive words h = elim h.begun [
-    | inl none ↦ subst (λ (ws : List (Word A)). IsPositive (wrapped columns width ws).last) (sym none) tt
-    | inr some ↦ some_positive (wrapped columns width words).last some
-  ]
+  lined_positive words h = grind (arith, some_positive)
 
   lined_push : (words : List (Word A)) (w : Word A) → Lined words → IsNarrow columns width w.items → 0 < items_width columns w.items → Lined (words ++ w ∷ [])
-  lined_push words w h narrow wide =
-      let lines : Lines A = wrapped columns width words in
-      let placed : wrapped columns width (words ++ w ∷ []) ≡ place_word columns width lines w = wrapped-push words w in
-      let letters = place_characters columns width lines w.gap w.items h.full h.last (wide_items columns w.items wide) narrow in
-      record {
-        narrow = each_append WordNarrow words (w ∷ []) h.narrow (narrow, tt);
-        wide = each_append WordWide words (w ∷ []) h.wide (wide, tt);
-        begun = inr (subst (λ (q : Lines A). 0 < line_width q.last) (sym placed) (place_wide columns width lines w.gap w.items (lined_fits words h) narrow wide));
-        full = subst (λ (q : Lines A). Each HasGlyph q.done) (sym placed) letters.0;
-        last = subst (λ (q : Lines A). LastHas q.last) (sym placed) letters.1;
-      }
+  lined_push words w h narrow wide = grind (arith, wrapped-push, place_characters, wide_items, each_append, place_wide, lined_fits)
 
   -- where a reading is
   abbrev pub state_of : Reading A → Progress A
@@ -136,9 +122,7 @@ module _ {A : Type 0} (columns : ℕ → Option ℕ) (width : ℕ) where
   -- and then it is placed
   pub lay_reading : (r : Reading A) → Lined r.words → has_character r.items ≡ true → IsNarrow columns width r.items →
       lay columns width (state_of r) ≡ normal_at (text_of (wrapped columns width (r.words ++ word_of r ∷ []))) None []
-  lay_reading r h some narrow =
-      let lines : Lines A = wrapped columns width r.words in
-      laid_at r some ∙ ap (λ (l : Laid A). normal_at l None []) (word_laid columns width lines r.gap r.items h.last narrow some ∙ ap text_of (sym (wrapped-push r.words (word_of r))))
+  lay_reading r h some narrow = grind (arith, laid_at, normal_at, word_laid, text_of, wrapped-push)
 
   -- ---- an entry
 
@@ -174,13 +158,7 @@ module _ {A : Type 0} (columns : ℕ → Option ℕ) (width : ℕ) where
   ]
 
   goes_other : (r : Reading A) (c : ℕ) (a b : A) → is_break c ≡ false → Lined r.words → Goes r (character c a b Normal) (read columns r (character c a b Normal))
-  goes_other r c a b breaks h =
-      let blank : is_blank c ≡ false = (or_parts (c == 8203) (is_blank c) breaks).1 in
-      let mode = cond_both (has_character r.items) Normal Normal (λ (m : WhiteSpace). m ≡ Normal) (λ _. refl) (λ _. refl) in
-      elim (cases_Bool (is_some (columns c))) [
-        | inl some ↦ rw (breaks, blank, some, first_of_none r.gap) (ap (λ (m : WhiteSpace). let p : Progress A = record (standing (wrapped columns width r.words) r.gap (r.items ++ glyph c a ∷ [])) { mode = m } in p) mode, h)
-        | inr none ↦ rw (breaks, blank, none, first_of_none r.gap, append-nil) (refl, h)
-      ]
+  goes_other r c a b breaks h = grind (arith, or_parts, cond_both, cases_Bool, first_of_none, append-nil)
 
   -- a word that a break point ends is narrow where all that is laid is
   enter_narrow : (r : Reading A) (e : Entry A) → HasMode Normal e → is_break_entry e ≡ true → AllLaid (IsNarrowItem columns width) (enter columns width (state_of r) e).laid →

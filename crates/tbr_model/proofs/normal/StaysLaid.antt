@@ -1,5 +1,5 @@
 -- What a run of Normal mode has laid stays laid.
-use Rattle.std.proofs.Common.{◌≡◌, ◌≢◌, ℕ, ◌≤◌, nat_lt, ◌&&◌, is_none, Option, None, Some, List, [], ◌∷◌, ◌++◌, fold, refl, ap, sym, ◌∙◌, subst, append_assoc, append-nil}
+use Rattle.std.proofs.Common.{◌≡◌, ◌≢◌, ℕ, ◌≤◌, nat_lt, ◌&&◌, is_none, Option, None, Some, List, [], ◌∷◌, ◌++◌, fold, refl, ap, sym, ◌∙◌, append_assoc, append-nil, arith}
 use Rattle.std.specs.List.{AllByRecursion as Each}
 use Rattle.std.proofs.lemmas.Bool.{cond_both}
 use Rattle.tbr_model.specs.declared.white_space.WhiteSpace.TheVariants.{Normal, PreWrap}
@@ -31,10 +31,7 @@ module _ {A : Type 0} (P : Item A → Type 0) where
 
   -- what is laid, and more after it
   pub laid_after : (l m : Laid A) (is : List (Item A)) → text m ≡ text l ++ is → AllLaid P m → AllLaid P l × Each P is
-  laid_after l m is e h =
-      let all : Each P (text l ++ is) = subst (Each P) e (each_append P (joined m.done) m.line (all_joined m.done h.0) h.1) in
-      let front : Each P (text l) = each_front P (text l) is all in
-      ((all_lines l.done (each_front P (joined l.done) l.line front), each_back P (joined l.done) l.line front), each_back P (text l) is all)
+  laid_after l m is e h = grind (arith, text, each_append, all_joined, each_front, all_lines, each_back)
 
   pub laid_end_if_character : (l : Laid A) → AllLaid P (end_if_character l) → AllLaid P l
   laid_end_if_character l h = (laid_after l (end_if_character l) [] (text-end_if_character l ∙ sym (append-nil (text l))) h).0

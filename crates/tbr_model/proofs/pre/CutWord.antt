@@ -1,5 +1,5 @@
 -- A word of Pre that doesn't fit is cut after every `width` characters.
-use Rattle.std.proofs.Common.{◌≡◌, ℕ, ◌+◌, ◌<◌, ◌≤◌, nat_le, true, Option, None, List, [], ◌∷◌, ◌++◌, map, length, take, drop, refl, ap, sym, ◌∙◌, arith, append_assoc, append-nil, length-append, subst, leb-true, leb-false, inl, inr, le-leb}
+use Rattle.std.proofs.Common.{◌≡◌, ℕ, ◌+◌, ◌<◌, ◌≤◌, nat_le, true, Option, None, List, [], ◌∷◌, ◌++◌, map, length, refl, ap, sym, ◌∙◌, arith, append_assoc, append-nil, length-append, subst, leb-true, leb-false, inl, inr, le-leb}
 use Rattle.std.specs.List.{AllByRecursion as Each}
 use Rattle.std.proofs.lemmas.Bool.{cond_both, cases_Bool}
 use Rattle.std.proofs.Math.Seq.{take-append_seam, drop-append_seam}
@@ -22,11 +22,7 @@ record IsCutFrom {A : Type 0} (width : ℕ) (l : Laid A) (cs : List ℕ) (r : La
 
 full_first : (width : ℕ) (l cs : List ℕ) (ms : List (List ℕ)) → length l ≡ width → IsCutEvery width cs ms → IsCutEvery width (l ++ cs) (l ∷ ms)
 full_first width l cs [] full h = absurd h
-full_first width l cs (m ∷ ms) full h = (
-  subst (λ (n : ℕ). l ≡ take n (l ++ cs)) full (sym (take-append_seam l cs)),
-  full,
-  subst (λ (n : ℕ). IsCutEvery width (drop n (l ++ cs)) (m ∷ ms)) full (rw drop-append_seam h),
-)
+full_first width l cs (m ∷ ms) full h = grind (arith, ℕ, take-append_seam, drop-append_seam)
 
 put_cut : {A : Type 0} (columns : ℕ → Option ℕ) (width : ℕ) (is : List (Item A)) (l : Laid A) → 0 < width → Each (IsUnit columns) is → l.width ≡ length (letters_of l.line) → l.width ≤ width →
     0 < length (letters_of l.line ++ letters_of is) → IsCutFrom width l (letters_of l.line ++ letters_of is) (put_items columns width l is)

@@ -17,10 +17,7 @@ cut_in_one_way width cs (l ∷ []) (m ∷ n ∷ ms) h k =
     absurd (omega (arith, ap length h.0, h.2, cut_some width (drop width cs) (n ∷ ms) k.2, length-drop width cs))
 cut_in_one_way width cs (l ∷ n ∷ ls) (m ∷ []) h k =
     absurd (omega (arith, ap length k.0, k.2, cut_some width (drop width cs) (n ∷ ls) h.2, length-drop width cs))
-cut_in_one_way width cs (l ∷ n ∷ ls) (m ∷ o ∷ ms) h k =
-    let one : m ≡ l = k.0 ∙ sym h.0 in
-    let rest : o ∷ ms ≡ n ∷ ls = cut_in_one_way width (drop width cs) (n ∷ ls) (o ∷ ms) h.2 k.2 in
-    cc
+cut_in_one_way width cs (l ∷ n ∷ ls) (m ∷ o ∷ ms) h k = grind (arith, cut_in_one_way width (drop width cs) (n ∷ ls) (o ∷ ms) h.2 k.2)
 
 -- and its parts, joined, are the text
 pub cut_joined : (width : ℕ) (cs : List ℕ) (ls : List (List ℕ)) → IsCutEvery width cs ls → joined ls ≡ cs

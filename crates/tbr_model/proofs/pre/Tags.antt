@@ -59,9 +59,7 @@ record AddsTagged {A : Type 0} (columns : ℕ → Option ℕ) (Same : A → A �
   space : r.space ≡ None
 
 joined_width : {A : Type 0} (columns : ℕ → Option ℕ) (is : List (Item A)) (c : ℕ) (x : A) → columns c ≡ Some 1 → items_width columns (is ++ glyph c x ∷ []) ≡ items_width columns is + 1
-joined_width columns is c x one =
-    let wide : items_width columns (glyph c x ∷ []) ≡ 1 = rw one refl in
-    omega (arith, items_width-append columns is (glyph c x ∷ []), wide)
+joined_width columns is c x one = grind (arith, items_width-append)
 
 module _ {A : Type 0} (columns : ℕ → Option ℕ) (Same : A → A → Type 0) (width : ℕ) (reflexive : (x : A) → Same x x) (one_space : columns 32 ≡ Some 1) where
   -- a character has joined the word, and the rest goes on

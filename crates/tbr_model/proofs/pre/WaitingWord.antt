@@ -38,13 +38,7 @@ pub record Waits {A : Type 0} (columns : ℕ → Option ℕ) (x : List ℕ) (q :
 
 module _ {A : Type 0} (columns : ℕ → Option ℕ) (width : ℕ) (one_space : columns 32 ≡ Some 1) where
   space_waits : (x : List ℕ) (q : Progress A) (a : A) → Waits columns x q → Waits columns (x ++ 32 ∷ []) (keep_space 32 a Pre (Some 1) q)
-  space_waits x q a h = record {
-    text = space_reads columns a Pre x q one_space h.text;
-    line = cond_both (has_character q.word) _ _ (λ (r : Progress A). r.laid.line ≡ []) (λ _. h.line) (λ _. h.line);
-    units = cond_both (has_character q.word) _ _ (λ (r : Progress A). Each (IsUnit columns) r.word) (λ _. each_append (IsUnit columns) q.word (glyph 32 a ∷ []) h.units (one_space, tt)) (λ _. h.units);
-    spaces = cond_both (has_character q.word) _ _ (λ (r : Progress A). has_character r.word ≡ false → IsSpaces (x ++ 32 ∷ []))
-        (λ _ none. absurd (both_ways _ none (back_has q.word (glyph 32 a ∷ []) refl))) (λ none _. each_append (λ c. c ≡ 32) x (32 ∷ []) (h.spaces none) (refl, tt));
-  }
+  space_waits x q a h = grind (arith, space_reads, cond_both, each_append, both_ways, back_has)
 
   visible_waits : (x : List ℕ) (q : Progress A) (c : ℕ) (a b : A) → columns c ≡ Some 1 → Waits columns x q → Waits columns (x ++ c ∷ []) (keep_character columns width c a b Pre (Some 1) q)
   visible_waits x q c a b one h = record {

@@ -16,10 +16,7 @@ use Rattle.tbr_model.proofs.prewrap.WrappedLines.{wrapped_line}
 
 spaces_or : (cs : List ℕ) → IsSpaces cs ⊎ ¬ (IsSpaces cs)
 spaces_or [] = inl tt
-spaces_or (c ∷ cs) = elim (eqb_tells c 32) [
-  | inl w ↦ elim (spaces_or cs) [ inl all ↦ inl (w.1, all) | inr other ↦ inr (λ h. other h.1) ]
-  | inr w ↦ inr (λ h. w.1 h.0)
-]
+spaces_or (c ∷ cs) = grind (arith, eqb_tells, spaces_or cs)
 
 -- it ends with a non-blank, or is nothing, and spaces are after it
 last_spaces : (cs : List ℕ) → Each (λ c. 32 ≤ c) cs → (rest : List ℕ) × IsSpaces rest × (cs ≡ without_last_spaces cs ++ rest) × ((without_last_spaces cs ≡ []) ⊎ EndsWithNonBlank (without_last_spaces cs))
@@ -40,9 +37,7 @@ printable_text columns (marker_entry name ∷ es) h = absurd h.0
 
 -- where it fits, the text is one line
 one_line : (width : ℕ) (cs : List ℕ) → Each (λ c. 32 ≤ c) cs → ¬ (IsSpaces cs) → length (without_last_spaces cs) ≤ width → IsWrapped width [] cs (without_last_spaces cs ∷ [])
-one_line width cs printable other fits =
-    let (rest, spaces, whole, ends) = last_spaces cs printable in
-    (0, rest, whole, elim ends [ inl none ↦ absurd (other (subst IsSpaces (sym (whole ∙ ap (λ ds. ds ++ rest) none)) spaces)) | inr some ↦ some ], fits, inl (refl, refl), spaces)
+one_line width cs printable other fits = grind (arith, last_spaces)
 
 -- What is shown of a hard line in a run of `PreWrap` alone.
 prewrap_line : {A : Type 0} (columns : ℕ → Option ℕ) (width : ℕ) → columns 32 ≡ Some 1 → 0 < width → ShowsOne columns width (ShowsPreWrap {A = A} columns width) (HasMode PreWrap)

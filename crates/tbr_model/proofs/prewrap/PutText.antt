@@ -1,5 +1,5 @@
 -- What holds before each entry of a hard line of `PreWrap`, and the items of a word, put one by one: on which lines they are.
-use Rattle.std.proofs.Common.{◌≡◌, ℕ, zero, suc, ◌+◌, ◌<◌, ◌≤◌, ◌⊎◌, inl, inr, nat_le, Option, List, [], ◌∷◌, length, refl, ap, sym, ◌∙◌, arith, subst, le-leb, ◌++◌, map, append_assoc, append-nil, length-append, leb-true, leb-false, ne_eqb}
+use Rattle.std.proofs.Common.{◌≡◌, ℕ, zero, suc, ◌+◌, ◌<◌, ◌≤◌, ◌⊎◌, inl, inr, nat_le, Option, List, [], ◌∷◌, length, refl, ap, ◌∙◌, arith, subst, le-leb, ◌++◌, map, append_assoc, append-nil, length-append, leb-true, leb-false, ne_eqb}
 use Rattle.std.specs.List.{AllByRecursion as Each}
 use Rattle.std.proofs.lemmas.Bool.{cases_Bool}
 use Rattle.tbr_model.specs.declared.white_space.WhiteSpace.TheVariants.{PreWrap}
@@ -53,12 +53,7 @@ pub join_ready : {A : Type 0} (columns : ℕ → Option ℕ) (p : Progress A) (c
 join_ready columns p c a v h = record { plain = each_append (IsVisibleOrMarker columns) p.word (glyph c a ∷ []) h.plain (v, tt); measured = h.measured; apart = h.apart; wraps = h.wraps }
 
 pub fresh_ready : {A : Type 0} (columns : ℕ → Option ℕ) (p : Progress A) → BeginsHardLine p → IsReadyForWord columns p
-fresh_ready columns p h = record {
-  plain = each_marker (IsVisibleOrMarker columns) (λ name. tt) p.word h.word;
-  measured = h.width ∙ ap (λ is. length (letters_of is)) (sym h.line);
-  apart = inl (ap letters_of h.line);
-  wraps = subst (WaitsIn PreWrap) (sym h.space) tt;
-}
+fresh_ready columns p h = grind (arith, each_marker)
 
 -- an open line whose text is no spaces at its end has none there
 pub trailing_whole : {A : Type 0} (is : List (Item A)) → (letters_of is ≡ []) ⊎ EndsWithNonBlank (letters_of is) → without_trailing is ≡ is
@@ -91,18 +86,7 @@ module _ {A : Type 0} (columns : ℕ → Option ℕ) (width : ℕ) (some : 0 < w
     pub goes : (text : List ℕ) (ls : List (List ℕ)) → GoesOnFrom width (letters_of r.line) text ls → ReachesFrom l y w r text ls
 
   put_none : (l : Laid A) (y : List ℕ) → letters_of l.line ≡ y → AreNonBlank y → l.width ≡ length y → length y ≤ width → PutsText l y [] l
-  put_none l y letters nonblank columns_are fits = record {
-    nonblank = subst AreNonBlank (sym letters) nonblank;
-    fits = subst (λ (cs : List ℕ). length cs ≤ width) (sym letters) fits;
-    columns_are = columns_are ∙ ap length (sym letters);
-    measured = λ h. omega (arith, h, ap length letters);
-    goes = λ text ls h. (let g : GoesOnFrom width y text ls = subst (λ (cs : List ℕ). GoesOnFrom width cs text ls) letters h in record {
-      all = ls;
-      are = refl;
-      goes = g;
-      reach = λ k _ short. omega (arith, short, stretch_front y g.more nonblank);
-    });
-  }
+  put_none l y letters nonblank columns_are fits = grind (arith, ℕ, stretch_front)
 
   put_one_here : (l : Laid A) (c : ℕ) (a : A) (y w : List ℕ) (r : Laid A) → PutsText (extended l (glyph c a ∷ []) 1) (y ++ c ∷ []) w r → PutsText l y (c ∷ w) r
   put_one_here l c a y w r k =

@@ -32,10 +32,7 @@ begins_some (x ∷ xs) h =
 -- a space parts the stretches
 stretches_gap : (xs ys : List ℕ) → stretches (xs ++ 32 ∷ ys) ≡ stretches xs ++ stretches ys
 stretches_gap [] ys = refl
-stretches_gap (x ∷ xs) ys = elim (eqb_tells x 32) [
-  | inl w ↦ rw (w.0) (stretches_gap xs ys)
-  | inr w ↦ rw (w.0) (ap (λ b. pushed x b (stretches (xs ++ 32 ∷ ys))) (begins_gap xs ys) ∙ ap (pushed x (begins_stretch xs)) (stretches_gap xs ys) ∙ pushed-append x (begins_stretch xs) (stretches xs) (stretches ys) (begins_some xs))
-]
+stretches_gap (x ∷ xs) ys = grind (arith, eqb_tells, begins_gap, pushed-append, begins_some, stretches_gap xs ys)
 
 stretches_after : (n : ℕ) (ys : List ℕ) → stretches (replicate n 32 ++ ys) ≡ stretches ys
 stretches_after zero ys = refl
@@ -52,10 +49,7 @@ IsSolid cs = Each (λ c. c ≢ 32) cs
 stretches_solid : (cs : List ℕ) → EndsWithNonBlank cs → IsSolid cs → stretches cs ≡ cs ∷ []
 stretches_solid [] ends h = absurd ends
 stretches_solid (c ∷ []) ends h = let e : (c == 32) ≡ false = ne_eqb c 32 h.0 in rw e refl
-stretches_solid (c ∷ d ∷ cs) ends h =
-    let e : (c == 32) ≡ false = ne_eqb c 32 h.0 in
-    let f : begins_stretch (d ∷ cs) ≡ true = ap not (ne_eqb d 32 h.1.0) in
-    rw (e, f) (ap (onto_first c) (stretches_solid (d ∷ cs) ends h.1))
+stretches_solid (c ∷ d ∷ cs) ends h = grind (arith, ne_eqb, stretches_solid (d ∷ cs) ends h.1)
 
 -- a text that is its first stretch
 solid : (cs : List ℕ) → first_stretch cs ≡ cs → IsSolid cs
@@ -82,10 +76,7 @@ begins_both (c ∷ l) r h begins = ap not (ne_eqb c 32 h.0)
 -- non-blanks in front of a stretch belong to it
 stretch_longer : (l r s : List ℕ) (ss : List (List ℕ)) → IsSolid l → BeginsWithNonBlank r → stretches r ≡ s ∷ ss → stretches (l ++ r) ≡ (l ++ s) ∷ ss
 stretch_longer [] r s ss h begins is = is
-stretch_longer (c ∷ l) r s ss h begins is =
-    let e : (c == 32) ≡ false = ne_eqb c 32 h.0 in
-    let f : begins_stretch (l ++ r) ≡ true = begins_both l r h.1 begins in
-    rw (e, f) (ap (onto_first c) (stretch_longer l r s ss h.1 begins is))
+stretch_longer (c ∷ l) r s ss h begins is = grind (arith, ne_eqb, begins_both, stretch_longer l r s ss h.1 begins is)
 
 -- ---- wrapped texts
 
@@ -120,6 +111,4 @@ module _ (width : ℕ) where
   -- In a wrapped text only a stretch that is wider than a line is cut.
   pub cut_if_wrapped : (before text : List ℕ) (ls : List (List ℕ)) → IsWrapped width before text ls → IsCutOf width (stretches text) (flat_map stretches ls)
   cut_if_wrapped before text [] h = subst (λ (ss : List (List ℕ)). IsCutOf width ss []) (sym (stretches_spaces text h)) refl
-  cut_if_wrapped before text (l ∷ ls) h =
-      subst (λ (ss : List (List ℕ)). IsCutOf width ss (stretches l ++ flat_map stretches ls)) (sym (ap stretches h.2 ∙ stretches_after h.0 (l ++ h.1)))
-      (cut_line l h.1 ls h.3 h.6 (cut_if_wrapped l h.1 ls h.6))
+  cut_if_wrapped before text (l ∷ ls) h = grind (arith, ℕ, stretches_after, cut_line, cut_if_wrapped l h.1 ls h.6)

@@ -239,15 +239,7 @@ module _ {A : Type 0} (columns : ℕ → Option ℕ) (width : ℕ) (some : 0 < w
   -- a space after others
   space_more : (p : Progress A) (a : A) (cs : List ℕ) (l : Laid A) → has_character p.word ≡ false →
       (let n : Progress A = record p { space = space_of (pending_width p.space + 1) a PreWrap } in WrapsText n.laid (text_ahead n cs) l) → WrapsText p.laid (text_ahead p (32 ∷ cs)) l
-  space_more p a cs l none rest =
-      let n : Progress A = record p { space = space_of (pending_width p.space + 1) a PreWrap } in
-      let bare : letters_of p.word ≡ [] = no_letters p.word none in
-      let ahead : text_ahead n cs ≡ text_ahead p (32 ∷ cs) =
-      ap (λ (m : ℕ). replicate m 32 ++ (letters_of p.word ++ cs)) (pending_width-of (pending_width p.space + 1) a PreWrap)
-      ∙ ap (λ (w : List ℕ). replicate (pending_width p.space + 1) 32 ++ (w ++ cs)) bare
-      ∙ one_more_space (pending_width p.space) cs
-      ∙ ap (λ (w : List ℕ). replicate (pending_width p.space) 32 ++ (w ++ 32 ∷ cs)) (sym bare) in
-      subst (λ (ds : List ℕ). WrapsText p.laid ds l) ahead rest
+  space_more p a cs l none rest = grind (arith, no_letters, ℕ, pending_width-of, one_more_space)
 
   abbrev end_laid_from : Progress A → List (Event A) → Laid A
   end_laid_from p es = (flush_word columns width (fold (step columns width) p es)).laid

@@ -1,5 +1,5 @@
 -- Lines on which a text of stretches and spaces goes on from an open line.
-use Rattle.std.proofs.Common.{◌≡◌, ℕ, zero, suc, ◌+◌, ◌<◌, ◌≤◌, ◌⊎◌, inl, inr, ◌==◌, false, List, [], ◌∷◌, ◌++◌, replicate, length, refl, ap, sym, ◌∙◌, arith, append_assoc, append-nil, subst, ne_eqb}
+use Rattle.std.proofs.Common.{◌≡◌, ℕ, zero, suc, ◌+◌, ◌<◌, ◌≤◌, ◌⊎◌, inl, inr, List, [], ◌∷◌, ◌++◌, replicate, length, refl, ap, sym, ◌∙◌, arith, append_assoc, append-nil, subst, ne_eqb}
 use Rattle.std.specs.List.{AllByRecursion as Each}
 use Rattle.std.proofs.lemmas.Bool.Decides.{eqb_tells}
 use Rattle.std.proofs.lemmas.List.{replicate-append-replicate}
@@ -24,15 +24,11 @@ ends_append (x ∷ z ∷ xs) ys h = ends_append (z ∷ xs) ys h
 -- a text of non-blanks and what is after it begin with all of it
 pub stretch_front : (cs ds : List ℕ) → AreNonBlank cs → length cs ≤ length (first_stretch (cs ++ ds))
 stretch_front [] ds h = omega arith
-stretch_front (c ∷ cs) ds h =
-    let other : (c == 32) ≡ false = ne_eqb c 32 (λ e. omega (arith, h.0, e)) in
-    rw other (omega (arith, stretch_front cs ds h.1))
+stretch_front (c ∷ cs) ds h = grind (arith, ne_eqb, stretch_front cs ds h.1)
 
 pub stretch_all : (cs : List ℕ) → AreNonBlank cs → first_stretch cs ≡ cs
 stretch_all [] h = refl
-stretch_all (c ∷ cs) h =
-    let other : (c == 32) ≡ false = ne_eqb c 32 (λ e. omega (arith, h.0, e)) in
-    rw other (ap (λ ds. c ∷ ds) (stretch_all cs h.1))
+stretch_all (c ∷ cs) h = grind (arith, ne_eqb, stretch_all cs h.1)
 
 -- ---- an open line
 
@@ -88,9 +84,7 @@ ended width line text ls ends fits wrapped =
 
 -- a line begins
 pub begun : (width : ℕ) (before text : List ℕ) (ls : List (List ℕ)) (gap : ℕ) (h : GoesOnFrom width [] text ls) → BeginsAfter width before gap h.more → IsWrapped width before (replicate gap 32 ++ text) ls
-begun width before text ls gap h begins =
-    subst (IsWrapped width before (replicate gap 32 ++ text)) (sym h.lines)
-    (gap, h.rest, ap (λ (cs : List ℕ). replicate gap 32 ++ cs) h.text, h.ends, h.fits, begins, h.wrapped)
+begun width before text ls gap h begins = grind (arith, ℕ)
 
 -- an open line that holds nothing yet, or ends with a non-blank and fits
 abbrev pub IsOpen : ℕ → List ℕ → Type 0
@@ -118,20 +112,13 @@ last_of c (d ∷ cs) h = inr h
 
 begins_nonblank : (cs : List ℕ) → 0 < length (first_stretch cs) → BeginsWithNonBlank cs
 begins_nonblank [] h = absurd (omega (arith, h))
-begins_nonblank (c ∷ cs) h = elim (eqb_tells c 32) [
-  | inl w ↦ absurd (let none : length (first_stretch (c ∷ cs)) ≡ 0 = rw (w.0) refl in omega (arith, h, none))
-  | inr w ↦ w.1
-]
+begins_nonblank (c ∷ cs) h = grind (arith, eqb_tells)
 
 -- A word that doesn't fit after the line before begins a line after dropped spaces, if that reaches all of it that a
 -- line has columns for.
 pub begins_after : (width : ℕ) → 0 < width → (before : List ℕ) (gap : ℕ) (w more : List ℕ) → 0 < length w → width < length before + (gap + length w) → 0 < gap →
     ((k : ℕ) → k ≤ width → k ≤ length w → k ≤ length (first_stretch more)) → BeginsAfter width before gap more
-begins_after width some before gap w more long over apart reach = inr (
-  begins_nonblank more (reach 1 some long),
-  elim (cases_lt width (length w)) [ inl wide ↦ omega (arith, apart, reach width (omega arith) (omega (arith, wide))) | inr short ↦ omega (arith, over, reach (length w) short (omega arith)) ],
-  λ none. absurd (omega (arith, none, apart)),
-)
+begins_after width some before gap w more long over apart reach = grind (arith, begins_nonblank, cases_lt)
 
 pub first_begins : (width : ℕ) → 0 < width → (gap : ℕ) (w more : List ℕ) → 0 < length w → width < gap + length w →
     ((k : ℕ) → k ≤ width → k ≤ length w → k ≤ length (first_stretch more)) → BeginsAfter width [] gap more

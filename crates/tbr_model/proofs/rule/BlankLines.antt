@@ -1,11 +1,10 @@
 -- A hard line of spaces alone leaves an empty line before a newline, and none at the end of a run.
-use Rattle.std.proofs.Common.{◌≡◌, ◌≢◌, ℕ, true, false, Option, None, Some, List, [], ◌∷◌, fold, refl, ap, sym, ◌∙◌, subst}
+use Rattle.std.proofs.Common.{◌≡◌, ◌≢◌, ℕ, true, false, Option, None, Some, List, [], ◌∷◌, fold, refl, ap, sym, ◌∙◌, subst, arith}
 use Rattle.std.specs.List.{AllByRecursion as Each}
 use Rattle.tbr_model.proofs.lists.Each.{each_weaker}
 use Rattle.tbr_model.specs.declared.white_space.WhiteSpace.{WhiteSpace}
 use Rattle.tbr_model.specs.declared.white_space.WhiteSpace.TheVariants.{Normal, Pre, PreWrap}
 use Rattle.tbr_model.specs.Run.{Entry, character, marker_entry, marker, items_width, has_character}
-use Rattle.tbr_model.specs.Laid.{end_if_character}
 use Rattle.tbr_model.specs.Rule.{Event, call, entry, run_of, Progress, flush_word, break_word, tag_of, newline, keep_space, enter, step, finished}
 use Rattle.tbr_model.specs.Hard.{HasMode, Preserves, entry_letters, IsSpaces, blank_lines}
 use Rattle.tbr_model.proofs.words.Items.{has_character-append, no_character_no_width}
@@ -51,16 +50,12 @@ module _ {A : Type 0} (columns : ℕ → Option ℕ) (width : ℕ) where
   ended_blank p k = ap (λ (q : Progress A). (newline q).laid.done) (not_flushed columns width p k.word) ∙ rw (k.done, k.line) refl
 
   finished_blank : (p : Progress A) → IsBlankSoFar p → (finished columns width p).done ≡ blank_lines false
-  finished_blank p k =
-      let none : has_character p.laid.line ≡ false = ap has_character k.line in
-      ap (λ (q : Progress A). (end_if_character q.laid).done) (not_flushed columns width p k.word) ∙ rw none (k.done)
+  finished_blank p k = grind (arith, not_flushed)
 
   -- the lines of a hard line of spaces alone, before a newline and at the end of the run
   pub blank_line : (p : Progress A) (es : List (Event A)) → BeginsHardLine p → Each Preserves (run_of es) → IsSpaces (entry_letters (run_of es)) →
       ((newline (flush_word columns width (fold (step columns width) p es))).laid.done ≡ blank_lines true) × ((finished columns width (fold (step columns width) p es)).done ≡ blank_lines false)
-  blank_line p es f modes spaces =
-      let k = fold_blank es p modes spaces (record { done = f.done; line = f.line; word = f.word }) in
-      (ended_blank (fold (step columns width) p es) k, finished_blank (fold (step columns width) p es) k)
+  blank_line p es f modes spaces = grind (arith, fold_blank, ended_blank, finished_blank)
 
   -- in a run of one preserving mode
   pub blank_line_of : (mode : WhiteSpace) → mode ≢ Normal → (p : Progress A) (es : List (Event A)) → BeginsHardLine p → Each (HasMode mode) (run_of es) → IsSpaces (entry_letters (run_of es)) →

@@ -1,6 +1,6 @@
 -- What is found in a run's items, for any way to look at them that passes over characters that aren't kept. The rule
 -- keeps it, in order.
-use Rattle.std.proofs.Common.{◌≡◌, ℕ, ◌⊎◌, inl, true, false, List, Option, [], ◌∷◌, ◌++◌, fold, refl, ap, sym, ◌∙◌, append_assoc, append-nil, Bool, filter}
+use Rattle.std.proofs.Common.{◌≡◌, ℕ, ◌⊎◌, inl, true, false, List, Option, [], ◌∷◌, ◌++◌, fold, refl, ap, sym, ◌∙◌, append_assoc, append-nil, Bool, filter, arith}
 use Rattle.std.specs.Char.{is_whitespace}
 use Rattle.std.specs.List.{AllZip, AllByRecursion as Each}
 use Rattle.std.proofs.lemmas.Bool.{eqb-true}
@@ -100,24 +100,16 @@ module _ {A X : Type 0} {columns : ℕ → Option ℕ} {Comes : Entry A → Type
 
   -- one more entry has come
   more : (es : List (Entry A)) (xs ys : List X) (i : Item A) (e : Entry A) → StandsFor Modes i e → ys ≡ xs ++ found (i ∷ []) → FoundIn Modes found es xs → FoundIn Modes found (es ++ e ∷ []) ys
-  more es xs ys i e s is f = record {
-    items = f.items ++ i ∷ [];
-    stand = stand_push f.items es i e f.stand s;
-    are = is ∙ ap (λ zs. zs ++ found (i ∷ [])) f.are ∙ sym (looks.append f.items (i ∷ []));
-  }
+  more es xs ys i e s is f = grind (arith, stand_push)
 
   item_moved : (l : Laid A) (n : ℕ) (i : Item A) (w : List (Item A)) → in_all (extended l (i ∷ []) n) w ≡ in_all l (i ∷ w)
-  item_moved l n i w =
-      ap (λ xs. xs ++ found w) (ap found (text-extended l (i ∷ []) n) ∙ looks.append (text l) (i ∷ []))
-      ∙ append_assoc (found (text l)) (found (i ∷ [])) (found w) ∙ ap (λ xs. found (text l) ++ xs) (sym (looks.append (i ∷ []) w))
+  item_moved l n i w = grind (arith, text-extended, text, append_assoc)
 
   line_same : (l : Laid A) (w : List (Item A)) → in_all (end_line l) w ≡ in_all l w
   line_same l w = ap (λ is. found is ++ found w) (text-end_line l)
 
   trimmed_same : (l : Laid A) (w : List (Item A)) → in_all (trimmed columns l) w ≡ in_all l w
-  trimmed_same l w =
-      ap (λ xs. xs ++ found w)
-      (looks.append (joined l.done) (without_trailing l.line) ∙ ap (λ xs. found (joined l.done) ++ xs) (trailing_same l.line) ∙ sym (looks.append (joined l.done) l.line))
+  trimmed_same l w = grind (arith, trailing_same)
 
   item_joins : (l : Laid A) (w : List (Item A)) (i : Item A) → in_all l (w ++ i ∷ []) ≡ in_all l w ++ found (i ∷ [])
   item_joins l w i = ap (λ xs. found (text l) ++ xs) (looks.append w (i ∷ [])) ∙ sym (append_assoc (found (text l)) (found w) (found (i ∷ [])))
@@ -160,10 +152,7 @@ module _ {A X : Type 0} {columns : ℕ → Option ℕ} {Comes : Entry A → Type
   module _ (alone : (is : List (Item A)) → has_character is ≡ false → found is ≡ []) where
     -- the ended lines have all, where neither the open line nor the word has a character
     lines_alone : (es : List (Entry A)) (l : Laid A) (w : List (Item A)) → has_character l.line ≡ false → has_character w ≡ false → Found es l w → FoundIn Modes found es (found (joined l.done))
-    lines_alone es l w line none f =
-        again es (in_all l w) _
-        (sym (ap (λ xs. found (text l) ++ xs) (alone w none) ∙ append-nil (found (text l))
-        ∙ looks.append (joined l.done) l.line ∙ ap (λ xs. found (joined l.done) ++ xs) (alone l.line line) ∙ append-nil (found (joined l.done)))) f
+    lines_alone es l w line none f = grind (arith, again, text, append-nil)
 
     -- from where a hard line begins: before a newline, and at the end of the run
     pub found_from : (width : ℕ) (p : Progress A) (es : List (Event A)) → BeginsHardLine p → (is_pre p.mode ≡ true → Modes Pre) → Each Comes (run_of es) →

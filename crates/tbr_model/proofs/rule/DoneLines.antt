@@ -1,5 +1,5 @@
 -- Lines that are done have no influence on how a block goes on: this is the rule where each annotation stays as it is.
-use Rattle.std.proofs.Common.{◌≡◌, ℕ, ◌&&◌, nat_lt, is_none, Option, Some, None, List, [], ◌++◌, fold, refl, ap, sym, ◌∙◌, append-nil}
+use Rattle.std.proofs.Common.{◌≡◌, ℕ, ◌&&◌, nat_lt, is_none, Option, Some, None, List, [], ◌++◌, fold, refl, ap, sym, ◌∙◌, append-nil, arith}
 use Rattle.std.specs.Option.{option_map}
 use Rattle.tbr_model.specs.declared.white_space.WhiteSpace.{WhiteSpace}
 use Rattle.tbr_model.specs.Run.{character, marker_entry, Item, glyph, marker, is_blank}
@@ -69,9 +69,7 @@ module _ {A : Type 0} (columns : ℕ → Option ℕ) (width : ℕ) (d : List (Li
   step_after e = by_move d (λ q. step columns width q e) (λ q. ap (step columns width (moved d (λ a. a) q)) (sym (event_same e)) ∙ step-map d (λ a. a) columns width q e) p
 
   pub fold_after : (es : List (Event A)) → fold (step columns width) (after d p) es ≡ after d (fold (step columns width) p es)
-  fold_after es =
-      by_move d (λ q. fold (step columns width) q es)
-      (λ q. ap (fold (step columns width) (moved d (λ a. a) q)) (sym (map_same (map_event (λ a. a)) event_same es)) ∙ steps-map d (λ a. a) columns width es q) p
+  fold_after es = grind (arith, by_move, moved, map_same, event_same, steps-map)
 
   pub finished_after : finished columns width (after d p) ≡ under d (finished columns width p)
   finished_after = ap (λ (q : Progress A). q.laid) (by_move d (λ q. record q { laid = finished columns width q }) (λ q. ap (λ (l : Laid A). record (moved d (λ a. a) q) { laid = l }) (finished_moved d (λ a. a) columns width q)) p)

@@ -1,12 +1,12 @@
 -- What holds of one hard line at a time holds of a run of them.
-use Rattle.std.proofs.Common.{◌≡◌, ℕ, ◌+◌, nat_le, nat_lt, Bool, true, false, Option, List, [], ◌∷◌, ◌++◌, fold, refl, ap, sym, ◌∙◌, subst, append_assoc, append-nil, ltb-true, inl, inr}
+use Rattle.std.proofs.Common.{◌≡◌, ℕ, ◌+◌, nat_lt, Bool, true, false, Option, List, [], ◌∷◌, ◌++◌, fold, refl, ap, sym, ◌∙◌, subst, append_assoc, append-nil, ltb-true, inl, inr, arith}
 use Rattle.std.specs.List.{AllByRecursion as Each}
 use Rattle.std.proofs.lemmas.Bool.{cond_both, eqb-true, cases_Bool}
 use Rattle.std.proofs.lemmas.List.Sums.{fold-append}
 use Rattle.tbr_model.specs.declared.white_space.WhiteSpace.TheVariants.{Normal, Pre, PreWrap}
 use Rattle.tbr_model.specs.Run.{Entry, character, marker_entry, Item, items_width, has_character}
 use Rattle.tbr_model.specs.Laid.{Laid, end_if_character}
-use Rattle.tbr_model.specs.Rule.{Event, call, entry, run_of, Progress, at_start, wrap_space, pending_width, lay, flush_word, break_word, newline, enter, step, finished, lines_of}
+use Rattle.tbr_model.specs.Rule.{Event, call, entry, run_of, Progress, at_start, lay, flush_word, break_word, newline, enter, step, finished, lines_of}
 use Rattle.tbr_model.specs.Hard.{Preserves, is_newline, onto_first, hard_lines, Parted}
 use Rattle.tbr_model.proofs.lists.Each.{each_append}
 use Rattle.tbr_model.proofs.words.LinesHaveCharacters.{wide_items}
@@ -21,9 +21,7 @@ no_character_after_end {A} l = cond_both (has_character l.line) _ _ (λ (m : Lai
 
 -- no character is left in a word that is laid
 pub lay_flushes : {A : Type 0} (columns : ℕ → Option ℕ) (width : ℕ) (p : Progress A) → has_character (lay columns width p).word ≡ false
-lay_flushes {A} columns width p =
-    cond_both (nat_le (p.laid.width + (pending_width p.space + items_width columns p.word)) width) _ _ (λ (q : Progress A). has_character q.word ≡ false)
-    (λ _. refl) (λ _. cond_both (has_character (wrap_space columns width p p.space).word) _ _ (λ (q : Progress A). has_character q.word ≡ false) (λ _. refl) (λ e. e))
+lay_flushes {A} columns width p = grind (arith, cond_both)
 
 pub flush_flushes : {A : Type 0} (columns : ℕ → Option ℕ) (width : ℕ) (p : Progress A) → has_character (flush_word columns width p).word ≡ false
 flush_flushes {A} columns width p =
@@ -115,9 +113,7 @@ module _ {A : Type 0} (columns : ℕ → Option ℕ) (width : ℕ) (R : Bool →
       Parted R (hard_lines (run_of so_far ++ run_of es)) (finished columns width (fold (step columns width) (fold (step columns width) p so_far) es)).done
 
   go_on_end : GoOn []
-  go_on_end p so_far is_fresh modes plain =
-      let alone : hard_lines (run_of so_far ++ []) ≡ run_of so_far ∷ [] = ap hard_lines (append-nil (run_of so_far)) ∙ hard_line_alone (run_of so_far) plain in
-      subst (λ (hs : List (List (Entry A))). Parted R hs (finished columns width (fold (step columns width) p so_far)).done) (sym alone) (one p so_far is_fresh modes plain).1
+  go_on_end p so_far is_fresh modes plain = grind (arith, append-nil, hard_line_alone)
 
   -- by an event that is no newline
   go_on_more : (x : Event A) (es : List (Event A)) → Each M (run_of (x ∷ [])) → NoNewline (run_of (x ∷ [])) → GoOn es → GoOn (x ∷ es)

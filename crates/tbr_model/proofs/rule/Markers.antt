@@ -1,10 +1,9 @@
 -- How a block goes on keeps the markers, in order.
-use Rattle.std.proofs.Common.{◌≡◌, ℕ, false, Option, List, [], ◌∷◌, ◌++◌, map, fold, refl, ap, sym, ◌∙◌, append_assoc, append-nil}
+use Rattle.std.proofs.Common.{◌≡◌, ℕ, false, Option, List, [], ◌∷◌, ◌++◌, map, fold, refl, ap, sym, ◌∙◌, append_assoc, append-nil, arith}
 use Rattle.std.specs.List.{AllZip}
 use Rattle.tbr_model.specs.Run.{Entry, character, marker_entry, Item, glyph, marker, has_character}
 use Rattle.tbr_model.specs.Layout.{joined}
-use Rattle.tbr_model.specs.Laid.{end_if_character}
-use Rattle.tbr_model.specs.Rule.{Event, entry, run_of, Progress, at_start, flush_word, enter, step, progress, waiting, lines_of}
+use Rattle.tbr_model.specs.Rule.{Event, entry, run_of, Progress, at_start, enter, step, progress, waiting, lines_of}
 use Rattle.tbr_model.specs.Markers.{names_in_items, names_in_run, marker_run, marker_items}
 use Rattle.tbr_model.proofs.words.Items.{has_character-append}
 use Rattle.tbr_model.proofs.rule.Content.{LooksAtKept, AnyEntry, AnyMode, StandsFor, by_entry, found_under_way, found_at_end}
@@ -55,17 +54,13 @@ module _ {A : Type 0} (columns : ℕ → Option ℕ) (width : ℕ) where
 
   -- no character waits
   pub waiting_none : (p : Progress A) → has_character (waiting columns width p) ≡ false
-  waiting_none p =
-      let q : Progress A = flush_word columns width p in
-      has_character-append (end_if_character q.laid).line q.word ∙ rw (no_character_after_end q.laid) (flush_flushes columns width p)
+  waiting_none p = grind (arith, has_character-append, no_character_after_end, flush_flushes)
 
   -- ---- a run of markers alone
 
   fold_markers : (names : List (List ℕ)) (p : Progress A) → fold (step columns width) p (map (λ n. entry (marker_entry n)) names) ≡ record p { word = p.word ++ marker_items names }
   fold_markers [] p = ap (λ (is : List (Item A)). let q : Progress A = record p { word = is } in q) (sym (append-nil p.word))
-  fold_markers (name ∷ names) p =
-      fold_markers names (enter columns width p (marker_entry name))
-      ∙ ap (λ (is : List (Item A)). let q : Progress A = record p { word = is } in q) (append_assoc p.word (marker name ∷ []) (marker_items names))
+  fold_markers (name ∷ names) p = grind (arith, append_assoc, fold_markers names (enter columns width p (marker_entry name)))
 
   -- markers alone are the word
   pub markers_lead : (names : List (List ℕ)) → progress {A = A} columns width (map (λ n. entry (marker_entry n)) names) ≡ record at_start { word = marker_items names }

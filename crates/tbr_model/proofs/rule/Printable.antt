@@ -1,5 +1,5 @@
 -- What the rule does with a printable character.
-use Rattle.std.proofs.Common.{◌≡◌, ◌≢◌, ℕ, ◌≤◌, false, ◌==◌, if◌then◌else◌, Option, Some, refl, ap, arith, ne_eqb}
+use Rattle.std.proofs.Common.{◌≡◌, ◌≢◌, ℕ, ◌≤◌, false, if◌then◌else◌, Option, Some, refl, ap, arith, ne_eqb}
 use Rattle.std.proofs.lemmas.Bool.Decides.{nat_tests}
 use Rattle.std.proofs.lemmas.Grind.{common_steps}
 use Rattle.std.specs.Char.{is_whitespace}
@@ -45,12 +45,7 @@ preserved_space columns width a b mode p one = ap (λ o. keep_space 32 (tag_of p
 
 pub preserved_visible : {A : Type 0} (columns : ℕ → Option ℕ) (width c : ℕ) (a b : A) (mode : WhiteSpace) (p : Progress A) → IsVisible columns c →
     preserve columns width c a b mode p ≡ keep_character columns width c a b mode (Some 1) p
-preserved_visible columns width c a b mode p h =
-    let f : (c == 8203) ≡ false = ne_eqb c 8203 (λ e. absurd (omega (arith, h.to, e))) in
-    let g : (c == 10) ≡ false = ne_eqb c 10 (λ e. absurd (omega (arith, h.from, e))) in
-    let i : (c == 9) ≡ false = ne_eqb c 9 (λ e. absurd (omega (arith, h.from, e))) in
-    let j : is_blank c ≡ false = blank_not c h.from h.to in
-    rw (f, g, i, j, h.one) refl
+preserved_visible columns width c a b mode p h = grind (arith, ne_eqb, blank_not)
 
 pub entered_visible : {A : Type 0} (columns : ℕ → Option ℕ) (width c : ℕ) (a b : A) (mode : WhiteSpace) (p : Progress A) → mode ≢ Normal → IsVisible columns c →
     enter columns width p (character c a b mode) ≡ keep_character columns width c a b mode (Some 1) p

@@ -1,12 +1,11 @@
 -- Markers at the end of the word under way can be taken out of the run.
-use Rattle.std.proofs.Common.{◌≡◌, ℕ, ◌+◌, ◌-◌, ◌≤◌, ◌⊎◌, inl, inr, ◌==◌, ◌&&◌, ◌||◌, Bool, true, false, nat_le, nat_lt, if◌then◌else◌, is_some, is_none, Option, Some, None, List, [], ◌∷◌, ◌++◌, length, refl, ap, sym, ◌∙◌, arith, append-nil, length-append, ltb-true, ltb-false, lt-ltb}
+use Rattle.std.proofs.Common.{◌≡◌, ℕ, ◌+◌, ◌-◌, ◌≤◌, ◌⊎◌, inl, inr, ◌==◌, ◌&&◌, ◌||◌, Bool, true, false, nat_le, nat_lt, if◌then◌else◌, is_some, Option, Some, None, List, [], ◌∷◌, ◌++◌, length, refl, ap, sym, ◌∙◌, arith, append-nil, length-append, ltb-true, ltb-false, lt-ltb}
 use Rattle.std.proofs.lemmas.Bool.{cond_both, le-ltb, or_parts, cases_Bool}
 use Rattle.std.proofs.lemmas.List.Sums.{fold-append}
 use Rattle.tbr_model.specs.declared.white_space.WhiteSpace.{WhiteSpace}
 use Rattle.tbr_model.specs.declared.white_space.WhiteSpace.TheVariants.{Normal, Pre, PreWrap}
-use Rattle.tbr_model.specs.Run.{Entry, character, marker_entry, Item, glyph, marker, items_width, has_character, is_blank, is_break}
-use Rattle.tbr_model.specs.Laid.{extended, end_if_character, put_items}
-use Rattle.tbr_model.specs.Rule.{Event, call, entry, run_of, Space, Progress, at_start, spaces, pending_width, space_of, is_white_item, without_leading, wrap_space_by, wrap_space, put_pending, lay_here, lay_fresh, lay, flush_word, break_word, join, collapse, newline, tab, keep_space, is_pre, passes, tag_of, keep_character, preserve, enter_normal, enter, step, progress}
+use Rattle.tbr_model.specs.Run.{Entry, character, marker_entry, Item, items_width, has_character, is_blank, is_break}
+use Rattle.tbr_model.specs.Rule.{Event, call, entry, run_of, Space, Progress, at_start, pending_width, space_of, is_white_item, without_leading, wrap_space_by, wrap_space, lay_here, lay_fresh, lay, flush_word, break_word, join, collapse, newline, tab, keep_space, is_pre, passes, tag_of, keep_character, preserve, enter_normal, enter, step, progress}
 use Rattle.tbr_model.specs.Markers.{names_in_run}
 use Rattle.tbr_model.specs.TakenOut.{without_markers}
 use Rattle.tbr_model.proofs.lists.Each.{from_front}
@@ -42,18 +41,10 @@ without_events-append {A} n (entry (marker_entry name) ∷ es) fs h = elim (case
 
 -- one more event that is no marker, and one more marker that goes
 without_plain : {A : Type 0} (n : ℕ) (es : List (Event A)) (x : Event A) → length (names_in_run (run_of (x ∷ []))) ≡ 0 → without_markers n (es ++ x ∷ []) ≡ without_markers n es ++ without_markers n (x ∷ [])
-without_plain n es x none =
-    without_events-append n es (x ∷ []) (omega arith)
-    ∙ ap (λ k. without_markers k es ++ without_markers n (x ∷ [])) (let e : n - length (names_in_run (run_of (x ∷ []))) ≡ n = omega arith in e)
+without_plain n es x none = grind (arith, without_events-append)
 
 without_one : {A : Type 0} (n : ℕ) (es : List (Event A)) (name : List ℕ) → without_markers (n + 1) (es ++ entry (marker_entry name) ∷ []) ≡ without_markers n es
-without_one {A} n es name =
-    let goes : nat_lt 0 (n + 1) ≡ true = lt-ltb _ _ (omega arith) in
-    let one : List (Event A) = entry (marker_entry name) ∷ [] in
-    let alone : without_markers (n + 1) one ≡ [] = rw goes refl in
-    without_events-append (n + 1) es (entry (marker_entry name) ∷ []) (omega arith)
-    ∙ ap (λ (fs : List (Event A)). without_markers ((n + 1) - 1) es ++ fs) alone ∙ append-nil (without_markers ((n + 1) - 1) es)
-    ∙ ap (λ k. without_markers k es) (let e : (n + 1) - 1 ≡ n = omega arith in e)
+without_one {A} n es name = grind (arith, lt-ltb, without_events-append, append-nil)
 
 -- ---- markers at the end of items
 
@@ -109,35 +100,23 @@ module _ {A : Type 0} where
       (ms ≡ []) ⊎ ((before : List (Item A)) × (p.word ≡ before ++ ms) × (f (with_word p before) ≡ with_word (f p) front))
 
   joined_whole : (c : ℕ) (a : A) (mode : WhiteSpace) (p : Progress A) → EndsWhole (join c a mode p)
-  joined_whole c a mode p front ms h e = elim (last_of_back p.word (glyph c a) front ms e) [
-    | inl none ↦ none
-    | inr r ↦ absurd (let some : has_character (r.0 ++ glyph c a ∷ []) ≡ true = back_has r.0 (glyph c a ∷ []) refl in let all : ms ≡ r.0 ++ glyph c a ∷ [] = r.1 in cc)
-  ]
+  joined_whole c a mode p front ms h e = grind (arith, last_of_back, back_has)
 
   whole_leaves : (f : Progress A → Progress A) (p : Progress A) → EndsWhole (f p) → Leaves f p
   whole_leaves f p whole front ms h e = inl (whole front ms h e)
 
   leaves_then : (f g : Progress A → Progress A) (p : Progress A) → Leaves f p → Leaves g (f p) → Leaves (λ q. g (f q)) p
-  leaves_then f g p first second front ms h e = elim (second front ms h e) [
-    | inl none ↦ inl none
-    | inr s ↦ elim (first s.0 ms h s.1) [ inl none ↦ inl none | inr r ↦ inr (r.0, r.1, ap g r.2 ∙ s.2) ]
-  ]
+  leaves_then f g p first second front ms h e = grind arith
 
   -- a test that markers at the end of the word don't change
   abbrev IsBlind : (Progress A → Bool) → Type 0
   IsBlind t = (p : Progress A) (before ms : List (Item A)) → p.word ≡ before ++ ms → has_character ms ≡ false → t (with_word p before) ≡ t p
 
   leaves_as : (F f : Progress A → Progress A) (p : Progress A) → F p ≡ f p → ((before ms : List (Item A)) → p.word ≡ before ++ ms → has_character ms ≡ false → F (with_word p before) ≡ f (with_word p before)) → Leaves f p → Leaves F p
-  leaves_as F f p here there h front ms none e = elim (h front ms none (ap (λ (q : Progress A). q.word) (sym here) ∙ e)) [
-    | inl all ↦ inl all
-    | inr r ↦ inr (r.0, r.1, there r.0 ms r.1 none ∙ r.2 ∙ ap (λ (q : Progress A). with_word q front) (sym here))
-  ]
+  leaves_as F f p here there h front ms none e = grind arith
 
   leaves_if : (t : Progress A → Bool) (f g : Progress A → Progress A) (p : Progress A) → IsBlind t → (t p ≡ true → Leaves f p) → (t p ≡ false → Leaves g p) → Leaves (λ q. if t q then f q else g q) p
-  leaves_if t f g p blind h k = elim (cases_Bool (t p)) [
-    | inl is ↦ leaves_as (λ q. if t q then f q else g q) f p (rw is refl) (λ before ms e none. let same : t (with_word p before) ≡ true = blind p before ms e none ∙ is in rw same refl) (h is)
-    | inr is ↦ leaves_as (λ q. if t q then f q else g q) g p (rw is refl) (λ before ms e none. let same : t (with_word p before) ≡ false = blind p before ms e none ∙ is in rw same refl) (k is)
-  ]
+  leaves_if t f g p blind h k = grind (arith, cases_Bool, leaves_as)
 
   blind_character : IsBlind (λ q. has_character q.word)
   blind_character p before ms e h = has_front p.word before ms e h
@@ -145,9 +124,7 @@ module _ {A : Type 0} where
   -- ---- what leaves the word
 
   collapse_leaves : (c : ℕ) (a : A) (p : Progress A) → Leaves (collapse c a) p
-  collapse_leaves c a p =
-      leaves_if (λ q. is_blank c && (nat_lt 0 q.laid.width && is_none q.space)) (λ q. record q { space = space_of 1 a Normal }) (λ q. q) p
-      (λ q before ms e h. refl) (λ _ front ms h e. inr (front, e, refl)) (λ _ front ms h e. inr (front, e, refl))
+  collapse_leaves c a p = grind (arith, leaves_if)
 
   keep_space_leaves : (c : ℕ) (a : A) (mode : WhiteSpace) (o : Option ℕ) (p : Progress A) → Leaves (keep_space c a mode o) p
   keep_space_leaves c a mode None p = λ front ms h e. inr (front, e, refl)
@@ -158,23 +135,15 @@ module _ {A : Type 0} where
 module _ {A : Type 0} (columns : ℕ → Option ℕ) (width : ℕ) where
   unfit_by_leaves : (p : Progress A) (s : Space A) (mode : WhiteSpace) → Leaves (λ q. wrap_space_by columns width q s mode) p
   unfit_by_leaves p s Normal = λ front ms h e. inr (front, e, refl)
-  unfit_by_leaves p s Pre =
-      leaves_if (λ q. nat_le (width - q.laid.width) s.width) (λ q. record q { space = space_of (s.width - (width - q.laid.width)) s.tag Pre })
-      (λ q. record q { laid = extended q.laid (spaces s.width s.tag) s.width; space = None }) p (λ q before ms e h. refl) (λ _ front ms h e. inr (front, e, refl)) (λ _ front ms h e. inr (front, e, refl))
-  unfit_by_leaves p s PreWrap = λ front ms h e.
-      let (before, whole, left) = leading_front p.word front ms e in
-      inr (before, whole, ap (with_word (wrap_space_by columns width p s PreWrap)) left)
+  unfit_by_leaves p s Pre = grind (arith, leaves_if)
+  unfit_by_leaves p s PreWrap = grind (arith, leading_front)
 
   unfit_leaves : (p : Progress A) (o : Option (Space A)) → Leaves (λ q. wrap_space columns width q o) p
   unfit_leaves p None = λ front ms h e. inr (front, e, refl)
   unfit_leaves p (Some s) = unfit_by_leaves p s s.mode
 
   lay_fresh_leaves : (p : Progress A) → Leaves (lay_fresh columns width) p
-  lay_fresh_leaves p =
-      leaves_if (λ q. has_character q.word)
-      (λ q. record q { laid = put_items columns width (put_pending width q.space (end_if_character q.laid)) q.word; space = None; word = []; continuation_flag = is_pre q.mode })
-      (λ q. record q { laid = put_pending width q.space (end_if_character q.laid); space = None; continuation_flag = is_pre q.mode }) p blind_character
-      (λ _ front ms h e. inl (append_none front ms e)) (λ _ front ms h e. inr (front, e, refl))
+  lay_fresh_leaves p = grind (arith, leaves_if, blind_character, append_none)
 
   lay_leaves : (p : Progress A) → Leaves (lay columns width) p
   lay_leaves p =
@@ -188,9 +157,7 @@ module _ {A : Type 0} (columns : ℕ → Option ℕ) (width : ℕ) where
       (λ _. lay_leaves p) (λ _ front ms h e. inr (front, e, refl))
 
   break_word_leaves : (p : Progress A) → Leaves (break_word columns width) p
-  break_word_leaves p =
-      leaves_if (λ q. nat_lt 0 (items_width columns q.word)) (lay columns width) (λ q. q) p (λ q before ms e h. ap (nat_lt 0) (width_front columns q.word before ms e h))
-      (λ _. lay_leaves p) (λ _ front ms h e. inr (front, e, refl))
+  break_word_leaves p = grind (arith, leaves_if, width_front, lay_leaves)
 
   -- ---- an event
 
@@ -242,9 +209,7 @@ module _ {A : Type 0} (columns : ℕ → Option ℕ) (width : ℕ) where
 
   -- no markers
   nothing_out : (es : List (Event A)) (front ms : List (Item A)) → (progress columns width es).word ≡ front ++ ms → ms ≡ [] → Without es front ms
-  nothing_out es front ms e none =
-      let word : (progress columns width es).word ≡ front = e ∙ ap (λ (is : List (Item A)). front ++ is) none ∙ append-nil front in
-      ap (λ (is : List (Item A)). progress columns width (without_markers (length is) es)) none ∙ ap (progress columns width) (without_no_event es) ∙ ap (with_word (progress columns width es)) word
+  nothing_out es front ms e none = grind (arith, append-nil, without_no_event)
 
   progress-push : (es : List (Event A)) (x : Event A) → progress columns width (es ++ x ∷ []) ≡ step columns width (progress columns width es) x
   progress-push es x = fold-append (step columns width) at_start es (x ∷ [])
@@ -252,27 +217,10 @@ module _ {A : Type 0} (columns : ℕ → Option ℕ) (width : ℕ) where
   -- an event that is no marker
   out_after : (es : List (Event A)) (x : Event A) → CanTakeOut es → Leaves (λ q. step columns width q x) (progress columns width es) →
       ((n : ℕ) → without_markers n (es ++ x ∷ []) ≡ without_markers n es ++ x ∷ []) → CanTakeOut (es ++ x ∷ [])
-  out_after es x can leaves stays front ms e h =
-      let now : (step columns width (progress columns width es) x).word ≡ front ++ ms = ap (λ (p : Progress A). p.word) (sym (progress-push es x)) ∙ e in
-      elim (leaves front ms h now) [
-        | inl none ↦ nothing_out (es ++ x ∷ []) front ms e none
-        | inr r ↦
-            ap (progress columns width) (stays (length ms)) ∙ progress-push (without_markers (length ms) es) x
-            ∙ ap (λ (p : Progress A). step columns width p x) (can r.0 ms r.1 h) ∙ r.2 ∙ ap (λ (p : Progress A). with_word p front) (sym (progress-push es x))
-      ]
+  out_after es x can leaves stays front ms e h = grind (arith, progress-push, nothing_out)
 
   out_marker : (es : List (Event A)) (name : List ℕ) → CanTakeOut es → CanTakeOut (es ++ entry (marker_entry name) ∷ [])
-  out_marker es name can front ms e h =
-      let p : Progress A = progress columns width es in
-      let now : p.word ++ marker name ∷ [] ≡ front ++ ms = ap (λ (q : Progress A). q.word) (sym (progress-push es (entry (marker_entry name)))) ∙ e in
-      elim (last_of_back p.word (marker name) front ms now) [
-        | inl none ↦ nothing_out (es ++ entry (marker_entry name) ∷ []) front ms e none
-        | inr r ↦
-            let bare : has_character r.0 ≡ false = (or_parts (has_character r.0) false (sym (has_character-append r.0 (marker name ∷ [])) ∙ ap has_character (sym r.1) ∙ h)).0 in
-            let count : length ms ≡ length r.0 + 1 = ap length r.1 ∙ length-append r.0 (marker name ∷ []) in
-            ap (λ n. progress columns width (without_markers n (es ++ entry (marker_entry name) ∷ []))) count ∙ ap (progress columns width) (without_one (length r.0) es name)
-            ∙ can front r.0 r.2 bare ∙ ap (λ (q : Progress A). with_word q front) (sym (progress-push es (entry (marker_entry name))))
-      ]
+  out_marker es name can front ms e h = grind (arith, progress-push, last_of_back, nothing_out, or_parts, has_character-append, length-append, without_one)
 
   out_event : (es : List (Event A)) (x : Event A) → CanTakeOut es → CanTakeOut (es ++ x ∷ [])
   out_event es call can = out_after es call can (λ front ms h e. inr (front, e, refl)) (λ n. without_plain n es call refl)

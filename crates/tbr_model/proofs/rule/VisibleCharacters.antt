@@ -30,13 +30,7 @@ white_not_visible columns c h = and_right (is_kept columns c) (not (is_whitespac
 
 pub looks_at_characters : {A : Type 0} (columns : ℕ → Option ℕ) (Comes : Entry A → Type 0) (Modes : WhiteSpace → Type 0) → ((c : ℕ) (a b : A) (m : WhiteSpace) → Comes (character c a b m) → Modes m) →
     LooksAtKept columns Comes Modes (visible_glyphs columns)
-looks_at_characters columns Comes Modes modes = record {
-  modes = modes;
-  append = visible-append columns;
-  nothing = refl;
-  lost = λ c a h. (let hides : is_visible columns c ≡ false = and_left (is_kept columns c) (not (is_whitespace c)) h in rw hides refl);
-  white = λ m c a h. rw (white_not_visible columns c h) refl;
-}
+looks_at_characters columns Comes Modes modes = grind (arith, visible-append, and_left, white_not_visible)
 
 -- the visible ones among items that stand for entries, where each has a relation to its entry
 pub visible_zip : {A : Type 0} (columns : ℕ → Option ℕ) (Modes : WhiteSpace → Type 0) (S : ℕ × A → Entry A → Type 0) → ((c : ℕ) (x a b : A) (m : WhiteSpace) → (x ≡ a) ⊎ ((x ≡ b) × Modes Pre) → S (c, x) (character c a b m)) →
@@ -74,10 +68,7 @@ module _ {A : Type 0} (columns : ℕ → Option ℕ) (width : ℕ) (Same : A →
   -- ---- hard lines
 
   one_hard_line : ShowsOne columns width (ShowsHardLine columns Same) Preserves
-  one_hard_line p es f m n = (
-    record { line = λ _. (let q = flush_word columns width (fold (step columns width) p es) in omega (arith, length-append q.laid.done (q.laid.line ∷ []))); visible = visible_ended p es f; blank = λ spaces. (blank_line columns width p es f m spaces).0 },
-    record { line = λ h. cc; visible = visible_from p es f; blank = λ spaces. (blank_line columns width p es f m spaces).1 },
-  )
+  one_hard_line p es f m n = grind (arith, length-append, visible_ended, blank_line, visible_from)
 
   -- In a preserving run each hard line's visible characters are on lines of its own, and a newline ends a line.
   pub hard_lines_shown : (es : List (Event A)) → Each Preserves (run_of es) → Parted (ShowsHardLine columns Same) (hard_lines (run_of es)) (lines_of columns width es)

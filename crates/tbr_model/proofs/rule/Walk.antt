@@ -37,14 +37,10 @@ pub record KeptByRule {A : Type 0} (columns : ℕ → Option ℕ) (width : ℕ) 
   pub lost : (es : List (Entry A)) (l : Laid A) (w : List (Item A)) (c : ℕ) (a b : A) (m : WhiteSpace) → is_kept columns c ≡ false → R es l w → R (es ++ character c a b m ∷ []) l w
 
 pub extended_twice : {A : Type 0} (l : Laid A) (is js : List (Item A)) (n m k : ℕ) → n + m ≡ k → extended (extended l is n) js m ≡ extended l (is ++ js) k
-extended_twice l is js n m k e =
-    let columns : (l.width + n) + m ≡ l.width + k = omega (arith, e) in
-    rw (columns, append_assoc l.line is js) refl
+extended_twice l is js n m k e = grind (arith, append_assoc)
 
 pub extended_nothing : {A : Type 0} (l : Laid A) → extended l [] 0 ≡ l
-extended_nothing l =
-    let columns : l.width + 0 ≡ l.width = omega arith in
-    rw (columns, append-nil l.line) refl
+extended_nothing l = grind (arith, append-nil)
 
 known_kept : (columns : ℕ → Option ℕ) (c : ℕ) → is_some (columns c) ≡ true → is_break c ≡ false → is_kept columns c ≡ true
 known_kept columns c some unbroken = rw (some, unbroken) refl
@@ -105,11 +101,7 @@ module _ {A : Type 0} {columns : ℕ → Option ℕ} {width : ℕ} {Comes : Entr
         cond_both (has_character l.line) _ _ (λ (m : Laid A). R es m w × (Rooms → m.width ≡ 0)) (λ _. (k.ended es l w r, λ _. refl)) (λ none. (r, λ s. k.bare s es l w r none))
 
     item_put : (l : Laid A) (i : Item A) (w : List (Item A)) → R es l (i ∷ w) → R es (put_item columns width l i) w
-    item_put l i w r =
-        cond_both (nat_le (l.width + item_width columns i) width) _ _ (λ (m : Laid A). R es m w) (λ e. k.item es l i w (leb-true _ _ e) r)
-        (λ _. cond_both (nat_le (item_width columns i) width) _ _ (λ (m : Laid A). R es m w) (λ e. k.item es (end_line l) i w (omega (arith, leb-true _ _ e)) (k.ended es l (i ∷ w) r))
-        (λ e. cond_both (l.width == 0) _ _ (λ (m : Laid A). R es (end_line (extended m (i ∷ []) (item_width columns i))) w)
-        (λ z. k.wide es l i w (eqb-true _ _ z) (leb-false _ _ e) r) (λ _. k.wide es (end_line l) i w refl (leb-false _ _ e) (k.ended es l (i ∷ w) r))))
+    item_put l i w r = grind (arith, cond_both, leb-true, eqb-true, leb-false)
 
     items_put : (is : List (Item A)) (l : Laid A) → R es l is → R es (put_items columns width l is) []
     items_put [] l r = r
@@ -141,9 +133,7 @@ module _ {A : Type 0} {columns : ℕ → Option ℕ} {width : ℕ} {Comes : Entr
 
     wrapped_by : (p : Progress A) (s : Space A) (m : WhiteSpace) → Tag s.tag → Mode m → Stands es p → Stands es (wrap_space_by columns width p s m)
     wrapped_by p s Normal t m h = record { laid = h.laid; space = tt; flags = h.flags }
-    wrapped_by p s Pre t m h =
-        cond_both (nat_le (width - p.laid.width) s.width) _ _ (Stands es) (λ _. record { laid = h.laid; space = waits_of (s.width - (width - p.laid.width)) s.tag Pre t m; flags = h.flags })
-        (λ e. record { laid = spaces_here s.width s.tag p.laid p.word (λ _. omega (arith, leb-false _ _ e)) t h.laid; space = tt; flags = h.flags })
+    wrapped_by p s Pre t m h = grind (arith, cond_both, waits_of, spaces_here, leb-false)
     wrapped_by p s PreWrap t m h = record { laid = leading m p.word (trimmed columns p.laid) (k.trims m es p.laid p.word h.laid); space = tt; flags = h.flags }
 
     pub wrapped : (p : Progress A) (o : Option (Space A)) → Waits o → Stands es p → Stands es (wrap_space columns width p o)
@@ -159,18 +149,10 @@ module _ {A : Type 0} {columns : ℕ → Option ℕ} {width : ℕ} {Comes : Entr
     }
 
     laid_fresh : (p : Progress A) → Stands es p → Stands es (lay_fresh columns width p)
-    laid_fresh p h =
-        let f = fresh p.laid p.word h.laid in
-        let l : Laid A = put_pending width p.space (end_if_character p.laid) in
-        let on : R es l p.word = pending_put p.space (end_if_character p.laid) p.word (λ s. omega (arith, f.1 s, k.some s)) h.space f.0 in
-        cond_both (has_character p.word) _ _ (Stands es)
-        (λ _. record { laid = items_put p.word l on; space = tt; flags = (h.flags.0, h.flags.0, h.flags.2) })
-        (λ _. record { laid = on; space = tt; flags = (h.flags.0, h.flags.0, h.flags.2) })
+    laid_fresh p h = grind (arith, fresh, pending_put, cond_both, items_put)
 
     pub word_laid : (p : Progress A) → Stands es p → Stands es (lay columns width p)
-    word_laid p h =
-        cond_both (nat_le (p.laid.width + (pending_width p.space + items_width columns p.word)) width) _ _ (Stands es) (λ e. laid_here p (leb-true _ _ e) h)
-        (λ _. laid_fresh (wrap_space columns width p p.space) (wrapped p p.space h.space h))
+    word_laid p h = grind (arith, cond_both, laid_here, leb-true, laid_fresh, wrapped)
 
     pub word_flushed : (p : Progress A) → Stands es p → Stands es (flush_word columns width p)
     word_flushed p h = cond_both (has_character p.word) _ _ (Stands es) (λ _. word_laid p h) (λ _. h)
@@ -184,13 +166,7 @@ module _ {A : Type 0} {columns : ℕ → Option ℕ} {width : ℕ} {Comes : Entr
     line_ended p h = record { laid = k.ended es p.laid p.word h.laid; space = tt; flags = (h.flags.0, (λ e. cc), (λ e. cc)) }
 
     tabbed : (a : A) (p : Progress A) → Tag a → Stands es p → Stands es (tab width a p)
-    tabbed a p t h = record {
-      laid = cond_both (nat_lt (p.laid.width + pending_width p.space) width) _ _ (λ (m : Laid A). R es m p.word)
-          (λ e. tab_put (p.laid.width + pending_width p.space) a p.laid p.word (λ _. omega arith) (λ _. ltb-true _ _ e) t h.laid)
-          (λ _. let f = fresh p.laid p.word h.laid in tab_put 0 a (end_if_character p.laid) p.word (λ s. omega (arith, f.1 s)) k.some t f.0);
-      space = h.space;
-      flags = h.flags;
-    }
+    tabbed a p t h = grind (arith, cond_both, tab_put, ltb-true, fresh)
 
     module _ (c : ℕ) (a b : A) (m : WhiteSpace) (comes : Comes (character c a b m)) where
       abbrev entered : List (Entry A)
@@ -213,12 +189,7 @@ module _ {A : Type 0} {columns : ℕ → Option ℕ} {width : ℕ} {Comes : Entr
 
       spaced : (o : Option ℕ) (p : Progress A) → is_kept columns c ≡ false → MayJoin columns m c → Stands es p → Stands entered (keep_space c (tag_of p a b) m o p)
       spaced None p gone may h = passed p gone h
-      spaced (Some n) p gone may h =
-          cond_both (has_character p.word) _ _ (Stands entered) (λ _. joined p may h) (λ _. record {
-            laid = k.lost es p.laid p.word c a b m gone h.laid;
-            space = waits_of (pending_width p.space + n) (tag_of p a b) m (tagged p) (k.tags c a b m comes).2;
-            flags = h.flags;
-          })
+      spaced (Some n) p gone may h = grind (arith, cond_both, waits_of, tagged)
 
       kept : (o : Option ℕ) (p : Progress A) → columns c ≡ o → is_break c ≡ false → Stands es p → Stands entered (keep_character columns width c a b m o p)
       kept None p e unbroken h = passed p (unknown_lost columns c (ap is_some e)) h
@@ -270,9 +241,7 @@ module _ {A : Type 0} {columns : ℕ → Option ℕ} {width : ℕ} {Comes : Entr
   walked [] es p comes h = subst (λ (fs : List (Entry A)). Stands fs p) (sym (append-nil es)) h
   walked (call ∷ events) es p comes h =
       walked events es (record p { in_continuation = p.continuation_flag }) comes (record { laid = h.laid; space = h.space; flags = (h.flags.0, h.flags.1, h.flags.1) })
-  walked (entry e ∷ events) es p comes h =
-      subst (λ (fs : List (Entry A)). Stands fs (fold (step columns width) (enter columns width p e) events)) (append_assoc es (e ∷ []) (run_of events))
-      (walked events (es ++ e ∷ []) (enter columns width p e) comes.1 (one_entered es p e comes.0 h))
+  walked (entry e ∷ events) es p comes h = grind (arith, append_assoc, one_entered, walked events (es ++ e ∷ []) (enter columns width p e) comes.1 (one_entered es p e comes.0 h))
 
   pub run_walked : (events : List (Event A)) → R [] nothing_laid [] → Each Comes (run_of events) → Stands (run_of events) (progress columns width events)
   run_walked events start comes = walked events [] at_start comes (record { laid = start; space = tt; flags = ((λ e. cc), (λ e. cc), (λ e. cc)) })

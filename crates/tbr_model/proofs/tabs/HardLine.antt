@@ -1,5 +1,5 @@
 -- A hard line of printable characters and tabs, as long as it fits the open line.
-use Rattle.std.proofs.Common.{◌≡◌, ℕ, ◌+◌, ◌-◌, ◌%◌, ◌≤◌, Bool, true, false, ◌&&◌, nat_lt, nat_le, Option, Some, List, [], ◌∷◌, ◌++◌, replicate, length, refl, ap, sym, ◌∙◌, arith, append_assoc, append-nil, length-append, le-leb, lt-ltb, subst, ◌≢◌, suc, ◌<◌, ◌⊎◌, inl, inr, ◌==◌, if◌then◌else◌, map, fold, ne_eqb}
+use Rattle.std.proofs.Common.{◌≡◌, ℕ, ◌+◌, ◌-◌, ◌%◌, ◌≤◌, Bool, true, false, ◌&&◌, nat_lt, nat_le, Option, Some, List, [], ◌∷◌, ◌++◌, replicate, length, refl, ap, sym, ◌∙◌, arith, append_assoc, append-nil, length-append, le-leb, lt-ltb, subst, ◌≢◌, ◌<◌, ◌⊎◌, inl, inr, ◌==◌, if◌then◌else◌, map, fold, ne_eqb}
 use Rattle.std.proofs.lemmas.Bool.{cond_both, both_ways}
 use Rattle.std.proofs.lemmas.List.{length-replicate, replicate-append-replicate}
 use Rattle.tbr_model.proofs.rule.HardLines.{ShowsOne, hard_lines_parted}
@@ -27,21 +27,10 @@ pub record HoldsText {A : Type 0} (columns : ℕ → Option ℕ) (x : List ℕ) 
 -- how long the text is
 pub reads_length : {A : Type 0} (columns : ℕ → Option ℕ) (x : List ℕ) (p : Progress A) → HoldsText columns x p →
     p.laid.width + (pending_width p.space + items_width columns p.word) ≡ length x
-reads_length columns x p h =
-    omega (
-      arith,
-      h.width,
-      h.word,
-      ap length h.text,
-      length-append (letters_of p.laid.line) (replicate (pending_width p.space) 32 ++ letters_of p.word),
-      length-append (replicate (pending_width p.space) 32) (letters_of p.word),
-      length-replicate {A = ℕ} (pending_width p.space) 32,
-    )
+reads_length columns x p h = grind (arith, length-append, length-replicate, ℕ)
 
 pub lay_fits : {A : Type 0} (columns : ℕ → Option ℕ) (width : ℕ) (x : List ℕ) (p : Progress A) → HoldsText columns x p → length x ≤ width → lay columns width p ≡ lay_here columns p
-lay_fits columns width x p h fits =
-    let e : nat_le (p.laid.width + (pending_width p.space + items_width columns p.word)) width ≡ true = le-leb _ _ (omega (arith, fits, reads_length columns x p h)) in
-    rw e refl
+lay_fits columns width x p h fits = grind (arith, le-leb, reads_length)
 
 -- the letters of the line on which space and word are laid
 pub laid_letters : {A : Type 0} (columns : ℕ → Option ℕ) (p : Progress A) →
@@ -65,9 +54,7 @@ break_reads {A} columns width x p h fits =
 -- the word is laid, if it has a character
 pub flush_reads : {A : Type 0} (columns : ℕ → Option ℕ) (width : ℕ) (x : List ℕ) (p : Progress A) → HoldsText columns x p → length x ≤ width →
     HoldsText columns x (flush_word columns width p) × has_character (flush_word columns width p).word ≡ false
-flush_reads {A} columns width x p h fits =
-    cond_both (has_character p.word) _ _ (λ (q : Progress A). HoldsText columns x q × has_character q.word ≡ false)
-    (λ _. rw (lay_fits columns width x p h fits) (lay_here_reads columns x p h, refl)) (λ none. (h, none))
+flush_reads {A} columns width x p h fits = grind (arith, cond_both, lay_fits, lay_here_reads)
 
 pub prepared_reads : {A : Type 0} (columns : ℕ → Option ℕ) (width c : ℕ) (mode : WhiteSpace) (x : List ℕ) (p : Progress A) → HoldsText columns x p → length x ≤ width → HoldsText columns x (prepared columns width c mode p)
 prepared_reads columns width c Normal x p h fits = h
@@ -120,9 +107,7 @@ character_reads {A} columns width c a b mode x p one h =
 
 pub character_joins : {A : Type 0} (columns : ℕ → Option ℕ) (width c : ℕ) (a b : A) (mode : WhiteSpace) (p : Progress A) →
     has_character (keep_character columns width c a b mode (Some 1) p).word ≡ true
-character_joins {A} columns width c a b mode p =
-    cond_both (is_pre mode && passes columns width 1 p) _ _ (λ (q : Progress A). has_character q.word ≡ true) (λ _. back_has p.word (glyph c b ∷ []) refl)
-    (λ _. back_has p.word (glyph c (tag_of p a b) ∷ []) refl)
+character_joins {A} columns width c a b mode p = grind (arith, cond_both, back_has)
 
 -- spaces up to the next multiple of eight are after the text
 pub tab_reads : {A : Type 0} (columns : ℕ → Option ℕ) (width : ℕ) (a : A) (x : List ℕ) (p : Progress A) → HoldsText columns x p → has_character p.word ≡ false →
@@ -171,10 +156,7 @@ abbrev pub filled : ℕ → ℕ → List ℕ
 filled n c = if c == 9 then replicate (8 - n % 8) 32 else c ∷ []
 
 filled_first : (n c : ℕ) (cs : List ℕ) → tabs_filled n (c ∷ cs) ≡ filled n c ++ tabs_filled (n + length (filled n c)) cs
-filled_first n c cs =
-    if_same (λ (ds : List ℕ). ds ++ tabs_filled (n + length ds) cs) (c == 9) _ _ _ _
-    (ap (λ k. replicate (8 - n % 8) 32 ++ tabs_filled (n + k) cs) (sym (length-replicate {A = ℕ} (8 - n % 8) 32)))
-    (ap (λ k. c ∷ tabs_filled k cs) (let e : suc n ≡ n + 1 = omega arith in e))
+filled_first n c cs = grind (arith, if_same, ℕ, length-replicate)
 
 module _ {A : Type 0} (columns : ℕ → Option ℕ) (width : ℕ) (a b : A) (mode : WhiteSpace) (kept : mode ≢ Normal) (x : List ℕ) (p : Progress A) (h : HoldsText columns x p) where
   tab_entered : length x + (8 - length x % 8) ≤ width → HoldsText columns (x ++ replicate (8 - length x % 8) 32) (enter columns width p (character 9 a b mode))
@@ -204,13 +186,7 @@ module _ {A : Type 0} (columns : ℕ → Option ℕ) (width : ℕ) (a b : A) (mo
   entry_reads : (c : ℕ) → columns 32 ≡ Some 1 → (c ≡ 9) ⊎ IsPrintable columns c → length x + length (filled (length x) c) ≤ width → Goal c
   entry_reads c one (inl is) fits =
       subst Goal (sym is) (tab_entered (omega (arith, fits, ap (λ k. length (filled (length x) k)) is, length-replicate {A = ℕ} (8 - length x % 8) 32)), λ w. absurd (w.1 refl))
-  entry_reads c one (inr printable) fits = elim (eqb_tells c 32) [
-    | inl w ↦ subst Goal (sym w.1) (space_entered one (omega (arith, fits)), λ v. absurd (v.0 refl))
-    | inr w ↦
-        let other : (c == 9) ≡ false = ne_eqb c 9 (λ e. absurd (omega (arith, printable.0, e))) in
-        let both = visible_entered c (visible_of columns c printable w.1) in
-        rw other (both.0, λ _. both.1)
-  ]
+  entry_reads c one (inr printable) fits = grind (arith, eqb_tells, space_entered, ne_eqb, visible_entered, visible_of)
 
 -- ---- all entries
 
@@ -245,21 +221,14 @@ tabs_read columns width (entry (character c a b mode) ∷ es) x all p one kept t
 
 -- nothing is read
 pub fresh_reads : {A : Type 0} (columns : ℕ → Option ℕ) (p : Progress A) → BeginsHardLine p → HoldsText columns [] p
-fresh_reads columns p h = record {
-  done = h.done;
-  width = h.width ∙ ap (λ is. length (letters_of is)) (sym h.line);
-  word = no_character_no_width columns p.word h.word ∙ ap length (sym (no_letters p.word h.word));
-  text = ap (λ is. letters_of is ++ (replicate (pending_width p.space) 32 ++ letters_of p.word)) h.line ∙ ap (λ s. replicate (pending_width s) 32 ++ letters_of p.word) h.space ∙ no_letters p.word h.word;
-}
+fresh_reads columns p h = grind (arith, no_character_no_width, no_letters)
 
 -- The lines of a hard line whose only line has the letters, where another follows and where none does.
 abbrev pub IsLine : {A : Type 0} → List ℕ → Laid A → Type 0
 IsLine x l = (map letters_of (end_line l).done ≡ x ∷ []) × (map letters_of (end_if_character l).done ≡ x ∷ [])
 
 pub line_is : {A : Type 0} (x : List ℕ) (l : Laid A) → l.done ≡ [] → letters_of l.line ≡ x → has_character l.line ≡ true → IsLine x l
-line_is {A} x l done letters has =
-    let only : map letters_of (l.done ++ l.line ∷ []) ≡ x ∷ [] = ap (λ ds. map letters_of (ds ++ l.line ∷ [])) done ∙ ap (λ cs. cs ∷ []) letters in
-    (only, cond_both (has_character l.line) _ _ (λ (q : Laid A). map letters_of q.done ≡ x ∷ []) (λ _. only) (λ none. absurd (both_ways _ none has)))
+line_is {A} x l done letters has = grind (arith, cond_both, both_ways)
 
 pub laid_has : {A : Type 0} (columns : ℕ → Option ℕ) (p : Progress A) → has_character p.word ≡ true → has_character (lay_here columns p).laid.line ≡ true
 laid_has columns p has = back_has p.laid.line (space_text p.space ++ p.word) (back_has (space_text p.space) p.word has)

@@ -118,7 +118,4 @@ each_close P ls (x ∷ l) h p = each_append P ls ((x ∷ l) ∷ []) h (p (omega 
 
 -- the lines, the open one closed, are the best
 pub holds_best : {A : Type 0} (width : ℕ) (slots : List (Slot A)) (lines : Lines A) → HoldsSlots width slots lines → IsBest width slots (close lines.done lines.last)
-holds_best width slots lines h =
-    greedy_best width slots (close lines.done lines.last)
-    (record { whole = joined_close lines.done lines.last ∙ h.whole; each = each_close (IsLegalLine width) lines.done lines.last h.each (λ _. h.legal) })
-    (each_close (λ l. 0 < length l) lines.done lines.last h.full (λ some. some)) (greedy_close width lines.done lines.last h.closed)
+holds_best width slots lines h = grind (arith, greedy_best, joined_close, each_close, greedy_close)

@@ -1,9 +1,9 @@
 -- The words of a run hold its kept items, and which runs have a legal layout.
-use Rattle.std.proofs.Common.{◌≡◌, ℕ, ◌≤◌, Bool, true, false, nat_lt, Option, None, List, [], ◌∷◌, ◌++◌, map, fold, flat_map, refl, ap, sym, ◌∙◌, arith, append_assoc, append-nil, subst, inl, inr}
+use Rattle.std.proofs.Common.{◌≡◌, ℕ, ◌≤◌, Bool, true, false, nat_lt, Option, None, List, [], ◌∷◌, ◌++◌, map, fold, flat_map, refl, ap, sym, ◌∙◌, arith, append_assoc, append-nil, subst}
 use Rattle.std.specs.List.{AllByRecursion as Each}
 use Rattle.std.proofs.lemmas.Bool.{cond_both, and_parts, cases_Bool}
 use Rattle.std.proofs.lemmas.List.Concat.{flat_map-append}
-use Rattle.tbr_model.specs.Run.{Entry, character, marker_entry, Item, item_width, items_width, items_of, kept_items, is_kept, is_break_entry, has_character, Word, Reading, start, works, read, reading, words_of, trailing}
+use Rattle.tbr_model.specs.Run.{Entry, character, marker_entry, Item, item_width, items_width, items_of, kept_items, is_kept, is_break_entry, has_character, Word, Reading, read, reading, words_of, trailing}
 use Rattle.tbr_model.specs.Layout.{Slot, slot_of, word_slots, slots_of, joined, line_width, rest_width, IsLegalLine, IsLegal, IsBest}
 use Rattle.tbr_model.proofs.lists.Each.{each_front, each_back, each_append, each_unmap}
 use Rattle.tbr_model.specs.Greedy.{close, wrapped, IsNarrow}
@@ -21,11 +21,7 @@ break_left columns (character c a b mode) h = let k : is_kept columns c ≡ fals
 break_left columns (marker_entry name) h = cc
 
 pub held-read : {A : Type 0} (columns : ℕ → Option ℕ) (r : Reading A) (e : Entry A) → held (read columns r e) ≡ held r ++ items_of columns e
-held-read {A} columns r e =
-    cond_both (works columns r e) _ _ (λ (q : Reading A). held q ≡ held r ++ items_of columns e)
-    (λ h. let none : items_of columns e ≡ [] = break_left columns e (and_parts _ _ h).0 in
-    rw none (simp (flat_map-append, append-nil)))
-    (λ _. sym (append_assoc _ r.items (items_of columns e)))
+held-read {A} columns r e = grind (arith, cond_both, break_left, and_parts, flat_map-append, append-nil, append_assoc)
 
 pub held-fold : {A : Type 0} (columns : ℕ → Option ℕ) (run : List (Entry A)) (r : Reading A) → held (fold (read columns) r run) ≡ held r ++ kept_items columns run
 held-fold columns [] r = sym (append-nil (held r))
@@ -33,10 +29,7 @@ held-fold columns (e ∷ run) r =
     held-fold columns run (read columns r e) ∙ ap (λ is. is ++ kept_items columns run) (held-read columns r e) ∙ append_assoc (held r) (items_of columns e) (kept_items columns run)
 
 pub words_hold : {A : Type 0} (columns : ℕ → Option ℕ) (run : List (Entry A)) → flat_map (λ w. w.items) (words_of columns run) ++ trailing columns run ≡ kept_items columns run
-words_hold {A} columns run = elim (cases_Bool (has_character (reading columns run).items)) [
-  | inl e ↦ rw e (simp (flat_map-append, append-nil) (held-fold columns run start))
-  | inr e ↦ rw e (held-fold columns run start)
-]
+words_hold {A} columns run = grind (arith, cases_Bool, flat_map-append, append-nil, held-fold)
 
 -- ---- which runs have a legal layout
 

@@ -3,7 +3,7 @@ use Rattle.std.proofs.Common.{◌≡◌, ℕ, ◌+◌, ◌<◌, ◌≤◌, Bool,
 use Rattle.std.specs.List.{AllByRecursion as Each}
 use Rattle.std.proofs.lemmas.Bool.{cond_both, and_parts, or_right, or_parts}
 use Rattle.std.proofs.lemmas.List.{map-append}
-use Rattle.tbr_model.specs.Run.{Entry, Item, glyph, marker, item_width, items_width, has_character, Word, word_of, Reading, start, works, read, reading, words_of}
+use Rattle.tbr_model.specs.Run.{Entry, Item, glyph, marker, item_width, items_width, has_character, Word, word_of, Reading, works, read, words_of}
 use Rattle.tbr_model.specs.Layout.{Slot, slot_of, slots_of, line_width, gap_width, line_has_character, IsBest}
 use Rattle.tbr_model.specs.Greedy.{close, Lines, fill, place_word, no_lines, wrapped, IsNarrow}
 use Rattle.tbr_model.proofs.words.Items.{has_character-append, no_character_no_width}
@@ -139,10 +139,7 @@ ended_words {A} columns (e ∷ run) r h =
     (λ w. each_append WordHas r.words (word_of r ∷ []) h (wide_items columns r.items (ltb-true _ _ (and_parts _ _ w).1), tt)) (λ _. h))
 
 pub words_have : {A : Type 0} (columns : ℕ → Option ℕ) (run : List (Entry A)) → Each WordHas (words_of columns run)
-words_have {A} columns run =
-    cond_both (has_character (reading columns run).items) _ _ (λ (ws : List (Word A)). Each WordHas ws)
-    (λ some. each_append WordHas (reading columns run).words (word_of (reading columns run) ∷ []) (ended_words columns run start tt) (some, tt))
-    (λ _. ended_words columns run start tt)
+words_have {A} columns run = grind (arith, cond_both, each_append, ended_words)
 
 pub best_characters : {A : Type 0} (columns : ℕ → Option ℕ) (width : ℕ) (run : List (Entry A)) (lines : List (List (Slot A))) → IsBest width (slots_of columns width run) lines → Each HasGlyph lines
 unfolding best_lines

@@ -1,10 +1,10 @@
 -- The left-to-right reading finds the words between the working break points.
-use Rattle.std.proofs.Common.{◌≡◌, ℕ, zero, suc, ◌+◌, Bool, true, false, ◌&&◌, ◌||◌, nat_lt, if◌then◌else◌, IsTrue, unwrap_or, Option, Some, None, List, [], ◌∷◌, ◌++◌, fold, flat_map, refl, ap, sym, ◌∙◌, inl, inr, arith, append_assoc, append-nil, subst, lt-ltb}
+use Rattle.std.proofs.Common.{◌≡◌, ℕ, zero, suc, ◌+◌, Bool, true, false, ◌&&◌, ◌||◌, nat_lt, if◌then◌else◌, IsTrue, Option, Some, None, List, [], ◌∷◌, ◌++◌, fold, flat_map, refl, ap, sym, ◌∙◌, inl, inr, arith, append_assoc, append-nil, subst, lt-ltb}
 use Rattle.std.specs.List.{AllByRecursion as Each, list_any}
 use Rattle.std.proofs.lemmas.List.Concat.{flat_map-append}
 use Rattle.std.proofs.lemmas.List.Sums.{fold-append}
 use Rattle.std.proofs.lemmas.Bool.{and_from, and_parts, false_from_ne_true, cases_Bool, both_ways}
-use Rattle.tbr_model.specs.Run.{Entry, character, marker_entry, Item, items_width, items_of, kept_items, is_kept, is_break, is_break_entry, blank_of, first_of, has_character, Word, word_of, Reading, works, read, words_of, trailing}
+use Rattle.tbr_model.specs.Run.{Entry, character, marker_entry, Item, items_width, items_of, kept_items, is_break, is_break_entry, blank_of, first_of, has_character, Word, word_of, Reading, works, read, words_of, trailing}
 use Rattle.tbr_model.specs.Regions.{takes_columns, HasColumns, NoBreakWorks, Region, region_entries, EndsAtWorkingBreak, IsParted, first_blank, word_after, words_after, words_between, markers_left}
 use Rattle.tbr_model.proofs.words.Items.{items_width-append}
 use Rattle.tbr_model.proofs.lists.Joined.{cut_twice}
@@ -17,17 +17,12 @@ lt-zero-add zero b = ap (nat_lt 0) (let e : 0 + b ≡ b = omega arith in e)
 lt-zero-add (suc a) b = rw (lt-ltb 0 (suc a + b) (omega arith), lt-ltb 0 (suc a) (omega arith)) refl
 
 takes_columns_width : {A : Type 0} (columns : ℕ → Option ℕ) (e : Entry A) → takes_columns columns e ≡ nat_lt 0 (items_width columns (items_of columns e))
-takes_columns_width columns (character c a b mode) = elim (cases_Bool (is_kept columns c)) [
-  | inl e ↦ rw e (ap (nat_lt 0) (let same : unwrap_or (columns c) 0 ≡ unwrap_or (columns c) 0 + 0 = omega arith in same))
-  | inr e ↦ rw e refl
-]
+takes_columns_width columns (character c a b mode) = grind (arith, cases_Bool)
 takes_columns_width columns (marker_entry name) = refl
 
 pub has_columns_width : {A : Type 0} (columns : ℕ → Option ℕ) (es : List (Entry A)) → list_any (takes_columns columns) es ≡ nat_lt 0 (items_width columns (kept_items columns es))
 has_columns_width columns [] = refl
-has_columns_width columns (e ∷ es) =
-    rw (takes_columns_width columns e, has_columns_width columns es)
-    (sym (lt-zero-add (items_width columns (items_of columns e)) (items_width columns (kept_items columns es))) ∙ ap (nat_lt 0) (sym (items_width-append columns (items_of columns e) (kept_items columns es))))
+has_columns_width columns (e ∷ es) = grind (arith, takes_columns_width, lt-zero-add, items_width-append, has_columns_width columns es)
 
 kept_more : {A : Type 0} (columns : ℕ → Option ℕ) (es : List (Entry A)) (e : Entry A) → kept_items columns (es ++ e ∷ []) ≡ kept_items columns es ++ items_of columns e
 kept_more columns es e = simp (flat_map-append, append-nil)

@@ -3,9 +3,9 @@ use Rattle.std.proofs.Common.{◌≡◌, ℕ, zero, suc, ◌+◌, ◌-◌, ◌�
 use Rattle.std.proofs.Math.Seq.{take-add}
 use Rattle.std.proofs.lemmas.List.Concat.{flat_map-append}
 use Rattle.tbr_model.proofs.lists.Each.{if_same}
-use Rattle.tbr_model.specs.Run.{Entry, Item, items_of, kept_items, has_character, Word, word_of, Reading, read, reading}
+use Rattle.tbr_model.specs.Run.{Entry, items_of, kept_items, has_character, Word, word_of, Reading, read, reading}
 use Rattle.tbr_model.specs.Layout.{Slot, word_slots, slots_of}
-use Rattle.tbr_model.specs.Regions.{NoBreakWorks, EndsAtWorkingBreak, IsFirstWorkingBreak, first_blank, word_after}
+use Rattle.tbr_model.specs.Regions.{NoBreakWorks, EndsAtWorkingBreak, IsFirstWorkingBreak, word_after}
 use Rattle.tbr_model.proofs.words.KeptItems.{break_left}
 use Rattle.tbr_model.proofs.layouts.Cuts.{line_and_rest, slice_get-drop}
 use Rattle.tbr_model.proofs.words.Regions.{read_since, still, over_region}
@@ -20,9 +20,7 @@ pub record HasRead {A : Type 0} (columns : ℕ → Option ℕ) (width : ℕ) (ru
 
 -- a word may be read with what is before it
 same_word : {A : Type 0} (columns : ℕ → Option ℕ) (before content : List (Entry A)) → kept_items columns before ≡ [] → word_after columns [] (before ++ content) ≡ word_after columns before content
-same_word {A} columns before content h =
-    let items : kept_items columns (before ++ content) ≡ kept_items columns content = flat_map-append (items_of columns) before content ∙ ap (λ (is : List (Item A)). is ++ kept_items columns content) h in
-    ap (λ (is : List (Item A)). let w : Word A = record { gap = first_blank (before ++ content); items = is } in w) items
+same_word {A} columns before content h = grind (arith, flat_map-append)
 
 slots_more : {A : Type 0} (columns : ℕ → Option ℕ) (width : ℕ) (words : List (Word A)) (w : Word A) →
     flat_map (word_slots columns width) (words ++ w ∷ []) ≡ flat_map (word_slots columns width) words ++ word_slots columns width w

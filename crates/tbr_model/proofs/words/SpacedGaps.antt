@@ -1,7 +1,7 @@
 -- What is between neighbouring words of a line.
-use Rattle.std.proofs.Common.{◌≡◌, ℕ, ◌<◌, Bool, false, Option, None, Some, List, [], ◌∷◌, ◌++◌, map, flat_map, length, nat_lt, refl, ap, sym, ◌∙◌, arith, append_assoc}
+use Rattle.std.proofs.Common.{◌≡◌, ℕ, ◌<◌, Bool, false, Option, None, Some, List, [], ◌∷◌, ◌++◌, map, flat_map, length, refl, ap, sym, ◌∙◌, arith, append_assoc}
 use Rattle.std.specs.List.{AllByRecursion as Each}
-use Rattle.tbr_model.specs.Run.{Entry, Item, items_width, first_of, blank_of, Word}
+use Rattle.tbr_model.specs.Run.{Entry, Item, first_of, blank_of, Word}
 use Rattle.tbr_model.specs.Layout.{Slot, slot_of, slots_within, word_slots, gap_text, rest_text, line_text}
 use Rattle.tbr_model.specs.Regions.{first_blank}
 
@@ -23,9 +23,7 @@ module _ {A : Type 0} where
   words_after_text : (columns : ℕ → Option ℕ) (width : ℕ) (ws : List (Word A)) → Each (λ v. 0 < length v.items) ws →
       rest_text (flat_map (word_slots columns width) ws) ≡ flat_map (λ v. gap_text v.gap ++ v.items) ws
   words_after_text columns width [] some = refl
-  words_after_text columns width (w ∷ ws) some =
-      rest_text-append (word_slots columns width w) (flat_map (word_slots columns width) ws)
-      ∙ (λ i. within_text columns (nat_lt width (items_width columns w.items)) w.gap w.items some.0 i ++ words_after_text columns width ws some.1 i)
+  words_after_text columns width (w ∷ ws) some = grind (arith, rest_text-append, within_text, words_after_text columns width ws some.1)
 
   first_text : (columns : ℕ → Option ℕ) (wider : Bool) (gap : Option A) (is : List (Item A)) (ss : List (Slot A)) → 0 < length is → line_text (slots_within columns wider gap is ++ ss) ≡ is ++ rest_text ss
   first_text columns wider gap [] ss some = absurd (let none : ⊥ = omega (arith, some) in none)
@@ -34,9 +32,7 @@ module _ {A : Type 0} where
 
   pub words_text : (columns : ℕ → Option ℕ) (width : ℕ) (w : Word A) (ws : List (Word A)) → Each (λ v. 0 < length v.items) (w ∷ ws) →
       line_text (flat_map (word_slots columns width) (w ∷ ws)) ≡ w.items ++ flat_map (λ v. gap_text v.gap ++ v.items) ws
-  words_text columns width w ws some =
-      first_text columns (nat_lt width (items_width columns w.items)) w.gap w.items (flat_map (word_slots columns width) ws) some.0
-      ∙ ap (λ is. w.items ++ is) (words_after_text columns width ws some.1)
+  words_text columns width w ws some = grind (arith, first_text, words_after_text)
 
   -- ---- blanks
 

@@ -1,6 +1,6 @@
 -- The markers among items, counted.
 use Rattle.tbr_model.proofs.rule.LaidText.{trailing_cases}
-use Rattle.std.proofs.Common.{◌≡◌, ℕ, zero, suc, nat_lt, ◌≤◌, true, List, [], ◌∷◌, length, inl, inr, refl, sym, ◌∙◌, arith}
+use Rattle.std.proofs.Common.{◌≡◌, ℕ, zero, suc, nat_lt, ◌≤◌, true, List, [], ◌∷◌, length, refl, ◌∙◌, arith}
 use Rattle.std.proofs.lemmas.Bool.{cases_lt, lt-ltb, le-ltb}
 use Rattle.tbr_model.specs.Run.{Item, glyph, marker, has_character}
 use Rattle.tbr_model.specs.Rule.{spaces, is_space_item, without_trailing}
@@ -13,10 +13,7 @@ markers_within (glyph c a ∷ is) = omega (arith, markers_within is)
 markers_within (marker name ∷ is) = omega (arith, markers_within is)
 
 one_more : (m n : ℕ) → nat_lt (suc m) (suc n) ≡ nat_lt m n
-one_more m n = elim (cases_lt m n) [
-  | inl less ↦ lt-ltb _ _ (omega (arith, less)) ∙ sym (lt-ltb m n less)
-  | inr most ↦ le-ltb _ _ (omega (arith, most)) ∙ sym (le-ltb m n most)
-]
+one_more m n = grind (arith, cases_lt, lt-ltb, le-ltb)
 
 -- there is a character where there are more items than markers
 pub has_from_counts : {A : Type 0} (is : List (Item A)) → nat_lt (length (names_in_items is)) (length is) ≡ has_character is

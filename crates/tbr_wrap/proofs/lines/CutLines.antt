@@ -15,9 +15,7 @@ module _ {X : Type 0} where
   none_cut (n ∷ ns) is l now rest h e d = absurd (omega (arith, h))
 
   pub first_cut : (n : ℕ) (ns lens : List ℕ) (is l : List X) (now rest : List (List X)) → lens ≡ n ∷ ns → cut lens is ≡ now → now ≡ l ∷ rest → (take n is ≡ l) × (cut ns (drop n is) ≡ rest)
-  first_cut n ns lens is l now rest h e d =
-      let both : take n is ∷ cut ns (drop n is) ≡ l ∷ rest = ap (λ ms. cut ms is) (sym h) ∙ e ∙ d in
-      (cc, cc)
+  first_cut n ns lens is l now rest h e d = grind arith
 
   cut_joined : (ls : List (List X)) (after : List X) → cut (map length ls) (joined ls ++ after) ≡ ls
   cut_joined [] after = refl

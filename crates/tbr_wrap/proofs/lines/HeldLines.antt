@@ -1,5 +1,5 @@
 -- What the fields hold after a line is ended and characters are placed.
-use Rattle.std.proofs.Common.{◌≡◌, ℕ, ◌+◌, ◌≤◌, Bool, Option, Some, List, [], ◌∷◌, ◌++◌, map, length, refl, ap, sym, ◌∙◌, subst, arith, append_assoc, append-nil, length-append, nat_lt, is_some, take, drop, IfSome, slice_index_or, option_copied, Bor}
+use Rattle.std.proofs.Common.{◌≡◌, ℕ, ◌+◌, ◌≤◌, Bool, Option, Some, List, [], ◌∷◌, ◌++◌, map, length, refl, ap, sym, ◌∙◌, arith, append_assoc, append-nil, length-append, nat_lt, is_some, take, drop, IfSome, slice_index_or, option_copied, Bor}
 use Rattle.std.proofs.lemmas.List.{take_at, drop_at, map-append}
 use Rattle.tbr_tagged.specs.Elements.{SameItems}
 use Rattle.tbr_model.specs.Run.{Item}
@@ -14,30 +14,15 @@ use Rattle.tbr_flat.proofs.MarkedItems.{markers-append}
 -- the open line is ended, as it was or with more items
 pub holds_end : {A : Type 0} (b c : LaidLines A) (before : List (List (Item A))) (l : Laid A) (n : ℕ) → HoldsLaid b before l → n ≡ length l.line → c.flat.placed ≡ b.flat.placed → c.ended.items ≡ b.ended.items ++ n ∷ [] → c.line_len ≡ 0 → c.line_markers ≡ 0 → c.line_width ≡ 0 →
     HoldsLaid c before (end_line l)
-holds_end {A} b c before l n h same flat lines len markers width = record {
-  placed = rw (flat, h.placed) (simp (append_assoc, joined-append, append-nil));
-  lens = rw (lines, h.lens, same) (simp (append_assoc, map-append));
-  len = len;
-  markers = markers;
-  width = width;
-}
+holds_end {A} b c before l n h same flat lines len markers width = grind (arith, append_assoc, joined-append, append-nil, map-append)
 
 -- more items on the open line
 pub holds_more : {A : Type 0} (b c : LaidLines A) (before : List (List (Item A))) (l : Laid A) (is : List (Item A)) (columns : ℕ) → HoldsLaid b before l → c.flat.placed ≡ b.flat.placed ++ is → c.ended ≡ b.ended → c.line_len ≡ b.line_len + length is → c.line_markers ≡ b.line_markers + length (names_in_items is) → c.line_width ≡ b.line_width + columns →
     HoldsLaid c before (extended l is columns)
-holds_more b c before l is columns h placed lines len markers width = record {
-  placed = placed ∙ ap (λ js. js ++ is) h.placed ∙ append_assoc (joined (before ++ l.done)) l.line is;
-  lens = ap (λ q. q.items) lines ∙ h.lens;
-  len = omega (arith, len, h.len, length-append l.line is);
-  markers = omega (arith, markers, h.markers, markers-append l.line is);
-  width = omega (arith, width, h.width);
-}
+holds_more b c before l is columns h placed lines len markers width = grind (arith, append_assoc, length-append, markers-append)
 
 pub keeps_trans : {A : Type 0} (a b c : LaidLines A) → KeepsLimits a b → KeepsLimits b c → KeepsLimits a c
-keeps_trans a b c h k = record {
-  width = k.width ∙ h.width;
-  may_overflow = k.may_overflow ∙ h.may_overflow;
-}
+keeps_trans a b c h k = grind arith
 
 -- where no other field changed
 pub holds_same : {A : Type 0} (b c : LaidLines A) (before : List (List (Item A))) (l : Laid A) → HoldsLaid b before l → c.flat.placed ≡ b.flat.placed → c.ended.items ≡ b.ended.items → c.line_len ≡ b.line_len → c.line_markers ≡ b.line_markers → c.line_width ≡ b.line_width → HoldsLaid c before l
@@ -60,28 +45,9 @@ front_fits b before l n rest h e =
 
 pub taken : {A : Type 0} (eq : A → A → Bool) (b c : LaidLines A) (before : List (List (Item A))) (l : Laid A) (is : List (Item A)) (rest : List (List (Item A))) (n : ℕ) (ns : List ℕ) (line : List (Item A)) → HoldsLaid b before l → before ++ l.done ≡ is ∷ rest → b.ended.items ≡ n ∷ ns →
     SameItems eq line (take n b.flat.placed) → c.flat ≡ record b.flat { placed = drop n b.flat.placed } → c.ended.items ≡ ns → c.line_len ≡ b.line_len → c.line_markers ≡ b.line_markers → c.line_width ≡ b.line_width → SameItems eq line is × LeavesAfterLine b c rest l
-taken {A} eq b c before l is rest n ns line h first e same flat lens len markers width =
-    let parts : b.flat.placed ≡ is ++ (joined rest ++ l.line) = h.placed ∙ ap (λ ls. joined ls ++ l.line) first ∙ append_assoc is (joined rest) l.line in
-    let both : n ∷ ns ≡ map length (is ∷ rest) = sym e ∙ h.lens ∙ ap (map length) first in
-    let long : length is ≡ n = cc in (
-      subst (λ (js : List (Item A)). SameItems eq line js) (ap (take n) parts ∙ take_at is (joined rest ++ l.line) n long) same,
-      record {
-        placed = ap (λ f. f.placed) flat ∙ ap (drop n) parts ∙ drop_at is (joined rest ++ l.line) n long;
-        word = ap (λ f. f.word) flat;
-        lens = lens ∙ (let others : ns ≡ map length rest = cc in others);
-        len = len;
-        markers = markers;
-        width = width;
-      },
-    )
+taken {A} eq b c before l is rest n ns line h first e same flat lens len markers width = grind (arith, append_assoc, take_at, drop_at)
 
 -- one more item, with which the open line is ended
 pub holds_wide : {A : Type 0} (b c : LaidLines A) (before : List (List (Item A))) (l : Laid A) (i : Item A) (columns n : ℕ) → HoldsLaid b before l → c.flat.placed ≡ b.flat.placed ++ i ∷ [] → n ≡ b.line_len + 1 → c.ended.items ≡ b.ended.items ++ n ∷ [] → c.line_len ≡ 0 → c.line_markers ≡ 0 → c.line_width ≡ 0 →
     HoldsLaid c before (end_line (extended l (i ∷ []) columns))
-holds_wide {A} b c before l i columns n h placed count lines len markers width = record {
-  placed = rw (placed, h.placed) (simp (append_assoc, joined-append, append-nil));
-  lens = let e : n ≡ length (l.line ++ i ∷ []) = omega (arith, count, h.len, length-append l.line (i ∷ [])) in rw (lines, h.lens, e) (simp (append_assoc, map-append));
-  len = len;
-  markers = markers;
-  width = width;
-}
+holds_wide {A} b c before l i columns n h placed count lines len markers width = grind (arith, append_assoc, joined-append, append-nil, length-append, map-append)

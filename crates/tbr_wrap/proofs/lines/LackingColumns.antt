@@ -28,9 +28,7 @@ module _ (columns : ℕ → Option ℕ) (width : ℕ) where
   pub lacking_next : (all found new left rest : List ℕ) (given after : List (Option ℕ)) (n w lack : ℕ) → all ≡ found ++ lacking columns width left given → left ≡ n ∷ rest →
       w ≡ min (given_width columns (take n given)) (2 ^ 64 - 1) → width < 2 ^ 64 → lack ≡ width - w → after ≡ drop n given → new ≡ found ++ lack ∷ [] →
       all ≡ new ++ lacking columns width rest after
-  lacking_next all found new left rest given after n w lack h l is small e d m =
-      let same : width - given_width columns (take n given) ≡ lack = omega (arith, is, small, e) in
-      h ∙ rw (l, d, m, same) (sym (append_assoc found (lack ∷ []) (lacking columns width rest (drop n given))))
+  lacking_next all found new left rest given after n w lack h l is small e d m = grind (arith, append_assoc)
 
   -- after the last line
   pub lacking_last : (all found left : List ℕ) (given : List (Option ℕ)) → all ≡ found ++ lacking columns width left given → length left ≡ 0 → found ≡ all

@@ -1,6 +1,5 @@
 -- What the fields hold is what the rule lays.
-use Rattle.std.proofs.Common.{Ok, ◌≡◌, ◌≢◌, None, nat_le, ℕ, zero, suc, Some, ◌+◌, ◌<◌, ◌≤◌, Bool, true, false, Option, List, [], ◌∷◌, ◌++◌, length, take, drop, refl, ap, sym, ◌∙◌, subst, arith, append_assoc, unwrap_or, MatchOption}
-use borrow.Author.Tests.{le-leb, lt-leb}
+use Rattle.std.proofs.Common.{Ok, ◌≡◌, ◌≢◌, None, ℕ, zero, suc, Some, ◌+◌, ◌<◌, ◌≤◌, Bool, true, false, Option, List, [], ◌∷◌, length, take, drop, refl, ap, sym, ◌∙◌, arith, append_assoc, unwrap_or, MatchOption}
 use Rattle.std.specs.Cmp.{IsEquivalence}
 use Rattle.std.proofs.lemmas.List.Elements.{length_all_zip}
 use Rattle.tbr_model.specs.Run.{Item, item_width, items_width, has_character}
@@ -9,7 +8,6 @@ use Rattle.tbr_model.specs.Rule.{spaces}
 use Rattle.tbr_model.specs.Laid.{Laid, extended, end_line, end_if_character, end_if_columns, put_item, put_items}
 use Rattle.tbr_model.proofs.words.Items.{no_character_no_width}
 use Rattle.tbr_tagged.specs.Elements.{SameItem, SameItems}
-use Rattle.tbr_flat.specs.Flat.{Flat}
 use Rattle.tbr_wrap.specs.LaidLines.{HoldsLaid, LaidLikeRule, HoldsRule, PutsFront, KeepsLimits}
 use Rattle.tbr_wrap.specs.declared.laid_lines.LaidLines.{LaidLines}
 use Rattle.tbr_tagged.proofs.SameItems.{same_items_append, all_zip_append, same_has, same_width}
@@ -18,22 +16,10 @@ use Rattle.tbr_wrap.proofs.lines.LineWidths.{measured_ended, measured_extended, 
 
 module _ {A : Type 0} (eq : A → A → Bool) (laws : IsEquivalence eq) (given : List (List (Item A))) where
   pub shows_ended : (l r : Laid A) → LaidLikeRule eq given l r → LaidLikeRule eq given (end_line l) (end_line r)
-  shows_ended l r h = record {
-    rest = h.rest ++ r.line ∷ [];
-    split = ap (λ ls. ls ++ r.line ∷ []) h.split ∙ append_assoc given h.rest (r.line ∷ []);
-    done = all_zip_append (SameItems eq) l.done (l.line ∷ []) h.rest (r.line ∷ []) h.done (h.last, tt);
-    last = tt;
-    width = refl;
-  }
+  shows_ended l r h = grind (arith, append_assoc, all_zip_append)
 
   pub shows_extended : (l r : Laid A) (is js : List (Item A)) (m n : ℕ) → LaidLikeRule eq given l r → SameItems eq is js → m ≡ n → LaidLikeRule eq given (extended l is m) (extended r js n)
-  shows_extended l r is js m n h same e = record {
-    rest = h.rest;
-    split = h.split;
-    done = h.done;
-    last = same_items_append eq laws l.line r.line is js h.last same;
-    width = omega (arith, h.width, e);
-  }
+  shows_extended l r is js m n h same e = grind (arith, same_items_append)
 
 module _ {A : Type 0} (columns : ℕ → Option ℕ) (eq : A → A → Bool) (laws : IsEquivalence eq) (b c : LaidLines A) (same : KeepsLimits b c) (before given : List (List (Item A))) (r : Laid A) (h : HoldsRule columns eq b before given r) where
   pub lays_ended : HoldsLaid c before (end_line h.laid) → HoldsRule columns eq c before given (end_line r)
@@ -79,21 +65,14 @@ module _ {A : Type 0} (columns : ℕ → Option ℕ) (eq : A → A → Bool) (la
 
 module _ {A : Type 0} (columns : ℕ → Option ℕ) (width : ℕ) (P : Laid A → Type 0) (r : Laid A) (i : Item A) where
   pub item_wide : width < item_width columns i → P (end_line (extended (end_if_columns r) (i ∷ []) (item_width columns i))) → P (put_item columns width r i)
-  item_wide wide h =
-      let test : nat_le (r.width + item_width columns i) width ≡ false = lt-leb _ _ (omega arith) in
-      let narrow : nat_le (item_width columns i) width ≡ false = lt-leb _ _ wide in rw (test, narrow) h
+  item_wide wide h = grind arith
 
 -- items of which the first doesn't fit the open line, and fits a fresh one
 pub put_fresh : {A : Type 0} (columns : ℕ → Option ℕ) (width : ℕ) (r : Laid A) (js : List (Item A)) (n : ℕ) → 0 < n → r.width ≤ width → width < r.width + items_width columns (take 1 js) → items_width columns (take 1 js) ≤ width →
     put_items columns width r (take n js) ≡ put_items columns width (end_line r) (take n js)
 put_fresh {A} columns width r js zero some small full fits = absurd (omega (arith, some))
 put_fresh {A} columns width r [] (suc n) some small full fits = absurd (omega (arith, small, full))
-put_fresh {A} columns width r (j ∷ js) (suc n) some small full fits =
-    let old : nat_le (r.width + item_width columns j) width ≡ false = lt-leb _ _ (omega (arith, full)) in
-    let narrow : nat_le (item_width columns j) width ≡ true = le-leb _ _ (omega (arith, fits)) in
-    let new : nat_le (0 + item_width columns j) width ≡ true = le-leb _ _ (omega (arith, fits)) in
-    let first : put_item columns width r j ≡ put_item columns width (end_line r) j = rw (old, narrow, new) refl in
-    ap (λ (l : Laid A). put_items columns width l (take n js)) first
+put_fresh {A} columns width r (j ∷ js) (suc n) some small full fits = grind arith
 
 -- the rest of a word is as narrow as all of it
 pub narrow_rest : {A : Type 0} (columns : ℕ → Option ℕ) (width n : ℕ) (word : List (Item A)) → IsNarrow columns width word → IsNarrow columns width (drop n word)
@@ -142,20 +121,9 @@ none_first columns (Some n) word h not = absurd (not n refl)
 
 module _ {A E F : Type 0} (columns : ℕ → Option ℕ) (eq : A → A → Bool) (laws : IsEquivalence eq) (b mid c : LaidLines A) (f : PutsFront {E = E} columns eq mid c (Ok tt)) where
   pub put_here : mid ≡ b → PutsFront {E = F} columns eq b c (Ok tt)
-  put_here same =
-      let g = subst (λ (a : LaidLines A). PutsFront {E = E} columns eq a c (Ok tt)) same f in
-      record { count = g.count; some = g.some; word = g.word; put = g.put }
+  put_here same = grind arith
 
   -- on a fresh line
   pub put_next : mid.flat ≡ b.flat → mid.width ≡ b.width → ((before given : List (List (Item A))) (r : Laid A) → HoldsRule columns eq b before given r → HoldsRule columns eq mid before given (end_line r)) →
       b.width < b.line_width + items_width columns (take 1 b.flat.word) → items_width columns (take 1 b.flat.word) ≤ b.width → PutsFront {E = F} columns eq b c (Ok tt)
-  put_next flat width ended full fits = record {
-    count = f.count;
-    some = f.some;
-    word = f.word ∙ ap (λ (x : Flat A). drop f.count x.word) flat;
-    put = λ js same before given r h.
-        let wide = same_width columns eq (take 1 b.flat.word) (take 1 js) (same_take eq laws 1 b.flat.word js same) in
-        let fresh = put_fresh columns b.width r js f.count f.some h.measured.small (omega (arith, wide, full, h.holds.width, h.shows.width)) (omega (arith, wide, fits)) in
-        let more = f.put js (subst (λ (x : Flat A). SameItems eq x.word js) (sym flat) same) before given (end_line r) (ended before given r h) in
-        subst (λ (l : Laid A). HoldsRule columns eq c before given l) (ap (λ n. put_items columns n (end_line r) (take f.count js)) width ∙ sym fresh) more;
-  }
+  put_next flat width ended full fits = grind (arith, same_width, same_take, put_fresh)

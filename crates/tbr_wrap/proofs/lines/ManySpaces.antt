@@ -19,9 +19,7 @@ module _ {A : Type 0} (width : ℕ) (a : A) where
   -- where they leave room
   pub put_room : (n : ℕ) (l : Laid A) → l.width + n < width → put_spaces width a n l ≡ extended l (spaces n a) n
   put_room zero l h = same_laid _ _ refl (sym (append-nil l.line)) (omega arith)
-  put_room (suc n) l h =
-      let test : (l.width + 1 == width) ≡ false = ne_eqb _ _ (λ e. omega (arith, h, e)) in
-      rw test (put_room n (extended l (glyph 32 a ∷ []) 1) (omega (arith, h)) ∙ one_first n l)
+  put_room (suc n) l h = grind (arith, ne_eqb, one_first, put_room n (extended l (glyph 32 a ∷ []) 1) (omega (arith, h)))
 
   -- where they fill the line
   pub put_full : (n : ℕ) (l : Laid A) → 0 < n → l.width + n ≡ width → put_spaces width a n l ≡ end_line (extended l (spaces n a) n)

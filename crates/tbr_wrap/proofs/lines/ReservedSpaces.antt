@@ -3,7 +3,6 @@ use Rattle.std.proofs.Common.{◌≡◌, ℕ, zero, suc, ◌+◌, ◌≤◌, Boo
 use Rattle.std.specs.Cmp.{IsEquivalence}
 use Rattle.std.proofs.lemmas.List.{map-append}
 use Rattle.tbr_model.specs.Run.{Item}
-use Rattle.tbr_model.specs.Layout.{joined}
 use Rattle.tbr_model.specs.Laid.{Laid, extended, end_line}
 use Rattle.tbr_model.specs.Rule.{spaces}
 use Rattle.tbr_model.proofs.lists.Joined.{joined-append}
@@ -21,12 +20,7 @@ spaces_more (suc m) n a = ap (λ k. spaces k a) (let e : suc m + n ≡ suc (m + 
 module _ {A : Type 0} (columns : ℕ → Option ℕ) (eq : A → A → Bool) (laws : IsEquivalence eq) (b c : LaidLines A) (limits : KeepsLimits b c) (before given : List (List (Item A))) (r : Laid A) where
   -- where items are placed after what is laid
   pub reserved : (after : List (Item A)) → HoldsRule columns eq b before given r → c.flat.placed ≡ b.flat.placed ++ after → c.ended ≡ b.ended → c.line_len ≡ b.line_len → c.line_markers ≡ b.line_markers → c.line_width ≡ b.line_width → HoldsRuleBefore columns eq c before given r after
-  reserved after h placed lines len markers width = record {
-    laid = h.laid;
-    holds = record { placed = placed ∙ ap (λ is. is ++ after) h.holds.placed; lens = ap (λ q. q.items) lines ∙ h.holds.lens; len = len ∙ h.holds.len; markers = markers ∙ h.holds.markers; width = width ∙ h.holds.width };
-    shows = h.shows;
-    measured = rw limits.width (rw limits.may_overflow h.measured);
-  }
+  reserved after h placed lines len markers width = grind arith
 
   module _ (n : ℕ) (x a : A) (after : List (Item A)) (one : columns 32 ≡ Some 1) (same : eq x a ≡ true) (h : HoldsRuleBefore columns eq b before given r (spaces n x ++ after)) (room : b.line_width + n ≤ b.width) where
     small : r.width + n ≤ b.width
@@ -67,9 +61,4 @@ module _ {A : Type 0} (columns : ℕ → Option ℕ) (eq : A → A → Bool) (la
 
 -- nothing is left after what is laid
 pub all_taken : {A : Type 0} (columns : ℕ → Option ℕ) (eq : A → A → Bool) (b : LaidLines A) (before given : List (List (Item A))) (r : Laid A) → HoldsRuleBefore columns eq b before given r [] → HoldsRule columns eq b before given r
-all_taken columns eq b before given r h = record {
-  laid = h.laid;
-  holds = record { placed = h.holds.placed ∙ append-nil (joined (before ++ h.laid.done) ++ h.laid.line); lens = h.holds.lens; len = h.holds.len; markers = h.holds.markers; width = h.holds.width };
-  shows = h.shows;
-  measured = h.measured;
-}
+all_taken columns eq b before given r h = grind (arith, append-nil)

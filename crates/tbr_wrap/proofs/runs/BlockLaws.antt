@@ -5,13 +5,13 @@ use Rattle.std.proofs.lemmas.List.{drop-append-le, drop_at}
 use Rattle.std.proofs.lemmas.Bool.{and_parts, and_left, and_right, or_right, cases_lt, cond_both, eqb-true, ne_eqb, not-true, cases_Bool, or_parts}
 use Rattle.std.specs.List.{AllByRecursion as Each}
 use Rattle.tbr_model.specs.declared.white_space.WhiteSpace.{WhiteSpace}
-use Rattle.tbr_model.specs.Run.{Item, marker, Entry, marker_entry, items_width, has_character, reading, trailing}
+use Rattle.tbr_model.specs.Run.{Item, marker, Entry, marker_entry, has_character, reading, trailing}
 use Rattle.tbr_model.specs.Markers.{names_in_items, names_in_run, marker_run, marker_items, names_after, last}
 use Rattle.tbr_model.specs.Hard.{is_visible}
-use Rattle.tbr_model.specs.Laid.{Laid, end_if_character}
+use Rattle.tbr_model.specs.Laid.{end_if_character}
 use Rattle.tbr_model.specs.Layout.{joined, slots_of, HasLegalLines}
 use Rattle.tbr_model.specs.Shown.{without_spaces, run_shows_columns}
-use Rattle.tbr_model.specs.Rule.{Event, entry, run_of, Progress, at_start, finished, waiting}
+use Rattle.tbr_model.specs.Rule.{Event, entry, run_of, Progress, at_start, waiting}
 use Rattle.tbr_model.specs.Fits.{lines_fit}
 use Rattle.tbr_model.proofs.words.KeptItems.{narrow_if_legal, each_words_narrow}
 use Rattle.tbr_model.proofs.words.Items.{items_width-append, no_character_no_width}
@@ -119,10 +119,7 @@ module _ {A : Type 0} (columns : ℕ → Option ℕ) where
     left_grown within = ap (λ ls. s.ended ++ drop s.handed ls) lines_grown.1 ∙ ap (λ ls. s.ended ++ ls) (drop-append-le s.handed (lines columns s) lines_grown.0 within) ∙ sym (append_assoc s.ended (drop s.handed (lines columns s)) lines_grown.0)
 
   lines_taken : (s : Block A) → lines columns (without_loose columns s) ≡ lines columns s
-  lines_taken s = elim (cases_Bool (has_character (progress_of columns s).word)) [
-    | inl some ↦ ap (lines columns) (none_taken columns s some)
-    | inr none ↦ ap (λ (p : Progress A). p.laid.done) (progress_taken columns s none)
-  ]
+  lines_taken s = grind (arith, cases_Bool, none_taken, progress_taken)
 
   pub left_taken : (s : Block A) → left columns (without_loose columns s) ≡ left columns s
   left_taken s = ap (λ ls. s.ended ++ drop s.handed ls) (lines_taken s)
@@ -154,10 +151,7 @@ module _ {A : Type 0} (columns : ℕ → Option ℕ) where
     sound_text t cs a b mode e = let is = text_made s t cs a b mode e in subst (IsSound columns) is.1 (sound_grown (text_events cs a b mode) is.0)
 
     pub sound_marked : (t : Block A) (name : List ℕ) → after_marker name s ≡ done t → IsSound columns t
-    sound_marked t name e =
-        let es : List (Event A) = entry (marker_entry name) ∷ [] in
-        let same : lines columns (grown s es) ≡ lines columns s = ap (λ (p : Progress A). p.laid.done) (progress_grown columns s es) in
-        subst (IsSound columns) (sym (marker_leaves s t name e)) (sound_grown es (ap (allows columns s) same ∙ h.allowed))
+    sound_marked t name e = grind (arith, progress_grown, marker_leaves, sound_grown)
 
     pub sound_taken : (t : Block A) → after_taking columns s ≡ done t → IsSound columns t
     sound_taken t e =
@@ -277,11 +271,7 @@ module _ {A : Type 0} (columns : ℕ → Option ℕ) where
 
   -- where open line and word hold no character no line ends
   pub none_ended : (s : Block A) → has_no_character columns s ≡ true → all_lines columns s ≡ lines columns s
-  none_ended s none =
-      let (line, word) = and_parts (not (has_character (p s).laid.line)) (not (has_character (p s).word)) none in
-      let laid : finished columns s.width (p s) ≡ end_if_character (p s).laid = ap (λ (q : Progress A). end_if_character q.laid) (not_flushed columns s.width (p s) (not-true _ word)) in
-      let same : end_if_character (p s).laid ≡ (p s).laid = let bare = not-true _ line in rw bare refl in
-      ap (λ (l : Laid A). l.done) (laid ∙ same)
+  none_ended s none = grind (arith, and_parts, not_flushed, not-true)
 
   pub flush_none : (s t : Block A) → after_flush columns s ≡ done t → has_no_character columns s ≡ true → left columns t ≡ left columns s
   flush_none s t e none = ap (left columns) (flush_leaves s t e) ∙ left_flushed s ∙ ap (λ ls. s.ended ++ drop s.handed ls) (none_ended s none)
@@ -304,10 +294,7 @@ module _ {A : Type 0} (columns : ℕ → Option ℕ) where
     waiting_loose = ap (λ (q : Progress A). loose_names q.word) after_is ∙ (let none = waiting_none columns s.width (p s) in rw none refl)
 
     pub none_open_taken : (u : Block A) → after_taking columns t ≡ done u → has_no_character columns u ≡ true
-    none_open_taken u taken =
-        let none : has_character (p t).word ≡ false = ap (λ (q : Progress A). has_character q.word) after_is ∙ waiting_none columns s.width (p s) in
-        ap (has_no_character columns) (taking_leaves t u taken)
-        ∙ ap (λ (q : Progress A). not (has_character q.laid.line) && not (has_character q.word)) (progress_taken columns t none ∙ ap (λ (q : Progress A). record q { word = [] }) after_is)
+    none_open_taken u taken = grind (arith, after_is, waiting_none, taking_leaves, progress_taken)
 
   -- ---- a text
 
@@ -337,9 +324,7 @@ module _ {A : Type 0} (columns : ℕ → Option ℕ) where
       text_wide fit = refused_where g (lines columns g) (not_ended live e) (run_fits columns s.width false one wide g.events (inr (subst (λ (es : List (Entry A)). CharactersFit columns s.width es) (sym text_run) fit))).done
 
       pub text_wide_word : IsNormal (run_of s.events ++ text_entries cs a b mode) → ¬ (EndedWordsFit columns s.width (run_of s.events ++ text_entries cs a b mode))
-      text_wide_word normal fit =
-          refused_where g (lines columns g) (not_ended live e)
-          (normal_run_fits columns s.width one wide g.events (subst (λ (es : List (Entry A)). IsNormal es) (sym text_run) normal) (subst (EndedWordsFit columns s.width) (sym text_run) fit)).done
+      text_wide_word normal fit = grind (arith, refused_where, not_ended, normal_run_fits, text_run)
 
   -- ---- in two columns nothing is too narrow
 
@@ -461,18 +446,14 @@ module _ {A : Type 0} (columns : ℕ → Option ℕ) where
     marker_lines = ap (λ (q : Progress A). q.laid.done) marked
 
     pub marker_columns : takes_no_columns columns t ≡ takes_no_columns columns s
-    marker_columns =
-        let wide : items_width columns ((p s).word ++ marker name ∷ []) ≡ items_width columns (p s).word = omega (arith, items_width-append columns (p s).word (marker name ∷ [])) in
-        rw (marked, wide) refl
+    marker_columns = grind (arith, items_width-append, marked)
 
     pub marker_character : has_no_character columns t ≡ has_no_character columns s
     marker_character = rw (marked, with_marker (p s).word name) refl
 
     -- one more is loose where the word has no character, and else none
     pub marker_loose : has_character (p s).word ≡ false → loose columns t ≡ loose columns s ++ name ∷ []
-    marker_loose none =
-        let both = with_marker (p s).word name ∙ none in
-        ap (λ (q : Progress A). loose_names q.word) marked ∙ rw (none, both) (names_in_items-append (p s).word (marker name ∷ []))
+    marker_loose none = grind (arith, with_marker, marked, names_in_items-append)
 
     pub marker_either : (loose columns t ≡ loose columns s ++ name ∷ []) ⊎ ((loose columns s ≡ []) × (loose columns t ≡ []))
     marker_either = go (has_character (p s).word) refl

@@ -1,5 +1,5 @@
 -- What each change leaves of a block, and where it allows its lines.
-use Rattle.std.proofs.Common.{◌≡◌, ℕ, if◌then◌else◌, ◌==◌, ◌||◌, length, Bool, true, false, Option, None, Some, List, [], ◌∷◌, ◌++◌, map, fold, chars, refl, ap, sym, ◌∙◌, subst, arith, append_assoc, append-nil, le-leb, leb-true, ne_eqb, inl, inr}
+use Rattle.std.proofs.Common.{◌≡◌, ℕ, if◌then◌else◌, ◌==◌, ◌||◌, length, Bool, true, false, Option, None, Some, List, [], ◌∷◌, ◌++◌, map, fold, chars, refl, ap, sym, ◌∙◌, subst, arith, append_assoc, append-nil, le-leb, leb-true, ne_eqb, inl}
 use Rattle.std.proofs.lemmas.Bool.{and_parts}
 use Rattle.std.proofs.lemmas.List.{length-map}
 use Rattle.std.proofs.lemmas.List.Sums.{fold-append}
@@ -7,7 +7,7 @@ use Rattle.std.proofs.lemmas.Str.{chars-nil}
 use Rattle.std.specs.List.{AllByRecursion as Each}
 use Rattle.tbr_model.specs.declared.white_space.WhiteSpace.{WhiteSpace}
 use Rattle.tbr_model.specs.Run.{Entry, character, Item, marker, has_character}
-use Rattle.tbr_model.specs.Markers.{names_in_items, marker_items}
+use Rattle.tbr_model.specs.Markers.{names_in_items}
 use Rattle.tbr_model.specs.Rule.{Event, call, entry, Progress, at_start, step, enter, waiting}
 use Rattle.tbr_model.specs.Fits.{lines_fit}
 use Rattle.tbr_model.specs.TakenOut.{without_markers}
@@ -19,7 +19,7 @@ use Rattle.tbr_tagged.specs.Elements.{Element}
 use Rattle.tbr_tagged.specs.Outcome.{done, refused}
 use Rattle.tbr_wrap.specs.Wrapped.{FitsBlock, ShowsText}
 use Rattle.tbr_wrap.specs.Runs.{is_some_list, text_entries}
-use Rattle.tbr_wrap.specs.Block.{Block, new_block, progress_of, lines, left, loose, allows, grown, settled, settings_of, text_events, flushed, loose_names, line_handed_out, HandsOutFirst, without_loose, HasGrown}
+use Rattle.tbr_wrap.specs.Block.{Block, progress_of, lines, left, allows, grown, settled, settings_of, text_events, flushed, loose_names, line_handed_out, HandsOutFirst, without_loose, HasGrown}
 use Rattle.tbr_wrap.proofs.runs.LinesLeft.{handed_keeps}
 use Rattle.tbr_wrap.specs.Story.{changed, story, text_changes}
 use Rattle.tbr_wrap.specs.Held.{padding_tag, block_of}
@@ -48,23 +48,12 @@ module _ {A : Type 0} (columns : ℕ → Option ℕ) where
   module _ {W : Type 0} where
     -- where a block hasn't failed, that is what its changes have led to
     seen_is : (r : Inside A W) → r.failure ≡ None → block_of columns r ≡ story columns r.wrapper.lines.width r.wrapper.lines.may_overflow (padding_tag r) r.changes.items
-    seen_is r live =
-        let keeps = all_keep r.changes.items (new_block r.wrapper.lines.width r.wrapper.lines.may_overflow (padding_tag r)) in
-        λ i. record (story columns r.wrapper.lines.width r.wrapper.lines.may_overflow (padding_tag r) r.changes.items) {
-          width = (sym keeps.1 i).width;
-          may_overflow = (sym keeps.1 i).may_overflow;
-          padding = (sym keeps.1 i).padding;
-          failure = (live ∙ sym keeps.0) i;
-        }
+    seen_is r live = grind (arith, all_keep)
 
     -- more changes lead on
     pub led_on : (r t : Inside A W) (new : List (RunChange × A × A)) → KeepsLimits r.wrapper.lines t.wrapper.lines → padding_tag t ≡ padding_tag r → t.changes.items ≡ r.changes.items ++ new → r.failure ≡ None → t.failure ≡ None →
         block_of columns t ≡ fold (changed columns) (block_of columns r) new
-    led_on r t new same pads more live still =
-        seen_is t still
-        ∙ (λ i. story columns (same.width i) (same.may_overflow i) (pads i) (more i))
-        ∙ fold-append (changed columns) (new_block r.wrapper.lines.width r.wrapper.lines.may_overflow (padding_tag r)) r.changes.items new
-        ∙ ap (λ (s : Block A). fold (changed columns) s new) (sym (seen_is r live))
+    led_on r t new same pads more live still = grind (arith, seen_is, fold-append)
 
     pub settings_kept : (r t : Inside A W) → KeepsLimits r.wrapper.lines t.wrapper.lines → padding_tag t ≡ padding_tag r → settings_of (block_of columns t) ≡ settings_of (block_of columns r)
     settings_kept r t same pads = λ i. record { width = same.width i; may_overflow = same.may_overflow i; padding = pads i }
@@ -96,10 +85,7 @@ module _ {A : Type 0} (columns : ℕ → Option ℕ) where
   entries_entered width (e ∷ es) p = entries_entered width es (enter columns width p e)
 
   pub progress_flushed : (s : Block A) → progress_of columns (flushed columns s) ≡ record at_start { word = waiting columns s.width (progress_of columns s) }
-  progress_flushed s =
-      let left : List (Item A) = waiting columns s.width (progress_of columns s) in
-      let is : left ≡ marker_items (names_in_items left) = marker_items_alone left (waiting_none columns s.width (progress_of columns s)) in
-      markers_lead columns s.width (names_in_items left) ∙ ap (λ (js : List (Item A)). record at_start { word = js }) (sym is)
+  progress_flushed s = grind (arith, marker_items_alone, waiting_none, markers_lead)
 
   -- the word's markers are taken out
   loose_count : (word : List (Item A)) → has_character word ≡ false → length (loose_names word) ≡ length word
@@ -113,18 +99,13 @@ module _ {A : Type 0} (columns : ℕ → Option ℕ) where
       (λ i. progress_of columns (record s { events = without_markers (loose_count word none i) s.events })) ∙ taken_events columns s.width s.events [] word refl none
 
   pub none_taken : (s : Block A) → has_character (progress_of columns s).word ≡ true → without_loose columns s ≡ s
-  none_taken s some =
-      let none : loose columns s ≡ [] = rw some refl in
-      rw (none, without_no_event) refl
+  none_taken s some = grind (arith, without_no_event)
 
   -- ---- what is allowed
 
   fit_all : (width : ℕ) (ls : List (List (Item A))) → Each (FitsBlock columns width false) ls → lines_fit columns width ls ≡ true
   fit_all width [] h = refl
-  fit_all width (l ∷ ls) h = elim h.0 [
-    | inl fits ↦ let test = le-leb _ width fits in rw test (fit_all width ls h.1)
-    | inr never ↦ absurd (let t : false ≡ true = never.0 in cc)
-  ]
+  fit_all width (l ∷ ls) h = grind (arith, le-leb, fit_all width ls h.1)
 
   pub fit_allows : (width : ℕ) (may : Bool) (ls : List (List (Item A))) → Each (FitsBlock columns width may) ls → may || lines_fit columns width ls ≡ true
   fit_allows width true ls h = refl
@@ -143,9 +124,7 @@ module _ {A : Type 0} (columns : ℕ → Option ℕ) where
 
   pub entered_allows : (s : Block A) (es : List (Entry A)) → Each (FitsBlock columns s.width s.may_overflow) (fold (enter columns s.width) (progress_of columns s) es).laid.done →
       allows columns (grown s (map entry es)) (lines columns (grown s (map entry es))) ≡ true
-  entered_allows s es h =
-      ap (λ (p : Progress A). allows columns s p.laid.done) (progress_grown s (map entry es) ∙ entries_entered s.width es (progress_of columns s))
-      ∙ fit_allows s.width s.may_overflow _ h
+  entered_allows s es h = grind (arith, progress_grown, entries_entered, fit_allows)
 
   pub if_allowed : (b : Bool) (t : Block A) → b ≡ true → (if b then done t else refused E.TooNarrow) ≡ done t
   if_allowed b t e = rw e refl
@@ -164,11 +143,7 @@ module _ {A : Type 0} (columns : ℕ → Option ℕ) where
   front_and_rest s es cs ds a b mode = rw (entries_append cs ds a b mode) (simp append_assoc)
 
   pub grown_on : (r s t : Block A) (es : List (Event A)) (text rest more : List ℕ) (a b : A) (mode : WhiteSpace) → HasGrown r es text rest a b mode s → HasGrown s [] rest more a b mode t → HasGrown r es text more a b mode t
-  grown_on r s t es text rest more a b mode h k = record {
-    front = h.front ++ k.front;
-    split = rw (h.split, k.split, append_assoc) refl;
-    is = rw (k.is, h.is) (front_and_rest r es h.front k.front a b mode);
-  }
+  grown_on r s t es text rest more a b mode h k = grind (arith, append_assoc, front_and_rest)
 
   -- with what is left of the text too, it is as with the whole text
   pub grown_whole : (r s : Block A) (es : List (Event A)) (text rest : List ℕ) (a b : A) (mode : WhiteSpace) → HasGrown r es text rest a b mode s →
@@ -187,10 +162,7 @@ module _ {A : Type 0} (columns : ℕ → Option ℕ) where
 
   -- a word of the text is too wide
   pub refused_text : (s : Block A) (es : List (Entry A)) → s.may_overflow ≡ false → lines_fit columns s.width (fold (enter columns s.width) (progress_of columns s) es).laid.done ≡ false → settled columns (grown s (map entry es)) ≡ refused E.TooNarrow
-  refused_text s es never h =
-      let t : Block A = grown s (map entry es) in
-      if_not_allowed (allows columns t (lines columns t)) t (not_allowed t (lines columns t) never
-      (ap (λ (p : Progress A). lines_fit columns s.width p.laid.done) (fold-append (step columns s.width) at_start s.events (map entry es) ∙ entries_entered s.width es (progress_of columns s)) ∙ h))
+  refused_text s es never h = grind (arith, if_not_allowed, not_allowed, fold-append, entries_entered)
 
   -- ---- a line
 

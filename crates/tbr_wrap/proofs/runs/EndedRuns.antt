@@ -1,14 +1,13 @@
 -- What a block's lines show of its run.
-use Rattle.std.proofs.Common.{◌≡◌, ℕ, ◌<◌, ◌≤◌, inl, inr, Bool, true, false, Option, Some, None, IfSome, unwrap_or, List, [], ◌∷◌, ◌++◌, map, filter, fold, refl, ap, sym, ◌∙◌, subst, arith, lt-ltb, nat_lt, ◌&&◌, IsTrue}
+use Rattle.std.proofs.Common.{◌≡◌, ℕ, ◌<◌, ◌≤◌, inl, inr, Bool, true, false, Option, Some, None, IfSome, unwrap_or, List, [], ◌∷◌, ◌++◌, map, filter, fold, refl, sym, ◌∙◌, subst, arith, lt-ltb, IsTrue}
 use Rattle.std.specs.List.{AllZip, AllByRecursion as Each}
 use Rattle.std.proofs.lemmas.Bool.{cond_both}
 use Rattle.std.proofs.lemmas.List.Sums.{fold-append}
 use Rattle.tbr_model.specs.declared.white_space.WhiteSpace.TheVariants.{Pre, PreWrap}
-use Rattle.tbr_model.specs.Run.{Entry, character, marker_entry, Item, glyph, marker, items_width, has_character, is_break_entry, blank_of, trailing, Word, word_of, Reading, start, works, read, reading}
+use Rattle.tbr_model.specs.Run.{Entry, character, marker_entry, Item, glyph, marker, items_width, has_character, is_break_entry, trailing, word_of, Reading, start, works, read, reading}
 use Rattle.tbr_model.specs.Layout.{Slot, line_text, joined}
 use Rattle.tbr_model.specs.Greedy.{IsNarrow, wrapped}
-use Rattle.tbr_model.specs.Laid.{Laid, end_if_character}
-use Rattle.tbr_model.specs.Rule.{Event, run_of, progress, finished, flush_word, waiting, lines_of}
+use Rattle.tbr_model.specs.Rule.{Event, run_of, progress, finished, waiting, lines_of}
 use Rattle.tbr_model.specs.Hard.{IsNarrowEntry, glyphs_of, is_visible, visible_glyphs, visible_entries, IsShown}
 use Rattle.tbr_model.proofs.lists.Each.{each_append, each_front, each_back}
 use Rattle.tbr_model.proofs.words.KeptItems.{narrow_markers}
@@ -54,9 +53,7 @@ module _ {A : Type 0} (columns : ℕ → Option ℕ) (width : ℕ) where
 
   module _ (es : List (Event A)) (fits : Each (FitsBlock columns width false) (lines_of columns width es)) where
     narrow_end : AllLaid (IsNarrowItem columns width) (finished columns width (progress columns width es))
-    narrow_end =
-        let l : Laid A = (flush_word columns width (progress columns width es)).laid in
-        (narrow_lines (end_if_character l).done fits, narrow_markers columns width (end_if_character l).line (no_character_after_end l))
+    narrow_end = grind (arith, narrow_lines, narrow_markers, no_character_after_end)
 
     pub words_fit : IsNormal (run_of es) → WordsFit columns width (run_of es)
     words_fit normal = (normal_lines columns width es normal narrow_end).0
@@ -138,27 +135,15 @@ module _ {A : Type 0} (columns : ℕ → Option ℕ) (width : ℕ) where
 
   -- the items under way are a word's, or markers alone
   last_fits : (run : List (Entry A)) → WordsFit columns width run → IsNarrow columns width (reading columns run).items
-  last_fits run fit =
-      let r : Reading A = reading columns run in
-      cond_both (has_character r.items) _ _ (λ (ws : List (Word A)). Each (λ w. IsNarrow columns width w.items) ws → IsNarrow columns width r.items)
-      (λ _ k. (each_back (λ w. IsNarrow columns width w.items) r.words (word_of r ∷ []) k).0) (λ none _. narrow_markers columns width r.items none) fit
+  last_fits run fit = grind (arith, cond_both, each_back, narrow_markers)
 
   -- the words that have ended are some of all
   pub ended_of_all : (run : List (Entry A)) → WordsFit columns width run → EndedWordsFit columns width run
-  ended_of_all run fit =
-      let r : Reading A = reading columns run in
-      cond_both (has_character r.items) _ _ (λ (ws : List (Word A)). Each (λ w. IsNarrow columns width w.items) ws → Each (λ w. IsNarrow columns width w.items) r.words)
-      (λ _ k. each_front (λ w. IsNarrow columns width w.items) r.words (word_of r ∷ []) k) (λ _ k. k) fit
+  ended_of_all run fit = grind (arith, cond_both, each_front)
 
   -- a break point ends the items under way, if they take columns
   broken_fits : (run : List (Entry A)) (e : Entry A) → is_break_entry e ≡ true → 0 < items_width columns (reading columns run).items → EndedWordsFit columns width (run ++ e ∷ []) → IsNarrow columns width (reading columns run).items
-  broken_fits run e breaks some fit =
-      let r : Reading A = reading columns run in
-      let wide : nat_lt 0 (items_width columns r.items) ≡ true = lt-ltb _ _ some in
-      let ends : works columns r e ≡ true = ap (λ b. b && nat_lt 0 (items_width columns r.items)) breaks ∙ wide in
-      let last : read columns r e ≡ record { words = r.words ++ word_of r ∷ []; gap = blank_of e; items = [] } = rw ends refl in
-      let words : (reading columns (run ++ e ∷ [])).words ≡ r.words ++ word_of r ∷ [] = ap (λ (q : Reading A). q.words) (fold-append (read columns) start run (e ∷ []) ∙ last) in
-      (each_back (λ w. IsNarrow columns width w.items) r.words (word_of r ∷ []) (subst (Each (λ w. IsNarrow columns width w.items)) words fit)).0
+  broken_fits run e breaks some fit = grind (arith, lt-ltb, fold-append, each_back)
 
   -- no line that is laid is wider than the block
   module _ (es : List (Event A)) (normal : IsNormal (run_of es)) (done : Each (FitsBlock columns width false) (progress columns width es).laid.done)

@@ -4,7 +4,7 @@ use Rattle.std.specs.List.{AllZip, AllByRecursion as Each}
 use Rattle.std.proofs.lemmas.Bool.{cond_both}
 use Rattle.std.proofs.lemmas.List.Elements.{All-contains_itself, recursion_from_All}
 use Rattle.tbr_model.specs.declared.white_space.WhiteSpace.TheVariants.{Pre}
-use Rattle.tbr_model.specs.Run.{Entry, character, marker_entry, Item, glyph, marker, items_width, has_character, is_blank}
+use Rattle.tbr_model.specs.Run.{Entry, character, marker_entry, Item, marker, items_width, has_character, is_blank}
 use Rattle.tbr_model.specs.Layout.{joined}
 use Rattle.tbr_model.specs.Laid.{Laid, extended, end_if_character}
 use Rattle.tbr_model.specs.Rule.{Event, call, entry, run_of, Progress, spaces, pending_width, flush_word, join, newline, tab, tag_of, keep_space, passes, keep_character, enter, step, finished, lines_of}
@@ -73,17 +73,12 @@ module _ {A : Type 0} (columns : ℕ → Option ℕ) (width : ℕ) where
   -- ---- a word
 
   flush_fits : (n : ℕ) (p : Progress A) → n ≤ width → FitsSoFar n p → FitsSoFar n (flush_word columns width p) × has_character (flush_word columns width p).word ≡ false
-  flush_fits n p fits k =
-      let test : nat_le (p.laid.width + (pending_width p.space + items_width columns p.word)) width ≡ true = le-leb _ _ (omega (arith, fits, k.reaches)) in
-      cond_both (has_character p.word) _ _ (λ (q : Progress A). FitsSoFar n q × has_character q.word ≡ false)
-      (λ _. rw test (record { done = k.done; reaches = omega (arith, k.reaches); flag = refl; in_continuation = k.in_continuation }, refl)) (λ none. (k, none))
+  flush_fits n p fits k = grind (arith, le-leb, cond_both)
 
   -- ---- an entry
 
   join_fits : (c : ℕ) (x : A) (n m : ℕ) (p : Progress A) → columns c ≡ Some m → FitsSoFar n p → FitsSoFar (n + m) (join c x Pre p)
-  join_fits c x n m p known k =
-      let wide : items_width columns (glyph c x ∷ []) ≡ m = rw known (let e : m + 0 ≡ m = omega arith in e) in
-      record { done = k.done; reaches = omega (arith, k.reaches, items_width-append columns p.word (glyph c x ∷ []), wide); flag = k.flag; in_continuation = k.in_continuation }
+  join_fits c x n m p known k = grind (arith, items_width-append)
 
   unmoved : (n : ℕ) (p : Progress A) → FitsSoFar n p → FitsSoFar (n + 0) p
   unmoved n p k = subst (λ m. FitsSoFar m p) (let e : n ≡ n + 0 = omega arith in e) k
@@ -158,19 +153,11 @@ module _ {A : Type 0} (columns : ℕ → Option ℕ) (width : ℕ) where
       (rest.0, rest.1 ∙ ap (λ (q : Progress A). fold (step columns width) q (map own_event es)) one.1)
 
   start_fits : (p : Progress A) → BeginsHardLine p → FitsSoFar 0 p
-  start_fits p f = record {
-    done = f.done;
-    reaches = omega (arith, f.width, ap pending_width f.space, no_character_no_width columns p.word f.word);
-    flag = f.continuation_flag;
-    in_continuation = f.in_continuation;
-  }
+  start_fits p f = grind (arith, no_character_no_width)
 
   -- its lines, before a newline and at the end of the run
   uncut : (n : ℕ) (p : Progress A) → FitsSoFar n p → (length (newline p).laid.done ≤ 1) × (length (end_if_character p.laid).done ≤ 1)
-  uncut n p k = (
-    rw (k.done) (omega arith),
-    cond_both (has_character p.laid.line) _ _ (λ (l : Laid A). length l.done ≤ 1) (λ _. rw (k.done) (omega arith)) (λ _. rw (k.done) (omega arith)),
-  )
+  uncut n p k = grind (arith, cond_both)
 
 module _ {A : Type 0} (columns : ℕ → Option ℕ) (Same : A → A → Type 0) (same : (x : A) → Same x x) (width : ℕ) where
   brings_own : (h es : List (Entry A)) → Each (Contains h) es → Each (Brings columns (IsUnderOwn Same h) (HasOwnAnnotation Same h)) (map own es)

@@ -30,11 +30,7 @@ use Rattle.tbr_wrap.proofs.runs.Blocks.{steps_add, progress_grown, progress_take
 -- as many lines come to both
 begun_lists : {X Y : Type 0} (f g : Bool) (xs xs' : List X) (ys ys' : List Y) (n : ℕ) → length xs' ≡ length xs + n → length ys' ≡ length ys + n → f || is_some_list xs ≡ g || is_some_list ys →
     f || is_some_list xs' ≡ g || is_some_list ys'
-begun_lists f g xs xs' ys ys' n more_x more_y h =
-    let with_more : (b : Bool) (k : ℕ) → b || nat_lt 0 (k + n) ≡ (b || nat_lt 0 k) || nat_lt 0 n = λ b k. ap (λ c. b || c) (lt-zero-add k n) ∙ sym (or_assoc b (nat_lt 0 k) (nat_lt 0 n)) in
-    ap (λ b. f || b) (some_count xs' ∙ ap (nat_lt 0) more_x) ∙ with_more f (length xs)
-    ∙ ap (λ b. b || nat_lt 0 n) (ap (λ b. f || b) (sym (some_count xs)) ∙ h ∙ ap (λ b. g || b) (some_count ys))
-    ∙ sym (ap (λ b. g || b) (some_count ys' ∙ ap (nat_lt 0) more_y) ∙ with_more g (length ys))
+begun_lists f g xs xs' ys ys' n more_x more_y h = grind (arith, ℕ, lt-zero-add, or_assoc, some_count)
 
 pub first_shown : {X Y : Type 0} (R : X → Y → Type 0) (xs : List X) (ys : List Y) (y : Y) (rest : List Y) → ys ≡ y ∷ rest → AllZip R xs ys → (x : X) × (others : List X) × (xs ≡ x ∷ others) × R x y × AllZip R others rest
 first_shown R [] ys y rest e h = absurd (subst (λ zs. AllZip R [] zs) e h)
@@ -50,10 +46,7 @@ first_showing R xs (y ∷ ys) x others e h = let k = subst (λ zs. AllZip R zs (
 
 module _ {A : Type 0} (columns : ℕ → Option ℕ) (eq : A → A → Bool) where
   lines_count : (b : Wrapper A) (before given : List (List (Item A))) (p : Progress A) → IsAtProgress columns eq b before given p → length b.lines.ended.items + length given ≡ length before + length p.laid.done
-  lines_count b before given p s =
-      let l : Laid A = s.lays.laid in
-      let held : length b.lines.ended.items ≡ length before + length l.done = ap length s.lays.holds.lens ∙ length-map (before ++ l.done) length ∙ length-append before l.done in
-      omega (arith, held, length_all_zip (SameItems eq) l.done s.lays.shows.rest s.lays.shows.done, ap length s.lays.shows.split, length-append given s.lays.shows.rest)
+  lines_count b before given p s = grind (arith, length-map, length-append, length_all_zip)
 
   pub holds_new : (b : Wrapper A) (width : ℕ) (may : Bool) (padding : Option A) → IsAtProgress columns eq b [] [] at_start → HoldsRun columns eq b false (new_block width may padding)
   holds_new b width may padding s = record {
@@ -184,17 +177,7 @@ module _ {A : Type 0} (columns : ℕ → Option ℕ) (eq : A → A → Bool) whe
       d = record b { lines = ls }
 
       stands_left : (before' given' : List (List (Item A))) (l : Laid A) → HoldsLaid ls before' l → ls.flat.word ≡ b.lines.flat.word → LaidLikeRule eq given' l p.laid → IsAtProgress columns eq d before' given' p
-      stands_left before' given' l holds word shows =
-          let at = h.stands in
-          record {
-            lays = record { laid = l; holds = holds; shows = shows; measured = rw same.width (rw same.may_overflow at.lays.measured) };
-            space = at.space;
-            word = rw word at.word;
-            word_width = at.word_width;
-            mode = at.mode;
-            continuation_flag = at.continuation_flag;
-            in_continuation = at.in_continuation;
-          }
+      stands_left before' given' l holds word shows = grind arith
 
       pub holds_handed : (is : List (Item A)) (more : List (List (Item A))) → h.before ++ laid.done ≡ is ∷ more → LeavesAfterLine b.lines ls more laid → 0 < length b.lines.ended.items → HoldsRun columns eq d true (line_handed_out s)
       holds_handed is more first v some = go h.before s.ended refl refl h.earlier
@@ -250,9 +233,4 @@ module _ {A : Type 0} (columns : ℕ → Option ℕ) (eq : A → A → Bool) whe
 
     -- where nothing open has a character the fields hold ended lines
     pub ended_held : has_no_character columns s ≡ true → AreLines b.lines.ended.items b.lines.flat.placed (h.before ++ laid.done)
-    ended_held none = record {
-      after = laid.line;
-      placed_is = h.stands.lays.holds.placed;
-      lens_is = h.stands.lays.holds.lens;
-      blank = line_held ∙ not-true _ (and_parts _ _ none).0;
-    }
+    ended_held none = grind (arith, line_held, not-true, and_parts)

@@ -1,5 +1,5 @@
 -- Characters that a text begins with, and that join a word where it is.
-use Rattle.std.proofs.Common.{◌≡◌, ℕ, ◌+◌, ◌≤◌, ◌==◌, Bool, true, false, not, ◌&&◌, ◌||◌, if◌then◌else◌, Option, None, Some, is_some, unwrap_or, List, [], ◌∷◌, ◌++◌, length, take, drop, chars, encode_utf8, refl, ap, sym, ◌∙◌, subst, arith, append-nil, length-append, length-take-le}
+use Rattle.std.proofs.Common.{◌≡◌, ℕ, ◌+◌, ◌≤◌, ◌==◌, Bool, true, false, not, ◌&&◌, ◌||◌, if◌then◌else◌, Option, None, Some, is_some, List, [], ◌∷◌, ◌++◌, length, take, drop, chars, encode_utf8, refl, ap, sym, ◌∙◌, subst, arith, append-nil, length-append, length-take-le}
 use lib.Utf8.{encodes}
 use Rattle.std.proofs.Math.Bool.{or-false}
 use Rattle.std.proofs.lemmas.Bool.{or_left}
@@ -69,25 +69,12 @@ next_short text cs rest c utf8 split =
 
 pub seen_more : (columns : ℕ → Option ℕ) (room : ℕ) (cs : List ℕ) (c n : ℕ) (s t : Stretch) → Seen columns room cs s → kept_width columns c ≡ Some n → s.columns + n ≤ room →
     t ≡ record { bytes = s.bytes + len_utf8 c; count = s.count + 1; columns = s.columns + n } → Seen columns room (cs ++ c ∷ []) t
-seen_more columns room cs c n s t h e fits is =
-    let k = kept_parts columns c n e in
-    let one : width_of_text columns (c ∷ []) ≡ n = omega (arith, ap (λ o. unwrap_or o 0) k.1) in
-    rw is (record {
-      bytes = omega (arith, h.bytes, encoded_one cs c);
-      number = omega (arith, h.number, length-append cs (c ∷ []));
-      width = omega (arith, h.width, one, width_of_text-append columns cs (c ∷ []));
-      join = each_append (λ d. joins columns false d ≡ true) cs (c ∷ []) h.join (k.0, tt);
-      fits = fits;
-    })
+seen_more columns room cs c n s t h e fits is = grind (arith, kept_parts, encoded_one, length-append, width_of_text-append, each_append)
 
 -- ---- stretches
 
 pub ascii_front : (text : List ℕ) (n : ℕ) → n ≤ length text → IsAscii (take n text) → IsFront text n n
-ascii_front text n within ascii = record {
-  within = within;
-  utf8 = IsUtf8-from_ascii (take n text) ascii;
-  number = sym (ap length (chars-IsAscii (take n text) ascii) ∙ length-take-le n text within);
-}
+ascii_front text n within ascii = grind (arith, IsUtf8-from_ascii, chars-IsAscii, length-take-le)
 
 -- plain characters
 pub plain_stretch : (columns : ℕ → Option ℕ) (spaced : Bool) (text : List ℕ) (n m : ℕ) → n ≤ length text → IsAscii (take n text) → JoinWord columns spaced (take n text) → m ≡ width_of_text columns (take n text) →

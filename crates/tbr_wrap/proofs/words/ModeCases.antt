@@ -24,9 +24,7 @@ collapse_pending c a p e =
     let test : (is_blank c && (nat_lt 0 p.laid.width && is_none p.space)) ≡ false = and_right (is_blank c) _ (and_right (nat_lt 0 p.laid.width) _ e) in rw test refl
 
 pub collapse_empty : {A : Type 0} (c : ℕ) (a : A) (p : Progress A) → p.laid.width ≡ 0 → collapse c a p ≡ p
-collapse_empty c a p e =
-    let none : nat_lt 0 p.laid.width ≡ false = le-ltb _ _ (omega (arith, e)) in
-    let test : (is_blank c && (nat_lt 0 p.laid.width && is_none p.space)) ≡ false = and_right (is_blank c) _ (and_left _ _ none) in rw test refl
+collapse_empty c a p e = grind (arith, le-ltb, and_right, and_left)
 
 pub same_some : {A : Type 0} (eq : A → A → Bool) (held : Option (HeldSpace A)) (o : Option (Space A)) → SameSpace eq held o → is_some held ≡ true → is_none o ≡ false
 same_some eq None o h e = cc

@@ -11,7 +11,7 @@ use Rattle.std.proofs.Math.Bool.{or-true}
 use Rattle.tbr_model.specs.declared.white_space.WhiteSpace.{WhiteSpace}
 use Rattle.tbr_model.specs.declared.white_space.WhiteSpace.TheVariants.{Normal, Pre, PreWrap}
 use Rattle.tbr_model.specs.Run.{glyph, character, has_character, items_width, is_break, is_kept, always_takes_space}
-use Rattle.tbr_model.specs.Rule.{Progress, enter, is_pre, join, tag_of, pending_width, passes, keep_character}
+use Rattle.tbr_model.specs.Rule.{Progress, enter, is_pre, join, tag_of, pending_width, keep_character}
 use Rattle.tbr_model.specs.Width.{width_of_text}
 use Rattle.tbr_model.proofs.lists.Each.{each_append}
 use Rattle.tbr_model.proofs.words.Items.{has_character-append, items_width-append}
@@ -103,20 +103,10 @@ pub data StaysUnder {A : Type 0} (width : ℕ) (columns : ℕ → Option ℕ) (m
 
 -- the first of them, and the rest
 stays_first : {A : Type 0} (width : ℕ) (columns : ℕ → Option ℕ) (mode : WhiteSpace) (m n : ℕ) (p : Progress A) → m ≤ n → StaysUnder width columns mode n p → StaysUnder width columns mode m p
-stays_first width columns mode m n p less h =
-    elim h [
-      | elsewhere e ↦ elsewhere e
-      | fits e ↦ fits (omega (arith, e, less))
-      | goes_on e f ↦ goes_on e f
-    ]
+stays_first width columns mode m n p less h = grind arith
 
 stays_after : {A : Type 0} (width : ℕ) (columns : ℕ → Option ℕ) (mode : WhiteSpace) (c n : ℕ) (a : A) (p : Progress A) → StaysUnder width columns mode (unwrap_or (columns c) 0 + n) p → StaysUnder width columns mode n (join c a mode p)
-stays_after width columns mode c n a p h =
-    elim h [
-      | elsewhere e ↦ elsewhere e
-      | fits e ↦ fits (omega (arith, e, items_width-append columns p.word (glyph c a ∷ [])))
-      | goes_on e f ↦ goes_on e f
-    ]
+stays_after width columns mode c n a p h = grind (arith, items_width-append)
 
 module _ {A : Type 0} (columns : ℕ → Option ℕ) (width : ℕ) (a b : A) (mode : WhiteSpace) where
   -- where the continuation goes on, it begins anew without a change
@@ -126,12 +116,7 @@ module _ {A : Type 0} (columns : ℕ → Option ℕ) (width : ℕ) (a b : A) (mo
   begun c false p e f = refl
 
   keeps_tag : (c n : ℕ) (p : Progress A) → StaysUnder width columns mode n p → keep_character columns width c a b mode (Some n) p ≡ join c (tag_of p a b) mode p
-  keeps_tag c n p h =
-      elim h [
-        | elsewhere e ↦ rw (and_left (is_pre mode) (passes columns width n p) e) refl
-        | fits e ↦ rw (and_right (is_pre mode) (passes columns width n p) (le-ltb _ _ e)) refl
-        | goes_on e f ↦ begun c (is_pre mode && passes columns width n p) p e f
-      ]
+  keeps_tag c n p h = grind (arith, and_left, and_right, le-ltb, begun)
 
 module _ {A : Type 0} (columns : ℕ → Option ℕ) (width : ℕ) (a b : A) where
   kept_entered : (mode : WhiteSpace) (c n : ℕ) (p : Progress A) → columns c ≡ Some n → is_break c ≡ false → StaysUnder width columns mode n p → enter columns width p (character c a b mode) ≡ join c (tag_of p a b) mode p

@@ -1,5 +1,5 @@
 -- Narrow words with one space between two go on the open line as one word does.
-use Rattle.std.proofs.Common.{◌≡◌, ℕ, suc, zero, ◌+◌, ◌<◌, ◌≤◌, nat_lt, nat_le, ◌==◌, Bool, true, false, if◌then◌else◌, Option, None, Some, unwrap_or, List, [], ◌∷◌, ◌++◌, fold, length, take, slice_range, ◌-◌, refl, ap, sym, ◌∙◌, subst, arith, append_assoc, append-nil, length-append, lt-ltb, le-leb}
+use Rattle.std.proofs.Common.{◌≡◌, ℕ, suc, zero, ◌+◌, ◌<◌, ◌≤◌, ◌==◌, Bool, true, false, if◌then◌else◌, Option, None, Some, unwrap_or, List, [], ◌∷◌, ◌++◌, fold, length, take, slice_range, ◌-◌, refl, ap, sym, ◌∙◌, subst, arith, append_assoc, append-nil, length-append, lt-ltb, le-leb}
 use Rattle.std.specs.Char.{is_ascii_graphic}
 use Rattle.std.specs.Str.{IsAscii}
 use Rattle.std.proofs.lemmas.Bool.{lt-leb}
@@ -9,9 +9,9 @@ use Rattle.std.proofs.lemmas.Str.Ascii.{IsAscii-nil, IsAscii-cons}
 use Rattle.std.proofs.Math.Seq.{take-append_seam}
 use Rattle.std.proofs.Math.Bool.{or-true}
 use Rattle.tbr_model.specs.declared.white_space.WhiteSpace.TheVariants.{Normal}
-use Rattle.tbr_model.specs.Laid.{extended, end_if_character, put_items}
+use Rattle.tbr_model.specs.Laid.{extended, end_if_character}
 use Rattle.tbr_model.specs.Run.{glyph, character, has_character, items_width}
-use Rattle.tbr_model.specs.Rule.{Space, Progress, enter, join, tag_of, space_text, pending_width, collapse, lay, lay_here, lay_fresh, wrap_space, wrap_space_by, break_word, is_pre}
+use Rattle.tbr_model.specs.Rule.{Space, Progress, enter, join, tag_of, space_text, pending_width, collapse, lay, lay_here, wrap_space, wrap_space_by}
 use Rattle.tbr_model.specs.Width.{width_of_text}
 use Rattle.tbr_model.proofs.words.Items.{has_character-append, items_width-append}
 use Rattle.tbr_tagged.specs.Elements.{text_items}
@@ -110,17 +110,11 @@ module _ {A : Type 0} (columns : ℕ → Option ℕ) (one : columns 32 ≡ Some 
   }
 
   collapsed : (q : Progress A) → 0 < items_width columns q.word → collapse 32 (tag_of q a b) (lay_here columns q) ≡ after_word q
-  collapsed q some =
-      let test : nat_lt 0 (q.laid.width + (pending_width q.space + items_width columns q.word)) ≡ true = lt-ltb _ _ (omega (arith, some)) in
-      rw test refl
+  collapsed q some = grind (arith, lt-ltb)
 
   -- a word that fits ends at a space
   word_ended : (q : Progress A) → 0 < items_width columns q.word → q.laid.width + (pending_width q.space + items_width columns q.word) ≤ width → enter columns width q (character 32 a b Normal) ≡ after_word q
-  word_ended q some fits =
-      let test : nat_lt 0 (items_width columns q.word) ≡ true = lt-ltb _ _ some in
-      let room : nat_le (q.laid.width + (pending_width q.space + items_width columns q.word)) width ≡ true = le-leb _ _ fits in
-      let lays : break_word columns width q ≡ lay_here columns q = rw (test, room) refl in
-      normal_break columns width 32 (tag_of q a b) q refl ∙ ap (collapse 32 (tag_of q a b)) lays ∙ collapsed q some
+  word_ended q some fits = grind (arith, lt-ltb, le-leb, normal_break, collapsed)
 
   -- narrow characters after the word, and a space after them
   abbrev after_words : Progress A → List ℕ → Progress A
@@ -143,25 +137,14 @@ module _ {A : Type 0} (columns : ℕ → Option ℕ) (one : columns 32 ≡ Some 
 
   -- one more joins the word
   after_join : (c : ℕ) (cs : List ℕ) (q : Progress A) → columns c ≡ Some 1 → after_words (join c (tag_of q a b) Normal q) cs ≡ after_words q (c ∷ cs)
-  after_join c cs q is =
-      let t = tag_of q a b in
-      let wide : pending_width q.space + (items_width columns (q.word ++ glyph c t ∷ []) + length cs) ≡ pending_width q.space + (items_width columns q.word + suc (length cs)) =
-      omega (arith, items_width-append columns q.word (glyph c t ∷ []), ap (λ o. unwrap_or o 0) is) in
-      rw (append_assoc q.word (glyph c t ∷ []) (text_items cs t), wide) refl
+  after_join c cs q is = grind (arith, items_width-append, append_assoc)
 
   -- a space ends the word, and more follow
   after_space : (cs : List ℕ) (q : Progress A) → after_words (after_word q) cs ≡ after_words q (32 ∷ cs)
-  after_space cs q =
-      let t = tag_of q a b in
-      let wide : pending_width q.space + items_width columns q.word + (1 + (0 + length cs)) ≡ pending_width q.space + (items_width columns q.word + suc (length cs)) = omega arith in
-      let twice = extended_twice q.laid (space_text q.space ++ q.word) (glyph 32 t ∷ text_items cs t) (pending_width q.space + items_width columns q.word) (1 + (0 + length cs)) _ refl in
-      let whole = twice ∙ (λ i. extended q.laid (append_assoc (space_text q.space) q.word (glyph 32 t ∷ text_items cs t) i) (wide i)) in
-      ap (λ l. record q { laid = l; space = Some (record { width = 1; tag = t; mode = Normal }); word = []; mode = Normal; continuation_flag = false }) whole
+  after_space cs q = grind (arith, extended_twice, append_assoc)
 
   after_none : (q : Progress A) → q.mode ≡ Normal → after_word q ≡ after_words q []
-  after_none q e =
-      let wide : pending_width q.space + (items_width columns q.word + 0) ≡ pending_width q.space + items_width columns q.word = omega arith in
-      rw (append-nil q.word, wide, e) refl
+  after_none q e = grind (arith, append-nil)
 
   words_entered : (inside : Bool) (cs : List ℕ) (q : Progress A) → fold (reads columns) (Some inside) cs ≡ Some true → IsReading inside q → q.laid.width + (pending_width q.space + (items_width columns q.word + length cs)) ≤ width →
       fold (enter columns width) q (text_entries (cs ++ 32 ∷ []) a b Normal) ≡ after_words q cs
@@ -214,24 +197,11 @@ module _ {A : Type 0} (columns : ℕ → Option ℕ) (one : columns 32 ≡ Some 
   -- a word that doesn't fit is laid as on a fresh line
   laid_afresh : (q : Progress A) → DropsPending q → IsReading true q → (end_if_character q.laid).width ≡ 0 → width < q.laid.width + (pending_width q.space + items_width columns q.word) → items_width columns q.word ≤ width →
       lay columns width q ≡ lay columns width (afresh q)
-  laid_afresh q drops h blank wide fits =
-      let l = end_if_character q.laid in let n = items_width columns q.word in
-      let past : nat_le (q.laid.width + (pending_width q.space + n)) width ≡ false = lt-leb _ _ wide in
-      let room : nat_le (l.width + (0 + n)) width ≡ true = le-leb _ _ (omega (arith, blank, fits)) in
-      let moves : lay columns width q ≡ lay_fresh columns width (wrap_space columns width q q.space) = rw past refl in
-      let stays : lay columns width (afresh q) ≡ lay_here columns (afresh q) = rw room refl in
-      let put : put_items columns width l q.word ≡ extended l q.word (0 + n) = put_fitting columns width l q.word (omega (arith, blank, fits)) ∙ ap (extended l q.word) (omega arith) in
-      moves ∙ ap (lay_fresh columns width) (dropped q drops) ∙ lay_fresh_some columns width (record q { space = None }) h.1
-      ∙ (λ i. record q { laid = put i; space = None; word = []; continuation_flag = is_pre (h.2 i) }) ∙ sym stays
+  laid_afresh q drops h blank wide fits = grind (arith, lt-leb, le-leb, put_fitting, dropped, lay_fresh_some)
 
   moved_end : (q : Progress A) → DropsPending q → IsReading true q → (end_if_character q.laid).width ≡ 0 → width < q.laid.width + (pending_width q.space + items_width columns q.word) → items_width columns q.word ≤ width →
       enter columns width q (character 32 a b Normal) ≡ enter columns width (afresh q) (character 32 a b Normal)
-  moved_end q drops h blank wide fits =
-      let t = tag_of q a b in
-      let some : nat_lt 0 (items_width columns q.word) ≡ true = lt-ltb _ _ h.0 in
-      let ends : break_word columns width q ≡ lay columns width q = rw some refl in
-      let ends_afresh : break_word columns width (afresh q) ≡ lay columns width (afresh q) = rw some refl in
-      normal_break columns width 32 t q refl ∙ ap (collapse 32 t) (ends ∙ laid_afresh q drops h blank wide fits ∙ sym ends_afresh) ∙ sym (normal_break columns width 32 t (afresh q) refl)
+  moved_end q drops h blank wide fits = grind (arith, lt-ltb, normal_break, laid_afresh)
 
   -- no letters go on after a space
   no_more : (n : ℕ) (cs : List ℕ) → JoinWord columns false (take n (32 ∷ cs)) → n ≡ 0

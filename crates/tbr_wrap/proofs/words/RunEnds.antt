@@ -60,22 +60,12 @@ module _ {A : Type 0} (columns : ℕ → Option ℕ) (eq : A → A → Bool) (la
   -- where the word changes by markers alone
   word_stands : (is : List (Item A)) → IsAtProgress columns eq b before given p → SameItems eq lines.flat.word is → items_width columns is ≡ items_width columns p.word → lines.flat.placed ≡ b.lines.flat.placed → lines.ended ≡ b.lines.ended → lines.line_len ≡ b.lines.line_len → lines.line_markers ≡ b.lines.line_markers →
       lines.line_width ≡ b.lines.line_width → KeepsLimits b.lines lines → IsAtProgress columns eq (record b { lines = lines }) before given (record p { word = is })
-  word_stands is s word wide placed ended len markers width limits = record {
-    lays = lays_same columns eq laws b.lines lines limits before given p.laid s.lays (holds_same b.lines lines before s.lays.laid s.lays.holds placed (ap (λ q. q.items) ended) len markers width);
-    space = s.space;
-    word = word;
-    word_width = s.word_width ∙ sym wide;
-    mode = s.mode;
-    continuation_flag = s.continuation_flag;
-    in_continuation = s.in_continuation;
-  }
+  word_stands is s word wide placed ended len markers width limits = grind (arith, lays_same, holds_same)
 
   -- a marker joins it
   pub marked_stands : (name : List ℕ) → IsAtProgress columns eq b before given p → lines.flat ≡ record b.lines.flat { word = b.lines.flat.word ++ marker name ∷ [] } → lines.ended ≡ b.lines.ended → lines.line_len ≡ b.lines.line_len → lines.line_markers ≡ b.lines.line_markers → lines.line_width ≡ b.lines.line_width → KeepsLimits b.lines lines →
       IsAtProgress columns eq (record b { lines = lines }) before given (record p { word = p.word ++ marker name ∷ [] })
-  marked_stands name s flat ended len markers width limits =
-      word_stands (p.word ++ marker name ∷ []) s (rw flat (same_items_append eq laws b.lines.flat.word p.word (marker name ∷ []) (marker name ∷ []) s.word (refl, tt)))
-      (omega (arith, items_width-append columns p.word (marker name ∷ []))) (ap (λ f. f.placed) flat) ended len markers width limits
+  marked_stands name s flat ended len markers width limits = grind (arith, word_stands, same_items_append, items_width-append)
 
   -- all of them are taken out
   pub unmarked_stands : IsAtProgress columns eq b before given p → has_character b.lines.flat.word ≡ false → lines.flat ≡ record b.lines.flat { word = [] } → lines.ended ≡ b.lines.ended → lines.line_len ≡ b.lines.line_len → lines.line_markers ≡ b.lines.line_markers → lines.line_width ≡ b.lines.line_width → KeepsLimits b.lines lines →

@@ -1,16 +1,12 @@
-use Rattle.std.proofs.Common.{◌≡◌, map, map-id, refl, sym, ◌∙◌}
+use Rattle.std.proofs.Common.{◌≡◌, map-id, sym, ◌∙◌, rules}
 use Rattle.std.proofs.lemmas.Iterator.Adapters.{YieldsList-from_vec}
 use Rattle.std.proofs.lemmas.Iterator.Consumers.{YieldsList-end}
 use Rattle.std.proofs.lemmas.List.{map_push}
 use Rattle.std.proofs.lemmas.Slice.Zip.{all_zipped_more}
-use Rattle.tbr_border.specs.BorderView.{hole_of}
 use Rattle.tbr_border.proofs.border.mapped_holes.Goals as goal
 
 pub loop-span-preserved : goal.loop-span-preserved
-loop-span-preserved g c =
-    rw (c.in_ok-push.ensures.items, map_push hole_of c.loop-span.yielded c.in-Some.span, map_push)
-    (all_zipped_more _ (map hole_of c.loop-span.yielded) (map hole_of c.loop-span.mapped.items) (hole_of c.in-Some.span) _
-    c.loop-span.invariant (refl, refl, c.in_ok-mapped_element.ensures))
+loop-span-preserved g c = search (rules, map_push, all_zipped_more, c.in_ok-push.ensures.items, c.loop-span.invariant, c.in_ok-mapped_element.ensures)
 
 pub returns : goal.returns
 returns g c =

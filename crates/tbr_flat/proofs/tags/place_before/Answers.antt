@@ -1,4 +1,4 @@
-use Rattle.std.proofs.Common.{◌≡◌, ℕ, List, zero, ◌-◌, ◌+◌, ◌<◌, ◌≤◌, suc, length, drop, ap, arith}
+use Rattle.std.proofs.Common.{◌≡◌, ℕ, List, zero, ◌-◌, ◌+◌, ◌<◌, ◌≤◌, suc, length, drop, arith, rules}
 use Rattle.tbr_flat.specs.declared.tags.RepeatedTag.{RepeatedTag}
 use Rattle.tbr_flat.specs.Tags.{tags_of}
 use Rattle.tbr_flat.proofs.RepeatedTags.{stored_len}
@@ -10,12 +10,4 @@ stored_before xs zero e most some = absurd (omega arith)
 stored_before xs (suc k) e most some = omega arith
 
 pub returns-then-left-more : goal.returns-then-left-more
-returns-then-left-more g c =
-    let xs = c.args.stored.now.items in let k = c.loop-left.nth in let inv = c.loop-left.invariant in
-    let next = stored_before xs k inv.reached c.requires c.loop-left-test.true in
-    let len = stored_len xs (k - 1) k c.index.result.now next inv.within c.index.ensures in
-    record {
-      within = omega (arith, inv.within);
-      tags = omega (arith, inv.reached, len, c.if-left-more.true);
-      inside = λ _. omega (arith, inv.reached, ap (λ i. length (tags_of (drop i xs))) next, c.loop-left-test.true);
-    }
+returns-then-left-more g c = search (rules, stored_before, stored_len, c.loop-left.invariant, c.requires, c.loop-left-test.true, c.index.ensures, c.if-left-more.true)

@@ -1,4 +1,4 @@
-use Rattle.std.proofs.Common.{◌≡◌, [], length, drop, ap, sym, ◌∙◌, subst, arith}
+use Rattle.std.proofs.Common.{◌≡◌, [], length, drop, ap, sym, ◌∙◌, subst, rules}
 use Rattle.std.proofs.lemmas.Bool.{eqb-false, eqb-true}
 use Rattle.std.proofs.lemmas.List.{nil_from_length}
 use Rattle.tbr_tagged.specs.Elements.{items_of}
@@ -8,9 +8,7 @@ use Rattle.tbr_kept_lines.proofs.Prefixes.{after_copy, pushes_first, pushes_none
 use Rattle.tbr_kept_lines.proofs.prefixed_lines.push_after.Goals as goal
 
 pub loop-prefix-smaller : goal.loop-prefix-smaller
-loop-prefix-smaller g c =
-    let f = first_of c.loop-prefix.ended (λ none. eqb-false _ 0 (sym c.is_empty.ensures ∙ c.loop-prefix-test.true) (ap length none)) in
-    omega (arith, ap length f.2, ap length (c.in_ok-move_line.ensures.rest ∙ ap (drop 1) f.2))
+loop-prefix-smaller g c = search (rules, first_of, eqb-false, c.is_empty.ensures, c.loop-prefix-test.true, c.in_ok-move_line.ensures.rest)
 
 pub loop-prefix-preserved : goal.loop-prefix-preserved
 loop-prefix-preserved g c =

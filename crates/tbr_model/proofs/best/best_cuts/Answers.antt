@@ -1,4 +1,4 @@
-use Rattle.std.proofs.Common.{◌≡◌, ◌+◌, ◌-◌, length, take, drop, length-drop, length-take, subst, arith}
+use Rattle.std.proofs.Common.{◌≡◌, ◌+◌, ◌-◌, length, take, drop, length-drop, length-take, subst, arith, rules}
 use Rattle.std.proofs.lemmas.List.{length-map}
 use Rattle.tbr_model.specs.Longest.{TellsRests}
 use Rattle.tbr_model.specs.Slot.{slot_value, slot_values}
@@ -17,6 +17,4 @@ longest_line-requires g c =
     rw (c.deref.ensures.value, slot_values_rest xs from) (subst (λ n. TellsRests c.args.width (drop from slots) n c.in_ok-solved.solved.items) count later)
 
 pub returns : goal.returns
-returns g c =
-    let xs = c.args.slots.now in
-    last_cut c.args.width (slot_values xs) c.loop-from.cuts.items c.loop-from.from c.loop-from.invariant (omega (arith, length-map xs slot_value, c.loop-from-test.false))
+returns g c = search (rules, last_cut, length-map, c.loop-from.invariant, c.loop-from-test.false)

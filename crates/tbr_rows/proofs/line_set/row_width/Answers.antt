@@ -1,4 +1,4 @@
-use Rattle.std.proofs.Common.{◌≡◌, suc, ◌-◌, ◌<◌, List, [], ◌∷◌, length, get_or, refl, ap, ◌∙◌, arith}
+use Rattle.std.proofs.Common.{◌≡◌, suc, ◌-◌, ◌<◌, List, [], ◌∷◌, length, get_or, refl, arith, rules}
 use Rattle.std.proofs.lemmas.Result.{IfOk-weaker}
 use Rattle.tbr_rows.specs.declared.line_set.LineSet.{LineSet as Cell}
 use Rattle.tbr_rows.specs.Cells.{end_of, row_width}
@@ -11,7 +11,4 @@ last_ends (c ∷ []) d h = refl
 last_ends (c ∷ e ∷ cs) d h = let less : length (c ∷ e ∷ cs) - 1 ≡ suc (length (e ∷ cs) - 1) = omega arith in rw less (last_ends (e ∷ cs) d (omega arith))
 
 pub returns-in-Some : goal.returns-in-Some
-returns-in-Some g c =
-    let cells = c.args.cells.now in
-    let cell = c.in-Some.cell.now in
-    IfOk-weaker c.end.result _ _ (λ width is. is ∙ ap end_of c.in-Some.ensures.item.1 ∙ last_ends cells cell c.in-Some.ensures.item.3.0) c.end.ensures
+returns-in-Some g c = search (rules, IfOk-weaker, last_ends, c.in-Some.ensures.item.1, c.in-Some.ensures.item.3.0, c.end.ensures)

@@ -1,4 +1,4 @@
-use Rattle.std.proofs.Common.{◌≡◌, ℕ, ◌+◌, Bool, List, [], ◌∷◌, ◌++◌, map, drop, refl, ap, sym, add-one}
+use Rattle.std.proofs.Common.{◌≡◌, ℕ, ◌+◌, Bool, List, [], ◌∷◌, ◌++◌, map, drop, refl, ap, add-one, rules}
 use Rattle.std.proofs.lemmas.List.{drop-drop, map_push, map-id}
 use Rattle.std.proofs.lemmas.Simd.{map-map}
 use Rattle.tbr_model.specs.Run.{Item, glyph}
@@ -23,17 +23,10 @@ line_later separator a i cs =
 one_more_line : {A : Type 0} (eq : A → A → Bool) (separator : Item A) (a : A) (cs now : List (Column A)) (i : ℕ) (lines : List (List (Element A)))
     (line : List (Element A)) → HaveTexts eq lines (line_texts separator a cs i) → now ≡ map (dropped i) cs →
     SameItems eq (items_of line) (line_text separator a now 0) → HaveTexts eq (lines ++ line ∷ []) (line_texts separator a cs (i + 1))
-one_more_line {A} eq separator a cs now i lines line h e k =
-    rw (add-one, map_push)
-    (all_zip_append (λ (es : List (Element A)) (is : List (Item A)). SameItems eq (items_of es) is) lines (line ∷ []) (line_texts separator a cs i)
-    (line_text separator a cs i ∷ []) h (rw (e, line_later separator a i cs) at k, tt))
+one_more_line {A} eq separator a cs now i lines line h e k = search (rules, add-one, map_push, all_zip_append, line_later)
 
 pub loop-init : goal.loop-init
-loop-init g c = record {
-  items = rw c.in_ok-lines.ensures.items tt;
-  merged = rw c.in_ok-lines.ensures.items tt;
-  rest = sym (map-id c.args.columns.now.items);
-}
+loop-init g c = search (rules, map-id, c.in_ok-lines.ensures.items)
 
 pub loop-preserved : goal.loop-preserved
 loop-preserved g c =

@@ -1,4 +1,4 @@
-use Rattle.std.proofs.Common.{◌≡◌, ◌∷◌, [], ◌/◌, ◌%◌, ◌+◌, sym, arith}
+use Rattle.std.proofs.Common.{◌/◌, ◌+◌, sym, arith, rules}
 use Rattle.std.specs.Fmt.{decimal}
 use Rattle.std.proofs.lemmas.Fmt.{decimal_step, decimal_digit}
 use Rattle.tbr_script.proofs.Writes.{writes_more, beginning_of, stopped}
@@ -11,13 +11,4 @@ returns-in_err-write_decimal-clause-digits g t c =
     (beginning_of _ _ (decimal (c.args.number / 10)) _ _ (sym (decimal_step c.args.number (omega arith) (omega arith))) c.in_err-write_decimal.ensures.digits)
 
 pub returns-clause-digits : goal.returns-clause-digits
-returns-clause-digits g t c =
-    let held = g.S.Sink.contents in
-    elim c.if-number-ge10.branch [
-      | then-number-ge10+in_ok-write_decimal w ↦
-          rw (decimal_step c.args.number (omega arith) (omega arith))
-          (writes_more (held c.args.sink.now) (held c.if-number-ge10.sink) (held c.write_all.new.sink) c.write_all.result (decimal (c.args.number / 10)) ((48 + c.args.number % 10) ∷ []) (rw w.sink-is w.in_ok-write_decimal.ensures.digits) c.write_all.ensures.written)
-      | else-number-ge10 w ↦
-          let digit : c.args.number % 10 ≡ c.args.number = omega arith in
-          rw (decimal_digit c.args.number (omega arith), ← w.sink-is) (rw digit at c.write_all.ensures.written)
-    ]
+returns-clause-digits g t c = search (rules, decimal_step, writes_more, decimal_digit, c.write_all.ensures.written)

@@ -1,16 +1,13 @@
-use Rattle.std.proofs.Common.{ap, ◌∙◌, ◌∷◌, [], ◌++◌, map, sym}
+use Rattle.std.proofs.Common.{ap, ◌∙◌, ◌∷◌, [], ◌++◌, map, rules}
 use Rattle.std.specs.Prelude.{flat_map}
 use Rattle.tbr_model.specs.Codes.{newline_character}
 use Rattle.tbr_tagged.specs.View.{chars_of, element_of}
 use Rattle.tbr_tagged.specs.Walks.{elements_left}
-use Rattle.tbr_show.specs.Written.{printable}
 use Rattle.tbr_show.proofs.Appended.{one_after, flat_map-map_push, walked, on_ok_then, shown_of, shown_of_each}
 use Rattle.tbr_show.proofs.ansi.push_bare_line.Goals as goal
 
 pub loop-element-preserved : goal.loop-element-preserved
-loop-element-preserved g c =
-    one_after _ _ _ _ _ c.loop-element.invariant (c.in_ok-push_printable.ensures ∙ ap (λ cs. chars_of c.loop-element.text ++ printable cs) c.as_str.ensures)
-    ∙ ap (λ cs. chars_of c.args.text.now ++ cs) (sym (flat_map-map_push shown_of (λ e. element_of e.now) c.loop-element.yielded c.in-Some.element))
+loop-element-preserved g c = search (rules, one_after, flat_map-map_push, shown_of, c.loop-element.invariant, c.in_ok-push_printable.ensures, c.as_str.ensures)
 
 pub returns : goal.returns
 returns g c =

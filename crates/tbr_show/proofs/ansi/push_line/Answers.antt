@@ -1,4 +1,4 @@
-use Rattle.std.proofs.Common.{ap, ◌∙◌, ◌∷◌, [], ◌++◌, map, sym}
+use Rattle.std.proofs.Common.{ap, ◌∙◌, ◌∷◌, [], ◌++◌, map, rules}
 use Rattle.std.specs.Prelude.{flat_map}
 use Rattle.tbr_model.specs.Codes.{newline_character}
 use Rattle.tbr_tagged.specs.View.{chars_of, element_of}
@@ -8,9 +8,7 @@ use Rattle.tbr_show.proofs.Appended.{one_after, flat_map-map_push, walked, on_ok
 use Rattle.tbr_show.proofs.ansi.push_line.Goals as goal
 
 pub loop-element-preserved : goal.loop-element-preserved
-loop-element-preserved c =
-    one_after _ _ _ _ _ c.loop-element.invariant c.in_ok-push_element.ensures
-    ∙ ap (λ cs. chars_of c.args.text.now ++ cs) (sym (flat_map-map_push model.element (λ e. element_of e.now) c.loop-element.yielded c.in-Some.element))
+loop-element-preserved c = search (rules, one_after, flat_map-map_push, c.loop-element.invariant, c.in_ok-push_element.ensures)
 
 pub returns : goal.returns
 returns c =

@@ -1,9 +1,7 @@
-use Rattle.std.proofs.Common.{chars, ap, ◌∙◌, string_bytes}
+use Rattle.std.proofs.Common.{rules}
 use Rattle.std.proofs.lemmas.Str.{IsUtf8-string_bytes}
 use Rattle.tbr_decor.proofs.Texts.{ascii_all, ascii_last}
 use Rattle.tbr_show.proofs.text.push_ascii.Goals as goal
 
 pub returns : goal.returns
-returns c =
-    ap chars c.in_ok-push_str.ensures.bytes
-    ∙ ascii_last (string_bytes c.args.text.now) c.args.more.now (IsUtf8-string_bytes c.args.text.now) (ascii_all c.args.more.now c.requires)
+returns c = search (rules, ascii_last, IsUtf8-string_bytes, ascii_all, c.in_ok-push_str.ensures.bytes, c.requires)

@@ -1,9 +1,6 @@
-use Rattle.std.proofs.Common.{◌∙◌}
+use Rattle.std.proofs.Common.{rules}
 use Rattle.tbr_tagged.proofs.TextAfter.{chars_one}
 use Rattle.tbr_tagged.proofs.element.new_piece.Goals as goal
 
 pub returns : goal.returns
-returns g c = (
-  rw (c.in_ok-push.ensures.bytes, c.new-s.ensures.bytes) (chars_one c.args.c c.ranges.c.0),
-  g.met.T.Eq.laws.symm _ _ ∙ c.requires _ _ c.in_ok-tag.ensures.cases,
-)
+returns g c = search (rules, chars_one, c.in_ok-push.ensures.bytes, c.new-s.ensures.bytes, c.requires, c.in_ok-tag.ensures.cases)

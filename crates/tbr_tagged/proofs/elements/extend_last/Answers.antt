@@ -1,4 +1,4 @@
-use Rattle.std.proofs.Common.{◌-◌, ◌∙◌, ap, chars, arith}
+use Rattle.std.proofs.Common.{◌-◌, ◌∙◌, ap, rules}
 use Rattle.std.proofs.Math.Seq.{map-set_same}
 use Rattle.std.proofs.lemmas.Bool.Decides.{nat_tests}
 use Rattle.std.proofs.lemmas.Result.{on_err_weaker}
@@ -7,9 +7,7 @@ use Rattle.tbr_tagged.proofs.TextAfter.{extended_at}
 use Rattle.tbr_tagged.proofs.elements.extend_last.Goals as goal
 
 pub returns-clause-ok : goal.returns-clause-ok
-returns-clause-ok g c =
-    extended_at c.extend.result element_of c.args.elements.now.items c.len-end.result (chars c.args.text.now) c.index_mut.result.now c.extend.new.element
-    (c.len-end.ensures ∙ c.args.elements.now.ok.0) (grind (arith, nat_tests)) c.index_mut.ensures.value c.extend.ensures.ok
+returns-clause-ok g c = search (rules, extended_at, nat_tests, c.len-end.ensures, c.index_mut.ensures.value, c.extend.ensures.ok)
 
 pub returns-clause-err : goal.returns-clause-err
 returns-clause-err g c =

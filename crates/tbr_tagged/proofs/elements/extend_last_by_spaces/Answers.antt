@@ -1,16 +1,13 @@
-use Rattle.std.proofs.Common.{◌-◌, ◌∙◌, ap, arith}
+use Rattle.std.proofs.Common.{◌-◌, ◌∙◌, ap, rules}
 use Rattle.std.proofs.Math.Seq.{map-set_same}
 use Rattle.std.proofs.lemmas.Bool.Decides.{nat_tests}
 use Rattle.std.proofs.lemmas.Result.{on_err_weaker}
-use Rattle.tbr_tagged.specs.Padding.{spaces}
 use Rattle.tbr_tagged.specs.View.{element_of}
 use Rattle.tbr_tagged.proofs.TextAfter.{extended_at}
 use Rattle.tbr_tagged.proofs.elements.extend_last_by_spaces.Goals as goal
 
 pub returns-clause-ok : goal.returns-clause-ok
-returns-clause-ok g c =
-    extended_at c.extend_by_spaces.result element_of c.args.elements.now.items c.len-end.result (spaces c.args.count) c.index_mut.result.now c.extend_by_spaces.new.element
-    (c.len-end.ensures ∙ c.args.elements.now.ok.0) (grind (arith, nat_tests)) c.index_mut.ensures.value c.extend_by_spaces.ensures.ok
+returns-clause-ok g c = search (rules, extended_at, nat_tests, c.len-end.ensures, c.index_mut.ensures.value, c.extend_by_spaces.ensures.ok)
 
 pub returns-clause-err : goal.returns-clause-err
 returns-clause-err g c =

@@ -1,4 +1,4 @@
-use Rattle.std.proofs.Common.{ℕ, ◌≡◌, ◌<◌, ◌≤◌, ◌-◌, ◌+◌, List, ◌++◌, append_assoc, arith, replicate, refl}
+use Rattle.std.proofs.Common.{ℕ, ◌≡◌, ◌<◌, ◌≤◌, ◌-◌, ◌+◌, List, ◌++◌, append_assoc, arith, replicate, refl, rules}
 use Rattle.std.specs.List.{slice_index, slice_range}
 use Rattle.std.specs.String.{string_bytes}
 use Rattle.std.proofs.lemmas.List.{get_or-replicate, take-replicate, replicate-append-replicate}
@@ -16,10 +16,7 @@ more_spaces bs count left n within some few =
     rw (front, all, take-replicate {X = ℕ} n 32 32 few, append_assoc, replicate-append-replicate) refl
 
 pub range-requires-clause-end_boundary : goal.range-requires-clause-end_boundary
-range-requires-clause-end_boundary c = (
-  omega (arith, c.min-some.ensures),
-  λ inside high. absurd (omega (arith, high, space_at c.min-some.result inside)),
-)
+range-requires-clause-end_boundary c = search (rules, space_at, c.min-some.ensures)
 
 pub loop-left-preserved : goal.loop-left-preserved
 loop-left-preserved c = (

@@ -1,4 +1,4 @@
-use Rattle.std.proofs.Common.{◌≡◌, unwrap_or, [], ◌∷◌, sym, ◌∙◌, ap, map-id, arith}
+use Rattle.std.proofs.Common.{◌≡◌, unwrap_or, sym, ◌∙◌, ap, map-id, arith, rules}
 use Rattle.std.proofs.lemmas.Iterator.{YieldsList-from_chars}
 use Rattle.std.proofs.lemmas.Iterator.Consumers.{YieldsList-end}
 use Rattle.tbr_model.specs.Width.{width_of_text}
@@ -14,10 +14,7 @@ returns-in_default g c =
     omega (arith, c.in_default.ensures, c.loop-c.invariant, one, width_of_text-beginning columns _ c.loop-c.yielded c.in-Some.c w.0 w.1)
 
 pub loop-c-preserved : goal.loop-c-preserved
-loop-c-preserved g c =
-    let columns = g.W.CharWidth.columns in
-    let one : c.unwrap_or-more.result ≡ unwrap_or (columns c.in-Some.c) 0 = c.unwrap_or-more.ensures ∙ ap (λ o. unwrap_or o 0) c.width.ensures in
-    omega (arith, c.in-Some-checked_add.ensures, c.loop-c.invariant, one, width_of_text-append columns c.loop-c.yielded (c.in-Some.c ∷ []))
+loop-c-preserved g c = search (rules, width_of_text-append, c.unwrap_or-more.ensures, c.width.ensures, c.in-Some-checked_add.ensures, c.loop-c.invariant)
 
 pub returns : goal.returns
 returns g c =

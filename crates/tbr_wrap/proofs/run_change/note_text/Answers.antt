@@ -1,4 +1,4 @@
-use Rattle.std.proofs.Common.{◌≡◌, ◌++◌, ◌∷◌, [], ℕ, List, ap, sym, ◌∙◌, arith, append_assoc}
+use Rattle.std.proofs.Common.{◌≡◌, ◌++◌, ◌∷◌, [], ℕ, List, ap, ◌∙◌, arith, append_assoc, rules}
 use Rattle.std.proofs.lemmas.List.{map-append}
 use Rattle.tbr_model.specs.declared.white_space.WhiteSpace.{WhiteSpace}
 use Rattle.tbr_wrap.specs.Story.{text_changes}
@@ -9,9 +9,7 @@ use Rattle.tbr_wrap.proofs.run_change.note_text.Goals as goal
 use Rattle.tbr_wrap.proofs.run_change.note_text.Goals.{in-Some+in-Marker-1, in-Some+in-Called-1, in_default}
 
 noted_more : {A : Type 0} (before seen now : List (RunChange × A × A)) (cs ds : List ℕ) (c : ℕ) (a b : A) (mode : WhiteSpace) → seen ≡ before ++ text_changes cs a b mode → now ≡ seen ++ (Character c mode, a, b) ∷ [] → ds ≡ cs ++ c ∷ [] → now ≡ before ++ text_changes ds a b mode
-noted_more before seen now cs ds c a b mode e f h =
-    f ∙ ap (λ xs. xs ++ (Character c mode, a, b) ∷ []) e ∙ append_assoc before (text_changes cs a b mode) ((Character c mode, a, b) ∷ [])
-    ∙ ap (λ xs. before ++ xs) (sym (ap (λ es. text_changes es a b mode) h ∙ map-append (λ d. (Character d mode, a, b)) cs (c ∷ [])))
+noted_more before seen now cs ds c a b mode e f h = search (rules, append_assoc, map-append)
 
 pub loop-preserved : goal.loop-preserved
 loop-preserved g c =

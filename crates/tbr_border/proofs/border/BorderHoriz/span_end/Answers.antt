@@ -1,15 +1,11 @@
-use Rattle.std.proofs.Common.{◌≡◌, ◌+◌, ◌<◌, ◌-◌, get_or, length, map, ap, ◌∙◌, arith}
+use Rattle.std.proofs.Common.{◌≡◌, ◌+◌, length, map, ap, ◌∙◌, arith, rules}
 use Rattle.tbr_border.specs.Border.{span_end}
 use Rattle.tbr_border.specs.BorderView.{hole_of}
 use Rattle.tbr_border.proofs.HolesInOrder.{span_end-is, span_end-last, in_order_end}
 use Rattle.tbr_border.proofs.border.BorderHoriz.span_end.Goals as goal
 
 last_is : (g : _) (c : goal.In-Some g) → c.in-Some.span.now.place + c.in-Some.span.now.width ≡ span_end (map hole_of c.self.inside.shape.value.holes.items)
-last_is g c =
-    let xs = c.self.inside.shape.value.holes.items in
-    let is : c.in-Some.span.now ≡ get_or xs (length xs - 1) c.in-Some.span.now = rw (c.deref-2.ensures.value, c.deref.ensures) at c.in-Some.ensures.item.1 in
-    let some : 0 < length xs = rw (c.deref-2.ensures.value, c.deref.ensures) at c.in-Some.ensures.item.3.0 in
-    ap (λ s. (hole_of s).place + (hole_of s).width) is ∙ span_end-last hole_of xs c.in-Some.span.now some
+last_is g c = search (rules, span_end-last, c.deref-2.ensures.value, c.deref.ensures, c.in-Some.ensures.item.1, c.in-Some.ensures.item.3.0)
 
 pub overflow_add-result : goal.overflow_add-result
 overflow_add-result g c =

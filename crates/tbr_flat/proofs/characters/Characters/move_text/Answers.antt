@@ -1,5 +1,4 @@
-use Rattle.std.proofs.Common.{◌≤◌, ◌++◌, length, ap, ◌∙◌, arith}
-use Rattle.tbr_tagged.specs.View.{chars_of}
+use Rattle.std.proofs.Common.{◌≤◌, length, arith, rules}
 use Rattle.tbr_flat.proofs.TaggedCharacters.{placed_len, taken_fits, flat_take, taken_characters}
 use Rattle.tbr_flat.proofs.characters.Characters.move_text.Goals as goal
 
@@ -16,9 +15,7 @@ invariant_of-self g c =
     rw (c.in-Ok.ensures.rest, c.remove_front-count.ensures.rest) (taken_fits c.self.inside.placed c.self.inside.word c.self.inside.tags n c.self.invariant within)
 
 pub returns-in-Ok-clause-text : goal.returns-in-Ok-clause-text
-returns-in-Ok-clause-text g c =
-    rw (← c.self.view_is)
-    (c.in-Ok.ensures.text ∙ ap (λ cs. chars_of c.args.text.now ++ cs) (taken_characters c.self.inside.placed c.self.inside.word c.self.inside.tags c.remove_front-count.result c.self.invariant))
+returns-in-Ok-clause-text g c = search (rules, taken_characters, c.self.view_is, c.in-Ok.ensures.text, c.self.invariant)
 
 pub returns-in-Ok-clause-rest : goal.returns-in-Ok-clause-rest
 returns-in-Ok-clause-rest g c =

@@ -1,9 +1,6 @@
-use Rattle.std.proofs.Common.{chars}
+use Rattle.std.proofs.Common.{rules}
 use Rattle.tbr_flat.proofs.TaggedCharacters.{flat_push}
 use Rattle.tbr_flat.proofs.characters.Characters.push_text.Goals as goal
 
 pub returns : goal.returns
-returns g c =
-    let p = c.in_ok-push.ensures.ok in
-    rw (← c.self.view_is, c.in_default.ensures.ok, p.2)
-    (p.0, p.1, flat_push c.self.inside.placed c.self.inside.word c.self.inside.tags c.self.invariant (chars c.args.text.now) c.args.count p.0 c.requires.count)
+returns g c = search (rules, flat_push, c.in_ok-push.ensures.ok, c.self.view_is, c.in_default.ensures.ok, c.self.invariant, c.requires.count)

@@ -1,4 +1,4 @@
-use Rattle.std.proofs.Common.{◌∙◌, ◌-◌, length, ap, drop}
+use Rattle.std.proofs.Common.{◌∙◌, ◌-◌, length, ap, drop, rules}
 use Rattle.tbr_flat.specs.Flat.{Flat}
 use Rattle.tbr_flat.proofs.TrimmedCharacters.{blanks_placed, blanks_word, word_trimmed}
 use Rattle.tbr_flat.proofs.characters.Characters.trim_word.Goals as goal
@@ -10,7 +10,4 @@ returns-clause-word g c = λ front rest parts len.
     (rw (c.remove_before.ensures, e.rest) (blanks_word p w ts n (c.len-word.result - n) c.self.invariant e.within (ap (λ m. m - n) c.len-word.ensures.len) ∙ t.0), t.1)
 
 pub returns-clause-placed : goal.returns-clause-placed
-returns-clause-placed g c =
-    let n = c.pop_blanks-blanks.result in
-    rw (← c.self.view_is, c.remove_before.ensures)
-    (blanks_placed c.self.inside.placed c.self.inside.word c.self.inside.tags n (c.len-word.result - n) c.self.invariant c.pop_blanks-blanks.ensures.within (ap (λ m. m - n) c.len-word.ensures.len))
+returns-clause-placed g c = search (rules, blanks_placed, c.self.view_is, c.remove_before.ensures, c.self.invariant, c.pop_blanks-blanks.ensures.within, c.len-word.ensures.len)

@@ -1,25 +1,18 @@
-use Rattle.std.proofs.Common.{◌≤◌, take, ap, ◌∙◌, drop, sym, refl, arith}
-use Rattle.std.specs.String.{string_bytes}
+use Rattle.std.proofs.Common.{◌≤◌, take, ap, ◌∙◌, drop, sym, refl, arith, rules}
 use Rattle.std.proofs.lemmas.List.{take-append-drop}
 use Rattle.tbr_model.proofs.lists.Each.{each_front}
 use Rattle.tbr_model.specs.Run.{items_width}
-use Rattle.tbr_flat.specs.Flat.{MarkerPlaces, covered, before_first, before_last, shortened}
+use Rattle.tbr_flat.specs.Flat.{MarkerPlaces, before_first, shortened}
 use Rattle.tbr_flat.proofs.MarkerPlaces.{first_within}
 use Rattle.tbr_flat.proofs.MarkedItems.{characters_alone, marked_more, marked_push, marked_shortened, taken_front}
 use Rattle.tbr_flat.proofs.MarkedText.{covered_pushed, character_first}
 use Rattle.tbr_flat.proofs.flat_text.FlatText.place_front.Goals as goal
 
 pub invariant_of-self-in-Some : goal.invariant_of-self-in-Some
-invariant_of-self-in-Some g c =
-    let k = c.in-Some.ensures in (
-      covered_pushed c.push.result c.self.inside.placed c.push.new.self (string_bytes c.in-Some.name) c.push.ensures.ok c.push.ensures.err ∙ c.self.invariant.0,
-      omega (arith, c.self.invariant.1, ap covered k.2, ap before_last k.1),
-    )
+invariant_of-self-in-Some g c = search (rules, covered_pushed, c.in-Some.ensures, c.push.ensures.ok, c.push.ensures.err, c.self.invariant.0, c.self.invariant.1)
 
 pub returns-in-Some-clause-placed : goal.returns-in-Some-clause-placed
-returns-in-Some-clause-placed g c =
-    let k = c.in-Some.ensures in
-    rw (← c.self.view_is, c.in_ok-push.ensures.ok, k.2, k.1, marked_push c.self.inside.text.placed c.self.inside.placed (string_bytes c.in-Some.name) c.self.invariant.0) refl
+returns-in-Some-clause-placed g c = search (rules, marked_push, c.in-Some.ensures, c.self.view_is, c.in_ok-push.ensures.ok, c.self.invariant.0)
 
 pub returns-clause-some : goal.returns-clause-some
 returns-clause-some g c =

@@ -1,4 +1,4 @@
-use Rattle.std.proofs.Common.{chars, length, ap, refl, arith}
+use Rattle.std.proofs.Common.{chars, length, ap, arith, rules}
 use Rattle.std.proofs.lemmas.List.{length-append, length-map}
 use Rattle.tbr_model.specs.Run.{glyph}
 use Rattle.tbr_tagged.specs.Elements.{text_items}
@@ -21,9 +21,4 @@ invariant_of-self-in_default g c =
     )
 
 pub returns : goal.returns
-returns g c =
-    let p = c.in_default.ensures in
-    let old = c.self.inside in
-    let none = unmarked old.text.word old.word.markers (rw (← c.self.view_is) at c.requires.none) in
-    let more = marked_more old.text.placed (text_items (chars c.args.text.now) p.0) old.placed.markers (omega (arith, c.self.invariant.0)) in
-    (p.0, p.1, rw (← c.self.view_is, p.2, c.in_ok-add_characters.ensures.ok, none.1, more) refl)
+returns g c = search (rules, unmarked, marked_more, c.in_default.ensures, c.self.view_is, c.requires.none, c.self.invariant.0, c.in_ok-add_characters.ensures.ok)

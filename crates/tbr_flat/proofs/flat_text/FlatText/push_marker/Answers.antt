@@ -1,5 +1,5 @@
 use Rattle.std.specs.String.{string_bytes}
-use Rattle.std.proofs.Common.{◌∙◌, refl}
+use Rattle.std.proofs.Common.{◌∙◌, rules}
 use Rattle.std.proofs.lemmas.Result.{on_ok_weaker}
 use Rattle.tbr_flat.proofs.MarkedItems.{marked_push}
 use Rattle.tbr_flat.proofs.MarkedText.{covered_pushed}
@@ -10,6 +10,4 @@ invariant_of-self g c =
     (c.self.invariant.0, covered_pushed c.push.result c.self.inside.word c.push.new.self (string_bytes c.args.name) c.push.ensures.ok c.push.ensures.err ∙ c.self.invariant.1)
 
 pub returns : goal.returns
-returns g c =
-    rw (← c.self.view_is, ← marked_push c.self.inside.text.word c.self.inside.word (string_bytes c.args.name) c.self.invariant.1)
-    (on_ok_weaker c.push.result (λ e. rw e refl) c.push.ensures.ok)
+returns g c = search (rules, marked_push, on_ok_weaker, c.self.view_is, c.self.invariant.1, c.push.ensures.ok)

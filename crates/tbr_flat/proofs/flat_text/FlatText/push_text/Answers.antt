@@ -1,10 +1,6 @@
-use Rattle.std.proofs.Common.{chars, refl, arith}
-use Rattle.tbr_tagged.specs.Elements.{text_items}
+use Rattle.std.proofs.Common.{rules}
 use Rattle.tbr_flat.proofs.MarkedItems.{marked_more}
 use Rattle.tbr_flat.proofs.flat_text.FlatText.push_text.Goals as goal
 
 pub returns : goal.returns
-returns g c =
-    let p = c.in_default.ensures in
-    let more = marked_more c.self.inside.text.word (text_items (chars c.args.text.now) p.0) c.self.inside.word.markers (omega (arith, c.self.invariant.1)) in
-    (p.0, p.1, rw (← c.self.view_is, p.2, c.in_ok-add_characters.ensures.ok, more) refl)
+returns g c = search (rules, marked_more, c.in_default.ensures, c.self.invariant.1, c.self.view_is, c.in_ok-add_characters.ensures.ok)

@@ -1,4 +1,4 @@
-use Rattle.std.proofs.Common.{arith, ◌∙◌, sym}
+use Rattle.std.proofs.Common.{arith, ◌∙◌, sym, rules}
 use Rattle.tbr_flat.proofs.TrimmedItems.{trimmed_within, trimmed_covers, trimmed_line, led_within, led_covers, led_word}
 use Rattle.tbr_flat.proofs.flat_text.FlatText.trim.Goals as goal
 
@@ -22,6 +22,4 @@ returns-clause-placed g c =
     (trimmed_line _ _ c.self.inside.placed c.args.most _ _ c.self.invariant.0 (omega arith) c.trim_placed-spaces.ensures.placed)
 
 pub returns-clause-word : goal.returns-clause-word
-returns-clause-word g c =
-    rw (← c.self.view_is, c.remove_first.ensures)
-    (led_word _ _ c.self.inside.word _ c.self.invariant.1 (λ front rest e len. c.trim_word-blanks.ensures.word front rest (c.trim_placed-spaces.ensures.word ∙ e) (len ∙ sym c.before-2.ensures)))
+returns-clause-word g c = search (rules, led_word, c.self.view_is, c.remove_first.ensures, c.self.invariant.1, c.trim_word-blanks.ensures.word, c.trim_placed-spaces.ensures.word, c.before-2.ensures)

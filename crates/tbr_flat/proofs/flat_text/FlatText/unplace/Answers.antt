@@ -1,4 +1,4 @@
-use Rattle.std.proofs.Common.{ap, ◌∙◌, refl, arith}
+use Rattle.std.proofs.Common.{ap, ◌∙◌, arith, rules}
 use Rattle.std.specs.String.{string_bytes}
 use Rattle.tbr_flat.specs.Flat.{covered}
 use Rattle.tbr_flat.proofs.MarkedText.{marker_back, marker_left, line_back}
@@ -25,7 +25,4 @@ loop-preserved g c =
     (record { text = inv.text; placed_fits = t.0; word_fits = omega (arith, inv.word_fits); items = t.1 ∙ inv.items; moved = omega (arith, t.2, inv.moved) })
 
 pub returns : goal.returns
-returns g c = λ before line parts len none.
-    let now = c.loop.self-inside in let inv = c.loop.invariant in
-    let t = line_back _ _ _ before line c.loop.counter (rw parts at inv.items) (rw parts at inv.moved) (omega (arith, len)) in
-    rw (t.0, t.1) refl
+returns g c = search (rules, line_back, c.loop.invariant)

@@ -1,11 +1,9 @@
-use Rattle.std.proofs.Common.{arith}
+use Rattle.std.proofs.Common.{rules}
 use Rattle.tbr_flat.proofs.TextBytes.{spaces_joined, left_short}
 use Rattle.tbr_flat.proofs.text_queue.TextQueue.push_spaces.Goals as goal
 
 pub overflow_add-self : goal.overflow_add-self
-overflow_add-self c =
-    let s = spaces_joined _ _ _ _ c.self.invariant c.self.view_is _ c.args.count c.in_ok-append_spaces.ensures.ok in
-    let text = c.append_spaces.new.text.bytes in omega (arith, left_short _ _ _ s.parts, text.ok.0, text.ok.1, text.small)
+overflow_add-self c = search (rules, spaces_joined, left_short, c.self.invariant, c.self.view_is, c.in_ok-append_spaces.ensures.ok)
 
 pub invariant_of-self-2 : goal.invariant_of-self-2
 invariant_of-self-2 c =

@@ -1,4 +1,4 @@
-use Rattle.std.proofs.Common.{map, map-id, ap, sym, ◌∙◌, refl}
+use Rattle.std.proofs.Common.{map, map-id, ap, sym, ◌∙◌, refl, rules}
 use Rattle.std.proofs.lemmas.Iterator.Consumers.{YieldsList-from_first, YieldsList-end}
 use Rattle.tbr_tagged.specs.View.{element_of}
 use Rattle.tbr_tagged.specs.Walks.{elements_to_come}
@@ -7,9 +7,7 @@ use Rattle.tbr_footnotes.proofs.CutLines.{elements_go_on, elements_end}
 use Rattle.tbr_footnotes.proofs.footnote_lines.FootnoteLines.push_line.Goals as goal
 
 pub loop-element-preserved : goal.loop-element-preserved
-loop-element-preserved g c =
-    let f = g.D.TextDecorator.meaning in
-    elements_go_on f g.W.CharWidth.columns (cut_meant f c.args.self.now) (cut_meant f c.loop-element.self) (cut_meant f c.push_element.new.self) c.loop-element.yielded c.in-Some.element c.loop-element.invariant c.in_ok-push_element.ensures
+loop-element-preserved g c = search (rules, elements_go_on, c.loop-element.invariant, c.in_ok-push_element.ensures)
 
 pub returns : goal.returns
 returns g c =

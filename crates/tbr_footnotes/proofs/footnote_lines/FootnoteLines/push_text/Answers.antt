@@ -1,4 +1,4 @@
-use Rattle.std.proofs.Common.{chars, map-id, sym, ◌∙◌}
+use Rattle.std.proofs.Common.{chars, map-id, sym, ◌∙◌, arith}
 use Rattle.std.proofs.lemmas.Iterator.{YieldsList-from_chars}
 use Rattle.std.proofs.lemmas.Iterator.Consumers.{YieldsList-end}
 use Rattle.tbr_footnotes.specs.Cutting.{cut_meant}
@@ -7,10 +7,7 @@ use Rattle.tbr_footnotes.proofs.CutLines.{text_goes_on, text_ends}
 use Rattle.tbr_footnotes.proofs.footnote_lines.FootnoteLines.push_text.Goals as goal
 
 pub loop-c-preserved : goal.loop-c-preserved
-loop-c-preserved g c =
-    let f = g.D.TextDecorator.meaning in
-    text_goes_on g.W.CharWidth.columns (cut_meant f c.args.self.now) (cut_meant f c.loop-c.self) (cut_meant f c.push.new.self) (tag_meant f c.args.tag.now) c.loop-c.yielded c.in-Some.c c.unbroken.result c.loop-c.invariant c.unbroken.ensures
-    c.in_ok-push.ensures
+loop-c-preserved g c = grind (arith, text_goes_on, c.loop-c.invariant, c.unbroken.ensures, c.in_ok-push.ensures)
 
 pub returns : goal.returns
 returns g c =

@@ -1,7 +1,6 @@
-use Rattle.std.proofs.Common.{◌≡◌, false, true, ap, sym, ◌∙◌}
+use Rattle.std.proofs.Common.{◌≡◌, false, true, ap, sym, ◌∙◌, rules}
 use Rattle.std.specs.Prelude.{chars}
 use Rattle.std.proofs.lemmas.Result.{on_ok_weaker}
-use Rattle.tbr_tagged.specs.Elements.{text_items}
 use Rattle.std.proofs.Common.{map}
 use Rattle.tbr_kept_lines.specs.Line.{line_seen}
 use Rattle.tbr_kept_lines.proofs.Prefixes.{next_prefix, prefix_if_none, texts_more, some_shown}
@@ -9,9 +8,7 @@ use Rattle.tbr_kept_lines.proofs.kept_lines.KeptLines.append_part.Goals as goal
 use Rattle.tbr_kept_lines.proofs.kept_lines.KeptLines.append_part.Goals.{then-is_empty, else-is_empty}
 
 pub push_part-requires : goal.push_part-requires
-push_part-requires g c =
-    let tag = c.args.tag.now in
-    some_shown g.T.PartialEq.eq (text_items (chars c.if-is_empty.next.now) tag) (text_items (chars c.args.others.now) tag) c.args.part.ended c.in_ok-ended.ended c.in_ok-ended.ensures c.requires.part.some
+push_part-requires g c = search (rules, some_shown, c.in_ok-ended.ensures, c.requires.part.some)
 
 pub returns : goal.returns
 returns g c =

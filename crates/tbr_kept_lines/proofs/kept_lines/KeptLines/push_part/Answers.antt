@@ -1,10 +1,10 @@
-use Rattle.std.proofs.Common.{◌≡◌, true, false, ◌++◌, [], map, refl, ap, sym, ◌∙◌, subst, append-nil}
+use Rattle.std.proofs.Common.{◌≡◌, true, false, ◌++◌, [], map, refl, ap, sym, ◌∙◌, subst, append-nil, rules}
 use Rattle.std.specs.Prelude.{length, filter}
 use Rattle.std.specs.List.{AllByRecursion as Each, list_any}
 use Rattle.tbr_model.specs.Run.{has_character}
 use Rattle.tbr_border.specs.RenderLine.{IsMergedText}
 use Rattle.tbr_kept_lines.specs.KeptLines.{parts_seen, HoldsPart}
-use Rattle.tbr_kept_lines.specs.Line.{line_seen, line_has_content, text_lines}
+use Rattle.tbr_kept_lines.specs.Line.{line_seen, line_has_content}
 use Rattle.tbr_kept_lines.specs.declared.kept_lines.Part.{Part}
 use Rattle.tbr_kept_lines.proofs.KeptParts.{each_after, part_after, content_after}
 use Rattle.tbr_kept_lines.proofs.kept_lines.KeptLines.push_part.Goals as goal
@@ -32,9 +32,4 @@ invariant_of-self-2 g c =
     }
 
 pub returns : goal.returns
-returns g c =
-    let k = c.self.inside in
-    let part : Part g.row.T.Denot = record { before = c.replace-before.result; ended = c.args.ended } in
-    let none : c.replace-before.new.dest.items ≡ [] = ap (λ v. v.items) c.replace-before.ensures.after ∙ c.new.ensures.items in
-    ap (λ ls. parts_seen c.push.new.self.items ++ map line_seen ls) none ∙ append-nil (parts_seen c.push.new.self.items) ∙ ap parts_seen c.in_ok-push.ensures.items ∙ part_after k.above.items part
-    ∙ ap (λ ls. (parts_seen k.above.items ++ map line_seen ls) ++ text_lines c.args.ended) (ap (λ v. v.items) c.replace-before.ensures.value) ∙ ap (λ ls. ls ++ text_lines c.args.ended) c.self.view_is
+returns g c = search (rules, append-nil, part_after, c.replace-before.ensures.after, c.new.ensures.items, c.in_ok-push.ensures.items, c.replace-before.ensures.value, c.self.view_is)

@@ -1,4 +1,4 @@
-use Rattle.std.proofs.Common.{◌≡◌, ◌++◌, ◌∷◌, [], if◌then◌else◌, map, refl, ap, sym, subst, ◌∙◌, append_assoc}
+use Rattle.std.proofs.Common.{◌++◌, if◌then◌else◌, map, refl, ap, sym, subst, ◌∙◌, append_assoc, arith, rules}
 use Rattle.std.specs.Prelude.{is_some}
 use Rattle.std.specs.List.{AllByRecursion as Each}
 use Rattle.std.proofs.lemmas.List.{map-append}
@@ -34,17 +34,7 @@ pub invariant_of-self : goal.invariant_of-self
 invariant_of-self g c = subst (λ lines. HoldsKept g.T.PartialEq.eq (record c.self.inside { last = lines })) (sym (c.in_err-border.ensures.none refl).0) c.self.invariant
 
 pub invariant_of-self-then-not-has_holes : goal.invariant_of-self-then-not-has_holes
-invariant_of-self-then-not-has_holes g c =
-    let eq = g.T.PartialEq.eq in
-    let h = c.self.invariant in
-    let is = c.in_ok-border.ensures.some in
-    let last = c.take_last_border.new.lines.items in
-    record {
-      parts = h.parts;
-      content_above = h.content_above;
-      merged = each_front (IsMergedText eq) last (Rule c.in_ok-border.border) (subst (λ ls. Each (IsMergedText eq) ls) is h.merged);
-      content = one_less c.in_ok-border.border c.self.inside.last.items last is c.self.inside.with_content h.content (sym c.has_holes.ensures ∙ c.if-not-has_holes.true);
-    }
+invariant_of-self-then-not-has_holes g c = grind (arith, each_front, one_less, c.self.invariant, c.in_ok-border.ensures.some, c.has_holes.ensures, c.if-not-has_holes.true)
 
 pub invariant_of-self-else-not-has_holes : goal.invariant_of-self-else-not-has_holes
 invariant_of-self-else-not-has_holes g c =
@@ -60,24 +50,7 @@ invariant_of-self-else-not-has_holes g c =
     }
 
 pub returns-clause-border : goal.returns-clause-border
-returns-clause-border g c =
-    let k = c.self.inside in
-    let b = c.in_ok-border.border in
-    let front = parts_seen k.above.items ++ map line_seen c.take_last_border.new.lines.items in
-    let seen : c.args.self.now ≡ front ++ border b ∷ [] =
-    sym c.self.view_is ∙ ap (λ ls. parts_seen k.above.items ++ map line_seen ls) c.in_ok-border.ensures.some
-    ∙ ap (λ ls. parts_seen k.above.items ++ ls) (map-append line_seen c.take_last_border.new.lines.items (Rule b ∷ []))
-    ∙ sym (append_assoc (parts_seen k.above.items) (map line_seen c.take_last_border.new.lines.items) (border b ∷ [])) in
-    sym (border_is c.args.self.now front b seen)
+returns-clause-border g c = search (rules, map-append, append_assoc, border_is, c.self.view_is, c.in_ok-border.ensures.some)
 
 pub returns-clause-rest : goal.returns-clause-rest
-returns-clause-rest g c =
-    let k = c.self.inside in
-    let b = c.in_ok-border.border in
-    let front = parts_seen k.above.items ++ map line_seen c.take_last_border.new.lines.items in
-    let seen : c.args.self.now ≡ front ++ border b ∷ [] =
-    sym c.self.view_is ∙ ap (λ ls. parts_seen k.above.items ++ map line_seen ls) c.in_ok-border.ensures.some
-    ∙ ap (λ ls. parts_seen k.above.items ++ ls) (map-append line_seen c.take_last_border.new.lines.items (Rule b ∷ []))
-    ∙ sym (append_assoc (parts_seen k.above.items) (map line_seen c.take_last_border.new.lines.items) (border b ∷ [])) in
-    let cut = sym (front_is c.args.self.now front b seen) in
-    elim c.if-not-has_holes.branch [ then-not-has_holes w ↦ w.self-is ∙ cut | else-not-has_holes w ↦ w.self-is ∙ cut ]
+returns-clause-rest g c = search (rules, map-append, append_assoc, front_is, then-not-has_holes, else-not-has_holes, c.self.view_is, c.in_ok-border.ensures.some)

@@ -1,6 +1,6 @@
-use Rattle.std.proofs.Common.{List, length, drop, ap, ◌∙◌, subst, arith}
+use Rattle.std.proofs.Common.{List, length, drop, ap, ◌∙◌, arith, rules}
 use Rattle.tbr_annotations.specs.Annotations.{equal_annotations}
-use Rattle.tbr_wrap.specs.Block.{Block, left, HandsOutFirst}
+use Rattle.tbr_wrap.specs.Block.{Block, left}
 use Rattle.tbr_wrap.proofs.runs.LinesLeft.{left_after}
 use Rattle.tbr_wrap.proofs.runs.BlockLaws.{HandsOne, one_handed}
 use Rattle.tbr_footnotes.proofs.Tags.{tags_mean, copies_are_equal}
@@ -11,9 +11,7 @@ use Rattle.tbr_renderer.proofs.sub.SubRenderer.add_each_line_of.Goals as goal
 
 -- the line that the block hands out
 one : (g : Over) (c : In-Some g) → HandsOne g.W.CharWidth.columns (equal_annotations g.D.Annotation.PartialEq.eq) c.loop-block.block c.in-Some.line c.next_line.new.self
-one g c =
-    let columns = g.W.CharWidth.columns in let eq = equal_annotations g.D.Annotation.PartialEq.eq in let block = c.loop-block.block in
-    one_handed columns eq block c.next_line.new.self c.in_ok-line.ensures.answers.ok c.in-Some.line (subst (λ o. HandsOutFirst columns eq block (left columns block) o) c.in-Some.is c.in_ok-line.ensures.line)
+one g c = search (rules, one_handed, c.in_ok-line.ensures.answers.ok, c.in-Some.is, c.in_ok-line.ensures.line)
 
 pub next_line-requires : goal.next_line-requires
 next_line-requires g c = copies_are_equal g.D.Annotation.PartialEq.eq g.D.TextDecorator.meaning g.met.D.TextDecorator.equal_by_meaning

@@ -1,10 +1,9 @@
-use Rattle.std.proofs.Common.{ℕ, unwrap_or, ◌++◌, ◌∷◌, [], refl, sym, subst, ap, ◌∙◌, map}
+use Rattle.std.proofs.Common.{ℕ, unwrap_or, ◌++◌, ◌∷◌, [], refl, sym, subst, ap, ◌∙◌, map, rules}
 use Rattle.std.specs.List.{AllZip, AllByRecursion as Each}
 use Rattle.std.specs.Vec.Iter.{into_iter_items}
 use Rattle.tbr_tagged.specs.declared.Error.TheVariants.{TooNarrow}
 use Rattle.tbr_rows.specs.Filled.{cell_after}
 use Rattle.tbr_tagged.specs.declared.CellAlign.TheVariants.{Left}
-use Rattle.tbr_rows.specs.Cells.{AreSideBySide}
 use Rattle.tbr_rows.specs.Meant.{map_line as map_row_line}
 use Rattle.tbr_footnotes.specs.Tags.{tag_meant}
 use Rattle.tbr_renderer.specs.Meant.{map_line, meant}
@@ -15,17 +14,11 @@ use Rattle.tbr_footnotes.proofs.Tags.{tags_mean, copies_are_equal}
 use Rattle.tbr_kept_lines.proofs.ItemsLeft.{items_left, items_taken}
 use Rattle.tbr_kept_lines.proofs.KeptParts.{each_at}
 use Rattle.tbr_renderer.proofs.OutcomeParts.{passed_on}
-use Rattle.tbr_renderer.proofs.MeantRows.{HasColumns, tags_told, no_columns, columns_go_on, next_taken, lines_fill}
+use Rattle.tbr_renderer.proofs.MeantRows.{tags_told, no_columns, columns_go_on, next_taken, lines_fill}
 use Rattle.tbr_renderer.proofs.sub.SubRenderer.columns_of.Goals as goal
 
 pub loop-col-init : goal.loop-col-init
-loop-col-init g c =
-    let f = g.D.TextDecorator.meaning in
-    let columns = g.W.CharWidth.columns in
-    let aligns = c.args.aligns.now in
-    let tag = map f c.args.self.now.annotations in
-    subst (λ own. HasColumns f columns aligns tag [] own c.iter-aligns.result.rest.now × AreSideBySide 0 own) (sym c.new-columns.ensures)
-    (subst (λ left. HasColumns f columns aligns tag [] [] left) (sym c.iter-aligns.ensures.rest) (no_columns f columns aligns tag), tt)
+loop-col-init g c = search (rules, no_columns, c.new-columns.ensures, c.iter-aligns.ensures.rest)
 
 pub returns-in_err-lines-clause-too_narrow : goal.returns-in_err-lines-clause-too_narrow
 returns-in_err-lines-clause-too_narrow g c = λ is.

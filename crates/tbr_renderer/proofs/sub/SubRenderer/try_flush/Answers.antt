@@ -1,4 +1,4 @@
-use Rattle.std.proofs.Common.{List, ◌≡◌, None, Some, Err, map, refl, arith, ap, sym, ◌∙◌, subst}
+use Rattle.std.proofs.Common.{List, ◌≡◌, None, Some, Err, map, refl, arith, ap, sym, ◌∙◌, subst, rules}
 use Rattle.tbr_wrap.specs.Block.{Block, loose}
 use Rattle.tbr_tagged.specs.View.{element_of}
 use Rattle.tbr_wrap.proofs.runs.BlockLaws.{flush_in_two, flush_leaves, none_open_taken}
@@ -32,10 +32,7 @@ returns-in_err-flush-clause-two_columns g c = λ two is.
 
 -- the block that was flushed hasn't failed
 live : (g : Over) (c : In_ok-flush g) → c.flush.new.self.failure ≡ None
-live g c =
-    let fresh = subst (λ b. IsFresh g.W.CharWidth.columns (block_width c.args.self.now) (may_overflow c.args.self.now) b) (sym c.into_inner-block.ensures) c.in-Some.ensures.opened in
-    ap (λ (b : Block (List g.row.D-Annotation.Denot)). b.failure) (flush_leaves g.W.CharWidth.columns c.into_inner-block.result c.flush.new.self c.in_ok-flush.ensures.answers.ok)
-    ∙ ap (λ (b : Block (List g.row.D-Annotation.Denot)). b.failure) fresh.is
+live g c = search (rules, flush_leaves, c.into_inner-block.ensures, c.in-Some.ensures.opened, c.in_ok-flush.ensures.answers.ok)
 
 pub returns-in_err-markers-clause-tries : goal.returns-in_err-markers-clause-tries
 returns-in_err-markers-clause-tries g c =

@@ -1,5 +1,4 @@
-use Rattle.std.proofs.Common.{◌≡◌, Bool, refl, true, false, not, sym, ◌∙◌}
-use Rattle.std.specs.Cmp.Lexicographic.{same_text}
+use Rattle.std.proofs.Common.{◌≡◌, Bool, refl, true, false, not, sym, ◌∙◌, rules}
 use Rattle.tbr_renderer.proofs.AppendedLines.{all_more}
 use Rattle.tbr_renderer.proofs.sub.appended.are_all.Goals as goal
 
@@ -8,6 +7,4 @@ unless_other b true h k = refl
 unless_other b false h k = sym h ∙ k
 
 pub loop-prefix-preserved : goal.loop-prefix-preserved
-loop-prefix-preserved g c =
-    all_more g.P.AsStr.text c.args.given.now c.loop-prefix.prefix-index c.prefix-item.result c.args.text.now c.loop-prefix-test.true c.prefix-item.is
-    (sym c.as_str.ensures ∙ same_text _ _ (unless_other c.ne.result _ c.ne.ensures c.if-ne.false)) c.loop-prefix.invariant
+loop-prefix-preserved g c = search (rules, all_more, unless_other, c.loop-prefix-test.true, c.prefix-item.is, c.as_str.ensures, c.ne.ensures, c.if-ne.false, c.loop-prefix.invariant)

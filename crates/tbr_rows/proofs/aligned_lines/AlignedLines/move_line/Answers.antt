@@ -1,4 +1,4 @@
-use Rattle.std.proofs.Common.{◌≡◌, ◌-◌, ◌++◌, [], ◌∷◌, drop, length, ap, sym, ◌∙◌, subst, arith}
+use Rattle.std.proofs.Common.{◌≡◌, ◌-◌, ◌++◌, ap, ◌∙◌, subst, rules}
 use Rattle.std.proofs.lemmas.List.{nil_from_length}
 use Rattle.std.proofs.lemmas.Result.{on_ok_weaker}
 use Rattle.tbr_tagged.specs.Elements.{items_of, text_items, SameItems}
@@ -7,17 +7,10 @@ use Rattle.tbr_rows.proofs.AlignedLines.{first_aligned, none_aligned, aligned_mo
 use Rattle.tbr_rows.proofs.aligned_lines.AlignedLines.move_line.Goals as goal
 
 pub returns-in_default-clause-items : goal.returns-in_default-clause-items
-returns-in_default-clause-items g c = λ is rest e.
-    let i = c.self.inside in
-    let none = nil_from_length i.missing.items (omega (arith, c.self.invariant.0, c.in_default.ensures.cases.0)) in
-    absurd (let nothing : [] ≡ is ∷ rest = sym (none_aligned i.align i.tag i.ended i.missing.items none) ∙ c.self.view_is ∙ e in cc)
+returns-in_default-clause-items g c = search (rules, nil_from_length, none_aligned, c.self.invariant.0, c.in_default.ensures.cases.0, c.self.view_is)
 
 pub returns-in_default-clause-rest : goal.returns-in_default-clause-rest
-returns-in_default-clause-rest g c =
-    let i = c.self.inside in
-    let none = nil_from_length i.missing.items (omega (arith, c.self.invariant.0, c.in_default.ensures.cases.0)) in
-    let left = nil_from_length c.pop_front.new.self.items (omega (arith, ap length c.in_default.ensures.rest, ap length none)) in
-    none_aligned i.align i.tag i.ended c.pop_front.new.self.items left ∙ ap (drop 1) (sym (none_aligned i.align i.tag i.ended i.missing.items none) ∙ c.self.view_is)
+returns-in_default-clause-rest g c = search (rules, nil_from_length, none_aligned, c.self.invariant.0, c.in_default.ensures.cases.0, c.in_default.ensures.rest, c.self.view_is)
 
 pub returns-clause-items : goal.returns-clause-items
 returns-clause-items g c = λ is rest e.

@@ -1,18 +1,9 @@
-use Rattle.std.proofs.Common.{◌≡◌, ap, sym, ◌∙◌}
-use Rattle.tbr_rows.specs.Borders.{last_mergeable, before_mergeable}
-use Rattle.tbr_rows.specs.CellLines.{as_lines, lines_kept}
+use Rattle.std.proofs.Common.{rules}
 use Rattle.tbr_rows.proofs.CellLines.{no_last, all_before}
 use Rattle.tbr_rows.proofs.cell_lines.CellLines.take_last_border.Goals as goal
 
 pub returns-in_default-clause-border : goal.returns-in_default-clause-border
-returns-in_default-clause-border g c =
-    let eq = g.T.PartialEq.eq in
-    let texts = c.in_default.field-0 in
-    sym (ap last_mergeable (sym c.self.view_is ∙ ap (lines_kept eq) c.in_default.is) ∙ no_last eq texts)
+returns-in_default-clause-border g c = search (rules, no_last, c.self.view_is, c.in_default.is)
 
 pub returns-in_default-clause-rest : goal.returns-in_default-clause-rest
-returns-in_default-clause-rest g c =
-    let eq = g.T.PartialEq.eq in
-    let texts = c.in_default.field-0 in
-    let kept : lines_kept eq c.self.inside.kept ≡ as_lines eq texts = ap (lines_kept eq) c.in_default.is in
-    kept ∙ sym (all_before eq texts) ∙ ap before_mergeable (sym kept ∙ c.self.view_is)
+returns-in_default-clause-rest g c = search (rules, all_before, c.in_default.is, c.self.view_is)

@@ -1,4 +1,4 @@
-use Rattle.std.proofs.Common.{◌≡◌, map, ap, refl, ◌∙◌}
+use Rattle.std.proofs.Common.{◌≡◌, map, ap, refl, ◌∙◌, rules}
 use Rattle.tbr_rows.specs.Texts.{row_height}
 use Rattle.tbr_rows.specs.Gaps.{cell_in, overhang}
 use Rattle.tbr_rows.specs.Rows.{columns_shown, next_begun, shown_in, left_in}
@@ -16,9 +16,7 @@ left : (g : _) (c : After-drawn g) → map cell_in c.lines_of.new.columns.items 
 left g c = rw (c.in_ok-lines.ensures.rest, height g c, shown g c) refl
 
 pub of-requires : goal.of-requires
-of-requires g c =
-    rw (c.in_ok-rest.ensures.rest, left g c) (rest_apart c.args.style.collapses c.args.above _ c.args.style.draws_borders c.in_ok-cells.cells.items
-    c.in_ok-cells.ensures.side_by_side)
+of-requires g c = search (rules, left, rest_apart, c.in_ok-rest.ensures.rest, c.in_ok-cells.ensures.side_by_side)
 
 pub returns-clause-row : goal.returns-clause-row
 returns-clause-row g c =

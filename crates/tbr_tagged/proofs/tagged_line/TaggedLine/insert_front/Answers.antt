@@ -1,4 +1,4 @@
-use Rattle.std.proofs.Common.{map, ◌<◌, length, arith, chars}
+use Rattle.std.proofs.Common.{map, chars, rules}
 use Rattle.std.specs.String.{string_bytes}
 use Rattle.std.proofs.lemmas.Str.{IsUtf8-string_bytes}
 use Rattle.tbr_tagged.specs.Stored.{stored}
@@ -12,7 +12,4 @@ returns-clause-items g c =
     rw (c.in_ok-put_in_front.ensures.ok, ← c.self.view_is) (items_inserted g.T.PartialEq.eq g.met.T.Eq.laws (map element_of (stored c.self.inside.elements)) (chars (string_bytes c.args.ts.s)) c.args.ts.tag)
 
 pub returns-clause-merged : goal.returns-clause-merged
-returns-clause-merged g c = λ some merged.
-    let bytes : 0 < length (string_bytes c.args.ts.s) = omega (arith, some) in
-    let text = chars_some (string_bytes c.args.ts.s) (IsUtf8-string_bytes c.args.ts.s) bytes in
-    rw c.in_ok-put_in_front.ensures.ok (merged_inserted g.T.PartialEq.eq g.met.T.Eq.laws (map element_of (stored c.self.inside.elements)) (chars (string_bytes c.args.ts.s)) c.args.ts.tag text (rw (← c.self.view_is) at merged))
+returns-clause-merged g c = search (rules, chars_some, IsUtf8-string_bytes, merged_inserted, c.in_ok-put_in_front.ensures.ok, c.self.view_is)

@@ -1,4 +1,4 @@
-use Rattle.std.proofs.Common.{map}
+use Rattle.std.proofs.Common.{map, rules}
 use Rattle.std.specs.Str.{chars}
 use Rattle.tbr_tagged.specs.Stored.{stored}
 use Rattle.tbr_tagged.specs.View.{element_of}
@@ -11,6 +11,4 @@ returns-clause-items g c =
     rw (c.in_ok-put_str_in_front.ensures.ok, ← c.self.view_is) (items_inserted g.T.PartialEq.eq g.met.T.Eq.laws (map element_of (stored c.self.inside.elements)) (chars c.args.text.now) c.args.tag)
 
 pub returns-clause-merged : goal.returns-clause-merged
-returns-clause-merged g c = λ some merged.
-    rw c.in_ok-put_str_in_front.ensures.ok (merged_inserted g.T.PartialEq.eq g.met.T.Eq.laws (map element_of (stored c.self.inside.elements)) (chars c.args.text.now) c.args.tag
-    (chars_some c.args.text.now c.utf8.text some) (rw (← c.self.view_is) at merged))
+returns-clause-merged g c = search (rules, merged_inserted, chars_some, c.in_ok-put_str_in_front.ensures.ok, c.self.view_is)

@@ -34,8 +34,4 @@ returns-clause-width g c =
     omega (arith, sum, front_within c.args.align missing)) (returns-clause-items g c)
 
 pub returns-clause-merged : goal.returns-clause-merged
-returns-clause-merged g c = λ merged.
-    let missing = c.args.width - items_width g.W.CharWidth.columns (items_of c.args.self.now) in
-    let front = columns_in_front c.args.align missing in
-    on_ok_weaker c.pad.result (λ same.
-    padded_merged g.T.PartialEq.eq g.met.T.Eq.laws c.args.self.now (map element_of (stored c.pad.new.elements)) front (missing - front) c.args.tag.now same merged) (returns-clause-ok g c)
+returns-clause-merged g c = search (rules, on_ok_weaker, padded_merged, returns-clause-ok)

@@ -1,4 +1,4 @@
-use Rattle.std.proofs.Common.{map}
+use Rattle.std.proofs.Common.{map, rules}
 use Rattle.std.proofs.lemmas.Result.{on_ok_weaker}
 use Rattle.tbr_tagged.specs.Padding.{spaces}
 use Rattle.tbr_tagged.specs.Stored.{stored}
@@ -14,6 +14,4 @@ returns-clause-items g c =
     c.push_spaces.ensures.ok)
 
 pub returns-clause-merged : goal.returns-clause-merged
-returns-clause-merged g c = λ merged.
-    let pushed = pushed_merged g.T.PartialEq.eq g.met.T.Eq.laws _ (map element_of (stored c.push_spaces.new.elements)) (spaces c.args.count) c.args.tag.now (rw (← c.self.view_is) at merged) in
-    on_ok_weaker c.push_spaces.result pushed c.push_spaces.ensures.ok
+returns-clause-merged g c = search (rules, pushed_merged, on_ok_weaker, c.self.view_is, c.push_spaces.ensures.ok)

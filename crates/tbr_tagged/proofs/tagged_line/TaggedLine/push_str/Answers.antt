@@ -1,19 +1,14 @@
-use Rattle.std.proofs.Common.{◌≡◌, map, [], refl, sym, arith, append-nil, chars}
+use Rattle.std.proofs.Common.{◌≡◌, [], sym, arith, append-nil, chars, rules}
 use Rattle.std.specs.String.{string_bytes, string_len}
 use Rattle.std.proofs.lemmas.Bool.{eqb-true}
 use Rattle.std.proofs.lemmas.Result.{on_ok_weaker}
 use Rattle.tbr_tagged.specs.Elements.{items_of}
-use Rattle.tbr_tagged.specs.Stored.{stored}
-use Rattle.tbr_tagged.specs.View.{element_of}
 use Rattle.tbr_tagged.proofs.TextAfter.{chars_none, merged_push}
 use Rattle.tbr_tagged.proofs.SameItems.{items_push, same_items}
 use Rattle.tbr_tagged.proofs.tagged_line.TaggedLine.push_str.Goals as goal
 
 pub returns-then-is_empty-clause-ok : goal.returns-then-is_empty-clause-ok
-returns-then-is_empty-clause-ok g c =
-    let none : string_len c.args.ts.s ≡ 0 = eqb-true (string_len c.args.ts.s) 0 (sym c.if-is_empty.ensures) in
-    let text : chars (string_bytes c.args.ts.s) ≡ [] = chars_none (string_bytes c.args.ts.s) (omega (arith, none)) in
-    rw text refl
+returns-then-is_empty-clause-ok g c = search (rules, eqb-true, chars_none, c.if-is_empty.ensures)
 
 pub returns-then-is_empty-clause-items : goal.returns-then-is_empty-clause-items
 returns-then-is_empty-clause-items g c =
@@ -22,13 +17,7 @@ returns-then-is_empty-clause-items g c =
     rw (text, append-nil) (same_items g.T.PartialEq.eq g.met.T.Eq.laws (items_of c.args.self.now))
 
 pub returns-clause-items : goal.returns-clause-items
-returns-clause-items g c =
-    rw (← c.self.view_is) (on_ok_weaker c.push_piece.result (λ is.
-    rw is (items_push g.T.PartialEq.eq g.met.T.Eq.laws (map element_of (stored c.self.inside.elements)) (chars (string_bytes c.args.ts.s)) c.args.ts.tag))
-    c.push_piece.ensures.ok)
+returns-clause-items g c = search (rules, on_ok_weaker, items_push, c.self.view_is, c.push_piece.ensures.ok)
 
 pub returns-clause-merged : goal.returns-clause-merged
-returns-clause-merged g c = λ merged.
-    on_ok_weaker c.push_piece.result (λ is.
-    rw is (merged_push g.T.PartialEq.eq (map element_of (stored c.self.inside.elements)) (chars (string_bytes c.args.ts.s)) c.args.ts.tag (rw (← c.self.view_is) at merged)))
-    c.push_piece.ensures.ok
+returns-clause-merged g c = search (rules, on_ok_weaker, merged_push, c.self.view_is, c.push_piece.ensures.ok)

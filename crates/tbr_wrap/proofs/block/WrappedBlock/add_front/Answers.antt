@@ -1,4 +1,4 @@
-use Rattle.std.proofs.Common.{◌≡◌, true, List, ◌++◌, map, chars, take, drop, refl, ap, ◌∙◌, sym, subst, take-append-drop, Err}
+use Rattle.std.proofs.Common.{◌≡◌, true, List, ◌++◌, map, chars, take, drop, refl, ap, ◌∙◌, sym, subst, take-append-drop, Err, rules}
 use Rattle.std.proofs.lemmas.Result.{err_from_is_err_and}
 use Rattle.std.proofs.lemmas.Str.{chars-append, IsCharBoundary-from_take}
 use Rattle.tbr_model.specs.Run.{Entry}
@@ -13,9 +13,7 @@ use Rattle.tbr_wrap.proofs.runs.Blocks.{led_on, entries_entered, text_grown, ref
 use Rattle.tbr_wrap.proofs.block.WrappedBlock.add_front.Goals as goal
 
 pub split_at-requires : goal.split_at-requires
-split_at-requires g c =
-    let front = rw c.in_ok-bytes.ensures.ok.0 at c.add_front-added.ensures.front in
-    IsCharBoundary-from_take c.args.text.now c.in_ok-bytes.bytes c.utf8.text front.within front.utf8
+split_at-requires g c = search (rules, IsCharBoundary-from_take, c.in_ok-bytes.ensures.ok.0, c.add_front-added.ensures.front)
 
 pub invariant_of-self-2 : goal.invariant_of-self-2
 invariant_of-self-2 g c = λ live.

@@ -1,4 +1,4 @@
-use Rattle.std.proofs.Common.{[], refl, ap, ◌∙◌, sym}
+use Rattle.std.proofs.Common.{[], refl, ap, ◌∙◌, sym, rules}
 use Rattle.tbr_tagged.proofs.Outcomes.{answers_ok}
 use Rattle.tbr_wrap.specs.Block.{settings_of}
 use Rattle.tbr_wrap.proofs.runs.Blocks.{grown_on, text_done}
@@ -8,11 +8,7 @@ pub loop-rest-init : goal.loop-rest-init
 loop-rest-init g c = record { utf8 = c.utf8.text; grown = record { front = []; split = refl; is = c.begin_call.ensures.begun }; allowed = c.begin_call.ensures.allowed }
 
 pub loop-rest-preserved : goal.loop-rest-preserved
-loop-rest-preserved g c = record {
-  utf8 = c.in_ok-rest.ensures.rest.0;
-  grown = grown_on g.W.CharWidth.columns _ _ _ _ _ _ _ _ _ _ c.loop-rest.invariant.grown c.in_ok-rest.ensures.ok;
-  allowed = c.in_ok-rest.ensures.allowed;
-}
+loop-rest-preserved g c = search (rules, grown_on, c.in_ok-rest.ensures.rest.0, c.loop-rest.invariant.grown, c.in_ok-rest.ensures.ok, c.in_ok-rest.ensures.allowed)
 
 pub returns : goal.returns
 returns g c =

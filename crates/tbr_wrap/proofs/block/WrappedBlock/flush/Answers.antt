@@ -1,4 +1,4 @@
-use Rattle.std.proofs.Common.{◌≡◌, ◌<◌, Err, refl, ap, ◌∙◌, sym, subst}
+use Rattle.std.proofs.Common.{◌≡◌, ◌<◌, Err, refl, ap, ◌∙◌, sym, subst, rules}
 use Rattle.std.proofs.lemmas.Result.{err_from_is_err_and}
 use Rattle.tbr_tagged.specs.declared.error.Error.TheVariants as E
 use Rattle.tbr_tagged.specs.Outcome.{done, refused}
@@ -50,12 +50,7 @@ done_end g c =
     (if_allowed columns (allows columns s (all_lines columns s)) (flushed columns s) (fit_allows columns r.wrapper.lines.width r.wrapper.lines.may_overflow _ e.fits))
 
 pub returns-clause-answers : goal.returns-clause-answers
-returns-clause-answers g c =
-    let r = c.self.inside in
-    let t = record r { wrapper = c.finish.new.self; failure = c.keep.new.failure; changes = c.appended-self-inside.result } in
-    answers_ok _ _ _ _ tt _ c.in_ok-refusal.ensures
-    (sym (live_goes c.args.self.now.failure _ c.in_ok-refusal.ensures) ∙ done_end g c)
-    (settings_kept g.W.CharWidth.columns r t c.finish.ensures.limits refl ∙ ap settings_of c.self.view_is)
+returns-clause-answers g c = search (rules, answers_ok, live_goes, done_end, settings_kept, c.in_ok-refusal.ensures, c.finish.ensures.limits, c.self.view_is)
 
 pub returns-clause-best : goal.returns-clause-best
 returns-clause-best g c = λ h.

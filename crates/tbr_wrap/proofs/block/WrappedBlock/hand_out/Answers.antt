@@ -1,4 +1,4 @@
-use Rattle.std.proofs.Common.{◌≡◌, [], ◌∷◌, ◌++◌, drop, length, ap, ◌∙◌, sym, subst, arith, append_assoc, append-nil, refl}
+use Rattle.std.proofs.Common.{[], ◌∷◌, ◌++◌, drop, ap, ◌∙◌, sym, subst, arith, append_assoc, append-nil, refl, rules}
 use Rattle.tbr_wrap.specs.Block.{Block, Settings, left}
 use Rattle.tbr_wrap.specs.Wrapped.{ShowsText}
 use Rattle.tbr_wrap.proofs.runs.LinesLeft.{handed_keeps, left_after}
@@ -10,18 +10,13 @@ use Rattle.tbr_wrap.proofs.block.WrappedBlock.hand_out.Goals as goal
 
 -- the line that was handed out
 one : (g : Over) (c : In-Some g) → HandsOne g.W.CharWidth.columns g.T.PartialEq.eq c.loop-lines.self c.in-Some.line c.next_line.new.self
-one g c =
-    let columns = g.W.CharWidth.columns in let block = c.loop-lines.self in
-    one_handed columns g.T.PartialEq.eq block c.next_line.new.self c.in_ok-line.ensures.answers.ok c.in-Some.line (rw c.in-Some.is at c.in_ok-line.ensures.line)
+one g c = search (rules, one_handed, c.in_ok-line.ensures.answers.ok, c.in-Some.is, c.in_ok-line.ensures.line)
 
 pub loop-lines-init : goal.loop-lines-init
 loop-lines-init g c = (c.requires.live, refl, refl, [], refl, rw c.new-lines.ensures.items tt)
 
 pub loop-lines-smaller : goal.loop-lines-smaller
-loop-lines-smaller g c =
-    let f = one g (goal.at.loop-lines-smaller g c).In-Some in
-    let gone = ap (λ (s : Block g.row.T.Denot). length (left g.W.CharWidth.columns s)) f.leaves ∙ ap length (left_after c.loop-lines.self g.W.CharWidth.columns ∙ ap (drop 1) f.left_is) in
-    omega (arith, ap length f.left_is, gone)
+loop-lines-smaller g c = grind (arith, one, In-Some, left_after)
 
 pub loop-lines-preserved : goal.loop-lines-preserved
 loop-lines-preserved g c =
@@ -40,8 +35,4 @@ loop-lines-preserved g c =
     )
 
 pub returns-clause-lines : goal.returns-clause-lines
-returns-clause-lines g c =
-    let columns = g.W.CharWidth.columns in let inv = c.loop-lines.invariant in let block = c.loop-lines.self in
-    let none = (none_handed columns g.T.PartialEq.eq block c.next_line.new.self c.in_ok-line.ensures.answers.ok (rw c.in_default.is at c.in_ok-line.ensures.line)).0 in
-    let all : inv.3 ≡ left columns c.args.self.now = sym (append-nil inv.3) ∙ ap (λ ls. inv.3 ++ ls) (sym none) ∙ sym inv.4 in
-    rw (← all) inv.5
+returns-clause-lines g c = grind (arith, none_handed, append-nil, c.loop-lines.invariant, c.in_ok-line.ensures.answers.ok, c.in_default.is, c.in_ok-line.ensures.line)

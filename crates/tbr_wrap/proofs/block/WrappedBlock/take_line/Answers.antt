@@ -1,4 +1,4 @@
-use Rattle.std.proofs.Common.{◌≡◌, ◌<◌, Ok, true, false, [], length, refl, ap, ◌∙◌, sym, subst, IfSome}
+use Rattle.std.proofs.Common.{◌≡◌, ◌<◌, Ok, true, [], length, refl, ap, ◌∙◌, sym, subst, IfSome, rules}
 use Rattle.tbr_tagged.specs.Elements.{items_of, SameItems, IsMerged}
 use Rattle.tbr_tagged.proofs.SameItems.{same_items_trans}
 use Rattle.tbr_wrap.specs.Block.{Block, left}
@@ -9,10 +9,7 @@ use Rattle.tbr_wrap.proofs.runs.Blocks.{led_on}
 use Rattle.tbr_wrap.proofs.block.WrappedBlock.take_line.Goals as goal
 
 pub returns-in_err-line-clause-none : goal.returns-in_err-line-clause-none
-returns-in_err-line-clause-none g c = λ e.
-    let k = c.self.invariant (ap (λ (s : Block g.row.T.Denot). s.failure) c.self.view_is ∙ c.requires.unfailed) in
-    let none = none_left _ _ _ _ _ k (ap (left g.W.CharWidth.columns) c.self.view_is ∙ e) in
-    absurd (let was = (c.take_line-taken.ensures.none none).0 in let no : false ≡ true = rw was at c.in_err-line.ensures.failed.0 in cc)
+returns-in_err-line-clause-none g c = search (rules, none_left, c.self.invariant, c.self.view_is, c.requires.unfailed, c.take_line-taken.ensures.none, c.in_err-line.ensures.failed.0)
 
 pub invariant_of-self-in_default : goal.invariant_of-self-in_default
 invariant_of-self-in_default g c = λ live.
@@ -63,7 +60,4 @@ returns-clause-merged g c =
     λ line e. let same : c.in-Some.line ≡ line = cc in subst (λ l. IsMerged g.T.PartialEq.eq l) same t.1
 
 pub returns-clause-none : goal.returns-clause-none
-returns-clause-none g c = λ e.
-    let k = c.self.invariant (ap (λ (s : Block g.row.T.Denot). s.failure) c.self.view_is ∙ c.requires.unfailed) in
-    let some = IfOk-at_ok (λ o. IfSome o (λ _. 0 < length c.self.inside.wrapper.lines.ended.items)) (c.in_ok-line.ensures.ok.0 ∙ ap Ok c.in-Some.is) c.take_line-taken.ensures.some in
-    absurd (none_held _ _ _ _ _ k (ap (left g.W.CharWidth.columns) c.self.view_is ∙ e) some)
+returns-clause-none g c = search (rules, IfOk-at_ok, none_held, c.self.invariant, c.self.view_is, c.requires.unfailed, c.in_ok-line.ensures.ok.0, c.in-Some.is, c.take_line-taken.ensures.some)

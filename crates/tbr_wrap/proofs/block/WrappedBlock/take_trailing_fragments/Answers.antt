@@ -1,4 +1,4 @@
-use Rattle.std.proofs.Common.{◌≡◌, refl, ap, ◌∙◌, sym, subst}
+use Rattle.std.proofs.Common.{refl, ap, ◌∙◌, sym, subst, arith}
 use Rattle.tbr_tagged.specs.Outcome.{done}
 use Rattle.tbr_tagged.proofs.Outcomes.{answers_ok}
 use Rattle.tbr_wrap.specs.Block.{Block, without_loose, settings_of}
@@ -16,19 +16,10 @@ held g c = c.self.invariant (ap (λ (s : Block g.row.T.Denot). s.failure) c.self
 -- ---- a word that has a character
 
 pub returns-then-has_word-clause-answers : goal.returns-then-has_word-clause-answers
-returns-then-has_word-clause-answers g c =
-    let columns = g.W.CharWidth.columns in
-    let k = held g (goal.at.returns-then-has_word-clause-answers g c).In_ok-refusal in
-    let some = sym (word_held _ _ _ _ _ k) ∙ sym c.has_word.ensures ∙ c.if-has_word.true in
-    answers_ok _ _ _ _ _ _ c.in_ok-refusal.ensures
-    (ap done (subst (λ (s : Block g.row.T.Denot). without_loose columns s ≡ s) c.self.view_is (none_taken columns (block_of columns c.self.inside) some))) refl
+returns-then-has_word-clause-answers g c = grind (arith, held, In_ok-refusal, word_held, answers_ok, none_taken, c.has_word.ensures, c.if-has_word.true, c.in_ok-refusal.ensures, c.self.view_is)
 
 pub returns-then-has_word-clause-markers : goal.returns-then-has_word-clause-markers
-returns-then-has_word-clause-markers g c =
-    let columns = g.W.CharWidth.columns in
-    let k = held g (goal.at.returns-then-has_word-clause-markers g c).In_ok-refusal in
-    let some = sym (word_held _ _ _ _ _ k) ∙ sym c.has_word.ensures ∙ c.if-has_word.true in
-    rw (← c.self.view_is, c.new.ensures.items, some) refl
+returns-then-has_word-clause-markers g c = grind (arith, held, In_ok-refusal, word_held, c.has_word.ensures, c.if-has_word.true, c.self.view_is, c.new.ensures.items)
 
 -- ---- one that has none
 

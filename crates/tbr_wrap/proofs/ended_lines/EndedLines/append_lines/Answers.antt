@@ -1,4 +1,4 @@
-use Rattle.std.proofs.Common.{◌≡◌, ℕ, List, [], ◌∷◌, ◌++◌, length, ap, sym, ◌∙◌, arith, append_assoc, append-nil}
+use Rattle.std.proofs.Common.{◌≡◌, ℕ, List, ◌∷◌, ◌++◌, length, ap, sym, ◌∙◌, arith, append_assoc, append-nil, rules}
 use Rattle.tbr_model.specs.Run.{Item}
 use Rattle.std.specs.Prelude.{chars}
 use Rattle.std.proofs.lemmas.Bool.{eqb-false, eqb-true}
@@ -15,9 +15,7 @@ loop-prefix-smaller g c =
 
 one_more : {A : Type 0} (text mid new prefix others : List ℕ) (is : List (Item A)) (rest all now : List (List (Item A))) → all ≡ is ∷ rest → now ≡ rest →
     mid ≡ text ++ prefix → new ≡ mid ++ line_characters is → new ++ prefixed_characters others others now ≡ text ++ prefixed_characters prefix others all
-one_more text mid new prefix others is rest all now first left before written =
-    let more = prefixed_characters others others rest in
-    rw (first, left, written, before) (ap (λ cs. cs ++ more) (append_assoc text prefix (line_characters is)) ∙ append_assoc text (prefix ++ line_characters is) more)
+one_more text mid new prefix others is rest all now first left before written = search (rules, append_assoc)
 
 pub loop-prefix-preserved : goal.loop-prefix-preserved
 loop-prefix-preserved g c =
@@ -29,7 +27,4 @@ loop-prefix-preserved g c =
     }
 
 pub returns : goal.returns
-returns g c =
-    let none : c.loop-prefix.self ≡ [] = nil_from_length c.loop-prefix.self (eqb-true _ 0 (sym c.is_empty.ensures ∙ c.loop-prefix-test.false)) in
-    let text = chars_of c.loop-prefix.text in
-    sym (append-nil text) ∙ ap (λ ls. text ++ prefixed_characters (chars c.loop-prefix.prefix.now) (chars c.args.others.now) ls) (sym none) ∙ c.loop-prefix.invariant.text
+returns g c = search (rules, nil_from_length, eqb-true, append-nil, c.is_empty.ensures, c.loop-prefix-test.false, c.loop-prefix.invariant.text)

@@ -1,14 +1,11 @@
-use Rattle.std.proofs.Common.{◌-◌, ◌∷◌, [], length, ap, arith}
+use Rattle.std.proofs.Common.{◌-◌, ◌∷◌, [], length, ap, arith, rules}
 use Rattle.std.proofs.lemmas.List.{length-append, length-map}
 use Rattle.tbr_model.specs.Run.{items_width}
 use Rattle.tbr_wrap.proofs.lines.LackingColumns.{lacking_first, lacking_next, lacking_last}
 use Rattle.tbr_wrap.proofs.ended_lines.EndedLines.missing.Goals as goal
 
 pub loop-len-init : goal.loop-len-init
-loop-len-init g c = record {
-  found = lacking_first g.W.CharWidth.columns c.args.width _ _ _ _ _ _ c.self.view_is c.into_iter-len-iterator.ensures.into_iter_gives.0 c.items-items.ensures c.in_ok-missing.ensures.items;
-  counted = omega (arith, c.in_ok-missing.ensures.len, ap length c.in_ok-missing.ensures.items);
-}
+loop-len-init g c = search (rules, lacking_first, c.self.view_is, c.into_iter-len-iterator.ensures.into_iter_gives.0, c.items-items.ensures, c.in_ok-missing.ensures.items, c.in_ok-missing.ensures.len)
 
 pub loop-len-preserved : goal.loop-len-preserved
 loop-len-preserved g c =

@@ -1,4 +1,4 @@
-use Rattle.std.proofs.Common.{◌≡◌, ◌≤◌, ◌+◌, take, refl, ap, ◌∙◌, arith, length-take-le}
+use Rattle.std.proofs.Common.{◌≡◌, ◌≤◌, ◌+◌, take, refl, ap, ◌∙◌, arith, length-take-le, rules}
 use Rattle.tbr_model.specs.Run.{items_width}
 use Rattle.tbr_tagged.specs.Elements.{SameItems}
 use Rattle.tbr_tagged.proofs.SameItems.{same_width}
@@ -10,14 +10,10 @@ use Rattle.tbr_wrap.proofs.words.WordsLaid.{put_fitting}
 use Rattle.tbr_wrap.proofs.laid_lines.LaidLines.place_front.Goals as goal
 
 pub overflow_add-self : goal.overflow_add-self
-overflow_add-self g c =
-    let e = c.in_ok-front.ensures in let word = c.args.self.now.flat.word in let n = c.in_ok-front.front.count in
-    omega (arith, c.in-Some.ensures, e.markers, markers_within (take n word), length-take-le n word e.within, c.args.self.now.marked)
+overflow_add-self g c = search (rules, markers_within, length-take-le, c.in_ok-front.ensures, c.in-Some.ensures)
 
 pub invariant_of-self-2-clause-marked : goal.invariant_of-self-2-clause-marked
-invariant_of-self-2-clause-marked g c =
-    let e = c.in_ok-front.ensures in let word = c.args.self.now.flat.word in let n = c.in_ok-front.front.count in
-    omega (arith, c.in-Some.ensures, e.markers, markers_within (take n word), length-take-le n word e.within, c.args.self.now.marked)
+invariant_of-self-2-clause-marked g c = search (rules, markers_within, length-take-le, c.in_ok-front.ensures, c.in-Some.ensures)
 
 pub returns-clause-put : goal.returns-clause-put
 returns-clause-put g c =

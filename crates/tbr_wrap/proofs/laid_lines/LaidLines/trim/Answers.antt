@@ -1,4 +1,4 @@
-use Rattle.std.proofs.Common.{◌++◌, refl, sym}
+use Rattle.std.proofs.Common.{◌++◌, sym, rules}
 use Rattle.tbr_model.specs.Layout.{joined}
 use Rattle.tbr_wrap.proofs.lines.TrimmedSpaces.{same_leading, markers_left, removed_width, lays_trimmed}
 use Rattle.tbr_wrap.proofs.laid_lines.LaidLines.trim.Goals as goal
@@ -14,9 +14,7 @@ overflow_sub-self-2 g c =
     removed_width w.0 w.4 g.T.PartialEq.eq c.args.self.now w.1 w.2 w.3 h c.trim-removed.result (c.trim-removed.ensures.placed (joined (w.1 ++ h.laid.done)) h.laid.line h.holds.placed (sym h.holds.len)).1
 
 pub returns-clause-trimmed : goal.returns-clause-trimmed
-returns-clause-trimmed g c = λ columns before given r one h.
-    let p = c.trim-removed.ensures.placed (joined (before ++ h.laid.done)) h.laid.line h.holds.placed (sym h.holds.len) in
-    lays_trimmed columns one g.T.PartialEq.eq c.args.self.now before given r h c.trim-removed.result p.1 _ (record { width = refl; may_overflow = refl }) p.0 refl refl refl refl
+returns-clause-trimmed g c = search (rules, lays_trimmed, c.trim-removed.ensures.placed)
 
 pub returns-clause-word : goal.returns-clause-word
 returns-clause-word g c = λ js same. rw c.trim-removed.ensures.word (same_leading g.T.PartialEq.eq c.args.self.now.flat.word js same)

@@ -1,4 +1,4 @@
-use Rattle.std.proofs.Common.{◌≡◌, ◌∙◌, sym, Err}
+use Rattle.std.proofs.Common.{◌≡◌, ◌∙◌, sym, Err, rules}
 use Rattle.std.proofs.lemmas.Result.{err_from_is_err_and}
 use Rattle.tbr_model.specs.declared.white_space.WhiteSpace.TheVariants.{PreWrap}
 use Rattle.tbr_model.specs.Rule.{break_word, tag_of}
@@ -8,9 +8,7 @@ use Rattle.tbr_model.proofs.rule.DoneLines.{preserve_after}
 use Rattle.tbr_wrap.proofs.wrapper.Wrapper.add_char.Goals as goal
 
 pub preserve-requires-then-is_wordbreak_point-clause-stands : goal.preserve-requires-then-is_wordbreak_point-clause-stands
-preserve-requires-then-is_wordbreak_point-clause-stands g c =
-    let w = c.requires.stands in
-    (w.0, w.1, break_word g.W.CharWidth.columns c.args.self.now.lines.width w.2, c.in_ok-break_word-in-PreWrap.ensures.laid w.0 w.1 w.2 w.3)
+preserve-requires-then-is_wordbreak_point-clause-stands g c = search (rules, c.requires.stands, c.in_ok-break_word-in-PreWrap.ensures.laid)
 
 pub returns-in-Normal-clause-wider : goal.returns-in-Normal-clause-wider
 returns-in-Normal-clause-wider g c = λ e before given p s.

@@ -1,4 +1,4 @@
-use Rattle.std.proofs.Common.{◌≡◌, ℕ, false, List, fold, subst, [], ◌∷◌, chars, take, ap, sym, ◌∙◌, arith, length-take-le, Err}
+use Rattle.std.proofs.Common.{◌≡◌, ℕ, false, List, fold, subst, [], ◌∷◌, chars, take, ap, sym, ◌∙◌, arith, length-take-le, Err, rules}
 use Rattle.std.proofs.lemmas.Result.{err_from_is_err_and}
 use Rattle.std.proofs.lemmas.Str.{IsUtf8-from_ascii, IsCharBoundary-from_take, chars_past_char}
 use Rattle.tbr_tagged.specs.declared.error.Error.TheVariants as E
@@ -18,9 +18,7 @@ range-requires-clause-end_boundary g c =
     IsCharBoundary-from_take text n c.utf8.text k.within (IsUtf8-from_ascii (take n text) (all_ascii g.W.CharWidth.columns (take n text) (k.words (omega (arith, c.if-words-gt0.true)))))
 
 pub returns-then-words-gt0-clause-front : goal.returns-then-words-gt0-clause-front
-returns-then-words-gt0-clause-front g c =
-    let text = c.args.text.now in let n = c.fitting_words-words.result in let k = c.fitting_words-words.ensures in
-    ascii_front text n k.within (all_ascii g.W.CharWidth.columns (take n text) (k.words (omega (arith, c.if-words-gt0.true))))
+returns-then-words-gt0-clause-front g c = search (rules, ascii_front, all_ascii, c.fitting_words-words.ensures, c.if-words-gt0.true)
 
 pub returns-then-words-gt0-clause-entered : goal.returns-then-words-gt0-clause-entered
 returns-then-words-gt0-clause-entered g c = λ before given p s.
@@ -45,14 +43,10 @@ returns-then-moved-gt0-clause-entered g c = λ before given p s.
     rw (sym words, c.moved_words-moved.ensures.mode (omega (arith, c.if-moved-gt0.true))) (c.in_ok-move_words.ensures.entered before given p s)
 
 pub range-front-requires-clause-end_boundary : goal.range-front-requires-clause-end_boundary
-range-front-requires-clause-end_boundary g c =
-    let front = c.in-Some.ensures.stretch.front in
-    IsCharBoundary-from_take c.args.text.now c.in-Some.s.bytes c.utf8.text front.within front.utf8
+range-front-requires-clause-end_boundary g c = search (rules, IsCharBoundary-from_take, c.in-Some.ensures.stretch.front)
 
 pub returns-in-Some-clause-some : goal.returns-in-Some-clause-some
-returns-in-Some-clause-some g c =
-    let text = c.args.text.now in let n = c.in-Some.s.bytes in let front = c.in-Some.ensures.stretch.front in
-    omega (arith, c.in-Some.ensures.some, front.number, chars_within (take n text) front.utf8, length-take-le n text front.within)
+returns-in-Some-clause-some g c = search (rules, chars_within, length-take-le, c.in-Some.ensures.stretch.front, c.in-Some.ensures.some)
 
 pub returns-in-Some-clause-entered : goal.returns-in-Some-clause-entered
 returns-in-Some-clause-entered g c = λ before given p s.

@@ -1,4 +1,4 @@
-use Rattle.std.proofs.Common.{◌≡◌, ◌≤◌, ◌+◌, ◌++◌, ◌∷◌, [], ◌∙◌, sym, ap, chars, length, arith, refl, length-append}
+use Rattle.std.proofs.Common.{◌≡◌, ◌≤◌, ◌+◌, ◌++◌, ◌∷◌, [], ◌∙◌, sym, ap, chars, length, arith, refl, length-append, rules}
 use Rattle.std.proofs.lemmas.Str.{chars-IsAscii}
 use Rattle.tbr_model.specs.declared.white_space.WhiteSpace.TheVariants.{Normal}
 use Rattle.tbr_model.specs.Rule.{tag_of, pending_width, lay_here}
@@ -11,9 +11,7 @@ use Rattle.tbr_tagged.proofs.SameItems.{same_has}
 use Rattle.tbr_wrap.proofs.wrapper.Wrapper.add_words.Goals as goal
 
 pub lay_with-requires-clause-count : goal.lay_with-requires-clause-count
-lay_with-requires-clause-count g c =
-    let w = c.requires.words in let is = c.range-words.ensures.value ∙ words_front g.W.CharWidth.columns c.args.text.now w in
-    ap length (is ∙ sym (ap chars is ∙ chars-IsAscii w.front (words_ascii g.W.CharWidth.columns _ w.front _ w.read)))
+lay_with-requires-clause-count g c = search (rules, words_front, chars-IsAscii, words_ascii, c.requires.words, c.range-words.ensures.value)
 
 pub returns-clause-entered : goal.returns-clause-entered
 returns-clause-entered g c = λ before given p s.

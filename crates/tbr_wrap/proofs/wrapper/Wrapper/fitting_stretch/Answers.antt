@@ -1,4 +1,4 @@
-use Rattle.std.proofs.Common.{◌≡◌, ◌&&◌, ap, sym, ◌∙◌, subst, take}
+use Rattle.std.proofs.Common.{◌≡◌, ◌&&◌, ap, sym, ◌∙◌, subst, take, rules}
 use Rattle.tbr_model.specs.Run.{has_character}
 use Rattle.tbr_model.specs.Rule.{is_pre}
 use Rattle.tbr_wrap.specs.Plain.{JoinWord}
@@ -18,6 +18,4 @@ returns-then-count-gt0-clause-stretch g c =
     (subst (λ b. JoinWord g.W.CharWidth.columns b (take c.plain_in_front-count.result.0 c.args.text.now)) spaced k.join) k.columns
 
 pub returns-then-letters-gt0-clause-stretch : goal.returns-then-letters-gt0-clause-stretch
-returns-then-letters-gt0-clause-stretch g c =
-    let h = c.letters_in_front-letters.ensures.letters in
-    record { front = h.front; width = h.width; join = unspaced g.W.CharWidth.columns (is_pre c.args.mode && has_character c.args.self.now.lines.flat.word) _ h.join }
+returns-then-letters-gt0-clause-stretch g c = search (rules, unspaced, c.letters_in_front-letters.ensures.letters)

@@ -1,4 +1,4 @@
-use Rattle.std.proofs.Common.{◌≡◌, ◌<◌, ◌+◌, true, false, nat_le, sym, ◌∙◌, arith}
+use Rattle.std.proofs.Common.{◌≡◌, ◌<◌, ◌+◌, true, false, nat_le, sym, ◌∙◌, arith, rules}
 use borrow.Author.Tests.{le-leb, lt-leb}
 use Rattle.tbr_model.specs.Run.{items_width}
 use Rattle.tbr_model.specs.Rule.{pending_width, wrap_space}
@@ -15,9 +15,7 @@ returns-then-has_room-clause-laid g c = λ before given p s.
     rw fits (c.in_ok-lay_here.ensures.laid before given p s)
 
 pub lay_fresh-requires-clause-stands : goal.lay_fresh-requires-clause-stands
-lay_fresh-requires-clause-stands g c =
-    let w = c.requires.stands in
-    (w.0, w.1, wrap_space g.W.CharWidth.columns c.args.self.now.lines.width w.2 w.2.space, c.in_ok-wrap_space.ensures.wrapped w.0 w.1 w.2 w.3)
+lay_fresh-requires-clause-stands g c = search (rules, c.requires.stands, c.in_ok-wrap_space.ensures.wrapped)
 
 pub returns-clause-wider : goal.returns-clause-wider
 returns-clause-wider g c = λ refused before given p s.

@@ -1,4 +1,4 @@
-use Rattle.std.proofs.Common.{◌≡◌, refl, ◌∙◌, sym, Err}
+use Rattle.std.proofs.Common.{◌≡◌, refl, ◌∙◌, sym, Err, rules}
 use Rattle.std.proofs.lemmas.Result.{err_from_is_err_and}
 use Rattle.tbr_model.specs.Rule.{tag_of, flush_word, newline, tab}
 use Rattle.tbr_tagged.specs.declared.error.Error.TheVariants as E
@@ -29,9 +29,7 @@ returns-then-c-eq9-clause-preserved g c = λ before given p s.
     (c.in_ok-tab.ensures.put columns (tag_of p a b) (g.met.W.CharWidth.drawn_in_one 32 refl) same before given (flush_word columns width p) (c.in_ok-flush_word-2.ensures.laid before given p s)))
 
 pub returns-in_default-clause-preserved : goal.returns-in_default-clause-preserved
-returns-in_default-clause-preserved g c = λ before given p s.
-    let columns = g.W.CharWidth.columns in
-    rw (preserve_none columns c.args.self.now.lines.width c.args.c c.args.main_tag.now c.args.wrap_tag.now c.args.mode p c.if-c-eq-ZERO_WIDTH_SPACE.false c.if-c-eq10.false c.if-c-eq9.false (sym c.width.ensures ∙ unfailed c.width.result c.in_default.not-Some)) s
+returns-in_default-clause-preserved g c = search (rules, preserve_none, unfailed, c.if-c-eq-ZERO_WIDTH_SPACE.false, c.if-c-eq10.false, c.if-c-eq9.false, c.width.ensures)
 
 pub returns-then-always_takes_space-clause-preserved : goal.returns-then-always_takes_space-clause-preserved
 returns-then-always_takes_space-clause-preserved g c = λ before given p s.

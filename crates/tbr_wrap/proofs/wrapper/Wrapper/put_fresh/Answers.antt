@@ -1,20 +1,11 @@
-use Rattle.std.proofs.Common.{◌≡◌, sym, ◌∙◌, arith, rules, []}
+use Rattle.std.proofs.Common.{rules, []}
 use Rattle.std.proofs.lemmas.Result.{on_ok_weaker}
-use Rattle.tbr_model.specs.Run.{items_width}
-use Rattle.tbr_model.specs.Laid.{extended, put_items}
 use Rattle.tbr_tagged.specs.Elements.{SameItems}
 use Rattle.tbr_wrap.proofs.words.WordsLaid.{put_fitting, same_narrow, on_ok_both}
 use Rattle.tbr_wrap.proofs.wrapper.Wrapper.put_fresh.Goals as goal
 
 pub returns-then-width-self-clause-put : goal.returns-then-width-self-clause-put
-returns-then-width-self-clause-put g c = λ before given p s.
-    let columns = g.W.CharWidth.columns in let eq = g.T.PartialEq.eq in let b = c.args.self.now.lines in
-    let k = c.in_ok-place_word.ensures in
-    let laid = k.placed columns p.word s.word (sym s.word_width ∙ sym c.replace-width.ensures.value) before given p.laid s.lays in
-    let fits : put_items columns b.width p.laid p.word ≡ extended p.laid p.word (items_width columns p.word) =
-    put_fitting columns b.width p.laid p.word (omega (arith, c.if-width-self.true, c.replace-width.ensures.value, s.word_width, s.lays.holds.width, s.lays.shows.width, b.fits)) in
-    let word : SameItems eq c.place_word.new.self.flat.word [] = rw k.word tt in
-    rw fits (search (rules, laid, word, c.replace-width.ensures.after))
+returns-then-width-self-clause-put g c = search (rules, put_fitting, c.in_ok-place_word.ensures, c.replace-width.ensures.value, c.if-width-self.true, c.replace-width.ensures.after)
 
 pub returns-clause-put : goal.returns-clause-put
 returns-clause-put g c = λ before given p s.
