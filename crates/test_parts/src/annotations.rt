@@ -39,17 +39,19 @@ fn what_opens_and_closes_leaves_other_lists_as_they_are(rt: HostRuntime) -> Resu
 }
 
 #[test]
-fn what_opens_again_is_the_same_list(rt: HostRuntime) -> Result<(), Fail> {
+fn what_opens_again_is_an_equal_list(rt: HostRuntime) -> Result<(), Fail> {
     let alloc = rt.alloc();
     let mut open = OpenAnnotations::new();
     open.pop();
     open.push(alloc, Voice::First)?;
-    let outer = open.list()?;
+    open.push(alloc, Voice::Second)?;
+    let inner = open.list()?;
+    open.pop();
+    open.push(alloc, Voice::Second)?;
+    assert!(rt; open.list()? == inner);
     open.pop();
     open.push(alloc, Voice::First)?;
-    assert!(rt; open.list()? == outer);
-    open.push(alloc, Voice::Second)?;
-    assert!(rt; open.list()? != outer);
+    assert!(rt; open.list()? != inner);
     Ok(())
 }
 
