@@ -1,5 +1,5 @@
 -- Pieces end to end.
-use Rattle.std.proofs.Common.{◌≡◌, ℕ, ◌+◌, Bool, List, String, [], ◌∷◌, ◌++◌, map, length, encode_utf8_all, string_bytes, refl, sym, ap, ◌∙◌, append-nil, arith}
+use Rattle.std.proofs.Common.{◌≡◌, ℕ, ◌+◌, Bool, List, String, [], ◌∷◌, ◌++◌, map, length, encode_utf8_all, string_bytes, refl, ap, ◌∙◌, append-nil, arith, rules}
 use Rattle.std.specs.Global.{Vec}
 use Rattle.std.proofs.lemmas.List.{length-append}
 use Rattle.std.proofs.lemmas.List.Concat.{flat_map-append}
@@ -23,9 +23,7 @@ bytes-append cs ds = ap length (encodes-append cs ds) ∙ length-append (encode_
 module _ {A : Type 0} (shown : A → RichAnnotation) where
   pub text_piece : {Z : Type 0} (at end : ℕ) (s : String Z) (tag : Vec A) (annotations : List RichAnnotation) → end ≡ at + length (string_bytes s) → annotations ≡ map shown tag.items →
       record { begin = at; end = end; what = under annotations } ≡ piece_at shown at (piece (chars_of s) tag)
-  text_piece at end s tag annotations ends are =
-      let there : end ≡ at + bytes_of (chars_of s) = ends ∙ ap (λ (bs : List ℕ). at + length bs) (sym (encodes_back s)) in
-      ap (λ (n : ℕ). record { begin = at; end = n; what = under annotations }) there ∙ ap (λ (us : List RichAnnotation). record { begin = at; end = at + bytes_of (chars_of s); what = under us }) are
+  text_piece at end s tag annotations ends are = search (rules, ℕ, encodes_back)
 
   pub end_at : (at : ℕ) (e : Element (Vec A)) → (let p = piece_at shown at e in p.end) ≡ at + bytes_of (element_characters e)
   end_at at (piece cs tag) = refl
@@ -44,13 +42,7 @@ module _ {A : Type 0} (shown : A → RichAnnotation) where
   pub whole_line : {Z : Type 0} (text : String Z) (columns : ℕ) (is_border : Bool) (pieces : List Piece) (es : List (Element (Vec A))) →
       chars_of text ≡ characters es → columns ≡ line_width unicode_columns es → pieces ≡ pieces_at shown 0 es →
       record { text = string_bytes text; columns = columns; is_border = is_border; pieces = pieces } ≡ line_of shown is_border es
-  whole_line text columns is_border pieces es same wide are =
-      let bytes : string_bytes text ≡ encode_utf8_all (characters es) = sym (encodes_back text) ∙ ap encode_utf8_all same in
-      ap (λ (bs : List ℕ). record { text = bs; columns = columns; is_border = is_border; pieces = pieces }) bytes
-      ∙ ap (λ (n : ℕ). record { text = encode_utf8_all (characters es); columns = n; is_border = is_border; pieces = pieces }) wide
-      ∙ ap (λ (ps : List Piece). record { text = encode_utf8_all (characters es); columns = line_width unicode_columns es; is_border = is_border; pieces = ps }) are
+  whole_line text columns is_border pieces es same wide are = search (rules, encode_utf8_all, encodes_back, ℕ)
 
 pub bytes_one_more : {A : Type 0} (es : List (Element A)) (e : Element A) → bytes_of (characters (es ++ e ∷ [])) ≡ bytes_of (characters es) + bytes_of (element_characters e)
-bytes_one_more es e =
-    ap bytes_of (flat_map-append element_characters es (e ∷ []) ∙ ap (λ (cs : List ℕ). characters es ++ cs) (append-nil (element_characters e)))
-    ∙ bytes-append (characters es) (element_characters e)
+bytes_one_more es e = search (rules, flat_map-append, ℕ, append-nil, bytes-append)

@@ -1,11 +1,6 @@
 -- What a line makes of a script.
-use Rattle.std.proofs.Common.{◌≡◌, ℕ, suc, ◌==◌, true, false, Option, None, Some, Ok, Err, List, [], ◌∷◌, length, refl, sym, ap, arith}
-use Rattle.std.proofs.lemmas.Bool.{false≢true, eqb-true}
-use Rattle.tbr_decor.specs.Decoration.{Decoration}
-use Rattle.tbr_script.specs.declared.error.RunError.TheVariants.{NotACommand}
-use Rattle.tbr_commands.specs.Command.{Command}
+use Rattle.tbr_program.proofs.Common.{◌≡◌, ℕ, suc, ◌==◌, true, false, Option, None, Some, Ok, Err, List, [], ◌∷◌, length, refl, sym, ap, arith, false≢true, eqb-true, Decoration, NotACommand, Command, Place, after_command, after_read, after_line}
 use Rattle.tbr_commands.specs.Read.{command_read}
-use Rattle.tbr_program.specs.Commands.{Place, after_command, after_read, after_line}
 
 pub no_length : (n : ℕ) → true ≡ (suc n == 0) → ⊥
 no_length n e = let none : suc n ≡ 0 = eqb-true (suc n) 0 (sym e) in omega (arith, none)

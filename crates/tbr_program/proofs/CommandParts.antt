@@ -1,18 +1,6 @@
 -- Of what commands are made that are done, or for which something is too narrow.
-use Rattle.std.proofs.Common.{◌≡◌, ℕ, Bool, true, false, if◌then◌else◌, Option, None, Some, Result, Ok, Err, List, [], ◌∷◌, refl, sym, ap, subst, arith}
-use Rattle.tbr_tagged.specs.declared.CellAlign.{CellAlign}
-use Rattle.tbr_tagged.specs.Outcome.{Outcome, done, refused}
-use Rattle.tbr_decor.specs.Decoration.{Decoration}
-use Rattle.text_block_renderer.specs.Decorated.{sub_renderer}
-use Rattle.tbr_script.specs.declared.error.RunError.{RunError}
-use Rattle.tbr_script.specs.declared.error.RunError.TheVariants.{TooNarrow, OutOfMemory, NotACommand, NothingToEnd}
-use Rattle.tbr_stack.specs.Stack.{Stack, top_of, pushed, below}
-use Rattle.tbr_program.specs.declared.opened.Opener.{Opener}
-use Rattle.tbr_program.specs.declared.opened.Opener.TheVariants.{Sub, Cell}
-use Rattle.tbr_stack.specs.Links.{open_links}
-use Rattle.tbr_commands.specs.Command.{Command, ask, link, end_link, sub, append, cell, end_cell, row, vertical_row}
-use Rattle.tbr_program.specs.Progress.{Pending, Opened, nothing_pending, with_cell}
-use Rattle.tbr_program.specs.Commands.{answered, on_top, if_some_are, with_stack, level_opened, ended_as, level_ended, Top, Place, Made, block_joined, joins, waits, after_command}
+use Rattle.tbr_program.proofs.Common.{◌≡◌, ℕ, Bool, true, false, if◌then◌else◌, Option, None, Some, Result, Ok, Err, List, [], ◌∷◌, refl, sym, ap, subst, arith, CellAlign, Outcome, done, refused, Decoration, sub_renderer, RunError, OutOfMemory, NotACommand, NothingToEnd, Stack, top_of, pushed, below, Opener, Sub, Cell, open_links, Command, ask, link, end_link, sub, append, cell, end_cell, row, vertical_row, Pending, Opened, nothing_pending, with_cell, answered, on_top, if_some_are, with_stack, level_opened, ended_as, level_ended, Top, Place, Made, block_joined, joins, waits, after_command}
+use Rattle.tbr_script.specs.declared.error.RunError.TheVariants.{TooNarrow}
 
 -- It is done, or something is too narrow for it. What a command asks for first holds then.
 abbrev pub IsLate : {X : Type 0} → Result X RunError → Type 0

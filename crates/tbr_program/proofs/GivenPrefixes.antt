@@ -1,18 +1,8 @@
 -- Prefixes that an iterator gives, and lines after them.
-use Rattle.std.proofs.Common.{◌≡◌, ◌⊎◌, ◌<◌, ℕ, zero, suc, List, ◌∷◌, map, length, take, replicate, Option, None, chars, refl, sym, ap, ◌∙◌, inl, inr, arith}
-use Rattle.std.proofs.lemmas.List.{map-id, take-map, take_all}
+use Rattle.tbr_program.proofs.Common.{◌≡◌, ◌⊎◌, ◌<◌, ℕ, zero, suc, List, ◌∷◌, map, length, take, replicate, Option, None, chars, refl, sym, ap, ◌∙◌, inl, inr, arith, map-id, take-map, take_all, YieldsList-so_far, YieldsList-end, done, Decoration, Renderer, Line, GivesFirst, texts_of, handed_out, append_subrender, Does, others, prefixes, block_made}
 use Rattle.std.proofs.lemmas.Iterator.{YieldsList}
-use Rattle.std.proofs.lemmas.Iterator.Consumers.{YieldsList-so_far, YieldsList-end}
-use Rattle.tbr_tagged.specs.Outcome.{done}
 use Rattle.tbr_tagged.proofs.Outcomes.{live_done, live_goes}
-use Rattle.tbr_decor.specs.Decoration.{Decoration}
 use Rattle.tbr_renderer.proofs.OutcomeParts.{done_before, taking_done}
-use Rattle.text_block_renderer.specs.Renderer.{Renderer}
-use Rattle.text_block_renderer.specs.Line.{Line}
-use Rattle.text_block_renderer.specs.Appended.{GivesFirst, texts_of, handed_out}
-use Rattle.text_block_renderer.specs.Calls.{append_subrender, Does}
-use Rattle.tbr_program.specs.Prefixes.{others, prefixes}
-use Rattle.tbr_program.specs.Commands.{block_made}
 
 pub is_others : (n : ℕ) → n ≡ 18446744073709551614 → n ≡ others
 unfolding others

@@ -1,11 +1,5 @@
 -- Levels that come and go.
-use Rattle.std.proofs.Common.{◌≡◌, ◌<◌, List, [], ◌∷◌, length, drop, Some, refl, arith}
-use Rattle.std.specs.List.{AllZip}
-use Rattle.text_block_renderer.specs.Renderer.{Renderer}
-use Rattle.tbr_stack.specs.Stack.{Stack, Level, top_of, with_top, below, first_renderer, in_first}
-use Rattle.tbr_commands.specs.declared.begun.Begun.{Begun}
-use Rattle.tbr_program.specs.declared.opened.Opener.{Opener}
-use Rattle.tbr_program.specs.Progress.{Pending, Opened, IsLive, AreLive}
+use Rattle.tbr_program.proofs.Common.{◌≡◌, ◌<◌, List, [], ◌∷◌, length, drop, Some, refl, arith, AllZip, Renderer, Stack, Level, top_of, with_top, below, first_renderer, in_first, Begun, Opener, Pending, Opened, IsLive, AreLive}
 
 abbrev pub with_first : {R : Type 0} → List (Level R) → R → List (Level R)
 with_first levels r = in_first (λ level. record level { renderer = r }) levels

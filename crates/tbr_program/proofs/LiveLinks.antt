@@ -1,18 +1,11 @@
 -- Links that begin and end where a program goes on.
-use Rattle.std.proofs.Common.{◌≡◌, ◌+◌, ℕ, Option, None, Some, List, [], ◌∷◌, length, refl, sym, subst}
+use Rattle.tbr_program.proofs.Common.{◌≡◌, ◌+◌, ℕ, Option, None, Some, List, [], ◌∷◌, length, refl, sym, subst, Decoration, Renderer, finish, add_inline_text, after, Outcome, done, Stack, Level, in_first, in_top, opened, with_link, open_links, link_number, shown_number, without_open_link, after_link_start, after_end_with, after_link_end, Begun, IsLive}
 use Rattle.tbr_decor.specs.Start as start
 use Rattle.tbr_decor.specs.End as end_text
-use Rattle.tbr_decor.specs.Decoration.{Decoration}
-use Rattle.text_block_renderer.specs.Renderer.{Renderer}
-use Rattle.text_block_renderer.specs.Calls.{begin, finish, add_inline_text, after}
-use Rattle.tbr_tagged.specs.Outcome.{Outcome, done}
+use Rattle.text_block_renderer.specs.Calls.{begin}
 use Rattle.tbr_renderer.proofs.OutcomeParts.{done_first, done_before}
-use Rattle.tbr_stack.specs.Stack.{Stack, Level, in_first}
-use Rattle.tbr_stack.specs.Top.{in_top}
-use Rattle.tbr_stack.specs.Links.{opened, closed, with_link, open_links, link_number, shown_number, without_open_link, after_link_start, after_end_with, after_link_end}
+use Rattle.tbr_stack.specs.Links.{closed}
 use Rattle.tbr_stack.proofs.Tops.{top_changed}
-use Rattle.tbr_commands.specs.declared.begun.Begun.{Begun}
-use Rattle.tbr_program.specs.Progress.{IsLive}
 use Rattle.tbr_program.proofs.Levels.{Zipped, first_live, with_first_live}
 use Rattle.tbr_program.proofs.LiveRenderers.{uncounted_live}
 

@@ -1,27 +1,6 @@
 -- Programs that go on after their commands.
-use Rattle.std.proofs.Common.{◌≡◌, ℕ, Option, Result, Ok, List, [], ◌∷◌, map, length, refl, ap, sym, subst, chars, arith}
-use Rattle.tbr_tagged.specs.Outcome.{Outcome, done}
-use Rattle.tbr_renderer.specs.Outcomes.{gathered}
-use Rattle.tbr_decor.specs.Decoration.{Decoration}
-use Rattle.text_block_renderer.specs.Renderer.{Renderer}
-use Rattle.text_block_renderer.specs.Calls.{append_subrender, append_vert_row}
-use Rattle.text_block_renderer.specs.Rows.{spots_of}
-use Rattle.text_block_renderer.specs.Appended.{handed_out}
-use Rattle.tbr_rows.specs.Cells.{row_fits}
-use Rattle.tbr_script.specs.declared.error.RunError.{RunError}
-use Rattle.tbr_script.specs.declared.error.RunError.TheVariants.{NothingToEnd, RowDoesNotFit}
-use Rattle.tbr_stack.specs.Stack.{Level, top_of, below}
-use Rattle.tbr_stack.specs.Top.{in_top, level_meant}
-use Rattle.tbr_stack.specs.Links.{open_links}
+use Rattle.tbr_program.proofs.Common.{◌≡◌, ℕ, Option, Result, Ok, List, [], ◌∷◌, map, length, refl, ap, sym, subst, chars, arith, Outcome, done, gathered, Decoration, Renderer, append_subrender, append_vert_row, spots_of, handed_out, row_fits, RunError, NothingToEnd, RowDoesNotFit, Level, top_of, below, in_top, level_meant, open_links, Command, ask, link, end_link, sub, append, cell, end_cell, row, vertical_row, Begun, ends_nothing, counted, Opener, Sub, Cell, prefixes, Pending, Opened, Progress, renderers_of, without_cells, pending_meant, opened_meant, progress_meant, IsLive, begun_on_each, GoesOn, Runs, with_stack, level_opened, block_made, block_joined, request_made, cells_waiting, row_made, vertical_made, after_command}
 use Rattle.tbr_stack.proofs.Tops.{top_changed}
-use Rattle.tbr_commands.specs.Command.{Command, ask, link, end_link, sub, append, cell, end_cell, row, vertical_row}
-use Rattle.tbr_commands.specs.declared.begun.Begun.{Begun}
-use Rattle.tbr_commands.specs.Begun.{ends_nothing, counted}
-use Rattle.tbr_program.specs.declared.opened.Opener.{Opener}
-use Rattle.tbr_program.specs.declared.opened.Opener.TheVariants.{Sub, Cell}
-use Rattle.tbr_program.specs.Prefixes.{prefixes}
-use Rattle.tbr_program.specs.Progress.{Pending, Opened, Progress, renderers_of, without_cells, pending_meant, opened_meant, progress_meant, IsLive, begun_on_each, GoesOn}
-use Rattle.tbr_program.specs.Commands.{Runs, with_stack, level_opened, block_made, block_joined, request_made, cells_waiting, row_made, vertical_made, after_command}
 use Rattle.tbr_program.proofs.CommandParts.{one_ok, unless, if_so, some_are, of_top, stack_done, opens, Ends, block_ends, cell_ends}
 use Rattle.tbr_program.proofs.Levels.{Zipped, top_live, with_top_live, below_live}
 use Rattle.tbr_program.proofs.LiveRenderers.{still_live, uncounted_live, row_live, taken_live}

@@ -1,32 +1,20 @@
 -- Renderers that go on: what is counted of a script is what they keep.
-use Rattle.std.proofs.Common.{◌≡◌, ◌<◌, ℕ, zero, suc, ◌-◌, ◌==◌, Bool, true, false, Option, None, Some, List, refl, ap, sym, ◌∙◌, subst, arith, chars}
-use Rattle.std.proofs.lemmas.Bool.{false≢true}
-use Rattle.std.specs.Cmp.Lexicographic.{pointwise}
-use Rattle.tbr_tagged.specs.Outcome.{Outcome, done}
-use Rattle.tbr_renderer.specs.Outcomes.{taking}
+use Rattle.tbr_program.proofs.Common.{◌≡◌, ◌<◌, ℕ, zero, suc, ◌-◌, ◌==◌, Bool, true, false, Option, None, Some, List, refl, ap, sym, ◌∙◌, subst, arith, chars, false≢true, pointwise, Outcome, done, taking, Decoration, Renderer, Settings, settings_of, coloured, uncoloured, Call, new_line, start_strikeout, end_strikeout, add_image, push_colour, pop_colour, after, Does, GivenCell, after_row, Begun, Request, layout, end, image, colour, border, call_of, ends_nothing, counted, IsLive}
 use Rattle.tbr_renderer.proofs.OutcomeParts.{taken}
 use Rattle.tbr_decor.specs.Ground as ground
 use Rattle.tbr_decor.specs.Ground.{Ground}
 use Rattle.tbr_decor.specs.declared.colour.Colour.{Colour}
-use Rattle.tbr_decor.specs.Decoration.{Decoration}
-use Rattle.text_block_renderer.specs.Renderer.{Renderer, Settings, settings_of}
 use Rattle.text_block_renderer.specs.declared.RenderOptions.{RenderOptions}
 use Rattle.text_block_renderer.specs.Image.{shown_title}
-use Rattle.text_block_renderer.specs.Decorated.{coloured, uncoloured}
 use Rattle.text_block_renderer.specs.Settings.{settled, settled_by_image}
-use Rattle.text_block_renderer.specs.Calls.{Call, new_line, start_strikeout, end_strikeout, add_image, push_colour, pop_colour, after, Does}
 use Rattle.text_block_renderer.proofs.Settings.{preformats_after, call_beside, call_changes}
 use Rattle.text_block_renderer.proofs.RowsOfCells.{row_laid, settings_stay, failure_stays}
-use Rattle.text_block_renderer.specs.Rows.{GivenCell, after_row}
-use Rattle.tbr_commands.specs.declared.begun.Begun.{Begun}
 use Rattle.tbr_commands.specs.declared.request.layout.Layout.TheVariants.{StartBlock}
 use Rattle.tbr_commands.specs.declared.request.beginning.Beginning.{Beginning}
 use Rattle.tbr_commands.specs.declared.request.beginning.Beginning.TheVariants as beginning
 use Rattle.tbr_commands.specs.declared.request.kind.Kind.{Kind}
 use Rattle.tbr_commands.specs.declared.request.kind.Kind.TheVariants as kind
-use Rattle.tbr_commands.specs.Request.{Request, layout, begin, end, image, colour, border, call_of}
-use Rattle.tbr_commands.specs.Begun.{ends_nothing, counted}
-use Rattle.tbr_program.specs.Progress.{IsLive}
+use Rattle.tbr_commands.specs.Request.{begin}
 
 -- ---- what is counted
 

@@ -1,38 +1,11 @@
 -- What commands make of a program, by what its renderers leave.
-use Rattle.std.proofs.Common.{◌≡◌, ◌≢◌, ◌⊎◌, ℕ, Bool, true, false, if◌then◌else◌, Option, None, Some, Result, Ok, Err, List, [], ◌∷◌, map, drop, length, chars, refl, sym, ap, ◌∙◌, arith, rules}
-use Rattle.std.specs.Cmp.Lexicographic.{pointwise}
-use Rattle.std.proofs.lemmas.List.{map-append, nil_from_length}
-use Rattle.tbr_tagged.specs.declared.CellAlign.{CellAlign}
-use Rattle.tbr_tagged.specs.Outcome.{Outcome, done, refused}
+use Rattle.tbr_program.proofs.Common.{◌≡◌, ◌≢◌, ◌⊎◌, ℕ, Bool, true, false, if◌then◌else◌, Option, None, Some, Result, Ok, Err, List, [], ◌∷◌, map, drop, length, chars, refl, sym, ap, ◌∙◌, arith, rules, pointwise, map-append, nil_from_length, CellAlign, Outcome, done, refused, row_fits, spots_from, Decoration, and_then, changed, taking, gathered, Renderer, Line, tag_meant, meant, sub_renderer, handed_out, new_line, append_vert_row, after, Does, IsTooNarrow, looks, spots_of, GivenCell, cells_given, cells_meant, after_row, RunError, NotACommand, NothingToEnd, RowDoesNotFit, Stack, Level, top_of, with_top, pushed, below, in_top, level_meant, stack_meant, open_in_first, open_links, after_link_start, after_link_end, Request, call_of, Command, ask, link, end_link, append, end_cell, row, vertical_row, ends_nothing, counted, Opener, Sub, Cell, closed_text, Pending, Opened, Progress, nothing_pending, opener, renderers_of, with_cell, without_cells, Closes, cell_meant, pending_meant, opened_meant, progress_meant, Top, Place, Made, answered, on_top, if_some_are, with_stack, level_opened, ended_as, level_ended, block_made, block_joined, joins, waits, request_made, row_made, vertical_made, after_command, ended}
 use Rattle.tbr_tagged.specs.declared.Error.TheVariants as E
-use Rattle.tbr_rows.specs.Cells.{row_fits, spots_from}
 use Rattle.tbr_rows.specs.Meant.{map_cell}
 use Rattle.tbr_rows.proofs.MeantRows.{fits_mean}
-use Rattle.tbr_decor.specs.Decoration.{Decoration}
 use Rattle.tbr_renderer.proofs.BlankRenderers.{blank_meant}
-use Rattle.tbr_renderer.specs.Outcomes.{and_then, changed, taking, gathered}
-use Rattle.text_block_renderer.specs.Renderer.{Renderer}
-use Rattle.text_block_renderer.specs.Line.{Line}
-use Rattle.text_block_renderer.specs.Tags.{tag_meant}
-use Rattle.text_block_renderer.specs.Meant.{meant}
-use Rattle.text_block_renderer.specs.Decorated.{sub_renderer}
-use Rattle.text_block_renderer.specs.Appended.{handed_out}
-use Rattle.text_block_renderer.specs.Calls.{new_line, append_vert_row, after, Does, IsTooNarrow}
-use Rattle.text_block_renderer.specs.Rows.{looks, spots_of, GivenCell, cells_given, cells_meant, after_row}
-use Rattle.tbr_script.specs.declared.error.RunError.{RunError}
-use Rattle.tbr_script.specs.declared.error.RunError.TheVariants.{TooNarrow, NotACommand, NothingToEnd, RowDoesNotFit}
-use Rattle.tbr_stack.specs.Stack.{Stack, Level, top_of, with_top, pushed, below}
-use Rattle.tbr_stack.specs.Top.{in_top, level_meant, stack_meant}
-use Rattle.tbr_stack.specs.Links.{open_in_first, open_links, after_link_start, after_link_end}
+use Rattle.tbr_script.specs.declared.error.RunError.TheVariants.{TooNarrow}
 use Rattle.tbr_stack.proofs.Tops.{top_meant, done_in, refused_in}
-use Rattle.tbr_commands.specs.Request.{Request, call_of}
-use Rattle.tbr_commands.specs.Command.{Command, ask, link, end_link, append, end_cell, row, vertical_row}
-use Rattle.tbr_commands.specs.Begun.{ends_nothing, counted}
-use Rattle.tbr_program.specs.declared.opened.Opener.{Opener}
-use Rattle.tbr_program.specs.declared.opened.Opener.TheVariants.{Sub, Cell}
-use Rattle.tbr_program.specs.Closing.{closed_text}
-use Rattle.tbr_program.specs.Progress.{Pending, Opened, Progress, nothing_pending, opener, renderers_of, with_cell, without_cells, Closes, cell_meant, pending_meant, opened_meant, progress_meant}
-use Rattle.tbr_program.specs.Commands.{Top, Place, Made, answered, on_top, if_some_are, with_stack, level_opened, ended_as, level_ended, block_made, block_joined, joins, waits, request_made, row_made, vertical_made, after_command, ended}
 use Rattle.tbr_program.proofs.Levels.{below_top}
 
 -- ---- questions

@@ -1,29 +1,19 @@
 -- The lines at the end of a script.
-use Rattle.std.proofs.Common.{◌≡◌, ◌==◌, ℕ, true, false, Option, None, List, [], ◌∷◌, fold, flat_map, length, chars, encode_utf8_all, refl, sym, ap, ◌∙◌, arith}
-use Rattle.std.proofs.lemmas.Bool.{false≢true, eqb-true}
-use Rattle.std.proofs.lemmas.Str.{encodes-chars}
+use Rattle.tbr_program.proofs.Common.{◌≡◌, ◌==◌, ℕ, true, false, Option, None, List, [], ◌∷◌, fold, flat_map, length, chars, encode_utf8_all, refl, sym, ap, ◌∙◌, arith, false≢true, eqb-true, encodes-chars, Decoration, Renderer, Open, with_line, Line, lines_text, Outcome, done, refused, changed, handed_out, start_block, after, with_notes, footnotes_of, finalised}
 use Rattle.std.specs.Str.{IsUtf8}
 use Rattle.tbr_model.specs.Run.{Item}
 use Rattle.tbr_tagged.specs.Elements.{Element}
-use Rattle.tbr_decor.specs.Decoration.{Decoration}
 use Rattle.tbr_decor.specs.Meant.{lines_meant}
 use Rattle.tbr_renderer.specs.Footnotes.{footnote_lines, with_footnotes}
-use Rattle.text_block_renderer.specs.Renderer.{Renderer, Open, with_line}
-use Rattle.text_block_renderer.specs.Line.{Line}
 use Rattle.text_block_renderer.specs.Steps.{block_started, after_block_start}
-use Rattle.text_block_renderer.specs.Text.{lines_text}
-use Rattle.tbr_tagged.specs.Outcome.{Outcome, done, refused}
 use Rattle.tbr_tagged.specs.declared.Error.TheVariants as E
 use Rattle.tbr_tagged.proofs.Outcomes.{live_done, live_goes, live_refused}
-use Rattle.tbr_renderer.specs.Outcomes.{changed}
 use Rattle.tbr_renderer.proofs.OutcomeParts.{one_done, done_before, refused_before}
 use Rattle.tbr_renderer.proofs.FlushedBlocks.{flushes}
 use Rattle.tbr_renderer.proofs.SettingsStay.{Steady, started_alike}
 use Rattle.text_block_renderer.specs.Flush.{after_block, after_flush}
-use Rattle.text_block_renderer.specs.Appended.{handed_out}
-use Rattle.text_block_renderer.specs.Calls.{start_block, after}
 use Rattle.text_block_renderer.proofs.Moves.{flushed_none}
-use Rattle.tbr_program.specs.Closing.{with_notes, footnotes_of, finalised, closed}
+use Rattle.tbr_program.specs.Closing.{closed}
 
 -- ---- footnotes open no block
 

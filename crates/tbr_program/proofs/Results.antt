@@ -1,14 +1,10 @@
 -- What results say, and what functions answer that run commands.
-use Rattle.std.proofs.Common.{◌≡◌, ◌≢◌, List, Result, Ok, Err, IfOk, IfErr, refl, sym, ◌∙◌, subst}
+use Rattle.tbr_program.proofs.Common.{◌≡◌, ◌≢◌, List, Result, Ok, Err, IfOk, IfErr, refl, sym, ◌∙◌, subst, Outcome, done, RunError, OutOfMemory, Progress, progress_meant, GoesOn, Runs}
 use Rattle.std.specs.Result.{IsErrAnd}
-use Rattle.tbr_tagged.specs.Outcome.{Outcome, done}
 use Rattle.tbr_tagged.specs.declared.Error.{Error}
 use Rattle.tbr_tagged.specs.declared.Error.TheVariants as block
 use Rattle.tbr_script.specs.Refusal.{refusal_of}
-use Rattle.tbr_script.specs.declared.error.RunError.{RunError}
-use Rattle.tbr_script.specs.declared.error.RunError.TheVariants.{TooNarrow, OutOfMemory}
-use Rattle.tbr_program.specs.Progress.{Progress, progress_meant, GoesOn}
-use Rattle.tbr_program.specs.Commands.{Runs}
+use Rattle.tbr_script.specs.declared.error.RunError.TheVariants.{TooNarrow}
 
 -- what a text is, or a refusal
 pub if_ok_then : {X E : Type 0} {P Q : X → Type 0} (r : Result X E) → ((x : X) → P x → Q x) → IfOk r P → IfOk r Q

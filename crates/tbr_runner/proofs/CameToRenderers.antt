@@ -1,28 +1,10 @@
 -- Where in a script is what came to one of its renderers: in it, or in lines that others took from it.
-use Rattle.std.proofs.Common.{◌∙◌, ◌≡◌, ◌≤◌, ◌<◌, ◌^◌, ◌⊎◌, inl, inr, ℕ, zero, suc, Option, None, Some, Ok, List, [], ◌∷◌, ◌++◌, length, replicate, chars, refl, ap, sym, subst, arith, append_assoc}
-use Rattle.std.specs.List.{AllZip, AllByRecursion as Each}
-use Rattle.std.proofs.lemmas.List.{length-take, length-replicate}
-use Rattle.tbr_model.specs.Run.{Entry}
+use Rattle.tbr_runner.proofs.Common.{◌∙◌, ◌≡◌, ◌≤◌, ◌<◌, ◌^◌, ◌⊎◌, inl, inr, ℕ, zero, suc, Option, None, Some, Ok, List, [], ◌∷◌, ◌++◌, length, replicate, chars, refl, ap, sym, subst, arith, append_assoc, AllZip, Each, length-take, length-replicate, Entry, done, Decoration, Line, run, Renderer, handed_out, append_subrender, append_vert_row, Act, call, row_of_cells, after_act, act_brought, act_comes, acts_come, Takes, NothingOverhangs, TakesIn, AreTakenIn, Level, first_renderer, others, prefixes, Opened, Progress, after_line, IsLed, EndsWhole, KeepsAll, IsShort}
 use Rattle.tbr_model.proofs.lists.Each.{each_map}
-use Rattle.tbr_tagged.specs.Outcome.{done}
 use Rattle.tbr_rows.specs.CellsShown.{StandsAmong}
 use Rattle.tbr_rows.proofs.Among.{among_front}
-use Rattle.tbr_decor.specs.Decoration.{Decoration}
-use Rattle.text_block_renderer.specs.Line.{Line}
-use Rattle.tbr_renderer.specs.Outcomes.{run}
-use Rattle.text_block_renderer.specs.Renderer.{Renderer}
-use Rattle.text_block_renderer.specs.Appended.{handed_out}
-use Rattle.text_block_renderer.specs.Calls.{append_subrender, append_vert_row}
-use Rattle.text_block_renderer.specs.Acts.{Act, call, row as row_of_cells, after_act, act_brought, act_comes, acts_come}
-use Rattle.text_block_renderer.specs.Taken.{Takes, NothingOverhangs, TakesIn, AreTakenIn}
 use Rattle.text_block_renderer.proofs.ActSteps.{acts_then}
-use Rattle.tbr_stack.specs.Stack.{Level, first_renderer}
-use Rattle.tbr_program.specs.Prefixes.{others, prefixes}
 use Rattle.tbr_program.proofs.GivenPrefixes.{is_others}
-use Rattle.tbr_program.specs.Progress.{Opened, Progress}
-use Rattle.tbr_program.specs.Commands.{after_line}
-use Rattle.tbr_runner.specs.Led.{IsLed}
-use Rattle.tbr_runner.specs.Kept.{EndsWhole, KeepsAll, IsShort}
 use Rattle.tbr_runner.proofs.LedRenderers.{led_on}
 use Rattle.tbr_runner.proofs.ScriptLevels.{each_any, Sized, sized, any_ready}
 use Rattle.tbr_runner.proofs.Walks.{Holds, At, renderers, HandsOut, GivesCell, TakesCells, Walk, line_makes}

@@ -1,23 +1,8 @@
 -- What came to a renderer of a script is in the lines of its text.
-use Rattle.std.proofs.Common.{◌≡◌, ◌<◌, ◌+◌, inl, ℕ, Option, Some, Ok, List, [], ◌∷◌, ◌++◌, length, append-nil, ◌≢◌, refl, ap, sym, subst, arith}
-use Rattle.tbr_model.specs.Run.{Entry}
-use Rattle.tbr_decor.specs.Decoration.{Decoration}
-use Rattle.text_block_renderer.specs.Renderer.{Renderer}
-use Rattle.text_block_renderer.specs.Acts.{acts_come}
-use Rattle.text_block_renderer.specs.Taken.{IsWrittenSoFar, NothingOverhangs}
+use Rattle.tbr_runner.proofs.Common.{◌≡◌, ◌<◌, ◌+◌, inl, ℕ, Option, Some, Ok, List, [], ◌∷◌, ◌++◌, length, append-nil, ◌≢◌, refl, ap, sym, subst, arith, Entry, Decoration, Renderer, acts_come, IsWrittenSoFar, NothingOverhangs, top_of, Command, Progress, after_line, IsLed, EndsWhole, KeepsAll, IsShort, TextKeeps, rendered_on, stack_calls, link_targets, AskFor, LinesDo, Opening, started}
 use Rattle.text_block_renderer.proofs.TakenLines.{brought_within}
-use Rattle.tbr_stack.specs.Stack.{top_of}
-use Rattle.tbr_commands.specs.Command.{Command}
-use Rattle.tbr_program.specs.Progress.{Progress}
-use Rattle.tbr_program.specs.Commands.{after_line}
-use Rattle.tbr_runner.specs.Led.{IsLed}
-use Rattle.tbr_runner.specs.Kept.{EndsWhole, KeepsAll, IsShort, TextKeeps}
-use Rattle.tbr_runner.specs.Scripts.{rendered_on}
-use Rattle.tbr_runner.specs.StackCalls.{stack_calls, link_targets, AskFor, LinesDo}
 use Rattle.tbr_runner.proofs.StackCalls.{lines_step, lines_end}
 use Rattle.text_block_renderer.proofs.LinkNumbers.{targets_come}
-use Rattle.tbr_commands.specs.declared.opening.Opening.{Opening}
-use Rattle.tbr_program.specs.Commands.{started}
 use Rattle.tbr_runner.proofs.ShownTexts.{led_writes}
 use Rattle.tbr_runner.proofs.LedRenderers.{led_sound, line_led, at_end, closed_led, started_led}
 use Rattle.tbr_runner.proofs.CameToRenderers.{HasStill, IsIn, only_on_stack, only_one, first_has, gives_on, line_has}

@@ -1,59 +1,32 @@
 -- Each renderer of a script is led to by calls and rows.
-use Rattle.std.proofs.Common.{◌≡◌, ◌≢◌, ◌<◌, ◌+◌, inl, inr, Ok, ℕ, Bool, true, false, if◌then◌else◌, Option, Some, None, List, [], ◌∷◌, ◌++◌, flat_map, fold, refl, ap, sym, ◌∙◌, subst, arith}
+use Rattle.tbr_runner.proofs.Common.{◌≡◌, ◌≢◌, ◌<◌, ◌+◌, inl, inr, Ok, ℕ, Bool, true, false, if◌then◌else◌, Option, Some, None, List, [], ◌∷◌, ◌++◌, flat_map, fold, refl, ap, sym, ◌∙◌, subst, arith, rules, Item, done, refused, Decoration, changed, Opening, opening_read, Command, top_of, Progress, with_notes, footnotes_of, lines_closed, closed_text, Decorator, Plain, Trivial, Rich, RenderOptions, block_lines, lines_at_end, names_at_end, fits_at_end, flushed, after_block, after_flush, lines_of, AllZip, encode_utf8_all, rendered_on, rendered_under, rendered_by, rendered_from, rendered, handed_out, NotACommand, after_line, ended, started, Open, Renderer, IsSound, with_line, has_content, new_line, start_block, after, sub_renderer, Act, call, row_of_cells, fmt_links, finalise, after_act, stack_calls, link_targets, AskFor, AskAfterFirst, LinesDo, IsFresh, IsLed, AreLed, IsTextOfLed, IsTextOfScript}
 use Rattle.std.specs.Cmp.Lexicographic.{pointwise}
-use Rattle.tbr_model.specs.Run.{Item}
-use Rattle.tbr_tagged.specs.Outcome.{done, refused}
-use Rattle.tbr_decor.specs.Decoration.{Decoration}
-use Rattle.tbr_renderer.specs.Outcomes.{changed}
 use Rattle.tbr_renderer.proofs.OutcomeParts.{one_done, done_before}
-use Rattle.tbr_commands.specs.declared.opening.Opening.{Opening}
 use Rattle.tbr_commands.specs.Opening.{IsOpening}
-use Rattle.tbr_commands.specs.Read.{opening_read}
 use Rattle.tbr_commands.proofs.Reading.{read_opening}
-use Rattle.tbr_commands.specs.Command.{Command}
-use Rattle.tbr_stack.specs.Stack.{top_of}
-use Rattle.tbr_program.specs.Progress.{Progress}
-use Rattle.tbr_program.specs.Closing.{with_notes, footnotes_of, closed as lines_closed, closed_text}
 use Rattle.tbr_program.specs.Decorations.{plain_decoration, trivial_decoration, rich_decoration}
-use Rattle.tbr_commands.specs.declared.opening.Decorator.{Decorator}
-use Rattle.tbr_commands.specs.declared.opening.Decorator.TheVariants.{Plain, Trivial, Rich}
 use Rattle.tbr_commands.specs.declared.options.Setting.{Setting}
 use Rattle.tbr_commands.specs.declared.options.Setting.TheVariants.{Wrap}
 use Rattle.tbr_commands.specs.Options.{IsSetting, with_setting, AreOptions}
 use Rattle.tbr_renderer.specs.Options.{default_options}
-use Rattle.tbr_renderer.specs.declared.RenderOptions.{RenderOptions}
 use Rattle.tbr_renderer.specs.Footnotes.{listed, footnote_lines, with_footnotes}
-use Rattle.tbr_renderer.specs.Flush.{block_lines, lines_at_end, names_at_end, fits_at_end, flushed, after_block, after_flush}
 use Rattle.tbr_renderer.specs.Steps.{with_empty_line, block_started, after_block_start}
 use Rattle.tbr_renderer.proofs.FlushedBlocks.{flushes, flush_keeps}
-use Rattle.tbr_renderer.proofs.SettingsStay.{Steady, lines_added}
+use Rattle.tbr_renderer.proofs.SettingsStay.{lines_added}
 use Rattle.tbr_tagged.proofs.Outcomes.{live_done, live_goes}
 use Rattle.tbr_tagged.specs.declared.Error.TheVariants.{TooNarrow}
 use Rattle.tbr_tagged.specs.Elements.{Element}
 use Rattle.tbr_decor.specs.Change as change
-use Rattle.tbr_script.specs.Script.{lines_of}
-use Rattle.std.specs.List.{AllZip}
-use Rattle.std.specs.Prelude.{encode_utf8_all}
 use Rattle.text_block_renderer.specs.Text.{lines_text}
 use Rattle.text_block_renderer.proofs.Settings.{call_beside}
 use Rattle.text_block_renderer.proofs.RowsOfCells.{row_laid, failure_stays}
-use Rattle.tbr_runner.specs.Scripts.{rendered_on, rendered_under, rendered_by, rendered_from, rendered}
-use Rattle.text_block_renderer.specs.Appended.{handed_out}
-use Rattle.tbr_script.specs.declared.error.RunError.TheVariants.{NotACommand}
-use Rattle.tbr_program.specs.Commands.{after_line, ended, started}
 use Rattle.tbr_program.proofs.CommandParts.{none_are, of_top, answer_done}
-use Rattle.text_block_renderer.specs.Renderer.{Open, Renderer, IsSound, new_renderer, with_line, has_content}
-use Rattle.text_block_renderer.specs.Calls.{new_line, start_block, after}
-use Rattle.text_block_renderer.specs.Decorated.{sub_renderer}
-use Rattle.text_block_renderer.specs.Acts.{Act, call, row as row_of_cells, fmt_links, finalise, after_act}
 use Rattle.text_block_renderer.proofs.ActSteps.{acts_then}
 use Rattle.text_block_renderer.proofs.Moves.{lines_beside, flushed_none}
 use Rattle.text_block_renderer.proofs.SoundRenderers.{new_sound, inside_sound, acts_sound}
 use Rattle.text_block_renderer.proofs.LinkNumbers.{targets_come}
-use Rattle.tbr_runner.specs.StackCalls.{stack_calls, link_targets, AskFor, AskAfterFirst, LinesDo}
 use Rattle.tbr_runner.proofs.ScriptLevels.{first_led, line_keeps}
 use Rattle.tbr_runner.proofs.StackCalls.{lines_step, lines_end}
-use Rattle.tbr_runner.specs.Led.{IsFresh, IsLed, AreLed, IsTextOfLed, IsTextOfScript}
 
 if_map : {X Y : Type 0} (f : X → Y) (b : Bool) (x y : X) → f (if b then x else y) ≡ (if b then f x else f y)
 if_map f true x y = refl
@@ -71,12 +44,8 @@ module _ {D M : Type 0} (columns : ℕ → Option ℕ) (decoration : Decoration 
   act_live : (act : Act M) (r s : Top) → after_act columns decoration act r ≡ done s → s.failure ≡ r.failure
   act_live (call c) r s h = (call_beside columns decoration c r s h).0
   act_live (row_of_cells collapses cells) r s h = failure_stays columns r s (row_laid (pointwise decoration.same) columns collapses cells r s h)
-  act_live (fmt_links links) r s h =
-      let (live, made) = live_done r.failure (done (with_footnotes columns r links)) s h in
-      ap (λ (q : Top). q.failure) (one_done (with_footnotes columns r links) s made) ∙ ap (λ (x : Steady D M). x.failure) (lines_added columns (flat_map (footnote_lines columns r) links) r)
-  act_live (finalise targets) r s h =
-      let q : Top = record r { decorator = decoration.after r.decorator (change.finalise (listed r.options targets)) } in
-      ap (λ (t : Top). t.failure) (one_done q s (live_done r.failure (done q) s h).1)
+  act_live (fmt_links links) r s h = search (rules, live_done, one_done, lines_added)
+  act_live (finalise targets) r s h = search (rules, one_done, live_done)
 
   pub led_on : (act : Act M) (r s : Top) → after_act columns decoration act r ≡ done s → Led r → Led s
   led_on act r s h k = record {
@@ -184,11 +153,7 @@ module _ {D M : Type 0} (columns : ℕ → Option ℕ) (decoration : Decoration 
       (end.commands, end.ask, subst (λ ts. IsTextOfLed columns decoration ts text) (targets_come columns decoration (stack_calls end.commands) p.stack there.stack steps) led)
 
   pub started_led : columns 32 ≡ Some 1 → (opening : Opening) (decorator : D) → 0 < opening.width → opening.options.wrap_width ≢ Some 0 → AreLed columns decoration (started {M = M} opening decorator)
-  started_led space opening decorator wide some = record {
-    on_stack = (nothing_came (new_renderer opening.width opening.options decorator) (record { lines = refl; block = refl; waiting = refl; hanging = refl }) (new_sound columns space opening.width opening.options decorator wide some) refl, tt);
-    waiting = tt;
-    below = tt;
-  }
+  started_led space opening decorator wide some = search (rules, nothing_came, new_sound)
 
 -- ---- a whole script
 

@@ -1,3 +1,4 @@
+pub mod Common
 pub mod RenderedLines
 pub mod ScriptRefusals
 pub mod StackCalls

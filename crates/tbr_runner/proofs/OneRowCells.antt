@@ -1,10 +1,6 @@
 -- Nothing overhangs where cells span one row.
-use Rattle.std.proofs.Common.{◌≡◌, ◌+◌, ◌-◌, ◌⊎◌, inl, inr, ℕ, Bool, if◌then◌else◌, Option, List, [], ◌∷◌, drop, map, refl, ap, sym, ◌∙◌, subst}
-use Rattle.std.specs.Prelude.{nat_lt}
-use Rattle.std.proofs.lemmas.Bool.{cond_both}
-use Rattle.std.specs.List.{AllZip, AllByRecursion as Each}
+use Rattle.tbr_runner.proofs.Common.{◌≡◌, ◌+◌, ◌-◌, ◌⊎◌, inl, inr, ℕ, Bool, if◌then◌else◌, Option, List, [], ◌∷◌, drop, map, refl, ap, sym, ◌∙◌, subst, nat_lt, cond_both, AllZip, Each, done, Decoration, after_flush, Line, Renderer, Call, after, NothingOverhangs, GivenCell, ComesAs, Act, call, row_of_cells, after_act, Opening, Opened, Progress, Level, started, EndsWhole, IsOfOneRow, OverhangsNowhere, LineAsksForOneRow, KeepsAll, LinesDo}
 use Rattle.tbr_model.proofs.lists.Each.{each_append, each_map, each_unmap}
-use Rattle.tbr_tagged.specs.Outcome.{done}
 use Rattle.tbr_tagged.proofs.Outcomes.{live_done}
 use Rattle.tbr_rows.specs.declared.LineSet.{LineSet as Cell}
 use Rattle.tbr_rows.specs.Texts.{row_height, dropped}
@@ -13,27 +9,13 @@ use Rattle.tbr_rows.specs.Rows.{cells_under, columns_shown, cells_left}
 use Rattle.tbr_rows.proofs.ColumnsOfRows.{column_of, columns_are, span_stays, lines_stay}
 use Rattle.tbr_rows.proofs.Among.{each_gives, each_drop}
 use Rattle.tbr_rows.proofs.CellsSeated.{each_seated}
-use Rattle.tbr_decor.specs.Decoration.{Decoration}
-use Rattle.tbr_renderer.specs.Flush.{after_flush}
 use Rattle.tbr_renderer.proofs.MeantRows.{flush_hangs}
 use Rattle.text_block_renderer.specs.LastBorder.{last_border}
-use Rattle.text_block_renderer.specs.Line.{Line}
-use Rattle.text_block_renderer.specs.Renderer.{Renderer}
-use Rattle.text_block_renderer.specs.Calls.{Call, after}
-use Rattle.text_block_renderer.specs.Taken.{NothingOverhangs}
-use Rattle.text_block_renderer.specs.Rows.{GivenCell, ComesAs}
-use Rattle.text_block_renderer.specs.Acts.{Act, call, row as row_of_cells, after_act}
 use Rattle.text_block_renderer.proofs.Moves.{any, path_hanging}
 use Rattle.text_block_renderer.proofs.RowsOfCells.{row_beside}
 use Rattle.text_block_renderer.proofs.CallMoves.{calls_move}
 use Rattle.text_block_renderer.proofs.ActParts.{alone}
 use Rattle.text_block_renderer.proofs.ActSteps.{act_step}
-use Rattle.tbr_commands.specs.declared.opening.Opening.{Opening}
-use Rattle.tbr_program.specs.Progress.{Opened, Progress}
-use Rattle.tbr_stack.specs.Stack.{Level}
-use Rattle.tbr_program.specs.Commands.{started}
-use Rattle.tbr_runner.specs.Kept.{EndsWhole, IsOfOneRow, OverhangsNowhere, LineAsksForOneRow, KeepsAll}
-use Rattle.tbr_runner.specs.StackCalls.{LinesDo}
 use Rattle.tbr_runner.proofs.ScriptLevels.{any_ready, first_led, Fits, fits_walk}
 use Rattle.tbr_runner.proofs.Walks.{At, GivesCell, TakesCells, line_makes}
 

@@ -1,18 +1,7 @@
 -- What a script gives, line after line.
-use Rattle.std.proofs.Common.{◌≡◌, ℕ, ◌+◌, ◌==◌, true, false, Option, None, Some, List, [], ◌∷◌, length, Result, Ok, Err, refl, sym, ap, ◌∙◌}
-use Rattle.std.proofs.lemmas.Bool.{false≢true}
-use Rattle.tbr_decor.specs.Decoration.{Decoration}
-use Rattle.tbr_script.specs.declared.error.RunError.{RunError}
-use Rattle.tbr_script.specs.Script.{lines_of}
-use Rattle.tbr_commands.specs.declared.opening.Decorator.{Decorator}
-use Rattle.tbr_commands.specs.declared.opening.Opening.{Opening}
-use Rattle.tbr_commands.specs.Command.{Command}
-use Rattle.tbr_commands.specs.Syntax.{IsCommand}
-use Rattle.tbr_commands.specs.Read.{command_read, opening_read}
+use Rattle.tbr_runner.proofs.Common.{◌≡◌, ℕ, ◌+◌, ◌==◌, true, false, Option, None, Some, List, [], ◌∷◌, length, Result, Ok, Err, refl, sym, ap, ◌∙◌, false≢true, Decoration, RunError, lines_of, Decorator, Opening, Command, IsCommand, command_read, opening_read, Place, Made, after_read, after_line, ended, unless_refused, rendered_on, rendered_under, rendered_by, rendered_from, rendered}
 use Rattle.tbr_commands.proofs.Reading.{read_command}
-use Rattle.tbr_program.specs.Commands.{Place, Made, after_read, after_line, ended}
 use Rattle.tbr_program.proofs.CommandLines.{no_length}
-use Rattle.tbr_runner.specs.Scripts.{unless_refused, rendered_on, rendered_under, rendered_by, rendered_from, rendered}
 
 module _ {D M : Type 0} (columns : ℕ → Option ℕ) (decoration : Decoration D M) (number : ℕ) where
   -- ---- lines

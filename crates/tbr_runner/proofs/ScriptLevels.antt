@@ -1,26 +1,8 @@
 -- The levels of a script: what a line keeps of their renderers, of what opened them, and of cells that wait.
-use Rattle.std.proofs.Common.{◌≡◌, ◌<◌, ◌+◌, ℕ, Option, Some, Ok, List, [], ◌∷◌, length, sym, ◌∙◌, subst, arith}
-use Rattle.std.specs.List.{AllByRecursion as Each}
-use Rattle.std.proofs.lemmas.List.{length-map}
+use Rattle.tbr_runner.proofs.Common.{◌≡◌, ◌<◌, ◌+◌, ℕ, Option, Some, Ok, List, [], ◌∷◌, length, sym, ◌∙◌, subst, arith, Each, length-map, done, CellAlign, Decoration, Renderer, sub_renderer, Call, append_subrender, after, Act, call, after_act, Level, first_renderer, top_of, Command, sub, cell, IsCommand, Opener, prefixes, Opened, Progress, after_line, EndsOne, AllAre, CellsAre}
 use Rattle.tbr_model.proofs.lists.Each.{each_append, each_map, each_unmap}
-use Rattle.tbr_tagged.specs.Outcome.{done}
-use Rattle.tbr_tagged.specs.declared.CellAlign.{CellAlign}
 use Rattle.tbr_rows.proofs.Among.{each_gives}
-use Rattle.tbr_decor.specs.Decoration.{Decoration}
-use Rattle.text_block_renderer.specs.Renderer.{Renderer}
-use Rattle.text_block_renderer.specs.Decorated.{sub_renderer}
-use Rattle.text_block_renderer.specs.Calls.{Call, append_subrender, after}
-use Rattle.text_block_renderer.specs.Acts.{Act, call, after_act}
-use Rattle.tbr_stack.specs.Stack.{Level, first_renderer, top_of}
-use Rattle.tbr_commands.specs.Command.{Command, sub, cell}
-use Rattle.tbr_commands.specs.Syntax.{IsCommand}
-use Rattle.tbr_program.specs.declared.opened.Opener.{Opener}
 use Rattle.tbr_program.specs.declared.opened.Opener.TheVariants.{Cell}
-use Rattle.tbr_program.specs.Prefixes.{prefixes}
-use Rattle.tbr_program.specs.Progress.{Opened, Progress}
-use Rattle.tbr_program.specs.Commands.{after_line}
-use Rattle.tbr_runner.specs.Kept.{EndsOne}
-use Rattle.tbr_runner.specs.Led.{AllAre, CellsAre}
 use Rattle.tbr_runner.proofs.Walks.{Meets, Cells, Levels, Holds, At, Asks, IsReady, TakesCells, Walk, line_meets, line_makes}
 
 pub each_any : {X : Type 0} (P : X → Type 0) → ((x : X) → P x) → (xs : List X) → Each P xs

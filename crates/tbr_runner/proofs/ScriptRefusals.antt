@@ -1,10 +1,6 @@
 -- But for memory, what a line or the end of a script is refused with, the script itself gives.
-use Rattle.std.proofs.Common.{◌≡◌, ◌≢◌, ℕ, Option, List, Result, Err, IfErr, refl, sym, subst}
-use Rattle.tbr_decor.specs.Decoration.{Decoration}
-use Rattle.tbr_script.specs.Refusal.{IsOfScript}
-use Rattle.tbr_script.specs.declared.error.RunError.{RunError}
-use Rattle.tbr_script.specs.declared.error.RunError.TheVariants.{TooNarrow, OutOfMemory}
-use Rattle.tbr_program.specs.Commands.{Place, after_line, ended}
+use Rattle.tbr_runner.proofs.Common.{◌≡◌, ◌≢◌, ℕ, Option, List, Result, Err, IfErr, refl, sym, subst, Decoration, IsOfScript, RunError, OutOfMemory, Place, after_line, ended}
+use Rattle.tbr_script.specs.declared.error.RunError.TheVariants.{TooNarrow}
 use Rattle.tbr_runner.proofs.Walks.{Meets, end_meets}
 use Rattle.tbr_runner.proofs.ScriptLevels.{each_any, line_waits}
 

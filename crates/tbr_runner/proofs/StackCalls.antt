@@ -1,30 +1,13 @@
 -- What commands do to a stack is what its calls do.
-use Rattle.std.proofs.Common.{◌≡◌, ℕ, ◌+◌, Option, List, [], ◌∷◌, ◌++◌, chars, length, Ok, refl, ap, sym, ◌∙◌, subst}
-use Rattle.tbr_decor.specs.Decoration.{Decoration}
-use Rattle.tbr_tagged.specs.Outcome.{Outcome, done}
-use Rattle.text_block_renderer.specs.Renderer.{Renderer}
-use Rattle.text_block_renderer.specs.Decorated.{sub_renderer}
+use Rattle.tbr_runner.proofs.Common.{◌≡◌, ℕ, ◌+◌, Option, List, [], ◌∷◌, ◌++◌, chars, length, Ok, refl, ap, sym, ◌∙◌, subst, Decoration, Outcome, done, Renderer, sub_renderer, Stack, top_of, below, in_top, open_links, after_link_end, Command, ask, link, end_link, sub, append, cell, end_cell, vertical_row, Pending, Progress, without_cells, row_fits, spots_of, NothingToEnd, RowDoesNotFit, ends_nothing, counted, Opener, Sub, with_stack, level_opened, block_made, request_made, row_made, vertical_made, after_command, after_read, after_line, ended, rendered_on, command_read, calls_of, stack_calls, AskFor, LinesDo}
 use Rattle.text_block_renderer.proofs.LinkNumbers.{own_number}
-use Rattle.tbr_stack.specs.Stack.{Stack, top_of, below}
-use Rattle.tbr_stack.specs.Top.{in_top}
-use Rattle.tbr_stack.specs.Links.{open_links, after_link_end}
 use Rattle.tbr_stack.specs.StackCalls.{StackCall, change_top, push, IsNextToEnd, StackSteps, after_end_as}
 use Rattle.tbr_stack.proofs.Tops.{top_changed}
-use Rattle.tbr_commands.specs.Command.{Command, ask, link, end_link, sub, append, cell, end_cell, row, vertical_row}
-use Rattle.tbr_program.specs.Progress.{Pending, Progress, without_cells}
-use Rattle.tbr_rows.specs.Cells.{row_fits}
-use Rattle.text_block_renderer.specs.Rows.{spots_of}
-use Rattle.tbr_script.specs.declared.error.RunError.TheVariants.{NothingToEnd, RowDoesNotFit}
-use Rattle.tbr_commands.specs.Begun.{ends_nothing, counted}
-use Rattle.tbr_program.specs.declared.opened.Opener.{Opener}
-use Rattle.tbr_program.specs.declared.opened.Opener.TheVariants.{Sub, Cell}
-use Rattle.tbr_program.specs.Commands.{with_stack, level_opened, block_made, request_made, row_made, vertical_made, after_command, after_read, after_line, ended}
+use Rattle.tbr_commands.specs.Command.{row}
+use Rattle.tbr_program.specs.declared.opened.Opener.TheVariants.{Cell}
 use Rattle.tbr_commands.proofs.Reading.{command_is_read}
 use Rattle.tbr_program.proofs.CommandParts.{one_ok, unless, if_so, some_are, of_top, stack_done, opens, block_ends, cell_ends}
-use Rattle.tbr_runner.specs.Scripts.{rendered_on}
 use Rattle.tbr_runner.proofs.RenderedLines.{line_parts, line_asks}
-use Rattle.tbr_commands.specs.Read.{command_read}
-use Rattle.tbr_runner.specs.StackCalls.{calls_of, stack_calls, AskFor, LinesDo}
 
 module _ {D M : Type 0} (columns : ℕ → Option ℕ) (decoration : Decoration D M) where
   abbrev Top : Type 0

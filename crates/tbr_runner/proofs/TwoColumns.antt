@@ -1,34 +1,15 @@
 -- A script whose blocks and cells have two columns or more isn't too narrow.
-use Rattle.std.proofs.Common.{◌≡◌, ◌≤◌, ◌+◌, inl, inr, ℕ, Option, Some, None, Err, List, [], ◌∷◌, refl, ap, sym, ◌∙◌, subst, arith}
-use Rattle.std.specs.Prelude.{nat_le, encode_utf8_all}
-use Rattle.std.specs.List.{AllByRecursion as Each}
-use Rattle.std.proofs.lemmas.Bool.{leb-true, cond_both}
-use Rattle.tbr_tagged.specs.Outcome.{done, refused, if_live}
+use Rattle.tbr_runner.proofs.Common.{◌≡◌, ◌≤◌, ◌+◌, ℕ, Option, Some, None, Err, List, [], ◌∷◌, ap, sym, ◌∙◌, subst, arith, rules, Each, leb-true, cond_both, done, refused, if_live, Decoration, after_flush, RenderOptions, Opening, Progress, closed_text, after_line, started, Renderer, least, block_width, new_line, made, sub_renderer, Act, call, fmt_links, finalise, after_act, rendered_on, LineAsksForTwo}
 use Rattle.tbr_tagged.specs.declared.Error.TheVariants as E
 use Rattle.tbr_tagged.proofs.Outcomes.{live_refused}
-use Rattle.tbr_decor.specs.Decoration.{Decoration}
 use Rattle.tbr_decor.specs.Change as change
-use Rattle.std.specs.Cmp.Lexicographic.{pointwise}
-use Rattle.tbr_renderer.specs.Rows.{placed, row_put}
-use Rattle.tbr_renderer.specs.Footnotes.{listed}
-use Rattle.tbr_renderer.specs.Flush.{after_flush}
+use Rattle.tbr_renderer.specs.Rows.{placed}
 use Rattle.tbr_renderer.proofs.OutcomeParts.{run_last, refused_before, refused_first}
-use Rattle.tbr_renderer.specs.declared.RenderOptions.{RenderOptions}
-use Rattle.tbr_commands.specs.declared.opening.Opening.{Opening}
 use Rattle.tbr_script.specs.declared.error.RunError.TheVariants.{TooNarrow}
-use Rattle.tbr_program.specs.Progress.{Progress}
-use Rattle.tbr_program.specs.Closing.{with_notes, footnotes_of, closed as lines_closed, closed_text}
-use Rattle.tbr_program.specs.Commands.{after_line, started}
-use Rattle.text_block_renderer.specs.Renderer.{Renderer, new_renderer, least, block_width}
-use Rattle.text_block_renderer.specs.Text.{lines_text}
-use Rattle.text_block_renderer.specs.Calls.{new_line, made}
-use Rattle.text_block_renderer.specs.Decorated.{sub_renderer}
-use Rattle.text_block_renderer.specs.Acts.{Act, call, row, fmt_links, finalise, after_act}
+use Rattle.text_block_renderer.specs.Acts.{row}
 use Rattle.text_block_renderer.specs.Headline.{TakeTwoAtMost}
 use Rattle.text_block_renderer.proofs.ActParts.{acts_along}
 use Rattle.text_block_renderer.proofs.TwoColumns.{act_fits}
-use Rattle.tbr_runner.specs.Scripts.{rendered_on}
-use Rattle.tbr_runner.specs.Led.{LineAsksForTwo}
 use Rattle.tbr_runner.proofs.LedRenderers.{Led, with_decorator, led_on, led_sound, nothing_came, inside_led}
 use Rattle.tbr_runner.proofs.ScriptLevels.{Any, first_led, Fits, fits_walk}
 use Rattle.tbr_runner.proofs.Walks.{Meets, At, IsReady, rest_meets, end_meets, line_meets}
@@ -38,9 +19,7 @@ use Rattle.tbr_model.proofs.lists.Each.{each_unmap}
 
 wraps_two : (width other : ℕ) (wrap : Option ℕ) → 2 ≤ width → 2 ≤ least other wrap → 2 ≤ least width wrap
 wraps_two width other None wide both = wide
-wraps_two width other (Some w) wide both =
-    let below : least other (Some w) ≤ w = cond_both (nat_le other w) other w (λ n. n ≤ w) (λ e. leb-true other w e) (λ e. omega arith) in
-    cond_both (nat_le width w) width w (λ n. 2 ≤ n) (λ e. wide) (λ e. omega (arith, both, below))
+wraps_two width other (Some w) wide both = search (rules, cond_both, leb-true)
 
 -- ---- calls
 
@@ -76,19 +55,12 @@ module _ {D M : Type 0} (columns : ℕ → Option ℕ) (decoration : Decoration 
 
   no_act : (r : Top) → Two r → (act : Act M) → after_act columns decoration act r ≡ refused E.TooNarrow → ⊥
   no_act r k (call c) h = act_fits columns space narrow decoration (call c) r k.1 (live_refused r.failure (made columns decoration c r) E.TooNarrow k.0.live h)
-  no_act r k (row collapse cells) h =
-      elim (refused_first (if_live r.failure (after_flush columns r)) (λ m. placed (row_put (pointwise decoration.same) columns collapse cells m)) E.TooNarrow h) [
-        | inl first ↦ no_flush r k.1 (live_refused r.failure (after_flush columns r) E.TooNarrow k.0.live first)
-        | inr later ↦ placed_or_not (row_put (pointwise decoration.same) columns collapse cells later.0) later.2
-      ]
+  no_act r k (row collapse cells) h = search (rules, refused_first, no_flush, live_refused, placed_or_not)
   no_act r k (fmt_links links) h = no_done r _ k.0.live h
   no_act r k (finalise targets) h = no_done r _ k.0.live h
 
   two_ready : (r : Top) → Two r → IsReady columns decoration ⊥ r
-  two_ready r k = record {
-    hands = λ h. no_flush r k.1 (refused_before (λ (s : Top). s.lines) (after_flush columns r) E.TooNarrow (live_refused r.failure _ E.TooNarrow k.0.live h));
-    acts = no_act r k;
-  }
+  two_ready r k = search (rules, no_flush, refused_before, live_refused, no_act)
 
   -- ---- a script
 
@@ -96,11 +68,7 @@ module _ {D M : Type 0} (columns : ℕ → Option ℕ) (decoration : Decoration 
   AllTwo p = At columns decoration (Fits columns decoration Two Any (λ c. Two c.0)) p
 
   no_text : (targets : List (List ℕ)) (r : Top) → Two r → closed_text columns decoration targets r ≡ refused E.TooNarrow → ⊥
-  no_text targets r k h =
-      let d = decoration.after r.decorator (change.finalise (listed r.options targets)) in
-      let closes = refused_before (λ ls. encode_utf8_all (lines_text ls)) (lines_closed columns decoration targets r) E.TooNarrow h in
-      no_flush (with_decorator columns decoration d r) k.1
-      (refused_before (λ (s : Top). let t = with_notes columns (footnotes_of columns decoration targets r) s in t.lines) (after_flush columns (with_decorator columns decoration d r)) E.TooNarrow closes)
+  no_text targets r k h = search (rules, refused_before, no_flush, with_decorator)
 
   no_lines : (p : Progress D M (List M)) (number : ℕ) (lines : List (List ℕ)) → AllTwo p → Each LineAsksForTwo lines → Meets ⊥ (λ text. Unit {0}) (rendered_on columns decoration number lines p)
   no_lines p number [] h asks =
@@ -113,7 +81,4 @@ module _ {D M : Type 0} (columns : ℕ → Option ℕ) (decoration : Decoration 
 
   pub not_too_narrow : (opening : Opening) (decorator : D) → 2 ≤ least opening.width opening.options.wrap_width → (number : ℕ) (lines : List (List ℕ)) →
       Each LineAsksForTwo lines → rendered_on columns decoration number lines (started opening decorator) ≡ Err TooNarrow → ⊥
-  not_too_narrow opening decorator wide number lines asks h =
-      let r : Top = new_renderer opening.width opening.options decorator in
-      let led = nothing_came columns decoration r (record { lines = refl; block = refl; waiting = refl; hanging = refl }) (record { space = space; wide = omega (arith, wide) }) refl in
-      subst (Meets ⊥ (λ text. Unit {0})) h (no_lines (started opening decorator) number lines (record { on_stack = ((led, wide), tt); waiting = tt; opened = tt; below = tt }) asks)
+  not_too_narrow opening decorator wide number lines asks h = search (rules, nothing_came, no_lines)

@@ -1,42 +1,13 @@
 -- One walk over what commands and lines make of a script's renderers, and over what they are refused with.
-use Rattle.std.proofs.Common.{◌≡◌, ℕ, Option, None, Some, Result, Ok, Err, List, [], ◌∷◌, ◌++◌, drop, map, length, chars, refl, subst}
-use Rattle.std.proofs.lemmas.Bool.{cond_both}
-use Rattle.std.specs.List.{AllZip, AllByRecursion as Each}
-use Rattle.tbr_tagged.specs.Outcome.{Outcome, done, refused}
-use Rattle.tbr_tagged.specs.declared.CellAlign.{CellAlign}
+use Rattle.tbr_runner.proofs.Common.{◌≡◌, ℕ, Option, None, Some, Result, Ok, Err, List, [], ◌∷◌, ◌++◌, drop, map, length, chars, refl, subst, rules, cond_both, AllZip, Each, Outcome, done, refused, CellAlign, row_fits, Decoration, and_then, changed, taking, gathered, Renderer, Line, spots_of, GivenCell, cells_given, handed_out, sub_renderer, Call, new_line, begin, finish, add_inline_text, append_subrender, append_vert_row, after, Act, call, row_of_cells, after_act, IsOfScript, RunError, OutOfMemory, NothingToEnd, RowDoesNotFit, Level, Stack, first_renderer, top_of, in_first, with_top, in_top, link_number, shown_number, open_links, with_link, without_open_link, after_end_with, ends_nothing, counted, Command, ask, link, end_link, sub, append, cell, end_cell, vertical_row, IsCommand, command_read, Opener, Sub, prefixes, Pending, Opened, Progress, renderers_of, without_cells, Place, Made, answered, on_top, if_some_are, with_stack, level_opened, ended_as, level_ended, block_made, joins, waits, cells_waiting, request_made, after_command, after_read, after_line, ended, closed_text, unless_refused, EndsOne}
 use Rattle.tbr_tagged.specs.declared.Error.TheVariants as E
-use Rattle.tbr_rows.specs.Cells.{row_fits}
-use Rattle.tbr_decor.specs.Decoration.{Decoration}
 use Rattle.tbr_decor.specs.Start as start
 use Rattle.tbr_decor.specs.End as end
-use Rattle.tbr_renderer.specs.Outcomes.{and_then, changed, taking, gathered}
-use Rattle.text_block_renderer.specs.Renderer.{Renderer}
-use Rattle.text_block_renderer.specs.Line.{Line}
-use Rattle.text_block_renderer.specs.Rows.{spots_of, GivenCell, cells_given, cell_given, next_align}
-use Rattle.text_block_renderer.specs.Appended.{handed_out}
-use Rattle.text_block_renderer.specs.Decorated.{sub_renderer}
-use Rattle.text_block_renderer.specs.Calls.{Call, new_line, begin, finish, add_inline_text, append_subrender, append_vert_row, after}
-use Rattle.text_block_renderer.specs.Acts.{Act, call, row as row_of_cells, after_act}
-use Rattle.tbr_script.specs.Refusal.{IsOfScript}
-use Rattle.tbr_script.specs.declared.error.RunError.{RunError}
-use Rattle.tbr_script.specs.declared.error.RunError.TheVariants.{TooNarrow, OutOfMemory, NothingToEnd, NotACommand, RowDoesNotFit}
-use Rattle.tbr_stack.specs.Stack.{Level, Stack, first_renderer, top_of, in_first, with_top}
-use Rattle.tbr_stack.specs.Top.{in_top}
-use Rattle.tbr_stack.specs.Links.{link_number, shown_number, open_links, with_link, without_open_link, after_end_with}
-use Rattle.tbr_commands.specs.Begun.{ends_nothing, counted}
+use Rattle.tbr_script.specs.declared.error.RunError.TheVariants.{TooNarrow}
 use Rattle.tbr_commands.specs.Request.{call_of}
-use Rattle.tbr_commands.specs.Command.{Command, ask, link, end_link, sub, append, cell, end_cell, row, vertical_row}
-use Rattle.tbr_commands.specs.Syntax.{IsCommand}
-use Rattle.tbr_commands.specs.Read.{command_read}
+use Rattle.tbr_commands.specs.Command.{row}
 use Rattle.tbr_commands.proofs.Reading.{read_command}
-use Rattle.tbr_program.specs.declared.opened.Opener.{Opener}
-use Rattle.tbr_program.specs.declared.opened.Opener.TheVariants.{Sub, Cell}
-use Rattle.tbr_program.specs.Prefixes.{prefixes}
-use Rattle.tbr_program.specs.Progress.{Pending, Opened, Progress, renderers_of, without_cells}
-use Rattle.tbr_program.specs.Commands.{Place, Made, answered, on_top, if_some_are, with_stack, level_opened, ended_as, level_ended, block_made, joins, waits, cells_waiting, request_made, after_command, after_read, after_line, ended}
-use Rattle.tbr_program.specs.Closing.{closed_text}
-use Rattle.tbr_runner.specs.Scripts.{unless_refused}
-use Rattle.tbr_runner.specs.Kept.{EndsOne}
+use Rattle.tbr_program.specs.declared.opened.Opener.TheVariants.{Cell}
 
 -- ---- what is such, or is refused
 
@@ -167,9 +138,7 @@ module _ {D M : Type 0} (columns : ℕ → Option ℕ) (decoration : Decoration 
     -- what takes what others give
     taking_fine : {X : Type 0} (Is : Top → Type 0) (Gives : X → Type 0) (given : Outcome X) (act : X → Act M) (r : Top) → IsReady narrow r → Fine narrow Gives given →
         ((x : X) (s : Top) → Gives x → after_act columns decoration (act x) r ≡ done s → Is s) → Fine narrow Is (taking (after columns decoration new_line) given (λ x. after_act columns decoration (act x)) r)
-    taking_fine Is Gives given act r may gives makes =
-        fine_then narrow (λ m. Unit {0}) Is (after columns decoration new_line r) _ (fine_by narrow _ (after columns decoration new_line r) (λ m does. tt) (may.acts (call new_line)))
-        (λ m flushed. fine_then narrow Gives Is given _ gives (λ x is. fine_by narrow Is (after_act columns decoration (act x) r) (λ s does. makes x s is does) (may.acts (act x))))
+    taking_fine Is Gives given act r may gives makes = search (rules, fine_then, fine_by)
 
     -- what cells that wait give
     hands_fine : (r : Top) → IsReady narrow r → Fine narrow (λ lines. handed_out columns r ≡ done lines) (handed_out columns r)
@@ -177,24 +146,16 @@ module _ {D M : Type 0} (columns : ℕ → Option ℕ) (decoration : Decoration 
 
     lines_fine : (cells : Cells) → AreReady cells → Fine narrow (AllZip HandsOut cells) (gathered (handed_out columns) (renderers_of cells))
     lines_fine [] may = tt
-    lines_fine (c ∷ cells) may =
-        fine_then narrow (HandsOut c) (AllZip HandsOut (c ∷ cells)) (handed_out columns c.0) _ (hands_fine c.0 may.0)
-        (λ lines gives. fine_changed narrow (AllZip HandsOut cells) (AllZip HandsOut (c ∷ cells)) (λ others. lines ∷ others) _ (λ others give. (gives, give)) (lines_fine cells may.1))
+    lines_fine (c ∷ cells) may = search (rules, fine_then, hands_fine, fine_changed, lines_fine cells may.1)
 
     cells_fine : (cells : Cells) (aligns : List CellAlign) → AreReady cells → Fine narrow (AllZip GivesCell cells) (cells_given (λ r. r.width) (handed_out columns) cells aligns)
     cells_fine [] aligns may = tt
-    cells_fine (c ∷ cells) aligns may =
-        fine_then narrow (GivesCell c) (AllZip GivesCell (c ∷ cells)) (cell_given (λ r. r.width) (handed_out columns) c (next_align aligns)) _
-        (fine_changed narrow (HandsOut c) (GivesCell c) _ (handed_out columns c.0) (λ lines gives. (refl, gives)) (hands_fine c.0 may.0))
-        (λ cell gives. fine_changed narrow (AllZip GivesCell cells) (AllZip GivesCell (c ∷ cells)) (λ others. cell ∷ others) _ (λ others give. (gives, give)) (cells_fine cells (drop 1 aligns) may.1))
+    cells_fine (c ∷ cells) aligns may = search (rules, fine_then, fine_changed, hands_fine, cells_fine cells (drop 1 aligns) may.1)
 
     -- the end of a script
     pub end_meets : (number : ℕ) (p : Place columns decoration) → ((r : Top) → top_of p.stack ≡ Some r → closed_text columns decoration p.stack.links r ≡ refused E.TooNarrow → narrow) →
         Meets narrow (λ text. Unit {0}) (ended columns decoration number p)
-    end_meets number p may =
-        let Any = λ (text : List ℕ). Unit {0} in
-        some_meet narrow Any p.opened (Err (NotACommand number)) _ tt (some_meet narrow Any p.pending.cells (Err (NotACommand number)) _ tt
-        (top_meets narrow Any (top_of p.stack) _ (λ r top. fine_by narrow Any (closed_text columns decoration p.stack.links r) (λ text is. tt) (may r top))))
+    end_meets number p may = search (rules, ℕ, some_meet, top_meets, fine_by)
 
   module _ (narrow : Type 0) (Asked : Opener → ℕ → Type 0) (Ends : Top → Type 0) (Before After : Holds) (walk : Walk narrow Asked Ends Before After) where
     abbrev Makes : Made columns decoration → Type 0
@@ -202,9 +163,7 @@ module _ {D M : Type 0} (columns : ℕ → Option ℕ) (decoration : Decoration 
 
     changed_meets : (Of To : List Top → Type 0) (q : Place columns decoration) (s : Stack Top) (make : Top → Outcome Top) → ((rs : List Top) → To rs → After rs q.pending.cells q.opened) →
         Of (renderers s.levels) → ((r : Top) (rs : List Top) → Of (r ∷ rs) → Fine narrow (λ t. To (t ∷ rs)) (make r)) → Makes (with_stack columns decoration q (in_top make s))
-    changed_meets Of To q s make kept h makes =
-        fine_changed narrow (λ t. To (renderers t.levels)) (At After) (λ t. record q { stack = t }) (in_top make s) (λ t is. kept (renderers t.levels) is)
-        (in_top_fine narrow Of (λ t. To (renderers t.levels)) make s s.levels h (λ l ls k. makes l.renderer (renderers ls) k))
+    changed_meets Of To q s make kept h makes = search (rules, fine_changed, in_top_fine)
 
     -- a level that opens
     level_meets : (by : Opener) (width : ℕ) (p : Place columns decoration) (levels : List (Level Top)) → Asked by width → Before (renderers levels) (let left = p.pending in left.cells) p.opened →
@@ -266,10 +225,7 @@ module _ {D M : Type 0} (columns : ℕ → Option ℕ) (decoration : Decoration 
       row_meets : {X : Type 0} (Gives : X → Type 0) (given : Outcome X) (act : X → Act M) → (AreReady narrow p.pending.cells → Fine narrow Gives given) →
           ((x : X) → Gives x → TakesCells p.pending.cells (act x)) → At Before p →
           Makes (with_stack columns decoration (record p { pending = without_cells p.pending }) (in_top (taking (after columns decoration new_line) given (λ x. after_act columns decoration (act x))) p.stack))
-      row_meets Gives given act gives takes h =
-          changed_meets Here (λ rs. After rs [] p.opened) (record p { pending = without_cells p.pending }) p.stack _ (λ rs is. is) h (λ r rs k.
-          let may = walk.ready (r ∷ rs) p.pending.cells p.opened k in
-          taking_fine narrow _ Gives given act r may.0.0 (gives may.1) (λ x t give does. walk.takes (act x) r t rs p.pending.cells p.opened (takes x give) does k))
+      row_meets Gives given act gives takes h = search (rules, changed_meets, taking_fine)
 
       pub command_meets : (command : Command) → Asks Asked command → (EndsOne command → (r : Top) → top_of p.stack ≡ Some r → Ends r) → At Before p →
           Makes (after_command columns decoration number command p)

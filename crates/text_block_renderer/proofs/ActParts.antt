@@ -1,29 +1,12 @@
 -- What calls, rows and footnotes add to the lines, piece by piece.
-use Rattle.std.proofs.Common.{◌≡◌, ℕ, Bool, Option, None, List, [], ◌∷◌, ◌++◌, map, flat_map, fold, refl, ap, sym, ◌∙◌, subst, append_assoc, append-nil, arith, rules}
-use Rattle.std.specs.List.{AllZip, AllByRecursion as Each}
-use Rattle.std.proofs.lemmas.List.{map-append}
-use Rattle.std.proofs.lemmas.List.Concat.{flat_map-append}
+use Rattle.text_block_renderer.proofs.Common.{◌≡◌, ℕ, Bool, Option, None, List, [], ◌∷◌, ◌++◌, map, flat_map, fold, refl, ap, sym, ◌∙◌, subst, append_assoc, append-nil, arith, rules, AllZip, Each, map-append, flat_map-append, Entry, Item, Border, BorderCell, SeenRow, Decoration, Open, Renderer, with_line, open_run, IsSound, listed, footnote_lines, GivenCell, border_lines, with_next, with_row, PutsRow, before_border, Call, Does, entries_brought, Brings, laid_entries, text_of_lines, done, told_by, Added, text_laid, flush_ends, Part, lines_laid, IsPart, Act, call, row, fmt_links, finalise, rows_of, after_act, act_enters, acts_enter, Piece, part, put, noted, cells_in, rows_in, border_lines_of, lines_of_piece, entries_of_piece, added_of_piece, act_adds, acts_add, IsPiece, StaysLine, ComesInPieces}
 use Rattle.std.proofs.lemmas.List.Folds.{flat_map-map}
-use Rattle.tbr_model.specs.Run.{Entry, Item}
 use Rattle.tbr_model.specs.Layout.{joined}
 use Rattle.tbr_model.proofs.lists.Each.{each_append, each_map}
-use Rattle.tbr_border.specs.Border.{Border}
-use Rattle.tbr_border.specs.Cell.{Cell as BorderCell}
-use Rattle.tbr_rows.specs.Meant.{SeenRow}
 use Rattle.tbr_rows.specs.declared.LineSet.{LineSet as Cell}
 use Rattle.tbr_decor.specs.Change as change
-use Rattle.tbr_decor.specs.Decoration.{Decoration}
-use Rattle.tbr_renderer.specs.Renderer.{Open, Renderer, with_line, open_run, IsSound}
-use Rattle.tbr_renderer.specs.Footnotes.{listed, footnote_lines}
-use Rattle.tbr_renderer.specs.Rows.{GivenCell, border_lines, with_next, with_row, PutsRow}
-use Rattle.tbr_kept_lines.specs.LastBorder.{before_border}
-use Rattle.tbr_renderer.specs.Calls.{Call, Does, entries_brought, Brings, laid_entries, text_of_lines}
-use Rattle.tbr_tagged.specs.Outcome.{done}
-use Rattle.tbr_renderer.specs.Outcomes.{told_by}
 use Rattle.tbr_renderer.proofs.OutcomeParts.{one_done, done_first}
-use Rattle.text_block_renderer.specs.Added.{Added, text_laid, row_put, flush_ends}
-use Rattle.text_block_renderer.specs.Stretches.{Part, lines_laid, IsPart}
-use Rattle.text_block_renderer.specs.Acts.{Act, call, row, fmt_links, finalise, rows_of, after_act, act_enters, acts_enter, Piece, part, put, noted, cells_in, rows_in, border_lines_of, lines_of_piece, entries_of_piece, added_of_piece, act_adds, acts_add, IsPiece, StaysLine, ComesInPieces}
+use Rattle.text_block_renderer.specs.Added.{row_put}
 use Rattle.text_block_renderer.proofs.Moves.{any, flush, beside, lines_beside, sound_alike, flushed_none, Frame, Course, one, path_frame}
 use Rattle.text_block_renderer.proofs.CallMoves.{call_moves}
 use Rattle.text_block_renderer.proofs.LineParts.{part_of_other, course_parts}

@@ -1,25 +1,11 @@
 -- Calls and rows one by one: each is a call, or a row that is put after a flush.
-use Rattle.std.proofs.Common.{◌≡◌, ℕ, Option, List, [], ◌∷◌, ◌++◌, subst, ap, sym, ◌∙◌, arith}
-use Rattle.std.specs.Cmp.Lexicographic.{pointwise}
-use Rattle.tbr_model.specs.Run.{Entry}
+use Rattle.text_block_renderer.proofs.Common.{◌≡◌, ℕ, Option, List, [], ◌∷◌, ◌++◌, subst, ap, sym, ◌∙◌, arith, pointwise, Entry, MeansRow, TellsApart, Decoration, Outcome, done, if_live, last_border, Renderer, after_flush, listed, with_footnotes, and_then, run, told_by, style_in, PutsRow, cells_from, Does, laid_entries, Act, call, row, fmt_links, finalise, after_act, row_seen, texts_of_row, act_brought, act_comes, acts_come}
 use Rattle.tbr_model.specs.Layout.{joined}
-use Rattle.tbr_rows.specs.Meant.{MeansRow}
-use Rattle.tbr_rows.specs.Computed.{TellsApart}
 use Rattle.tbr_rows.proofs.ComputedRow.{computed}
 use Rattle.tbr_decor.specs.Change as change
-use Rattle.tbr_decor.specs.Decoration.{Decoration}
-use Rattle.tbr_tagged.specs.Outcome.{Outcome, done, if_live}
 use Rattle.tbr_tagged.proofs.Outcomes.{live_done}
-use Rattle.tbr_kept_lines.specs.LastBorder.{last_border}
-use Rattle.tbr_renderer.specs.Renderer.{Renderer}
-use Rattle.tbr_renderer.specs.Flush.{after_flush}
-use Rattle.tbr_renderer.specs.Footnotes.{listed, with_footnotes}
-use Rattle.tbr_renderer.specs.Outcomes.{and_then, run, told_by}
-use Rattle.tbr_renderer.specs.Rows.{style_in, PutsRow, cells_from}
-use Rattle.tbr_renderer.specs.Calls.{Does, laid_entries}
 use Rattle.tbr_renderer.proofs.OutcomeParts.{one_done, done_first, run_last}
 use Rattle.tbr_renderer.proofs.ComputedRows.{lists_apart, cells_come, cells_side_by_side, one_own, row_computed}
-use Rattle.text_block_renderer.specs.Acts.{Act, call, row, fmt_links, finalise, after_act, row_seen, texts_of_row, act_brought, act_comes, acts_come}
 
 module _ {D A : Type 0} (columns : ℕ → Option ℕ) (decoration : Decoration D A) where
   -- one that succeeds; of a row, what it brings

@@ -1,13 +1,6 @@
 -- Lines only come.
-use Rattle.std.proofs.Common.{◌≡◌, ℕ, Option, List, [], ◌∷◌, ◌++◌, map, fold, refl, ap, sym, ◌∙◌, append_assoc, append-nil, arith}
-use Rattle.tbr_model.specs.Run.{Item}
-use Rattle.tbr_kept_lines.specs.Line.{Line}
-use Rattle.tbr_renderer.specs.Renderer.{Open, Renderer, with_line}
+use Rattle.text_block_renderer.proofs.Common.{◌≡◌, ℕ, Option, List, [], ◌∷◌, ◌++◌, map, fold, refl, ap, sym, ◌∙◌, append_assoc, append-nil, arith, Item, Line, Open, Renderer, with_line, Decoration, marker_items, padded_line, lines_laid, Call, Steps, brought}
 use Rattle.tbr_renderer.proofs.FlushedBlocks.{FlushesBlock}
-use Rattle.tbr_decor.specs.Decoration.{Decoration}
-use Rattle.tbr_model.specs.Markers.{marker_items}
-use Rattle.text_block_renderer.specs.Stretches.{padded_line, lines_laid}
-use Rattle.tbr_renderer.specs.Calls.{Call, Steps, brought}
 use Rattle.text_block_renderer.proofs.Moves.{Move, Makes, MakesAll, through, any}
 use Rattle.text_block_renderer.proofs.CallMoves.{calls_move}
 

@@ -1,19 +1,9 @@
 -- Lines of other renderers, and borders, as moves.
-use Rattle.std.proofs.Common.{◌≡◌, ℕ, Bool, true, false, if◌then◌else◌, Option, None, List, [], ◌∷◌, ◌++◌, map, flat_map, fold, length, replicate, refl, ap, sym, ◌∙◌, subst, arith, append-nil}
-use Rattle.std.proofs.lemmas.Bool.{cond_both}
-use Rattle.std.proofs.lemmas.List.{map-append}
-use Rattle.tbr_model.specs.Run.{Entry, Item}
+use Rattle.text_block_renderer.proofs.Common.{◌≡◌, ℕ, Bool, true, false, if◌then◌else◌, Option, None, List, [], ◌∷◌, ◌++◌, map, flat_map, fold, length, replicate, refl, ap, sym, ◌∙◌, subst, arith, append-nil, cond_both, map-append, Entry, Item, without_holes, horizontal, slash, row_borders, Line, Renderer, with_line, with_border, border_of_cells, as_text, prefixed, with_divider, with_cell, with_cell_below, with_cells, laid_entry, laid_entries, Added, text_laid, border_put, flush_ends, divider_adds, cell_lays, below_adds, cells_add}
 use Rattle.tbr_model.specs.Layout.{joined}
 use Rattle.tbr_model.proofs.lists.Joined.{joined-append}
-use Rattle.tbr_border.specs.Border.{without_holes}
-use Rattle.tbr_border.specs.Cell.{Cell, horizontal, slash}
-use Rattle.text_block_renderer.specs.Drawn.{row_borders}
-use Rattle.tbr_kept_lines.specs.Line.{Line}
-use Rattle.tbr_renderer.specs.Renderer.{Renderer, with_line}
+use Rattle.tbr_border.specs.Cell.{Cell}
 use Rattle.tbr_renderer.proofs.CallParts.{FlushesThen}
-use Rattle.tbr_renderer.specs.Appended.{with_border, border_of_cells, as_text, prefixed, with_divider, with_cell, with_cell_below, with_cells}
-use Rattle.tbr_renderer.specs.Calls.{laid_entry, laid_entries}
-use Rattle.text_block_renderer.specs.Added.{Added, text_laid, border_put, flush_ends, divider_adds, cell_lays, below_adds, cells_add}
 use Rattle.text_block_renderer.proofs.Moves.{line, rule, Kind, MayLay, MayRule, Course, onward, one, same_course, flushed_first, stays, beside, lines_beside, flush_beside, flushed_none}
 
 -- ---- borders of rows

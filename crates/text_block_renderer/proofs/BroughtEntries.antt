@@ -1,34 +1,12 @@
 -- What was brought is in the lines of text, or waits.
-use Rattle.std.proofs.Common.{◌≡◌, ℕ, zero, suc, Bool, true, false, not, if◌then◌else◌, Option, List, [], ◌∷◌, ◌++◌, filter, fold, refl, ap, sym, ◌∙◌, subst, append_assoc, append-nil, arith}
-use Rattle.std.specs.List.{AllZip}
-use Rattle.std.proofs.lemmas.List.Elements.{filter-append}
-use Rattle.std.proofs.lemmas.List.Concat.{flat_map-append}
-use Rattle.std.proofs.lemmas.Simd.{map-map}
-use Rattle.std.proofs.lemmas.Grind.{fold-append}
-use Rattle.tbr_model.specs.Run.{Entry, character, marker_entry, Item, glyph, marker, is_kept, items_of, kept_items}
+use Rattle.text_block_renderer.proofs.Common.{◌≡◌, ℕ, zero, suc, Bool, true, false, not, if◌then◌else◌, Option, List, [], ◌∷◌, ◌++◌, filter, fold, refl, ap, sym, ◌∙◌, subst, append_assoc, append-nil, arith, rules, AllZip, filter-append, flat_map-append, map-map, fold-append, Entry, character, marker_entry, Item, glyph, marker, is_kept, kept_items, names_in_items, names_in_run, marker_items, marker_run, marked_after, names_after, HasMode, is_visible, without_spaces, is_visible_or_marker, is_entry_to_show, ShowsEntry, is_space_item, run_of, text_items, spaces, IsNormal, AreLastOf, EndsRun, Decoration, Open, Renderer, new_renderer, with_line, block_width, may_overflow, IsSound, RenderOptions, block_lines, flushed, lines_at_end, names_at_end, run, done, with_border, laid_entry, laid_entries, text_of_lines, items_so_far, Stands, Act, after_act, acts_come}
+use Rattle.tbr_model.specs.Run.{items_of}
 use Rattle.tbr_model.specs.Layout.{joined}
-use Rattle.tbr_model.specs.Markers.{names_in_items, names_in_run, marker_items, marker_run, marked_after, names_after}
-use Rattle.tbr_model.specs.Hard.{HasMode, is_visible}
 use Rattle.tbr_model.specs.declared.white_space.WhiteSpace.TheVariants.{Normal}
-use Rattle.tbr_model.specs.Shown.{without_spaces, is_visible_or_marker, is_entry_to_show, ShowsEntry}
-use Rattle.tbr_model.specs.Rule.{is_space_item, run_of}
 use Rattle.tbr_model.proofs.lists.Each.{each_front, each_back}
 use Rattle.tbr_model.proofs.rule.Markers.{names_in_items-append, names_in_run-append}
-use Rattle.tbr_tagged.specs.Elements.{text_items}
-use Rattle.tbr_tagged.specs.Padding.{spaces}
-use Rattle.tbr_wrap.specs.Runs.{IsNormal, AreLastOf, EndsRun}
 use Rattle.tbr_tagged.proofs.SameItems.{all_zip_append}
-use Rattle.tbr_decor.specs.Decoration.{Decoration}
-use Rattle.tbr_renderer.specs.Renderer.{Open, Renderer, new_renderer, with_line, block_width, may_overflow, IsSound}
-use Rattle.tbr_renderer.specs.declared.options.RenderOptions.{RenderOptions}
-use Rattle.tbr_renderer.specs.Flush.{block_lines, flushed, lines_at_end, names_at_end}
 use Rattle.tbr_renderer.proofs.FlushedBlocks.{EndsBlock}
-use Rattle.tbr_renderer.specs.Outcomes.{run}
-use Rattle.tbr_tagged.specs.Outcome.{done}
-use Rattle.tbr_renderer.specs.Appended.{with_border}
-use Rattle.tbr_renderer.specs.Calls.{laid_entry, laid_entries, text_of_lines}
-use Rattle.text_block_renderer.specs.MarkersStand.{items_so_far, Stands}
-use Rattle.text_block_renderer.specs.Acts.{Act, after_act, acts_come}
 use Rattle.text_block_renderer.proofs.Moves.{Move, brought_by, Makes, undrawn}
 use Rattle.text_block_renderer.proofs.DrawnBorders.{border_unseen}
 use Rattle.text_block_renderer.proofs.LineContents.{Looks, seen_line, seen_flushed}
@@ -115,12 +93,7 @@ module _ {T : Type 0} (columns : ℕ → Option ℕ) where
   -- laid items stand for themselves
   pub laid_stand : (is : List (Item T)) → StandFor columns is (laid_entries is)
   laid_stand [] = grind arith
-  laid_stand (marker name ∷ is) =
-      let rest = laid_stand is in record {
-        order = (refl, rest.order);
-        names = ap (λ ns. name ∷ ns) rest.names;
-        kept = λ normal. ap (λ (js : List (Item T)). marker name ∷ js) (rest.kept normal.1);
-      }
+  laid_stand (marker name ∷ is) = search (rules, laid_stand is)
   laid_stand (glyph c a ∷ is) = grind (arith, laid_stand is)
 
   -- markers stand for a run of these markers alone

@@ -1,31 +1,13 @@
 -- Calls as the moves of which they consist.
-use Rattle.std.proofs.Common.{◌≡◌, ℕ, inl, inr, suc, Bool, true, false, if◌then◌else◌, Option, Some, None, List, [], ◌∷◌, ◌++◌, flat_map, fold, refl, ap, sym, subst, append-nil, arith}
-use Rattle.std.specs.List.{AllByRecursion as Each}
-use Rattle.std.proofs.lemmas.Bool.{cond_both}
+use Rattle.text_block_renderer.proofs.Common.{◌≡◌, ℕ, inl, inr, suc, Bool, true, false, if◌then◌else◌, Option, Some, None, List, [], ◌∷◌, ◌++◌, flat_map, fold, refl, ap, sym, subst, append-nil, arith, Each, cond_both, entry, Entry, marker_entry, Item, Decoration, RenderOptions, Open, Renderer, with_line, without_annotation, entries_of, ignores, with_events, done, run, told_by, after_block, with_empty_line, block_started, text_brings, at_line_start, with_border, border_of_cells, prefixed, with_divider, with_cells, horizontal, shown_title, struck_from, struck_until, asked_to_close, annotated, Call, add_empty_line, new_line, new_line_hard, start_block, start_table, add_inline_text, record_frag_start, begin, finish, start_strikeout, end_strikeout, add_image, push_colour, pop_colour, add_border, append_subrender, append_vert_row, after, Does, Steps, text_brought, image_brought, entries_brought, brought, Brings, borders_added, AddsNoBorder, text_laid, flush_ends, empty_adds, start_lays, start_adds, text_adds, image_adds, call_adds, calls_add, AppendsNothing}
 use Rattle.tbr_wrap.proofs.runs.BlockLaws.{entries_run}
-use Rattle.tbr_model.specs.Rule.{entry}
-use Rattle.tbr_model.specs.Run.{Entry, marker_entry, Item}
-use Rattle.tbr_decor.specs.Decoration.{Decoration}
 use Rattle.tbr_decor.specs.Start as start
 use Rattle.tbr_decor.specs.End as end
-use Rattle.tbr_renderer.specs.declared.options.RenderOptions.{RenderOptions}
-use Rattle.tbr_renderer.specs.Renderer.{Open, Renderer, with_line, without_annotation, entries_of, ignores, with_events}
-use Rattle.tbr_tagged.specs.Outcome.{done}
 use Rattle.tbr_tagged.proofs.Outcomes.{live_done}
-use Rattle.tbr_renderer.specs.Outcomes.{run, told_by}
-use Rattle.tbr_renderer.specs.Flush.{after_block}
-use Rattle.tbr_renderer.specs.Steps.{with_empty_line, block_started, text_brings, at_line_start}
-use Rattle.tbr_renderer.specs.Appended.{with_border, border_of_cells, prefixed, with_divider, with_cells}
-use Rattle.tbr_border.specs.Cell.{horizontal}
 use Rattle.tbr_renderer.proofs.OutcomeParts.{one_done, done_first}
 use Rattle.tbr_renderer.proofs.FlushedBlocks.{FlushesBlock, flushes}
 use Rattle.tbr_renderer.proofs.CallParts.{FlushesThen, flushed_then, BreaksLine, break_parts, AddsTextBy, AddsText, text_parts, close_parts, open_parts, AddsImage, image_parts}
-use Rattle.tbr_renderer.specs.Image.{shown_title}
-use Rattle.tbr_renderer.specs.Decorated.{struck_from, struck_until, asked_to_close, annotated}
-use Rattle.tbr_renderer.specs.Calls.{Call, add_empty_line, new_line, new_line_hard, start_block, start_table, add_inline_text, record_frag_start, begin, finish, start_strikeout, end_strikeout, add_image, push_colour, pop_colour, add_border, append_subrender, append_vert_row, made, after, Does, Steps, text_brought, image_brought, entries_brought, brought, Brings}
-use Rattle.text_block_renderer.specs.Drawn.{borders_added, AddsNoBorder}
-use Rattle.text_block_renderer.specs.Added.{text_laid, flush_ends, empty_adds, start_lays, start_adds, text_adds, image_adds, call_adds, calls_add}
-use Rattle.text_block_renderer.specs.Stretches.{AppendsNothing}
+use Rattle.tbr_renderer.specs.Calls.{made}
 use Rattle.text_block_renderer.proofs.Moves.{flush_beside, flush, line, join, SameText, alike, Kind, any, undrawn, own, Fits, MayLay, MayRule, Frame, Course, onward, one, same_course, flushed_first, stays, turned, path_frame, flushed_none}
 use Rattle.text_block_renderer.proofs.AppendedMoves.{lines_appended, border_added, cells_appended}
 

@@ -1,41 +1,18 @@
 -- The visible characters and the markers of a cell are in the lines of the rows that it spans, and in the borders between them, whatever its width.
-use Rattle.std.proofs.Common.{◌≡◌, ℕ, zero, suc, ◌+◌, ◌-◌, ◌<◌, ◌≤◌, ◌⊎◌, inl, inr, is_none, Bool, true, false, if◌then◌else◌, Option, Some, None, List, [], ◌∷◌, ◌++◌, map, flat_map, take, drop, length, refl, ap, sym, ◌∙◌, subst, arith, append_assoc, append-nil, rules}
-use Rattle.std.specs.Prelude.{nat_lt}
-use Rattle.std.specs.List.{AllZip}
-use Rattle.std.proofs.lemmas.Bool.{cond_both, ltb-true}
-use Rattle.std.proofs.lemmas.List.{map-append}
-use Rattle.std.proofs.lemmas.List.Concat.{flat_map-append}
-use Rattle.tbr_model.specs.Run.{Item, items_width, glyph}
+use Rattle.text_block_renderer.proofs.Common.{◌≡◌, ℕ, zero, suc, ◌+◌, ◌-◌, ◌<◌, ◌≤◌, ◌⊎◌, inl, inr, is_none, Bool, true, false, if◌then◌else◌, Option, Some, None, List, [], ◌∷◌, ◌++◌, map, flat_map, take, drop, length, refl, ap, sym, ◌∙◌, subst, arith, append_assoc, append-nil, rules, nat_lt, AllZip, cond_both, ltb-true, map-append, flat_map-append, Item, items_width, glyph, Border, shown, RenderLine, CellAlign, Element, text_items, spaces, columns_in_front, cell_height, first_line, StandsAmong, IsGapOf, HasGapIf, HasGaps, SeenRow, MeansRow, part_of, later_of, Meeting, met, meeting, as_lines, merged_first, merged_last, first_mergeable, without_first_border, separator_in, cells_left, before_border, Line, text, border, Renderer, line_padding, GivenCell, FillsCell, ComesAs, PutsRow, border_lines, border_lines_of, lines_laid, StandWithin, text_before, written, to_show}
 use Rattle.tbr_model.specs.Layout.{joined}
 use Rattle.tbr_model.proofs.lists.Joined.{joined-append}
-use Rattle.tbr_border.specs.Border.{Border, shown}
-use Rattle.tbr_border.specs.declared.RenderLine.{RenderLine}
 use Rattle.tbr_border.specs.declared.RenderLine.TheVariants.{Text, Line as Rule}
-use Rattle.tbr_tagged.specs.declared.CellAlign.{CellAlign}
-use Rattle.tbr_tagged.specs.Elements.{Element, items_of, text_items}
-use Rattle.tbr_tagged.specs.Padding.{spaces, columns_in_front}
+use Rattle.tbr_tagged.specs.Elements.{items_of}
 use Rattle.tbr_rows.specs.declared.LineSet.{LineSet as Cell}
 use Rattle.tbr_rows.specs.declared.RowStyle.{RowStyle}
-use Rattle.tbr_rows.specs.Cells.{cell_height, first_line}
-use Rattle.tbr_rows.specs.CellsShown.{StandsAmong}
 use Rattle.tbr_rows.specs.Gaps.{cell_in, has_gap, with_element, with_elements, overhang_of, overhang}
-use Rattle.tbr_rows.specs.Meant.{IsGapOf, HasGapIf, HasGaps, SeenRow, MeansRow}
-use Rattle.tbr_rows.specs.Shown.{part_of, later_of, Meeting, met, meeting, as_lines, merged_first, merged_last}
-use Rattle.tbr_rows.specs.Borders.{first_mergeable, without_first_border}
-use Rattle.tbr_rows.specs.Rows.{separator_in, cells_left}
 use Rattle.tbr_border.specs.RenderLine.{items_under}
 use Rattle.tbr_rows.specs.Texts.{row_height, row_text, cell_text, dropped, text_of_lines as cell_shows, line_text, numbers_below}
 use Rattle.tbr_rows.proofs.Among.{among_cons, among_front, none_among, among_map, each_among}
 use Rattle.tbr_rows.proofs.AllLines.{part_and_later, merged_and_left, row_is_high_enough}
 use Rattle.tbr_rows.proofs.ColumnsOfRows.{column_of, columns_are, cell_is, span_stays}
 use Rattle.tbr_rows.proofs.CellsSeated.{among_own}
-use Rattle.tbr_kept_lines.specs.LastBorder.{before_border}
-use Rattle.tbr_kept_lines.specs.Line.{Line, text, border}
-use Rattle.tbr_renderer.specs.Renderer.{Renderer, line_padding}
-use Rattle.tbr_renderer.specs.Rows.{GivenCell, FillsCell, ComesAs, PutsRow, border_lines}
-use Rattle.text_block_renderer.specs.Acts.{border_lines_of}
-use Rattle.text_block_renderer.specs.Stretches.{lines_laid}
-use Rattle.text_block_renderer.specs.Taken.{StandWithin, text_before, written, to_show}
 use Rattle.text_block_renderer.proofs.Within.{within_on, two_within, itself_within, middle_within, after_within, before_within}
 use Rattle.text_block_renderer.proofs.Written.{written-append, stays_written, border_shown, laid_within}
 use Rattle.text_block_renderer.proofs.RowsOfCells.{row_beside}

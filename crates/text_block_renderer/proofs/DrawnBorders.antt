@@ -1,20 +1,7 @@
 -- What holds of moves of which no border becomes text, holds of all moves on the lines less the borders drawn as text.
-use Rattle.std.proofs.Common.{◌≡◌, ℕ, ◌-◌, if◌then◌else◌, Bool, true, false, Option, Some, None, List, [], ◌∷◌, ◌++◌, map, flat_map, fold, refl, ap, sym, ◌∙◌, subst, append_assoc, append-nil, arith}
-use Rattle.std.proofs.lemmas.List.{map-append}
-use Rattle.std.proofs.lemmas.List.Concat.{flat_map-append}
-use Rattle.tbr_model.specs.Run.{Entry, Item, items_width}
-use Rattle.tbr_border.specs.Border.{Border, shown, without_holes}
+use Rattle.text_block_renderer.proofs.Common.{◌≡◌, ℕ, ◌-◌, if◌then◌else◌, Bool, true, false, Option, Some, None, List, [], ◌∷◌, ◌++◌, map, flat_map, fold, refl, ap, sym, ◌∙◌, subst, append_assoc, append-nil, arith, map-append, flat_map-append, Entry, Item, items_width, Border, shown, without_holes, Decoration, RenderOptions, Line, text, border, Open, Renderer, new_renderer, line_padding, with_line, IsSound, marker_items, block_lines, flushed, lines_at_end, names_at_end, border_line, with_border, Call, Steps, Brings, all_brought, text_of_lines, as_it_is, drawn, line_put, not_drawn, cells_drawn, AreDrawnAmong, WithoutDrawnBorders, CameWithoutDrawnBorders, borders_drawn, DrawNone}
 use Rattle.tbr_border.specs.Cell.{Cell}
-use Rattle.tbr_decor.specs.Decoration.{Decoration}
-use Rattle.tbr_renderer.specs.declared.options.RenderOptions.{RenderOptions}
-use Rattle.tbr_kept_lines.specs.Line.{Line, text, border}
-use Rattle.tbr_renderer.specs.Renderer.{Open, Renderer, new_renderer, line_padding, with_line, IsSound}
-use Rattle.tbr_model.specs.Markers.{marker_items}
-use Rattle.tbr_renderer.specs.Flush.{block_lines, flushed, lines_at_end, names_at_end}
 use Rattle.tbr_renderer.proofs.FlushedBlocks.{EndsBlock, FlushesBlock}
-use Rattle.tbr_renderer.specs.Appended.{border_line, with_border}
-use Rattle.tbr_renderer.specs.Calls.{Call, Steps, Brings, brought as all_brought, text_of_lines}
-use Rattle.text_block_renderer.specs.Drawn.{as_it_is, drawn, line_put, not_drawn, cells_drawn, AreDrawnAmong, WithoutDrawnBorders, CameWithoutDrawnBorders, borders_drawn, DrawNone}
 use Rattle.text_block_renderer.proofs.Moves.{Kind, Fits, Move, flush, line, rule, join, turn, brought_by, brought, brought-append, ruled_by, ruled, Makes, MakesAll, makes-append, move_options, sound_moved, along, through, any, undrawn}
 use Rattle.text_block_renderer.proofs.CallMoves.{calls_move}
 use Rattle.text_block_renderer.proofs.LineContents.{no_text_after}

@@ -1,24 +1,10 @@
 -- Entries that came, less those of the open run, and what moves and acts keep of a renderer and these.
-use Rattle.std.proofs.Common.{◌≡◌, ℕ, ◌-◌, Option, None, List, [], ◌∷◌, ◌++◌, length, flat_map, fold, refl, ap, sym, ◌∙◌, subst, arith, append_assoc, append-nil}
-use Rattle.std.specs.List.{AllZip}
-use Rattle.std.proofs.lemmas.List.{map-append, length-append}
+use Rattle.text_block_renderer.proofs.Common.{◌≡◌, ℕ, ◌-◌, Option, None, List, [], ◌∷◌, ◌++◌, length, flat_map, fold, refl, ap, sym, ◌∙◌, subst, arith, append_assoc, append-nil, AllZip, map-append, length-append, run_of, Entry, Item, Border, without_holes, Decoration, done, Open, Renderer, with_line, open_run, IsSound, with_border, footnote_lines, run, told_by, with_next, laid_entries, StaysLine, Act, call, row, fmt_links, finalise, after_act, before_run, act_comes, acts_come}
 use Rattle.std.proofs.Math.Seq.{take-append_seam, drop-append_seam}
-use Rattle.tbr_model.specs.Rule.{run_of}
-use Rattle.tbr_model.specs.Run.{Entry, Item}
 use Rattle.tbr_model.specs.Layout.{joined}
-use Rattle.tbr_border.specs.Border.{Border, without_holes}
-use Rattle.tbr_decor.specs.Decoration.{Decoration}
-use Rattle.tbr_tagged.specs.Outcome.{done}
-use Rattle.tbr_renderer.specs.Renderer.{Open, Renderer, with_line, open_run, IsSound}
-use Rattle.tbr_renderer.specs.Appended.{with_border}
-use Rattle.tbr_renderer.specs.Footnotes.{footnote_lines}
-use Rattle.tbr_renderer.specs.Outcomes.{run, told_by}
-use Rattle.tbr_renderer.specs.Rows.{with_next}
-use Rattle.tbr_renderer.specs.Calls.{laid_entries}
 use Rattle.tbr_renderer.proofs.FlushedBlocks.{EndsBlock, FlushesBlock}
 use Rattle.tbr_renderer.proofs.JoinedTexts.{run_joined}
 use Rattle.tbr_renderer.proofs.OutcomeParts.{one_done, done_first}
-use Rattle.text_block_renderer.specs.Acts.{StaysLine, Act, call, row, fmt_links, finalise, after_act, before_run, act_comes, acts_come}
 use Rattle.text_block_renderer.proofs.ActSteps.{ActStep, act_step}
 use Rattle.text_block_renderer.proofs.ActParts.{alone, act_sound, top_stays}
 use Rattle.text_block_renderer.proofs.Moves.{Kind, MayRule, may_call, Move, flush, line, rule, join, turn, brought_by, Makes, flushed_none, move_options, lines_beside}

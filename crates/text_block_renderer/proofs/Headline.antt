@@ -1,16 +1,7 @@
 -- The headline.
-use Rattle.std.proofs.Common.{◌≡◌, ℕ, Option, ◌≤◌, List, ap, sym, ◌∙◌, subst, arith}
-use Rattle.std.specs.List.{AllByRecursion as Each}
+use Rattle.text_block_renderer.proofs.Common.{◌≡◌, ℕ, Option, ◌≤◌, List, ap, sym, ◌∙◌, subst, arith, Each, AreApart, IsFilled, HasFilledCells, done, Decoration, run, RenderOptions, Renderer, least, block_width, IsSound, Act, after_act, Piece, cells_in, rows_in, IsPiece, NoLayoutIsAhead, StandsOnce, CellsFit, Headline}
 use Rattle.tbr_model.proofs.lists.Each.{each_unmap}
-use Rattle.tbr_rows.specs.Cells.{AreApart}
-use Rattle.tbr_rows.specs.CellsShown.{IsFilled, HasFilledCells}
-use Rattle.tbr_tagged.specs.Outcome.{done}
-use Rattle.tbr_decor.specs.Decoration.{Decoration}
-use Rattle.tbr_renderer.specs.Outcomes.{run}
-use Rattle.tbr_renderer.specs.declared.options.RenderOptions.{RenderOptions}
-use Rattle.tbr_renderer.specs.Renderer.{Renderer, least, block_width, IsSound}
-use Rattle.text_block_renderer.specs.Acts.{Act, after_act, Piece, cells_in, rows_in, IsPiece}
-use Rattle.text_block_renderer.specs.Headline.{NoLayoutIsAhead, StandsOnce, CellsFit, made, Headline}
+use Rattle.text_block_renderer.specs.Headline.{made}
 use Rattle.text_block_renderer.proofs.RunStretches.{none_ahead}
 use Rattle.text_block_renderer.proofs.TwoColumns.{act_fits}
 use Rattle.tbr_rows.proofs.Among.{each_gives}

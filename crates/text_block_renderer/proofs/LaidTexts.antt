@@ -1,22 +1,8 @@
 -- The lines of laid texts, and the visible characters there.
-use Rattle.std.proofs.Common.{◌≡◌, ◌≤◌, ℕ, false, Option, List, [], ◌∷◌, ◌++◌, map, flat_map, fold, length, refl, ap, sym, arith, ◌∙◌, append-nil, rules}
-use Rattle.std.specs.List.{AllByRecursion as Each, zip}
-use Rattle.tbr_model.specs.Run.{Item}
+use Rattle.text_block_renderer.proofs.Common.{◌≡◌, ◌≤◌, ℕ, false, Option, List, [], ◌∷◌, ◌++◌, map, flat_map, fold, length, refl, ap, arith, ◌∙◌, append-nil, rules, Each, zip, Item, IsSpaces, visible_glyphs, text_items, Decoration, Line, text, Renderer, with_line, done, changed, after_flush, as_text, prefixed, append_subrender, Does, text_of_lines, padded_line, lines_laid, visible_after}
 use Rattle.tbr_model.specs.Layout.{joined}
-use Rattle.tbr_model.specs.Hard.{IsSpaces, visible_glyphs}
-use Rattle.tbr_tagged.specs.Elements.{text_items}
-use Rattle.tbr_decor.specs.Decoration.{Decoration}
-use Rattle.tbr_kept_lines.specs.Line.{Line, text}
-use Rattle.tbr_renderer.specs.Renderer.{Renderer, with_line}
-use Rattle.tbr_tagged.specs.Outcome.{done}
 use Rattle.tbr_tagged.proofs.Outcomes.{live_done}
-use Rattle.tbr_renderer.specs.Outcomes.{changed}
-use Rattle.tbr_renderer.specs.Flush.{after_flush}
 use Rattle.tbr_renderer.proofs.OutcomeParts.{done_before}
-use Rattle.tbr_renderer.specs.Appended.{as_text, prefixed}
-use Rattle.tbr_renderer.specs.Calls.{append_subrender, Does, text_of_lines}
-use Rattle.text_block_renderer.specs.Stretches.{padded_line, lines_laid}
-use Rattle.text_block_renderer.specs.Nested.{visible_after}
 use Rattle.text_block_renderer.proofs.AddedLines.{unmarked_lines, laid_lines}
 use Rattle.text_block_renderer.proofs.VisibleCharacters.{space_unseen, glyphs-append, shown_texts}
 
@@ -38,10 +24,7 @@ module _ {T : Type 0} (columns : ℕ → Option ℕ) where
   shown_indented tag [] [] fewer h = refl
   shown_indented tag [] (l ∷ ls) fewer h = absurd (omega (arith, fewer))
   shown_indented tag (p ∷ ps) [] fewer h = refl
-  shown_indented tag (p ∷ ps) (l ∷ ls) fewer h =
-      ap (λ gs. (gs ++ visible_glyphs columns (as_text tag l)) ++ flat_map (visible_after columns tag) (zip ps ls)) (unseen_spaces tag p h.0)
-      ∙ ap (λ gs. visible_glyphs columns (as_text tag l) ++ gs) (shown_indented tag ps ls (let e : length ls ≤ length ps = omega (arith, fewer) in e) h.1)
-      ∙ sym (glyphs-append columns (as_text tag l) (joined (map (as_text tag) ls)))
+  shown_indented tag (p ∷ ps) (l ∷ ls) fewer h = search (rules, unseen_spaces, glyphs-append, shown_indented tag ps ls (let e : length ls ≤ length ps = omega (arith, fewer) in e) h.1)
 
 -- ---- lines
 

@@ -1,16 +1,7 @@
 -- Lines that stay where rows come: texts as they are, and borders with the text in front of them.
-use Rattle.std.proofs.Common.{◌≡◌, ℕ, ◌-◌, Bool, fold, if◌then◌else◌, Option, Some, List, [], ◌∷◌, ◌++◌, take, length, suc, refl, ap, sym, ◌∙◌, subst, arith, append-nil}
-use Rattle.std.specs.List.{AllZip}
-use Rattle.tbr_border.specs.Border.{Border}
+use Rattle.text_block_renderer.proofs.Common.{◌≡◌, ℕ, ◌-◌, Bool, fold, if◌then◌else◌, Option, Some, List, [], ◌∷◌, ◌++◌, take, length, suc, refl, ap, sym, ◌∙◌, subst, arith, append-nil, AllZip, Border, Side, joined_at_each, above_row, merged_with, merged_below, border_above, Line, text, border, without_last, last_border, before_border, border_lines, text_of_lines, KeepsText, StaysLine}
 use Rattle.tbr_rows.specs.declared.LineSet.{LineSet as Cell}
-use Rattle.tbr_border.specs.Cell.{Side}
-use Rattle.tbr_rows.specs.Borders.{joined, joined_at_each, above_row, merged_with, merged_below}
-use Rattle.tbr_rows.specs.Rows.{border_above}
-use Rattle.tbr_kept_lines.specs.Line.{Line, text, border}
-use Rattle.tbr_kept_lines.specs.LastBorder.{without_last, last_border, before_border}
-use Rattle.tbr_renderer.specs.Rows.{border_lines}
-use Rattle.tbr_renderer.specs.Calls.{text_of_lines}
-use Rattle.text_block_renderer.specs.Acts.{KeepsText, StaysLine}
+use Rattle.tbr_rows.specs.Borders.{joined}
 use Rattle.text_block_renderer.proofs.LineContents.{text_of_lines-append}
 
 module _ {T : Type 0} where

@@ -1,4 +1,5 @@
 pub use Rattle.tbr_renderer.proofs.OutcomeParts
+pub mod Common
 pub mod Moves
 pub mod AppendedMoves
 pub mod CallMoves

@@ -1,18 +1,6 @@
 -- What whoever looks at items, but not at spaces, sees of lines of text and of the markers that wait.
-use Rattle.std.proofs.Common.{◌≡◌, ℕ, Option, None, List, [], ◌∷◌, ◌++◌, map, fold, refl, ap, sym, ◌∙◌, append_assoc, append-nil, rules}
-use Rattle.std.proofs.lemmas.List.{map-append}
-use Rattle.tbr_model.specs.Run.{Item, marker}
+use Rattle.text_block_renderer.proofs.Common.{◌≡◌, ℕ, Option, None, List, [], ◌∷◌, ◌++◌, map, fold, refl, ap, sym, ◌∙◌, append_assoc, append-nil, rules, map-append, Item, marker, marker_items, Border, text_items, spaces, padding_of, Line, text, border, Open, Renderer, with_line, block_width, block_lines, flushed, text_of_lines, items_so_far}
 use Rattle.tbr_model.specs.Layout.{joined}
-use Rattle.tbr_model.specs.Markers.{marker_items}
-use Rattle.tbr_border.specs.Border.{Border}
-use Rattle.tbr_tagged.specs.Elements.{text_items}
-use Rattle.tbr_tagged.specs.Padding.{spaces}
-use Rattle.tbr_wrap.specs.Wrapped.{padding_of}
-use Rattle.tbr_kept_lines.specs.Line.{Line, text, border}
-use Rattle.tbr_renderer.specs.Renderer.{Open, Renderer, with_line, block_width}
-use Rattle.tbr_renderer.specs.Flush.{block_lines, flushed}
-use Rattle.tbr_renderer.specs.Calls.{text_of_lines}
-use Rattle.text_block_renderer.specs.MarkersStand.{items_so_far}
 
 pub text_of_lines-append : {T : Type 0} (ls ms : List (Line T)) → text_of_lines (ls ++ ms) ≡ text_of_lines ls ++ text_of_lines ms
 text_of_lines-append [] ms = refl

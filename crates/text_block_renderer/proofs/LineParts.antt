@@ -1,22 +1,8 @@
 -- All lines that come are parts: stretches of runs, laid texts, and borders.
-use Rattle.std.proofs.Common.{◌≡◌, ℕ, Option, Some, None, List, [], ◌∷◌, ◌++◌, flat_map, refl, ap, sym, ◌∙◌, subst, append_assoc, append-nil, arith}
-use Rattle.std.proofs.lemmas.List.Concat.{flat_map-append}
-use Rattle.tbr_model.specs.Rule.{run_of}
-use Rattle.tbr_model.specs.Run.{Entry}
+use Rattle.text_block_renderer.proofs.Common.{◌≡◌, ℕ, Option, Some, None, List, [], ◌∷◌, ◌++◌, flat_map, refl, ap, sym, ◌∙◌, subst, append_assoc, append-nil, arith, flat_map-append, run_of, Entry, without_holes, Decoration, Open, Renderer, with_line, open_run, IsSound, lines_at_end, names_at_end, with_border, Call, laid_entries, Brings, borders_added, Added, text_laid, border_put, run_of_block, flush_ends, calls_add, Part, ended, laid, ruled, stretch, entries_of_part, borders_of_part, added_of_part, lines_of_part, IsPart, ComesInParts, AppendsNothing, IsOwnPart, ⊤, Each}
 use Rattle.tbr_model.proofs.lists.Each.{each_append}
-use Rattle.tbr_border.specs.Border.{without_holes}
 use Rattle.tbr_border.specs.Cell.{Cell}
-use Rattle.tbr_decor.specs.Decoration.{Decoration}
-use Rattle.tbr_renderer.specs.Renderer.{Open, Renderer, with_line, open_run, IsSound}
-use Rattle.tbr_renderer.specs.Flush.{lines_at_end, names_at_end}
 use Rattle.tbr_renderer.proofs.FlushedBlocks.{FlushesBlock}
-use Rattle.tbr_renderer.specs.Appended.{with_border}
-use Rattle.tbr_renderer.specs.Calls.{Call, laid_entries, Brings}
-use Rattle.text_block_renderer.specs.Drawn.{borders_added}
-use Rattle.text_block_renderer.specs.Added.{Added, text_laid, border_put, run_of_block, flush_ends, calls_add}
-use Rattle.text_block_renderer.specs.Stretches.{Part, ended, laid, ruled, stretch, entries_of_part, borders_of_part, added_of_part, lines_of_part, IsPart, ComesInParts, AppendsNothing, IsOwnPart}
-use Rattle.std.specs.Prelude.{⊤}
-use Rattle.std.specs.List.{AllByRecursion as Each}
 use Rattle.text_block_renderer.proofs.Moves as moves
 use Rattle.text_block_renderer.proofs.Moves.{Move, flush, line, rule, join, turn, brought_by, brought, ruled_by, added_by, Kind, any, own, MayLay, MayRule, Makes, MakesAll, Course, Frame, frame, flush_beside, move_frame, sound_moved}
 use Rattle.text_block_renderer.proofs.CallMoves.{calls_move}

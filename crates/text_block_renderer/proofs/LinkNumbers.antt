@@ -1,15 +1,7 @@
 -- Links that end with their own numbers, and where their targets are.
-use Rattle.std.proofs.Common.{◌≡◌, ℕ, zero, suc, ◌+◌, ◌⊎◌, inl, inr, Option, Some, None, List, [], ◌∷◌, ◌++◌, map, fold, drop, length, refl, ap, sym, ◌∙◌, subst, arith, append_assoc, append-nil}
-use Rattle.std.specs.Prelude.{if◌then◌else◌}
-use Rattle.std.specs.List.{slice_get}
-use Rattle.std.specs.Option.{option_map}
-use Rattle.std.proofs.lemmas.List.{drop-map}
-use Rattle.tbr_decor.specs.Decoration.{Decoration}
+use Rattle.text_block_renderer.proofs.Common.{◌≡◌, ℕ, zero, suc, ◌+◌, ◌⊎◌, inl, inr, Option, Some, None, List, [], ◌∷◌, ◌++◌, map, fold, drop, length, refl, ap, sym, ◌∙◌, subst, arith, append_assoc, append-nil, if◌then◌else◌, slice_get, option_map, drop-map, Decoration, Outcome, done, Renderer, begin, after}
 use Rattle.tbr_decor.specs.Usual.{footnote, footnotes_from, footnotes}
 use Rattle.tbr_decor.specs.Start as start
-use Rattle.tbr_tagged.specs.Outcome.{Outcome, done}
-use Rattle.tbr_renderer.specs.Renderer.{Renderer}
-use Rattle.tbr_renderer.specs.Calls.{begin, after}
 use Rattle.tbr_renderer.proofs.OutcomeParts.{done_before}
 use Rattle.tbr_stack.specs.Stack.{Level, Stack, new_stack, first_renderer, in_first, with_top}
 use Rattle.tbr_stack.specs.Top.{ChangesTop}

@@ -1,23 +1,9 @@
 -- The moves of which calls consist. What holds of lists of calls is shown move by move.
-use Rattle.std.proofs.Common.{◌≡◌, ◌<◌, ℕ, Bool, false, Option, None, List, [], ◌∷◌, ◌++◌, flat_map, fold, refl, ap, sym, ◌∙◌, subst, append_assoc, append-nil, arith}
-use Rattle.std.specs.Prelude.{⊤}
-use Rattle.std.proofs.lemmas.List.Concat.{flat_map-append}
+use Rattle.text_block_renderer.proofs.Common.{◌≡◌, ◌<◌, ℕ, Bool, false, Option, None, List, [], ◌∷◌, ◌++◌, flat_map, fold, refl, ap, sym, ◌∙◌, subst, append_assoc, append-nil, arith, ⊤, flat_map-append, Each, Event, run_of, Entry, Item, without_holes, Overhanging, RenderOptions, Open, Renderer, with_line, with_events, block_width, IsSound, with_border, Call, laid_entries, DrawNone, Added, text_laid, border_put, flush_ends, AppendsNothing}
 use Rattle.tbr_model.specs.declared.white_space.WhiteSpace.{WhiteSpace}
-use Rattle.std.specs.List.{AllByRecursion as Each}
-use Rattle.tbr_model.specs.Rule.{Event, run_of}
-use Rattle.tbr_model.specs.Run.{Entry, Item}
-use Rattle.tbr_border.specs.Border.{without_holes}
 use Rattle.tbr_border.specs.Cell.{Cell}
-use Rattle.tbr_rows.specs.declared.LineSet.{LineSet as Overhanging}
-use Rattle.tbr_renderer.specs.declared.options.RenderOptions.{RenderOptions}
-use Rattle.tbr_renderer.specs.Renderer.{Open, Renderer, with_line, with_events, block_width, IsSound}
 use Rattle.tbr_renderer.proofs.FlushedBlocks.{FlushesBlock, Flushes}
 use Rattle.tbr_renderer.proofs.CallParts.{FlushesThen}
-use Rattle.tbr_renderer.specs.Appended.{with_border}
-use Rattle.tbr_renderer.specs.Calls.{Call, laid_entries}
-use Rattle.text_block_renderer.specs.Drawn.{DrawNone}
-use Rattle.text_block_renderer.specs.Added.{Added, text_laid, border_put, flush_ends}
-use Rattle.text_block_renderer.specs.Stretches.{AppendsNothing}
 
 -- The end of the run that is open in this renderer; a line of text or a border, where no block is open; what comes to the open block. Or a
 -- change of what isn't text.

@@ -1,17 +1,10 @@
 -- Lines after the prefixes of blocks inside blocks.
-use Rattle.std.proofs.Common.{◌≡◌, ℕ, zero, suc, Option, Some, List, [], ◌∷◌, ◌++◌, map, length, refl, ap, sym, ◌∙◌, append_assoc, append-nil, arith}
-use Rattle.std.specs.List.{slice_get, zip}
-use Rattle.std.proofs.lemmas.List.{length-map}
+use Rattle.text_block_renderer.proofs.Common.{◌≡◌, ℕ, zero, suc, Option, Some, List, [], ◌∷◌, ◌++◌, map, length, refl, ap, sym, ◌∙◌, append_assoc, append-nil, arith, slice_get, zip, length-map, Item, text_items, Decoration, Line, text, as_text, prefixed, nested, IsFront, shortest, HandsOn, HandOn}
 use Rattle.std.proofs.lemmas.Option.{slice_get-map}
 use Rattle.std.proofs.lemmas.Slice.Zip.{length-zip}
-use Rattle.tbr_model.specs.Run.{Item}
-use Rattle.tbr_tagged.specs.Elements.{text_items}
-use Rattle.tbr_decor.specs.Decoration.{Decoration}
-use Rattle.tbr_kept_lines.specs.Line.{Line, text}
 use Rattle.tbr_tagged.proofs.Outcomes.{live_done}
 use Rattle.tbr_renderer.proofs.CallParts.{flushed_then, handed_then}
-use Rattle.tbr_renderer.specs.Appended.{as_text, prefixed}
-use Rattle.text_block_renderer.specs.Nested.{Level, nested, IsFront, shortest, HandsOn, HandOn}
+use Rattle.text_block_renderer.specs.Nested.{Level}
 use Rattle.text_block_renderer.proofs.Moves.{lines_beside}
 use Rattle.text_block_renderer.proofs.LaidTexts.{plain_lines}
 

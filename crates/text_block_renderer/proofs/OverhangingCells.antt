@@ -1,20 +1,10 @@
 -- Rows that follow one another among calls, and what they show of their cells.
-use Rattle.std.proofs.Common.{◌≡◌, ℕ, Bool, Option, List, [], ◌∷◌, ◌++◌, map, length, sym, ◌∙◌, subst, arith}
-use Rattle.std.specs.List.{AllZip, AllByRecursion as Each}
-use Rattle.std.proofs.lemmas.List.{length-append, length-map, length-replicate}
+use Rattle.text_block_renderer.proofs.Common.{◌≡◌, ℕ, Bool, Option, List, [], ◌∷◌, ◌++◌, map, length, sym, ◌∙◌, subst, arith, AllZip, Each, length-append, length-map, length-replicate, CellAlign, RenderLine, AreApart, DrawsInOne, Fills, IsFilled, FollowOneAnother, HasFilledCells, ShowsTexts, Line, GivenCell, FillsCell, ComesAs, PutRow, FitsCell, LinesFit, CellsFit, IsCellOf}
 use Rattle.tbr_model.proofs.lists.Each.{each_front, each_map}
-use Rattle.tbr_tagged.specs.declared.CellAlign.{CellAlign}
-use Rattle.tbr_border.specs.declared.RenderLine.{RenderLine}
 use Rattle.tbr_rows.specs.declared.LineSet.{LineSet as Cell}
-use Rattle.tbr_rows.specs.Cells.{AreApart}
-use Rattle.tbr_rows.specs.Shown.{DrawsInOne}
-use Rattle.tbr_rows.specs.CellsShown.{Fills, IsFilled, FollowOneAnother, HasFilledCells, ShowsTexts}
 use Rattle.tbr_rows.proofs.FilledCells.{fill_later}
 use Rattle.tbr_rows.proofs.CellsOfRows.{aligned_width, all_filled, overhang_apart, overhang_filled, shown_over}
-use Rattle.tbr_kept_lines.specs.Line.{Line}
-use Rattle.tbr_renderer.specs.Rows.{GivenCell, FillsCell, ComesAs}
-use Rattle.text_block_renderer.specs.Acts.{PutRow}
-use Rattle.text_block_renderer.specs.Headline.{FitsCell, LinesFit, CellsFit, made, IsCellOf}
+use Rattle.text_block_renderer.specs.Headline.{made}
 
 -- what holds of each item of a list, and so of what has come of it
 each_zip : {X Y : Type 0} (P : X → Type 0) (R : X → Y → Type 0) (Q : Y → Type 0) → ((x : X) (y : Y) → P x → R x y → Q y) → (xs : List X) (ys : List Y) → Each P xs → AllZip R xs ys → Each Q ys

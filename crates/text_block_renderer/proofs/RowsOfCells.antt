@@ -1,16 +1,8 @@
 -- Rows of cells side by side.
-use Rattle.std.proofs.Common.{◌≡◌, ℕ, Bool, Option, Some, None, List, ◌++◌, refl, ap, ◌∙◌, arith}
-use Rattle.std.specs.Option.{option_map}
-use Rattle.tbr_rows.specs.declared.LineSet.{LineSet as Overhanging}
-use Rattle.tbr_rows.specs.Meant.{SeenRow}
-use Rattle.tbr_rows.specs.Computed.{row_of}
-use Rattle.tbr_renderer.specs.Renderer.{Renderer, settings_of}
-use Rattle.tbr_kept_lines.specs.LastBorder.{last_border, before_border}
-use Rattle.tbr_renderer.specs.Rows.{GivenCell, border_lines, style_in, with_row, cells_from, row_put, placed, after_row}
+use Rattle.text_block_renderer.proofs.Common.{◌≡◌, ℕ, Bool, Option, Some, None, List, ◌++◌, refl, ap, ◌∙◌, arith, option_map, Overhanging, SeenRow, row_of, Renderer, settings_of, last_border, before_border, GivenCell, border_lines, style_in, with_row, cells_from, after_row, done, if_live, after_flush}
+use Rattle.tbr_renderer.specs.Rows.{row_put, placed}
 use Rattle.text_block_renderer.proofs.Moves.{beside, lines_beside, flush_beside}
-use Rattle.tbr_tagged.specs.Outcome.{done, if_live}
 use Rattle.tbr_tagged.proofs.Outcomes.{live_done}
-use Rattle.tbr_renderer.specs.Flush.{after_flush}
 use Rattle.tbr_renderer.proofs.OutcomeParts.{one_done, done_first}
 use Rattle.tbr_renderer.proofs.FlushedBlocks.{Flushes, flushes}
 

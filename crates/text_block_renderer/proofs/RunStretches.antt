@@ -1,28 +1,12 @@
 -- The lines of a run are together, and no legal layout is ahead of them.
-use Rattle.std.proofs.Common.{◌≡◌, ℕ, ◌⊎◌, inr, nat_lt, Bool, false, not, Option, Some, None, List, [], ◌∷◌, ◌++◌, map, flat_map, take, drop, refl, ap, sym, ◌∙◌, subst, arith, append_assoc, append-nil}
-use Rattle.std.specs.List.{AllByRecursion as Each}
-use Rattle.std.proofs.lemmas.Simd.{map-map}
-use Rattle.std.proofs.lemmas.Bool.{eqb-true, both_ways, false_from_ne_true}
-use Rattle.std.proofs.lemmas.List.{length-map, map-append, take-map, take-append-drop}
-use Rattle.std.proofs.lemmas.List.Elements.{filter-append}
+use Rattle.text_block_renderer.proofs.Common.{◌≡◌, ℕ, ◌⊎◌, inr, Bool, false, not, Option, Some, None, List, [], ◌∷◌, ◌++◌, map, flat_map, take, drop, refl, ap, sym, ◌∙◌, subst, arith, append_assoc, append-nil, rules, Each, map-map, eqb-true, both_ways, false_from_ne_true, length-map, map-append, take-map, take-append-drop, filter-append, Entry, character, marker_entry, Item, kept_items, Word, words_of, trailing, Slot, slot_of, slots_within, word_slots, slots_of, rest_text, is_space_item, run_of, Event, without_spaces, HasBestLines, Decoration, Line, Open, Renderer, with_events, with_more, block_width, IsSound, done, lines_at_end, names_at_end, after_flush, Call, Steps, Brings, stretch, items_on, NoneIsAhead, StandsAsStretch, StaysOpen, EndsAsStretch}
 use Rattle.tbr_model.proofs.rule.HardLines.{run_of-append}
-use Rattle.tbr_model.specs.Run.{Entry, character, marker_entry, Item, kept_items, items_width, Word, words_of, trailing}
-use Rattle.tbr_model.specs.Layout.{Slot, slot_of, slots_within, word_slots, slots_of, rest_text, line_text, joined, placed}
-use Rattle.tbr_model.specs.Rule.{is_space_item, run_of, Event}
-use Rattle.tbr_model.specs.Shown.{without_spaces}
+use Rattle.tbr_model.specs.Layout.{line_text, joined, placed}
 use Rattle.tbr_model.proofs.lists.Each.{each_front, each_back, each_append, each_map}
 use Rattle.tbr_model.proofs.lists.Joined.{joined-append}
 use Rattle.tbr_model.proofs.words.Items.{break_lost}
 use Rattle.tbr_model.proofs.words.KeptItems.{words_hold}
-use Rattle.tbr_wrap.specs.Wrapped.{HasBestLines}
-use Rattle.tbr_decor.specs.Decoration.{Decoration}
-use Rattle.tbr_kept_lines.specs.Line.{Line}
-use Rattle.tbr_renderer.specs.Renderer.{Open, Renderer, with_events, with_more, block_width, IsSound}
-use Rattle.tbr_tagged.specs.Outcome.{done}
-use Rattle.tbr_renderer.specs.Flush.{lines_at_end, names_at_end, after_flush}
 use Rattle.tbr_renderer.proofs.FlushedBlocks.{flushes, EndsBlock, FlushesBlock, Flushes}
-use Rattle.tbr_renderer.specs.Calls.{Call, Steps, Brings}
-use Rattle.text_block_renderer.specs.Stretches.{stretch, items_on, NoneIsAhead, StandsAsStretch, StaysOpen, EndsAsStretch}
 use Rattle.text_block_renderer.proofs.Moves.{Move, flush, join, turn, brought, MakesAll, any}
 use Rattle.text_block_renderer.proofs.CallMoves.{calls_move}
 use Rattle.text_block_renderer.proofs.AddedLines.{moves_grow, steps_grow, laid_lines}
@@ -42,13 +26,7 @@ module _ {T : Type 0} where
 
   unspaced_lines : (ls : List (List (Slot T))) → Each (λ s. IsNoSpace s.item) (joined ls) → without_spaces (joined (map line_text ls)) ≡ map (λ s. s.item) (joined ls)
   unspaced_lines [] h = refl
-  unspaced_lines (l ∷ ls) h =
-      rw (
-        filter-append (λ (i : Item T). not (is_space_item i)) (line_text l) (joined (map line_text ls)),
-        unspaced_line l (each_front (λ s. IsNoSpace s.item) l (joined ls) h),
-        unspaced_lines ls (each_back (λ s. IsNoSpace s.item) l (joined ls) h),
-      )
-      (sym (map-append (λ s. s.item) l (joined ls)))
+  unspaced_lines (l ∷ ls) h = search (rules, filter-append, not, unspaced_line, each_front, each_back, map-append, unspaced_lines ls (each_back (λ s. IsNoSpace s.item) l (joined ls) h))
 
   -- as many items are on the first lines as the layout has placed there
   placed_on : (n : ℕ) (ls : List (List (Slot T))) → Each (λ s. IsNoSpace s.item) (joined ls) → items_on n (map line_text ls) ≡ placed n ls
@@ -68,10 +46,7 @@ module _ {T : Type 0} (columns : ℕ → Option ℕ) where
 
   words_no_spaces : (width : ℕ) (ws : List (Word T)) → Each IsNoSpace (flat_map (λ w. w.items) ws) → Each (λ s. IsNoSpace s.item) (flat_map (word_slots columns width) ws)
   words_no_spaces width [] h = tt
-  words_no_spaces width (w ∷ ws) h =
-      each_append (λ s. IsNoSpace s.item) (word_slots columns width w) (flat_map (word_slots columns width) ws)
-      (within_slots (nat_lt width (items_width columns w.items)) w.gap w.items (each_front IsNoSpace w.items (flat_map (λ v. v.items) ws) h))
-      (words_no_spaces width ws (each_back IsNoSpace w.items (flat_map (λ v. v.items) ws) h))
+  words_no_spaces width (w ∷ ws) h = search (rules, each_append, within_slots, each_front, each_back, words_no_spaces width ws)
 
   slots_no_spaces : (width : ℕ) (run : List (Entry T)) → Each (λ s. IsNoSpace s.item) (slots_of columns width run)
   slots_no_spaces width run =

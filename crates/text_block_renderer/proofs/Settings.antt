@@ -1,21 +1,11 @@
 -- A call changes no settings but its own.
-use Rattle.std.proofs.Common.{◌≡◌, ℕ, suc, ◌-◌, Option, Some, None, List, [], ◌∷◌, map, fold, refl, ap, ◌∙◌, arith}
-use Rattle.std.proofs.lemmas.Bool.{cond_both}
+use Rattle.text_block_renderer.proofs.Common.{◌≡◌, ℕ, suc, ◌-◌, Option, Some, None, List, [], ◌∷◌, map, fold, refl, ap, ◌∙◌, arith, cond_both, Decoration, shown_title, struck_from, struck_until, annotated, after_start, after_titled, Line, Renderer, settings_of, without_annotation, done, changed, after_text, Call, add_empty_line, new_line, new_line_hard, start_block, start_table, add_inline_text, push_preformat, pop_preformat, begin, finish, start_strikeout, end_strikeout, add_image, add_border, append_subrender, append_vert_row, Does, with_border, border_of_cells, as_text, with_divider, with_cell, with_cell_below, with_cells, slash}
 use Rattle.tbr_decor.specs.Start as start
 use Rattle.tbr_decor.specs.End as end
-use Rattle.tbr_decor.specs.Decoration.{Decoration}
-use Rattle.tbr_renderer.specs.Image.{shown_title}
-use Rattle.tbr_renderer.specs.Decorated.{struck_from, struck_until, annotated, after_start, after_titled}
-use Rattle.tbr_kept_lines.specs.Line.{Line}
-use Rattle.tbr_renderer.specs.Renderer.{Renderer, settings_of, without_annotation}
-use Rattle.tbr_tagged.specs.Outcome.{done}
 use Rattle.tbr_tagged.proofs.Outcomes.{live_done}
-use Rattle.tbr_renderer.specs.Outcomes.{changed}
-use Rattle.tbr_renderer.specs.Steps.{after_text}
 use Rattle.tbr_renderer.proofs.OutcomeParts.{one_done, done_before}
-use Rattle.tbr_renderer.specs.Calls.{Call, add_empty_line, new_line, new_line_hard, start_block, start_table, add_inline_text, push_preformat, pop_preformat, begin, finish, start_strikeout, end_strikeout, add_image, add_border, append_subrender, append_vert_row, made, Does}
-use Rattle.tbr_renderer.specs.Appended.{with_border, border_of_cells, as_text, with_divider, with_cell, with_cell_below, with_cells}
-use Rattle.tbr_border.specs.Cell.{Cell, slash}
+use Rattle.tbr_renderer.specs.Calls.{made}
+use Rattle.tbr_border.specs.Cell.{Cell}
 use Rattle.text_block_renderer.specs.Settings.{settled, settled_by_image}
 use Rattle.tbr_renderer.proofs.SettingsStay.{Steady, steady, lines_added, flushed_alike, empty_added, started_alike, text_added, taken, closed_alike}
 

@@ -1,14 +1,5 @@
 -- Renderers stay sound.
-use Rattle.std.proofs.Common.{◌≡◌, ◌≢◌, ◌<◌, ℕ, Option, Some, List, ap, refl, arith}
-use Rattle.std.proofs.lemmas.Bool.{leb-true}
-use Rattle.tbr_tagged.specs.Outcome.{done}
-use Rattle.tbr_decor.specs.Decoration.{Decoration}
-use Rattle.tbr_renderer.specs.declared.options.RenderOptions.{RenderOptions}
-use Rattle.tbr_renderer.specs.Renderer.{Renderer, new_renderer, least, IsSound}
-use Rattle.tbr_renderer.specs.Calls.{Call, Steps, brought}
-use Rattle.tbr_renderer.specs.Decorated.{sub_renderer}
-use Rattle.tbr_renderer.specs.Outcomes.{run}
-use Rattle.text_block_renderer.specs.Acts.{Act, after_act}
+use Rattle.text_block_renderer.proofs.Common.{◌≡◌, ◌≢◌, ◌<◌, ℕ, Option, Some, List, ap, refl, arith, leb-true, done, Decoration, RenderOptions, Renderer, new_renderer, least, IsSound, Call, Steps, brought, sub_renderer, run, Act, after_act}
 use Rattle.text_block_renderer.proofs.Moves.{any, Frame, sound_alike, path_frame}
 use Rattle.text_block_renderer.proofs.CallMoves.{calls_move}
 use Rattle.text_block_renderer.proofs.ActParts.{acts_along}

@@ -1,38 +1,19 @@
 -- Visible characters and markers of lines that renderers take from one another.
-use Rattle.std.proofs.Common.{◌≡◌, ℕ, zero, suc, ◌+◌, ◌≤◌, ◌⊎◌, inl, inr, Option, List, [], ◌∷◌, ◌++◌, map, flat_map, fold, length, refl, ap, sym, ◌∙◌, subst, arith, append_assoc, append-nil, rules}
-use Rattle.std.proofs.lemmas.List.Elements.{filter-append}
-use Rattle.std.proofs.lemmas.Grind.{fold-append}
-use Rattle.std.proofs.lemmas.List.{length-append}
+use Rattle.text_block_renderer.proofs.Common.{◌≡◌, ℕ, zero, suc, ◌+◌, ◌≤◌, ◌⊎◌, inl, inr, Option, List, [], ◌∷◌, ◌++◌, map, flat_map, fold, length, refl, ap, sym, ◌∙◌, subst, arith, append_assoc, append-nil, rules, filter-append, fold-append, length-append, Entry, Item, is_visible_or_marker, text_items, slash, Decoration, StandsAmong, Overhanging, Line, text, border, after_flush, footnote_lines, Open, Renderer, open_run, IsSound, as_text, prefixed, with_divider, with_cell, with_cell_below, with_cells, handed_out, Call, append_subrender, append_vert_row, Does, done, if_live, Act, call, row, fmt_links, finalise, rows_of, after_act, lines_laid, StandWithin, written, to_show, AreWrittenIn, IsWrittenSoFar, CallTakes, Takes, NothingOverhangs, AreTakenIn}
 use Rattle.tbr_renderer.proofs.OutcomeParts.{one_done, done_first}
-use Rattle.tbr_model.specs.Run.{Entry, Item}
 use Rattle.tbr_model.specs.Layout.{joined}
-use Rattle.tbr_model.specs.Shown.{is_visible_or_marker}
-use Rattle.tbr_tagged.specs.Elements.{text_items}
-use Rattle.tbr_border.specs.Cell.{Cell, slash}
-use Rattle.tbr_decor.specs.Decoration.{Decoration}
-use Rattle.tbr_rows.specs.CellsShown.{StandsAmong}
-use Rattle.tbr_rows.specs.declared.LineSet.{LineSet as Overhanging}
+use Rattle.tbr_border.specs.Cell.{Cell}
 use Rattle.tbr_rows.proofs.Among.{each_among}
 use Rattle.tbr_rows.proofs.CellsSeated.{among_seated}
-use Rattle.tbr_kept_lines.specs.Line.{Line, text, border}
-use Rattle.tbr_renderer.specs.Flush.{after_flush}
-use Rattle.tbr_renderer.specs.Footnotes.{footnote_lines}
-use Rattle.tbr_renderer.specs.Renderer.{Open, Renderer, open_run, IsSound}
-use Rattle.tbr_renderer.specs.Appended.{as_text, prefixed, with_divider, with_cell, with_cell_below, with_cells, handed_out}
-use Rattle.tbr_renderer.specs.Calls.{Call, append_subrender, append_vert_row, Does}
-use Rattle.tbr_tagged.specs.Outcome.{done, if_live}
 use Rattle.tbr_renderer.proofs.CallParts.{handed_then}
-use Rattle.text_block_renderer.specs.Acts.{Act, call, row, fmt_links, finalise, rows_of, after_act}
 use Rattle.text_block_renderer.proofs.ActSteps.{ActStep, after_acts, act_step}
 use Rattle.text_block_renderer.proofs.ActParts.{alone, rows_one}
 use Rattle.text_block_renderer.proofs.RowsOfCells.{row_flushes}
 use Rattle.text_block_renderer.proofs.Moves.{any, flush, flushed_none, lines_beside, flush_beside, path_hanging}
 use Rattle.text_block_renderer.proofs.CallMoves.{calls_move}
 use Rattle.text_block_renderer.proofs.VerticalRows.{cells_after}
-use Rattle.text_block_renderer.specs.Stretches.{lines_laid}
 use Rattle.text_block_renderer.proofs.BroughtEntries.{last_shown}
 use Rattle.text_block_renderer.proofs.WrittenEntries.{flush_written}
-use Rattle.text_block_renderer.specs.Taken.{StandWithin, written, to_show, AreWrittenIn, IsWrittenSoFar, CallTakes, Takes, NothingOverhangs, AreTakenIn}
 use Rattle.text_block_renderer.proofs.AddedLines.{Grows, lines_grow, moves_grow, steps_grow, laid_lines}
 use Rattle.text_block_renderer.proofs.CellsInRows.{items_in, Follows, row_adds, row_follows, cell_follows}
 use Rattle.text_block_renderer.proofs.Within.{within_itself, within_more, within_on, two_within, itself_within, after_within, before_within}

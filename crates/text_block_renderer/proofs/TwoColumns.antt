@@ -1,28 +1,12 @@
 -- Two columns are enough for characters that take two at most.
-use Rattle.std.proofs.Common.{unwrap_or, IfSome, ◌≡◌, ℕ, ◌≤◌, inl, inr, Bool, true, false, Option, Some, None, List, [], ◌∷◌, fold, ap, sym, subst, arith, rules}
-use Rattle.std.proofs.lemmas.Bool.{cond_both}
-use Rattle.tbr_model.specs.Rule.{run_of}
-use Rattle.tbr_model.specs.Run.{Entry, character, marker_entry}
-use Rattle.tbr_wrap.specs.Runs.{CharactersFit}
+use Rattle.text_block_renderer.proofs.Common.{unwrap_or, IfSome, ◌≡◌, ℕ, ◌≤◌, inl, inr, Bool, true, false, Option, Some, None, List, [], ◌∷◌, fold, ap, sym, subst, arith, rules, cond_both, run_of, Entry, character, marker_entry, CharactersFit, Decoration, shown_title, struck_from, struck_until, annotated, after_start, after_end, after_titled, Open, Renderer, least, block_width, with_line, open_block, with_events, struck, text_annotations, last_mode, refused, horizontal, changed, block_lines, lines_at_end, names_at_end, fits_at_end, fits_grown, flushed, after_block, after_flush, with_empty_line, block_started, after_block_start, text_brings, after_joining, after_first_text, after_text, with_border, border_of_cells, prefixed, with_divider, with_cells, Call, add_empty_line, new_line, new_line_hard, start_block, start_table, add_inline_text, begin, finish, start_strikeout, end_strikeout, add_image, add_border, append_subrender, append_vert_row, Act, ActIsTooNarrow, TakeTwoAtMost}
 use Rattle.tbr_decor.specs.Start as start
 use Rattle.tbr_decor.specs.End as end
-use Rattle.tbr_decor.specs.Decoration.{Decoration}
-use Rattle.tbr_renderer.specs.Image.{shown_title}
-use Rattle.tbr_renderer.specs.Decorated.{struck_from, struck_until, annotated, after_start, after_end, after_titled}
-use Rattle.tbr_renderer.specs.Renderer.{Open, Renderer, least, block_width, with_line, open_block, with_events, struck, text_annotations, last_mode}
-use Rattle.tbr_tagged.specs.Outcome.{refused}
 use Rattle.tbr_tagged.specs.declared.Error.TheVariants.{TooNarrow}
-use Rattle.tbr_border.specs.Cell.{horizontal}
-use Rattle.tbr_renderer.specs.Outcomes.{changed}
-use Rattle.tbr_renderer.specs.Flush.{block_lines, lines_at_end, names_at_end, fits_at_end, fits_grown, flushed, after_block, after_flush}
-use Rattle.tbr_renderer.specs.Steps.{with_empty_line, block_started, after_block_start, text_brings, after_joining, after_first_text, after_text}
-use Rattle.tbr_renderer.specs.Appended.{with_border, border_of_cells, prefixed, with_divider, with_cells}
 use Rattle.tbr_renderer.proofs.OutcomeParts.{refused_before, refused_first, refused_if_not}
 use Rattle.tbr_renderer.proofs.MappedBlocks.{end_wide, join_wide}
-use Rattle.tbr_renderer.specs.Calls.{Call, add_empty_line, new_line, new_line_hard, start_block, start_table, add_inline_text, begin, finish, start_strikeout, end_strikeout, add_image, add_border, append_subrender, append_vert_row, made}
+use Rattle.tbr_renderer.specs.Calls.{made}
 use Rattle.tbr_renderer.proofs.SettingsStay.{Steady, started_alike}
-use Rattle.text_block_renderer.specs.Acts.{Act, ActIsTooNarrow}
-use Rattle.text_block_renderer.specs.Headline.{TakeTwoAtMost}
 
 narrow : (o : Option ℕ) (width : ℕ) → IfSome o (λ n. n ≤ 2) → 2 ≤ width → unwrap_or o 0 ≤ width
 narrow o width two wide = grind arith

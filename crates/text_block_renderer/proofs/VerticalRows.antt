@@ -1,20 +1,8 @@
 -- Rows of cells, as lines.
-use Rattle.std.proofs.Common.{◌≡◌, ℕ, Bool, true, false, if◌then◌else◌, Option, List, [], ◌∷◌, ◌++◌, map, flat_map, fold, refl, ap, sym, ◌∙◌, append_assoc, append-nil, arith, rules}
-use Rattle.std.specs.List.{join_by}
-use Rattle.std.proofs.lemmas.Grind.{fold-append}
-use Rattle.tbr_model.specs.Run.{Item}
-use Rattle.tbr_border.specs.Cell.{Cell, horizontal, slash}
-use Rattle.tbr_decor.specs.Decoration.{Decoration}
-use Rattle.tbr_kept_lines.specs.Line.{Line, text, border}
-use Rattle.tbr_renderer.specs.Renderer.{Renderer, Settings, settings_of, with_line}
-use Rattle.tbr_tagged.specs.Outcome.{done}
+use Rattle.text_block_renderer.proofs.Common.{◌≡◌, ℕ, Bool, true, false, if◌then◌else◌, Option, List, [], ◌∷◌, ◌++◌, map, flat_map, fold, refl, ap, sym, ◌∙◌, append_assoc, append-nil, arith, rules, join_by, fold-append, Item, horizontal, slash, Decoration, Line, text, border, Renderer, Settings, settings_of, with_line, done, changed, after_flush, with_border, border_of_cells, as_text, with_divider, with_cell, with_cell_below, with_cells, append_vert_row, Does, lines_laid}
+use Rattle.tbr_border.specs.Cell.{Cell}
 use Rattle.tbr_tagged.proofs.Outcomes.{live_done}
-use Rattle.tbr_renderer.specs.Outcomes.{changed}
-use Rattle.tbr_renderer.specs.Flush.{after_flush}
 use Rattle.tbr_renderer.proofs.OutcomeParts.{done_before}
-use Rattle.tbr_renderer.specs.Appended.{with_border, border_of_cells, as_text, with_divider, with_cell, with_cell_below, with_cells}
-use Rattle.tbr_renderer.specs.Calls.{append_vert_row, Does}
-use Rattle.text_block_renderer.specs.Stretches.{lines_laid}
 use Rattle.text_block_renderer.specs.VerticalRows.{cell_lines, row_lines}
 use Rattle.tbr_renderer.proofs.SettingsStay.{Steady, lines_added, flushed_alike}
 use Rattle.text_block_renderer.proofs.DrawnBorders.{border_stays}

@@ -1,38 +1,18 @@
 -- Visible characters are there once.
-use Rattle.std.proofs.Common.{◌≡◌, ℕ, zero, suc, false, Option, None, List, [], ◌∷◌, ◌++◌, filter, fold, refl, ap, sym, ◌∙◌, subst, append-nil, arith}
+use Rattle.text_block_renderer.proofs.Common.{◌≡◌, ℕ, zero, suc, false, Option, None, List, [], ◌∷◌, ◌++◌, filter, fold, refl, ap, sym, ◌∙◌, subst, append-nil, arith, AllZip, run_of, Entry, Item, glyph, marker, marker_items, glyphs_of, is_visible, is_visible_entry, IsShown, visible_glyphs, visible_entries, filter-append, text_items, spaces, Line, Open, Renderer, with_line, open_run, block_width, IsSound, block_lines, lines_at_end, run, append_cancel_right, with_border, handed_out, done, Decoration, laid_entries, text_of_lines, Shows, AreDrawnAmong, WithoutDrawnBorders, Act, after_act, acts_come, items_so_far}
 use Rattle.std.proofs.Math.Bool.{and-false}
-use Rattle.std.specs.List.{AllZip}
-use Rattle.tbr_model.specs.Rule.{run_of}
 use Rattle.tbr_model.specs.Codes.{space_character}
-use Rattle.tbr_model.specs.Run.{Entry, Item, glyph, marker}
 use Rattle.tbr_model.specs.Layout.{joined}
-use Rattle.tbr_model.specs.Markers.{marker_items}
-use Rattle.tbr_model.specs.Hard.{glyphs_of, is_visible, is_visible_entry, IsShown, visible_glyphs, visible_entries}
 use Rattle.tbr_model.proofs.words.Items.{glyphs_of-append}
-use Rattle.std.proofs.lemmas.List.Elements.{filter-append}
 use Rattle.tbr_border.specs.Cell.{Cell}
-use Rattle.tbr_tagged.specs.Elements.{text_items}
-use Rattle.tbr_tagged.specs.Padding.{spaces}
 use Rattle.tbr_tagged.proofs.SameItems.{all_zip_append}
-use Rattle.tbr_kept_lines.specs.Line.{Line}
-use Rattle.tbr_renderer.specs.Renderer.{Open, Renderer, with_line, open_run, block_width, IsSound}
-use Rattle.tbr_renderer.specs.Flush.{block_lines, lines_at_end}
 use Rattle.tbr_renderer.proofs.FlushedBlocks.{EndsBlock}
-use Rattle.tbr_renderer.specs.Outcomes.{run}
-use Rattle.std.proofs.lemmas.List.{append_cancel_right}
-use Rattle.tbr_renderer.specs.Appended.{with_border, handed_out}
-use Rattle.tbr_tagged.specs.Outcome.{done}
 use Rattle.tbr_renderer.proofs.CallParts.{handed_then}
-use Rattle.tbr_decor.specs.Decoration.{Decoration}
-use Rattle.tbr_renderer.specs.Calls.{laid_entries, text_of_lines, Shows}
-use Rattle.text_block_renderer.specs.Drawn.{AreDrawnAmong, WithoutDrawnBorders}
-use Rattle.text_block_renderer.specs.Acts.{Act, after_act, acts_come}
 use Rattle.text_block_renderer.proofs.Moves.{Move, flush, brought_by, Makes, flushed_none, undrawn}
 use Rattle.text_block_renderer.proofs.DrawnBorders.{moves_on, border_unseen}
 use Rattle.text_block_renderer.proofs.LineContents.{Looks, unpadded, seen_line, seen_texts}
 use Rattle.text_block_renderer.proofs.LastingLines.{stay_texts}
 use Rattle.text_block_renderer.proofs.EndedEntries.{Ended, GoesOn, move_on, acts_on}
-use Rattle.text_block_renderer.specs.MarkersStand.{items_so_far}
 
 -- ---- items and entries
 

@@ -1,30 +1,10 @@
 -- Markers that wait, where a run ends and until a line of text comes, by a call or under a row.
-use Rattle.std.proofs.Common.{◌≡◌, ℕ, true, false, Option, Some, None, List, [], ◌∷◌, ◌++◌, map, flat_map, fold, refl, ap, sym, ◌∙◌, subst, arith, append_assoc, append-nil}
-use Rattle.std.specs.List.{AllZip, AllByRecursion as Each}
-use Rattle.std.proofs.lemmas.Bool.{or_parts}
-use Rattle.tbr_model.specs.Rule.{run_of}
-use Rattle.tbr_model.specs.Run.{Entry, Item, Word, kept_items, has_character, words_of, trailing}
-use Rattle.tbr_model.specs.Layout.{word_slots, slots_of, line_text, joined, HasNoEmptyLine}
-use Rattle.tbr_model.specs.Markers.{names_in_run, marker_items, marker_run}
-use Rattle.tbr_model.specs.Shown.{without_spaces}
+use Rattle.text_block_renderer.proofs.Common.{◌≡◌, ℕ, true, false, Option, Some, None, List, [], ◌∷◌, ◌++◌, map, flat_map, fold, refl, ap, sym, ◌∙◌, subst, arith, append_assoc, append-nil, rules, AllZip, Each, or_parts, run_of, Entry, Item, Word, kept_items, has_character, words_of, trailing, word_slots, slots_of, HasNoEmptyLine, names_in_run, marker_items, marker_run, without_spaces, Border, without_holes, IsNormal, HasBestLines, Decoration, Line, text, border, Open, Renderer, with_line, block_width, may_overflow, open_run, line_padding, IsSound, done, run, block_lines, flushed, lines_at_end, names_at_end, after_flush, with_border, Call, Steps, text_of_lines, Act, after_act, StaysLine, CameWithoutDrawnBorders, borders_drawn, DrawNone, items_so_far, FlushStands, first_text, BeginsWith, WaitForText, WaitForTextUnderRows}
+use Rattle.tbr_model.specs.Layout.{line_text, joined}
 use Rattle.tbr_model.proofs.words.Items.{has_character-append}
 use Rattle.tbr_model.proofs.words.KeptItems.{words_hold}
 use Rattle.tbr_model.proofs.words.LinesHaveCharacters.{words_have}
-use Rattle.tbr_border.specs.Border.{Border, without_holes}
-use Rattle.tbr_wrap.specs.Runs.{IsNormal}
-use Rattle.tbr_wrap.specs.Wrapped.{HasBestLines}
-use Rattle.tbr_decor.specs.Decoration.{Decoration}
-use Rattle.tbr_kept_lines.specs.Line.{Line, text, border}
-use Rattle.tbr_renderer.specs.Renderer.{Open, Renderer, with_line, block_width, may_overflow, open_run, line_padding, IsSound}
-use Rattle.tbr_tagged.specs.Outcome.{done}
-use Rattle.tbr_renderer.specs.Outcomes.{run}
-use Rattle.tbr_renderer.specs.Flush.{block_lines, flushed, lines_at_end, names_at_end, after_flush}
 use Rattle.tbr_renderer.proofs.FlushedBlocks.{flushes, FlushesBlock}
-use Rattle.tbr_renderer.specs.Appended.{with_border}
-use Rattle.tbr_renderer.specs.Calls.{Call, Steps, text_of_lines}
-use Rattle.text_block_renderer.specs.Acts.{Act, after_act, StaysLine}
-use Rattle.text_block_renderer.specs.Drawn.{CameWithoutDrawnBorders, borders_drawn, DrawNone}
-use Rattle.text_block_renderer.specs.MarkersStand.{items_so_far, FlushStands, first_text, BeginsWith, WaitForText, WaitForTextUnderRows}
 use Rattle.text_block_renderer.proofs.Moves.{Move, flush, line, rule, join, turn, Makes, undrawn}
 use Rattle.text_block_renderer.proofs.DrawnBorders.{end_alike, steps_on, steps_on_all, border_stays}
 use Rattle.text_block_renderer.proofs.LineContents.{marker_items-append, seen_flushed}
@@ -92,12 +72,8 @@ module _ {D A : Type 0} (columns : ℕ → Option ℕ) where
       names = names_at_end columns r b
 
       go : (ts : List (List (Item (List A)))) → lines_at_end columns r b ≡ ts → marker_items s.waiting ≡ trailing columns (run_of b.events)
-      go [] e =
-          let all : marker_items names ≡ kept_items columns (run_of b.events) = ap (λ (ls : List (List (Item (List A)))). without_spaces (joined ls) ++ marker_items names) (sym e) ∙ (h.ends sound).kept normal in
-          absurd (let no : true ≡ false = sym some ∙ ap has_character (sym all) ∙ no_character (List A) names in cc)
-      go (t ∷ ts) e =
-          ap (λ (q : Renderer D A (List A)). marker_items q.waiting) h.is ∙ ap (λ (ls : List (List (Item (List A)))). marker_items (flushed columns r (block_lines columns r b ls) names).waiting) e
-          ∙ ap (λ ns. marker_items (ns ++ names)) (none_wait (with_line columns (record r { block = None }) _) (block_lines columns r b ts) refl) ∙ (h.ends sound).waits narrow normal
+      go [] e = search (rules, names, true, false, no_character)
+      go (t ∷ ts) e = search (rules, names, none_wait)
 
   -- a block without lines: its markers wait after the others
   bare : (r s : Renderer D A (List A)) (o : Option (Open (List A))) → FlushesBlock columns r o s → IsSound columns r → may_overflow r ≡ false → IsNormal (open_run o) →

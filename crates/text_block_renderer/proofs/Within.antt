@@ -1,8 +1,5 @@
 -- Lists that stand within others, in order.
-use Rattle.std.proofs.Common.{ℕ, Option, inl, inr, List, [], ◌∷◌, ◌++◌, refl, ◌∙◌, subst, append-nil, arith}
-use Rattle.std.proofs.lemmas.List.Elements.{filter-append}
-use Rattle.tbr_model.specs.Run.{Item}
-use Rattle.text_block_renderer.specs.Taken.{StandWithin, to_show}
+use Rattle.text_block_renderer.proofs.Common.{ℕ, Option, inl, inr, List, [], ◌∷◌, ◌++◌, refl, ◌∙◌, subst, append-nil, arith, filter-append, Item, StandWithin, to_show}
 
 module _ {X : Type 0} where
   within_after : (front xs ys : List X) → StandWithin xs ys → StandWithin xs (front ++ ys)

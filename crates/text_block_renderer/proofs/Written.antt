@@ -1,17 +1,7 @@
 -- What is written in lines: their texts, and those in front of borders.
-use Rattle.std.proofs.Common.{◌≡◌, ℕ, ◌+◌, Option, List, [], ◌∷◌, ◌++◌, map, flat_map, refl, ap, sym, ◌∙◌, subst, append_assoc, rules}
-use Rattle.std.specs.List.{AllZip}
-use Rattle.tbr_model.specs.Run.{Item}
+use Rattle.text_block_renderer.proofs.Common.{◌≡◌, ℕ, ◌+◌, Option, List, [], ◌∷◌, ◌++◌, map, flat_map, refl, ap, sym, ◌∙◌, subst, append_assoc, rules, AllZip, Item, Hole, Border, shown_from, shown, element_items, Line, text, border, marker_items, Renderer, line_padding, StaysLine, padded_line, lines_laid, StandWithin, text_before, written, to_show}
 use Rattle.tbr_model.specs.Layout.{joined}
 use Rattle.tbr_border.specs.Cell.{Cell}
-use Rattle.tbr_border.specs.Border.{Hole, Border, shown_from, shown}
-use Rattle.tbr_tagged.specs.Elements.{element_items}
-use Rattle.tbr_kept_lines.specs.Line.{Line, text, border}
-use Rattle.tbr_model.specs.Markers.{marker_items}
-use Rattle.tbr_renderer.specs.Renderer.{Renderer, line_padding}
-use Rattle.text_block_renderer.specs.Acts.{StaysLine}
-use Rattle.text_block_renderer.specs.Stretches.{padded_line, lines_laid}
-use Rattle.text_block_renderer.specs.Taken.{StandWithin, text_before, written, to_show}
 use Rattle.text_block_renderer.proofs.LastingLines.{stay_alike}
 use Rattle.text_block_renderer.proofs.AddedLines.{unmarked}
 use Rattle.text_block_renderer.proofs.Within.{two_within, itself_within, after_within, before_within}

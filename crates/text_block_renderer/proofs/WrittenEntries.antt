@@ -1,24 +1,7 @@
 -- What came is in the lines, with others between, whether they are padded or not.
-use Rattle.std.proofs.Common.{◌≡◌, ℕ, Option, None, List, [], ◌∷◌, ◌++◌, fold, refl, ap, sym, ◌∙◌, subst, append_assoc, append-nil}
-use Rattle.std.specs.List.{AllZip}
-use Rattle.std.proofs.lemmas.List.Elements.{filter-append}
-use Rattle.tbr_model.specs.Run.{Entry, Item}
-use Rattle.tbr_model.specs.Rule.{run_of}
+use Rattle.text_block_renderer.proofs.Common.{◌≡◌, ℕ, Option, None, List, [], ◌∷◌, ◌++◌, fold, refl, ap, sym, ◌∙◌, subst, append_assoc, append-nil, AllZip, filter-append, Entry, Item, run_of, marker_items, is_visible_or_marker, Border, done, Decoration, text, Open, Renderer, line_padding, with_line, block_width, IsSound, block_lines, lines_at_end, names_at_end, flushed, border_line, with_border, laid_entries, run, Act, after_act, acts_come, StaysLine, StandWithin, written, to_show, IsWrittenSoFar}
 use Rattle.tbr_model.specs.Layout.{joined}
-use Rattle.tbr_model.specs.Markers.{marker_items}
-use Rattle.tbr_model.specs.Shown.{is_visible_or_marker}
-use Rattle.tbr_border.specs.Border.{Border}
-use Rattle.tbr_tagged.specs.Outcome.{done}
-use Rattle.tbr_decor.specs.Decoration.{Decoration}
-use Rattle.tbr_kept_lines.specs.Line.{text}
-use Rattle.tbr_renderer.specs.Renderer.{Open, Renderer, line_padding, with_line, block_width, IsSound}
-use Rattle.tbr_renderer.specs.Flush.{block_lines, lines_at_end, names_at_end, flushed}
-use Rattle.tbr_renderer.specs.Appended.{border_line, with_border}
-use Rattle.tbr_renderer.specs.Calls.{laid_entries}
-use Rattle.tbr_renderer.specs.Outcomes.{run}
 use Rattle.tbr_renderer.proofs.FlushedBlocks.{EndsBlock, Flushes}
-use Rattle.text_block_renderer.specs.Acts.{Act, after_act, acts_come, StaysLine}
-use Rattle.text_block_renderer.specs.Taken.{StandWithin, written, to_show, IsWrittenSoFar}
 use Rattle.text_block_renderer.proofs.Within.{within_both, within_more, itself_within, before_within}
 use Rattle.text_block_renderer.proofs.Written.{written-append, stays_written}
 use Rattle.text_block_renderer.proofs.LineContents.{unpadded, marker_items-append}

@@ -1,4 +1,4 @@
-use Rattle.std.proofs.Common.{[], ◌∷◌, ◌++◌, map, flat_map, chars, ap, sym, ◌∙◌, append-nil}
+use Rattle.std.proofs.Common.{flat_map, chars, ap, ◌∙◌, append-nil, rules}
 use Rattle.std.proofs.lemmas.Iterator.Consumers.{YieldsList-from_deque, YieldsList-end}
 use Rattle.std.proofs.lemmas.List.{map_push}
 use Rattle.std.proofs.lemmas.List.Concat.{flat_map-append}
@@ -10,12 +10,7 @@ pub loop-line-init : goal.loop-line-init
 loop-line-init g c = ap chars c.new-text.ensures.bytes ∙ chars-nil
 
 pub loop-line-preserved : goal.loop-line-preserved
-loop-line-preserved g c =
-    let line = c.in-Some.line in
-    let yielded = c.loop-line.yielded in
-    let before = map (λ l. l.now) yielded in
-    let more = ap (flat_map left.line_text) (map_push (λ l. l.now) yielded line) ∙ flat_map-append left.line_text before (line.now ∷ []) ∙ ap (λ cs. flat_map left.line_text before ++ cs) (append-nil (left.line_text line.now)) in
-    c.in_ok-append_line.ensures ∙ ap (λ cs. cs ++ left.line_text line.now) c.loop-line.invariant ∙ sym more
+loop-line-preserved g c = search (rules, map_push, flat_map-append, append-nil, c.in_ok-append_line.ensures, c.loop-line.invariant)
 
 pub returns : goal.returns
 returns g c =

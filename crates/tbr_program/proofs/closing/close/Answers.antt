@@ -1,7 +1,4 @@
-use Rattle.std.proofs.Common.{◌∙◌, ap, sym, encode_utf8_all, string_bytes}
-use Rattle.std.proofs.lemmas.Str.{IsUtf8-string_bytes}
-use Rattle.tbr_renderer.specs.Outcomes.{changed}
-use Rattle.text_block_renderer.specs.Text.{lines_text}
+use Rattle.tbr_program.proofs.Common.{◌∙◌, ap, sym, encode_utf8_all, string_bytes, IsUtf8-string_bytes, changed, lines_text}
 use Rattle.tbr_program.proofs.Notes.{text_of_lines}
 use Rattle.tbr_program.proofs.Results.{if_ok_then}
 use Rattle.tbr_program.proofs.closing.close.Goals as goal

@@ -1,10 +1,4 @@
-use Rattle.std.proofs.Common.{map, sym, ◌∙◌}
-use Rattle.tbr_tagged.specs.View.{chars_of}
-use Rattle.tbr_decor.specs.Decoration.{decoration_of}
-use Rattle.text_block_renderer.specs.Tags.{tag_meant}
-use Rattle.text_block_renderer.specs.Meant.{map_line, meant}
-use Rattle.text_block_renderer.specs.Line.{line_seen}
-use Rattle.text_block_renderer.specs.Appended.{handed_out}
+use Rattle.tbr_program.proofs.Common.{map, sym, ◌∙◌, chars_of, decoration_of, tag_meant, map_line, meant, line_seen, handed_out}
 use Rattle.tbr_program.specs.Closing.{closed}
 use Rattle.tbr_program.proofs.Results.{if_ok_given}
 use Rattle.tbr_program.proofs.closing.close_lines.Goals as goal

@@ -1,11 +1,5 @@
-use Rattle.std.proofs.Common.{◌≡◌, ◌==◌, true, false, None, Err, map, length, sym, ap, ◌∙◌}
-use Rattle.std.proofs.lemmas.Result.{err_from_is_err_and}
-use Rattle.tbr_tagged.specs.View.{chars_of}
+use Rattle.tbr_program.proofs.Common.{◌≡◌, ◌==◌, true, false, None, Err, map, length, sym, ap, ◌∙◌, err_from_is_err_and, chars_of, decoration_of, meant, handed_out, start_block, after}
 use Rattle.tbr_tagged.specs.declared.Error.TheVariants.{TooNarrow}
-use Rattle.tbr_decor.specs.Decoration.{decoration_of}
-use Rattle.text_block_renderer.specs.Meant.{meant}
-use Rattle.text_block_renderer.specs.Appended.{handed_out}
-use Rattle.text_block_renderer.specs.Calls.{start_block, after}
 use Rattle.text_block_renderer.proofs.Settings.{call_beside}
 use Rattle.tbr_program.proofs.Notes.{closed_without, closed_with, closing_refused, unfailed}
 use Rattle.tbr_program.proofs.closing.with_footnotes.Goals as goal

@@ -1,14 +1,7 @@
-use Rattle.std.proofs.Common.{◌≡◌, length, string_bytes, subst}
-use Rattle.std.proofs.lemmas.Result.{on_ok_weaker}
-use Rattle.std.proofs.lemmas.Iterator.Consumers.{YieldsList-from_chain, YieldsList-at}
+use Rattle.tbr_program.proofs.Common.{◌≡◌, length, string_bytes, subst, on_ok_weaker, YieldsList-from_chain, YieldsList-at, decoration_of, meant, handed_out, new_line, append_subrender, after, Does, prefixes}
 use Rattle.std.proofs.lemmas.Iterator.Adapters.{YieldsList-from_once, YieldsList-from_repeat_n}
 use Rattle.tbr_tagged.specs.declared.Error.TheVariants.{TooNarrow}
-use Rattle.tbr_decor.specs.Decoration.{decoration_of}
 use Rattle.tbr_renderer.proofs.OutcomeParts.{taking_none}
-use Rattle.text_block_renderer.specs.Meant.{meant}
-use Rattle.text_block_renderer.specs.Appended.{handed_out}
-use Rattle.text_block_renderer.specs.Calls.{new_line, append_subrender, after, Does}
-use Rattle.tbr_program.specs.Prefixes.{prefixes}
 use Rattle.tbr_program.proofs.GivenPrefixes.{is_others, prefixes_given, block_takes}
 use Rattle.tbr_program.proofs.prefixes.append_after.Goals as goal
 

@@ -1,4 +1,4 @@
-use Rattle.std.proofs.Common.{◌∙◌, Some, None}
+use Rattle.tbr_runner.proofs.Common.{◌∙◌, Some, None}
 use Rattle.tbr_runner.proofs.RenderedLines.{first_read}
 use Rattle.tbr_runner.proofs.runner.first_command.Goals as goal
 

@@ -1,6 +1,4 @@
-use Rattle.std.proofs.Common.{◌≡◌, ℕ, ◌+◌, ◌≤◌, Option, length}
-use Rattle.tbr_script.specs.Script.{lines_of}
-use Rattle.tbr_runner.specs.Scripts.{rendered_from, rendered}
+use Rattle.tbr_runner.proofs.Common.{◌≡◌, ℕ, ◌+◌, ◌≤◌, Option, length, lines_of, rendered_from, rendered}
 use Rattle.tbr_runner.proofs.runner.first_command.Given as goal
 
 abbrev pub invariant-loop-rest : goal.invariant-loop-rest

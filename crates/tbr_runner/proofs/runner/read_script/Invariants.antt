@@ -1,4 +1,4 @@
-use Rattle.std.proofs.Common.{◌≡◌, ◌-◌, ◌^◌, false, length, vec_len}
+use Rattle.tbr_runner.proofs.Common.{◌≡◌, ◌-◌, ◌^◌, false, length, vec_len}
 use Rattle.std.specs.Io.KnownBytes.{Consumes}
 use Rattle.tbr_runner.proofs.runner.read_script.Given as goal
 

@@ -1,6 +1,4 @@
-use Rattle.std.proofs.Common.{◌≡◌, Ok, Err, string_bytes}
-use Rattle.tbr_commands.specs.declared.opening.Decorator.TheVariants.{Plain, Trivial, Rich}
-use Rattle.tbr_script.specs.Script.{lines_of}
+use Rattle.tbr_runner.proofs.Common.{◌≡◌, Ok, Err, string_bytes, Plain, Trivial, Rich, lines_of}
 use Rattle.tbr_runner.proofs.RenderedLines.{opened_under}
 use Rattle.tbr_program.proofs.Results.{if_ok_then, if_err_then}
 use Rattle.tbr_runner.proofs.runner.render.Goals as goal

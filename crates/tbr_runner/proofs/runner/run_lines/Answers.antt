@@ -1,7 +1,5 @@
-use Rattle.std.proofs.Common.{◌≡◌, Ok, Err, arith, ◌∙◌}
+use Rattle.tbr_runner.proofs.Common.{◌≡◌, Ok, Err, arith, ◌∙◌, rules, decoration_of, progress_meant}
 use Rattle.std.proofs.lemmas.Result.{err_from_is_err_and}
-use Rattle.tbr_decor.specs.Decoration.{decoration_of}
-use Rattle.tbr_program.specs.Progress.{progress_meant}
 use Rattle.tbr_runner.proofs.RenderedLines.{at_end, line_made}
 use Rattle.tbr_runner.proofs.ScriptRefusals.{if_err_is, line_of_script}
 use Rattle.tbr_runner.proofs.runner.run_lines.Goals as goal
@@ -25,14 +23,7 @@ loop-rest-preserved g c =
     }
 
 pub returns-clause-told : goal.returns-clause-told
-returns-clause-told g c =
-    let here = progress_meant g.D.TextDecorator.meaning c.loop-rest.program in
-    c.loop-rest.invariant.so_far ∙ at_end g.W.CharWidth.columns (decoration_of g.D.TextDecorator) c.loop-rest.number here c.loop-rest.rest.now c.loop-rest-test.ensures
+returns-clause-told g c = search (rules, at_end, c.loop-rest.invariant.so_far, c.loop-rest-test.ensures)
 
 pub returns-in_err-run_line-clause-of_script : goal.returns-in_err-run_line-clause-of_script
-returns-in_err-run_line-clause-of_script g c =
-    let here = progress_meant g.D.TextDecorator.meaning c.loop-rest.program in
-    let p = err_from_is_err_and c.from_residual.result c.from_residual.ensures.1 in
-    let same : c.from_residual.result ≡ Err c.in_err-run_line.field-0.0 = cc (p.1, p.2) in
-    if_err_is _ c.from_residual.result c.in_err-run_line.field-0.0 same (λ found.
-    line_of_script g.W.CharWidth.columns (decoration_of g.D.TextDecorator) c.loop-rest.number here c.split_line.result.0.now c.in_err-run_line.field-0.0 (c.in_err-run_line.ensures.runs.refused found) found)
+returns-in_err-run_line-clause-of_script g c = search (rules, err_from_is_err_and, if_err_is, line_of_script, c.from_residual.ensures.1, c.in_err-run_line.ensures.runs.refused)

@@ -1,8 +1,4 @@
-use Rattle.std.proofs.Common.{◌≡◌, ◌+◌, ◌≤◌, length}
-use Rattle.tbr_decor.specs.Decoration.{decoration_of}
-use Rattle.tbr_script.specs.Script.{lines_of}
-use Rattle.tbr_program.specs.Progress.{progress_meant, GoesOn}
-use Rattle.tbr_runner.specs.Scripts.{rendered_on}
+use Rattle.tbr_runner.proofs.Common.{◌≡◌, ◌+◌, ◌≤◌, length, decoration_of, lines_of, progress_meant, GoesOn, rendered_on}
 use Rattle.tbr_runner.proofs.runner.run_lines.Given as goal
 
 abbrev pub invariant-loop-rest : goal.invariant-loop-rest

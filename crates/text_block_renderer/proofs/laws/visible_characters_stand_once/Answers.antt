@@ -1,5 +1,4 @@
-use Rattle.std.proofs.Common.{[], refl}
-use Rattle.tbr_renderer.specs.Calls.{Shows}
+use Rattle.text_block_renderer.proofs.Common.{[], refl, Shows}
 use Rattle.text_block_renderer.proofs.Moves.{undrawn}
 use Rattle.text_block_renderer.proofs.DrawnBorders.{calls_bring_on, brings_on, new_brings_on}
 use Rattle.text_block_renderer.proofs.VisibleCharacters.{shows_move}

@@ -1,4 +1,4 @@
-use Rattle.text_block_renderer.specs.MarkersStand.{Stands}
+use Rattle.text_block_renderer.proofs.Common.{Stands}
 use Rattle.text_block_renderer.proofs.Moves.{undrawn}
 use Rattle.text_block_renderer.proofs.DrawnBorders.{calls_bring_on, brings_on, new_brings_on}
 use Rattle.text_block_renderer.proofs.BroughtEntries.{new_stands, move_stands}

@@ -1,6 +1,4 @@
-use Rattle.std.proofs.Common.{◌≡◌, Option, Some, List, [], ◌∷◌, ◌++◌, reverse, sym, ap, ◌∙◌}
-use Rattle.std.specs.Option.{option_to_list}
-use Rattle.std.proofs.lemmas.List.{reverse-append}
+use Rattle.tbr_program.proofs.Common.{◌≡◌, Option, Some, List, [], ◌∷◌, ◌++◌, reverse, sym, ap, ◌∙◌, option_to_list, reverse-append}
 use Rattle.tbr_program.proofs.opened.OpenLevels.close.Goals as goal
 
 last_first : {X : Type 0} (all left : List X) (o : Option X) (x y : X) → all ≡ left ++ option_to_list o → o ≡ Some x → y ≡ x → reverse all ≡ y ∷ reverse left

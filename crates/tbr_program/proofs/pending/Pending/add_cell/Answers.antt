@@ -1,9 +1,5 @@
-use Rattle.std.proofs.Common.{◌≡◌, ◌<◌, ◌+◌, ℕ, List, [], ◌∷◌, ◌++◌, length, length-append, sym, ap, ◌∙◌, subst}
-use Rattle.std.specs.List.{AllByRecursion as Each}
-use Rattle.tbr_tagged.specs.declared.CellAlign.{CellAlign}
+use Rattle.tbr_program.proofs.Common.{◌≡◌, ◌<◌, ◌+◌, ℕ, List, [], ◌∷◌, ◌++◌, length, length-append, sym, ap, ◌∙◌, subst, Each, CellAlign, Renderer, Pending, with_cell}
 use Rattle.tbr_model.proofs.lists.Each.{each_append}
-use Rattle.text_block_renderer.specs.Renderer.{Renderer}
-use Rattle.tbr_program.specs.Progress.{Pending, with_cell}
 use Rattle.tbr_program.proofs.pending.Pending.add_cell.Goals as goal
 
 as_many : {X Y : Type 0} (xs all : List X) (ys each : List Y) (x : X) (y : Y) → all ≡ xs ++ x ∷ [] → each ≡ ys ++ y ∷ [] → length ys ≡ length xs → length each ≡ length all

@@ -1,7 +1,4 @@
-use Rattle.std.proofs.Common.{refl, ◌≡◌, true, false, Err, sym, ap, ◌∙◌}
-use Rattle.tbr_decor.specs.Decoration.{decoration_of}
-use Rattle.tbr_commands.specs.Command.{row}
-use Rattle.tbr_program.specs.Commands.{after_command}
+use Rattle.tbr_program.proofs.Common.{refl, ◌≡◌, true, false, Err, sym, ap, ◌∙◌, decoration_of, row, after_command}
 use Rattle.tbr_program.proofs.LivePrograms.{command_done}
 use Rattle.tbr_program.proofs.MadeCommands.{row_unfit, row_done, row_narrow}
 use Rattle.tbr_program.proofs.Results.{runs_early, runs_refused}

@@ -1,8 +1,4 @@
-use Rattle.std.proofs.Common.{Err, refl, ap, ◌∙◌}
-use Rattle.tbr_decor.specs.Decoration.{decoration_of}
-use Rattle.tbr_commands.specs.Request.{text}
-use Rattle.tbr_commands.specs.Command.{ask}
-use Rattle.tbr_program.specs.Commands.{after_command}
+use Rattle.tbr_program.proofs.Common.{Err, refl, ap, ◌∙◌, decoration_of, text, ask, after_command}
 use Rattle.tbr_program.proofs.MadeCommands.{request_done, request_narrow}
 use Rattle.tbr_program.proofs.LivePrograms.{command_done}
 use Rattle.tbr_program.proofs.Results.{runs_refused}

@@ -1,7 +1,4 @@
-use Rattle.std.proofs.Common.{Err, ap, ◌∙◌}
-use Rattle.tbr_decor.specs.Decoration.{decoration_of}
-use Rattle.tbr_commands.specs.Command.{vertical_row}
-use Rattle.tbr_program.specs.Commands.{after_command}
+use Rattle.tbr_program.proofs.Common.{Err, ap, ◌∙◌, decoration_of, vertical_row, after_command}
 use Rattle.tbr_program.proofs.LivePrograms.{command_done}
 use Rattle.tbr_program.proofs.MadeCommands.{vertical_done, vertical_narrow}
 use Rattle.tbr_program.proofs.Results.{runs_refused}

@@ -1,8 +1,4 @@
-use Rattle.std.proofs.Common.{refl, ◌≡◌, true, false, Err, ap, ◌∙◌, string_bytes, subst, sym}
-use Rattle.tbr_decor.specs.Decoration.{decoration_of}
-use Rattle.tbr_commands.specs.Command.{append}
-use Rattle.tbr_program.specs.Progress.{GoesOn}
-use Rattle.tbr_program.specs.Commands.{after_command}
+use Rattle.tbr_program.proofs.Common.{refl, ◌≡◌, true, false, Err, ap, ◌∙◌, string_bytes, subst, sym, decoration_of, append, GoesOn, after_command}
 use Rattle.tbr_program.proofs.Levels.{top_live}
 use Rattle.tbr_program.proofs.LivePrograms.{command_done}
 use Rattle.tbr_program.proofs.MadeCommands.{some_opened, no_block, block_waits, block_done, block_narrow}

@@ -1,9 +1,4 @@
-use Rattle.std.proofs.Common.{refl, ◌<◌, Err, subst, sym, ap, ◌∙◌}
-use Rattle.tbr_decor.specs.Decoration.{decoration_of}
-use Rattle.tbr_commands.specs.Request.{request_of}
-use Rattle.tbr_commands.specs.Command.{ask}
-use Rattle.tbr_program.specs.Progress.{GoesOn}
-use Rattle.tbr_program.specs.Commands.{after_command}
+use Rattle.tbr_program.proofs.Common.{refl, ◌<◌, Err, subst, sym, ap, ◌∙◌, decoration_of, request_of, ask, GoesOn, after_command}
 use Rattle.tbr_program.proofs.Levels.{top_live}
 use Rattle.tbr_program.proofs.LiveRenderers.{some_preformats, some_strikeouts}
 use Rattle.tbr_program.proofs.LivePrograms.{command_done}

@@ -1,5 +1,4 @@
-use Rattle.std.proofs.Common.{sym, subst}
-use Rattle.tbr_program.specs.Progress.{GoesOn}
+use Rattle.tbr_program.proofs.Common.{sym, subst, GoesOn}
 use Rattle.tbr_program.proofs.Levels.{below_live}
 use Rattle.tbr_program.proofs.program.Program.close.Goals as goal
 

@@ -1,7 +1,4 @@
-use Rattle.std.proofs.Common.{refl, ◌≡◌, false}
-use Rattle.tbr_decor.specs.Decoration.{decoration_of}
-use Rattle.tbr_commands.specs.Command.{end_cell}
-use Rattle.tbr_program.specs.Commands.{after_command}
+use Rattle.tbr_program.proofs.Common.{refl, ◌≡◌, false, decoration_of, end_cell, after_command}
 use Rattle.tbr_program.proofs.LivePrograms.{command_done}
 use Rattle.tbr_program.proofs.MadeCommands.{some_opened, no_cell, cell_waits, cell_done}
 use Rattle.tbr_program.proofs.Results.{runs_early}

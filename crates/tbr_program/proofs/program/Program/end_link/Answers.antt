@@ -1,9 +1,4 @@
-use Rattle.std.proofs.Common.{refl, ◌≢◌, length, Err, sym, ap, ◌∙◌, subst}
-use Rattle.tbr_decor.specs.Decoration.{decoration_of}
-use Rattle.tbr_stack.specs.Links.{open_links}
-use Rattle.tbr_commands.specs.Command.{end_link}
-use Rattle.tbr_program.specs.Progress.{GoesOn}
-use Rattle.tbr_program.specs.Commands.{after_command}
+use Rattle.tbr_program.proofs.Common.{refl, ◌≢◌, length, Err, sym, ap, ◌∙◌, subst, decoration_of, open_links, end_link, GoesOn, after_command}
 use Rattle.tbr_program.proofs.Levels.{has_top}
 use Rattle.tbr_program.proofs.LivePrograms.{command_done}
 use Rattle.tbr_program.proofs.MadeCommands.{no_link, end_done, end_narrow}

@@ -1,9 +1,5 @@
-use Rattle.std.proofs.Common.{◌≡◌, true, false, Err, inl, inr, ap, ◌∙◌, string_bytes, subst, sym}
-use Rattle.tbr_tagged.specs.Outcome.{done, refused}
+use Rattle.tbr_program.proofs.Common.{◌≡◌, true, false, Err, inl, inr, ap, ◌∙◌, string_bytes, subst, sym, done, refused, decoration_of, progress_meant, GoesOn, ended}
 use Rattle.tbr_tagged.specs.declared.Error.TheVariants.{TooNarrow}
-use Rattle.tbr_decor.specs.Decoration.{decoration_of}
-use Rattle.tbr_program.specs.Progress.{progress_meant, GoesOn}
-use Rattle.tbr_program.specs.Commands.{ended}
 use Rattle.tbr_program.proofs.Levels.{only_level, top_live}
 use Rattle.tbr_program.proofs.MadeCommands.{still_open, text_given}
 use Rattle.tbr_program.proofs.Results.{refused_by}

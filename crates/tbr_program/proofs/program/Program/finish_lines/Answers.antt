@@ -1,11 +1,4 @@
-use Rattle.std.proofs.Common.{◌≡◌, Some, map, sym, ap, ◌∙◌, subst}
-use Rattle.tbr_decor.specs.Decoration.{decoration_of}
-use Rattle.text_block_renderer.specs.Tags.{tag_meant}
-use Rattle.text_block_renderer.specs.Meant.{map_line, meant}
-use Rattle.text_block_renderer.specs.Line.{line_seen}
-use Rattle.tbr_stack.specs.Stack.{top_of}
-use Rattle.tbr_program.specs.Progress.{GoesOn}
-use Rattle.tbr_tagged.specs.Outcome.{done, refused}
+use Rattle.tbr_program.proofs.Common.{◌≡◌, Some, map, sym, ap, ◌∙◌, subst, decoration_of, tag_meant, map_line, meant, line_seen, top_of, GoesOn, done, refused}
 use Rattle.tbr_tagged.specs.declared.Error.TheVariants.{TooNarrow}
 use Rattle.tbr_program.specs.Closing.{closed}
 use Rattle.tbr_program.proofs.Levels.{only_level}

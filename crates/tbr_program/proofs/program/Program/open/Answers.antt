@@ -1,5 +1,4 @@
-use Rattle.std.proofs.Common.{◌∷◌, ap, ◌∙◌}
-use Rattle.tbr_decor.specs.Decoration.{decoration_of}
+use Rattle.tbr_program.proofs.Common.{◌∷◌, ap, ◌∙◌, decoration_of}
 use Rattle.tbr_program.proofs.LivePrograms.{opening_done}
 use Rattle.tbr_program.proofs.MadeCommands.{level_opens}
 use Rattle.tbr_program.proofs.program.Program.open.Goals as goal

@@ -1,5 +1,4 @@
-use Rattle.std.proofs.Common.{◌≡◌, Some, ap, subst}
-use Rattle.tbr_stack.specs.Stack.{top_of}
+use Rattle.tbr_program.proofs.Common.{◌≡◌, Some, ap, subst, top_of}
 use Rattle.tbr_program.proofs.Results.{if_ok_then}
 use Rattle.tbr_program.proofs.program.Program.prefix.Goals as goal
 

@@ -1,7 +1,4 @@
-use Rattle.std.proofs.Common.{subst}
-use Rattle.tbr_decor.specs.Decoration.{decoration_of}
-use Rattle.tbr_commands.specs.Command.{link}
-use Rattle.tbr_program.specs.Commands.{Runs, after_command}
+use Rattle.tbr_program.proofs.Common.{subst, decoration_of, link, Runs, after_command}
 use Rattle.tbr_program.proofs.program.Program.run.Goals as goal
 
 pub returns-in-Ask : goal.returns-in-Ask

@@ -1,11 +1,5 @@
-use Rattle.std.proofs.Common.{refl, sym, ap, ◌∙◌}
-use Rattle.std.specs.Option.{option_map}
-use Rattle.tbr_decor.specs.Decoration.{decoration_of}
-use Rattle.tbr_commands.specs.Command.{ask, command_of}
-use Rattle.tbr_commands.specs.Request.{text}
+use Rattle.tbr_program.proofs.Common.{refl, sym, ap, ◌∙◌, option_map, decoration_of, ask, command_of, text, progress_meant, after_command, after_line}
 use Rattle.tbr_commands.proofs.Reading.{sized}
-use Rattle.tbr_program.specs.Progress.{progress_meant}
-use Rattle.tbr_program.specs.Commands.{after_command, after_line}
 use Rattle.tbr_program.proofs.CommandLines.{nothing_asked, no_command, commanded}
 use Rattle.tbr_program.proofs.Results.{runs_done, runs_as, runs_early}
 use Rattle.tbr_program.proofs.program.Program.run_line.Goals as goal

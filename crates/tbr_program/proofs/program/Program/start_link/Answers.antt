@@ -1,8 +1,4 @@
-use Rattle.std.proofs.Common.{Err, ap, ◌∙◌, subst, sym}
-use Rattle.tbr_decor.specs.Decoration.{decoration_of}
-use Rattle.tbr_commands.specs.Command.{link}
-use Rattle.tbr_program.specs.Progress.{GoesOn}
-use Rattle.tbr_program.specs.Commands.{after_command}
+use Rattle.tbr_program.proofs.Common.{Err, ap, ◌∙◌, subst, sym, decoration_of, link, GoesOn, after_command}
 use Rattle.tbr_program.proofs.Levels.{has_top}
 use Rattle.tbr_program.proofs.LivePrograms.{command_done}
 use Rattle.tbr_program.proofs.MadeCommands.{link_done, link_narrow}

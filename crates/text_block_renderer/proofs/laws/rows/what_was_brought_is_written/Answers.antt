@@ -1,4 +1,4 @@
-use Rattle.std.proofs.Common.{[], refl}
+use Rattle.text_block_renderer.proofs.Common.{[], refl}
 use Rattle.text_block_renderer.proofs.WrittenEntries.{acts_write}
 use Rattle.text_block_renderer.proofs.laws.rows.what_was_brought_is_written.Goals as goal
 
