@@ -34,7 +34,7 @@ pub use Rattle.tbr_commands.specs.Request.{Request, border, call_of, colour, end
 pub use Rattle.tbr_commands.specs.declared.begun.Begun.{Begun}
 pub use Rattle.tbr_program.specs.Closing.{closed_text, finalised, footnotes_of, with_notes}
 pub use Rattle.tbr_program.specs.Commands.{Made, Place, Runs, Top, after_command, after_line, after_read, answered, block_joined, block_made, cells_waiting, ended, ended_as, if_some_are, joins, level_ended, level_opened, on_top, request_made, row_made, vertical_made, waits, with_stack}
-pub use Rattle.tbr_program.specs.Prefixes.{others, prefixes}
+pub use Rattle.tbr_program.specs.Prefixes.{prefixes}
 pub use Rattle.tbr_program.specs.Progress.{AreLive, Closes, GoesOn, IsLive, Opened, Pending, Progress, begun_on_each, cell_meant, nothing_pending, opened_meant, opener, pending_meant, progress_meant, renderers_of, with_cell, without_cells}
 pub use Rattle.tbr_program.specs.declared.opened.Opener.{Opener}
 pub use Rattle.tbr_program.specs.declared.opened.Opener.TheVariants.{Cell, Sub}

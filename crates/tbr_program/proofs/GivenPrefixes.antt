@@ -1,5 +1,6 @@
 -- Prefixes that an iterator gives, and lines after them.
-use Rattle.tbr_program.proofs.Common.{◌≡◌, ◌⊎◌, ◌<◌, ℕ, zero, suc, List, ◌∷◌, map, length, take, replicate, Option, None, chars, refl, sym, ap, ◌∙◌, inl, inr, arith, map-id, take-map, take_all, YieldsList-so_far, YieldsList-end, done, Decoration, Renderer, Line, GivesFirst, texts_of, handed_out, append_subrender, Does, others, prefixes, block_made}
+use Rattle.tbr_program.proofs.Common.{◌≡◌, ◌⊎◌, ◌<◌, ℕ, zero, suc, List, ◌∷◌, map, length, take, replicate, Option, None, chars, refl, sym, ap, ◌∙◌, inl, inr, arith, map-id, take-map, take_all, YieldsList-so_far, YieldsList-end, done, Decoration, Renderer, Line, GivesFirst, texts_of, handed_out, append_subrender, Does, prefixes, block_made}
+use Rattle.tbr_program.specs.Prefixes.{others}
 use Rattle.std.proofs.lemmas.Iterator.{YieldsList}
 use Rattle.tbr_tagged.proofs.Outcomes.{live_done, live_goes}
 use Rattle.tbr_renderer.proofs.OutcomeParts.{done_before, taking_done}
