@@ -24,9 +24,12 @@
  * OWNERSHIP. tbr_new makes a renderer, which belongs to the caller until tbr_free. Its memory is taken by the
  * program's malloc and realloc, and given back by free. The pointer stays the same all the while.
  *
- * THREADS. A renderer is used by one call at a time, on the thread that made it. Any number of threads may each have
- * their own; the library has no state beside them. No call may come from a signal handler, nor in the forked child
- * of a process with threads.
+ * THREADS. A renderer is used by one call at a time, questions among them, and may be handed from one thread to another.
+ * Any number of threads may each have their own; the library has no state beside them. No call may come from a signal
+ * handler, nor in the forked child of a process with threads.
+ *
+ * VERSIONS. Each call is a symbol of the shared library, with the version that it came in. docs/versions.md says what
+ * may change when.
  *
  * WHAT C CAN'T STOP, and the library can't see: a call with a renderer after tbr_free, a second tbr_free, and a pointer
  * that tbr_new didn't give. So are fewer bytes than their number says, and an out pointer that is NULL.
@@ -37,12 +40,11 @@
 #include <stdbool.h>
 #include <stddef.h>
 #include <stdint.h>
-#include <string.h>
 
 #define TBR_VERSION_MAJOR 0
-#define TBR_VERSION_MINOR 1
+#define TBR_VERSION_MINOR 2
 #define TBR_VERSION_PATCH 0
-#define TBR_VERSION "0.1.0"
+#define TBR_VERSION "0.2.0"
 
 #ifdef __cplusplus
 extern "C" {
@@ -68,7 +70,8 @@ typedef enum tbr_status {
     TBR_NOT_UTF8 = 6,
     /* A width of 0 columns. */
     TBR_BAD_WIDTH = 7,
-    /* A number that names nothing, as a decorator 9; a span of 0 rows; or NULL for a text that has bytes. */
+    /* A number that names nothing, as a decorator 9; a span of 0 rows; NULL for a text that has bytes; or options whose
+       size the library doesn't know. */
     TBR_BAD_ARGUMENT = 8,
     /* What would end has a level inside that is open, or cells that wait for a row. */
     TBR_STILL_OPEN = 9,
@@ -124,8 +127,12 @@ typedef enum tbr_alignment {
     TBR_CENTRE = 2
 } tbr_alignment;
 
-/* What a renderer is told to do. Make it by tbr_options_default, so that fields of a later version are set too. */
+/* What a renderer is told to do. Make it by tbr_options_default, which sets all fields. A later version may have more
+   fields at the end. */
 typedef struct tbr_options {
+    /* The bytes of this struct in the header that a caller was compiled with: so the library knows which fields are
+       there. */
+    size_t size;
     /* The columns of the renderer, at least 1. */
     size_t width;
     /* The most columns that a line of wrapped text takes, or 0 for as many as the renderer has. */
@@ -228,118 +235,6 @@ typedef struct tbr_annotation {
     uint8_t blue;
 } tbr_annotation;
 
-/* ---- what the library exports ---- */
-
-/*
- * These are called by the inline functions below, and by bindings. A renderer goes in by value, as the one field of a
- * struct, and comes back through the last pointer, also where a call refuses; it is the same pointer. No other pointer
- * may be NULL, even where the number of bytes there is 0. For a number to which an enum gives no name the answer is
- * TBR_BAD_ARGUMENT. Their names begin with the version of this interface: what a later one changes gets a new name.
- */
-typedef struct tbr_handle {
-    tbr_renderer *at;
-} tbr_handle;
-
-tbr_answer tbr1_render(const uint8_t *script, size_t length, uint8_t *out, size_t room);
-uint32_t tbr1_text_width(const uint8_t *text, size_t length, size_t *columns);
-uint32_t tbr1_new(const tbr_options *options, tbr_renderer **back);
-void tbr1_free(tbr_handle renderer);
-
-uint32_t tbr1_add_text(tbr_handle renderer, const uint8_t *text, size_t length, tbr_renderer **back);
-uint32_t tbr1_start_block(tbr_handle renderer, tbr_renderer **back);
-uint32_t tbr1_end_block(tbr_handle renderer, tbr_renderer **back);
-uint32_t tbr1_start_table(tbr_handle renderer, tbr_renderer **back);
-uint32_t tbr1_new_line(tbr_handle renderer, tbr_renderer **back);
-uint32_t tbr1_new_line_hard(tbr_handle renderer, tbr_renderer **back);
-uint32_t tbr1_add_empty_line(tbr_handle renderer, tbr_renderer **back);
-uint32_t tbr1_add_border(tbr_handle renderer, tbr_renderer **back);
-uint32_t tbr1_add_border_width(tbr_handle renderer, size_t columns, tbr_renderer **back);
-uint32_t tbr1_push_white_space(tbr_handle renderer, uint32_t mode, tbr_renderer **back);
-uint32_t tbr1_pop_white_space(tbr_handle renderer, tbr_renderer **back);
-uint32_t tbr1_start_preformatted(tbr_handle renderer, tbr_renderer **back);
-uint32_t tbr1_end_preformatted(tbr_handle renderer, tbr_renderer **back);
-uint32_t tbr1_start_link(tbr_handle renderer, const uint8_t *target, size_t length, tbr_renderer **back);
-uint32_t tbr1_end_link(tbr_handle renderer, tbr_renderer **back);
-uint32_t tbr1_start_emphasis(tbr_handle renderer, tbr_renderer **back);
-uint32_t tbr1_end_emphasis(tbr_handle renderer, tbr_renderer **back);
-uint32_t tbr1_start_strong(tbr_handle renderer, tbr_renderer **back);
-uint32_t tbr1_end_strong(tbr_handle renderer, tbr_renderer **back);
-uint32_t tbr1_start_strikeout(tbr_handle renderer, tbr_renderer **back);
-uint32_t tbr1_end_strikeout(tbr_handle renderer, tbr_renderer **back);
-uint32_t tbr1_start_code(tbr_handle renderer, tbr_renderer **back);
-uint32_t tbr1_end_code(tbr_handle renderer, tbr_renderer **back);
-uint32_t tbr1_start_superscript(tbr_handle renderer, tbr_renderer **back);
-uint32_t tbr1_end_superscript(tbr_handle renderer, tbr_renderer **back);
-uint32_t tbr1_start_colour(tbr_handle renderer, uint8_t red, uint8_t green, uint8_t blue, tbr_renderer **back);
-uint32_t tbr1_end_colour(tbr_handle renderer, tbr_renderer **back);
-uint32_t tbr1_start_background(tbr_handle renderer, uint8_t red, uint8_t green, uint8_t blue, tbr_renderer **back);
-uint32_t tbr1_end_background(tbr_handle renderer, tbr_renderer **back);
-uint32_t tbr1_add_image(tbr_handle renderer, const uint8_t *source, size_t source_length, const uint8_t *title,
-    size_t title_length, tbr_renderer **back);
-uint32_t tbr1_add_marker(tbr_handle renderer, const uint8_t *name, size_t length, tbr_renderer **back);
-uint32_t tbr1_start_sub(tbr_handle renderer, size_t width, tbr_renderer **back);
-uint32_t tbr1_append_sub(tbr_handle renderer, const uint8_t *first, size_t first_length, const uint8_t *others,
-    size_t others_length, tbr_renderer **back);
-uint32_t tbr1_start_cell(tbr_handle renderer, size_t width, size_t span, uint32_t alignment, tbr_renderer **back);
-uint32_t tbr1_end_cell(tbr_handle renderer, tbr_renderer **back);
-uint32_t tbr1_add_row(tbr_handle renderer, bool collapse, tbr_renderer **back);
-uint32_t tbr1_add_vertical_row(tbr_handle renderer, tbr_renderer **back);
-uint32_t tbr1_finish(tbr_handle renderer, tbr_renderer **back);
-uint32_t tbr1_finish_text(tbr_handle renderer, size_t *length, tbr_renderer **back);
-
-uint32_t tbr1_refusal(tbr_handle renderer, tbr_renderer **back);
-uint32_t tbr1_is_empty(tbr_handle renderer, bool *is_empty, tbr_renderer **back);
-uint32_t tbr1_has_overhang(tbr_handle renderer, bool *has_overhang, tbr_renderer **back);
-uint32_t tbr1_width(tbr_handle renderer, size_t *columns, tbr_renderer **back);
-uint32_t tbr1_width_minus(tbr_handle renderer, size_t prefix, size_t least, size_t *columns, tbr_renderer **back);
-uint32_t tbr1_open_levels(tbr_handle renderer, size_t *count, tbr_renderer **back);
-uint32_t tbr1_open_links(tbr_handle renderer, size_t *count, tbr_renderer **back);
-uint32_t tbr1_waiting_cells(tbr_handle renderer, size_t *count, tbr_renderer **back);
-uint32_t tbr1_quote_prefix(tbr_handle renderer, uint8_t *out, size_t room, size_t *length, tbr_renderer **back);
-uint32_t tbr1_item_prefix(tbr_handle renderer, uint8_t *out, size_t room, size_t *length, tbr_renderer **back);
-uint32_t tbr1_ordered_item_prefix(tbr_handle renderer, int64_t number, uint8_t *out, size_t room, size_t *length,
-    tbr_renderer **back);
-uint32_t tbr1_header_prefix(tbr_handle renderer, size_t level, uint8_t *out, size_t room, size_t *length,
-    tbr_renderer **back);
-
-uint32_t tbr1_text(tbr_handle renderer, uint8_t *out, size_t room, size_t *length, tbr_renderer **back);
-uint32_t tbr1_next_line(tbr_handle renderer, tbr_line *line, tbr_renderer **back);
-uint32_t tbr1_line_text(tbr_handle renderer, uint8_t *out, size_t room, size_t *length, tbr_renderer **back);
-uint32_t tbr1_get_piece(tbr_handle renderer, size_t place, tbr_piece *piece, tbr_renderer **back);
-uint32_t tbr1_marker_name(tbr_handle renderer, size_t place, uint8_t *out, size_t room, size_t *length,
-    tbr_renderer **back);
-uint32_t tbr1_get_annotation(tbr_handle renderer, size_t piece, size_t place, tbr_annotation *annotation,
-    tbr_renderer **back);
-uint32_t tbr1_annotation_target(tbr_handle renderer, size_t piece, size_t place, uint8_t *out, size_t room,
-    size_t *length, tbr_renderer **back);
-
-/* ---- helpers of this header ---- */
-
-static inline tbr_handle tbr_handle_of(tbr_renderer *renderer) {
-    tbr_handle handle;
-    handle.at = renderer;
-    return handle;
-}
-
-/* The pointer to a text, or one to no bytes where that is NULL. */
-static inline const uint8_t *tbr_bytes_of(const char *text) {
-    return (const uint8_t *)(text ? text : "");
-}
-
-static inline size_t tbr_length_of(const char *text) {
-    return text ? strlen(text) : 0;
-}
-
-/* The same for a buffer, where the caller has a spare byte. */
-static inline uint8_t *tbr_room_of(char *out, uint8_t *spare) {
-    return out ? (uint8_t *)out : spare;
-}
-
-/* Whether a text is NULL that is said to have bytes. */
-static inline bool tbr_is_missing(const char *text, size_t length) {
-    return !text && length;
-}
-
 /* ---- a script as a whole ---- */
 
 /*
@@ -350,66 +245,43 @@ static inline bool tbr_is_missing(const char *text, size_t length) {
  * Any bytes may come as a script. At any other status than TBR_OK nothing is written, and the answer's line is the one
  * at fault, if there is one.
  */
-static inline tbr_answer tbr_render(const char *script, size_t length, char *out, size_t room) {
-    uint8_t spare = 0;
-    if (tbr_is_missing(script, length) || tbr_is_missing(out, room)) {
-        tbr_answer missing = {TBR_BAD_ARGUMENT, 0, 0};
-        return missing;
-    }
-    return tbr1_render(tbr_bytes_of(script), length, tbr_room_of(out, &spare), room);
-}
+tbr_answer tbr_render(const char *script, size_t length, char *out, size_t room);
 
 /* ---- how wide a text is ---- */
 
 /* The columns of a text: those of its characters together, as a renderer counts them. Control characters, as a tab or
    a newline, take none. TBR_NOT_UTF8 where it isn't UTF-8, and TBR_OUT_OF_MEMORY where its columns pass SIZE_MAX. It
    takes no memory. */
-static inline tbr_status tbr_text_width_n(const char *text, size_t length, size_t *columns) {
-    return tbr_is_missing(text, length) ? TBR_BAD_ARGUMENT
-                                        : (tbr_status)tbr1_text_width(tbr_bytes_of(text), length, columns);
-}
+tbr_status tbr_text_width_n(const char *text, size_t length, size_t *columns);
 
-static inline tbr_status tbr_text_width(const char *text, size_t *columns) {
-    return tbr_text_width_n(text, tbr_length_of(text), columns);
-}
+tbr_status tbr_text_width(const char *text, size_t *columns);
 
 /* ---- making a renderer ---- */
 
-/* Options of a plain renderer of so many columns. Lines are as wide as it, neither padded nor wider. There are no
-   footnotes; where they are turned on, their lines are cut. Struck out text has strokes, borders are drawn, and an
-   image without a title shows nothing. */
+/* Sets options to those of a plain renderer of so many columns. Lines are as wide as it, neither padded nor wider. There
+   are no footnotes; where they are turned on, their lines are cut. Struck out text has strokes, borders are drawn, and
+   an image without a title shows nothing. `size` is the number of bytes that `options` has. */
+void tbr_options_init(tbr_options *options, size_t size, size_t width);
+
+/* The same options as a value. This is the one call that a program has in itself, so that their size is the one that it
+   was compiled with. */
 static inline tbr_options tbr_options_default(size_t width) {
     tbr_options options;
-    options.width = width;
-    options.wrap_width = 0;
-    options.decorator = TBR_PLAIN;
-    options.images = TBR_IMAGES_IGNORED;
-    options.overflow = false;
-    options.pad = false;
-    options.footnotes = false;
-    options.wrap_links = true;
-    options.strikeout_strokes = true;
-    options.draw_borders = true;
+    tbr_options_init(&options, sizeof options, width);
     return options;
 }
 
 /*
  * Makes a renderer. Free it by tbr_free.
  *
- * TBR_BAD_WIDTH where its width is 0, TBR_BAD_ARGUMENT where the decorator or what images show is none of its values,
+ * TBR_BAD_WIDTH where its width is 0. TBR_BAD_ARGUMENT where the decorator or what images show is none of its values,
+ * and where the options have no size that tbr_options_init set, or ask for what only a later version knows.
  * TBR_OUT_OF_MEMORY. `*renderer` is NULL then.
  */
-static inline tbr_status tbr_new(const tbr_options *options, tbr_renderer **renderer) {
-    *renderer = NULL;
-    return (tbr_status)tbr1_new(options, renderer);
-}
+tbr_status tbr_new(const tbr_options *options, tbr_renderer **renderer);
 
 /* Frees a renderer, in whatever state it is. With NULL it does nothing. */
-static inline void tbr_free(tbr_renderer *renderer) {
-    if (renderer) {
-        tbr1_free(tbr_handle_of(renderer));
-    }
-}
+void tbr_free(tbr_renderer *renderer);
 
 /* ---- filling it: text, blocks and lines ---- */
 
@@ -420,83 +292,45 @@ static inline void tbr_free(tbr_renderer *renderer) {
 
 /* Adds text. White space counts as the mode that was pushed last says. A text ends no word: two texts without white
    space between them make one. TBR_NOT_UTF8 where it isn't UTF-8. */
-static inline tbr_status tbr_add_text_n(tbr_renderer *renderer, const char *text, size_t length) {
-    if (tbr_is_missing(text, length)) {
-        return TBR_BAD_ARGUMENT;
-    }
-    return renderer ? (tbr_status)tbr1_add_text(tbr_handle_of(renderer), tbr_bytes_of(text), length, &renderer)
-                    : TBR_NO_RENDERER;
-}
+tbr_status tbr_add_text_n(tbr_renderer *renderer, const char *text, size_t length);
 
-static inline tbr_status tbr_add_text(tbr_renderer *renderer, const char *text) {
-    return tbr_add_text_n(renderer, text, tbr_length_of(text));
-}
+tbr_status tbr_add_text(tbr_renderer *renderer, const char *text);
 
 /* Begins a block: ends the open line, and adds an empty one if any line has content. */
-static inline tbr_status tbr_start_block(tbr_renderer *renderer) {
-    return renderer ? (tbr_status)tbr1_start_block(tbr_handle_of(renderer), &renderer) : TBR_NO_RENDERER;
-}
+tbr_status tbr_start_block(tbr_renderer *renderer);
 
 /* Ends a block: text that comes begins a new one. In TBR_NORMAL white space before it is ignored. It may come at any
    time. */
-static inline tbr_status tbr_end_block(tbr_renderer *renderer) {
-    return renderer ? (tbr_status)tbr1_end_block(tbr_handle_of(renderer), &renderer) : TBR_NO_RENDERER;
-}
+tbr_status tbr_end_block(tbr_renderer *renderer);
 
 /* Begins a table, as a block is begun. */
-static inline tbr_status tbr_start_table(tbr_renderer *renderer) {
-    return renderer ? (tbr_status)tbr1_start_table(tbr_handle_of(renderer), &renderer) : TBR_NO_RENDERER;
-}
+tbr_status tbr_start_table(tbr_renderer *renderer);
 
 /* Ends the open line, if there is one. */
-static inline tbr_status tbr_new_line(tbr_renderer *renderer) {
-    return renderer ? (tbr_status)tbr1_new_line(tbr_handle_of(renderer), &renderer) : TBR_NO_RENDERER;
-}
+tbr_status tbr_new_line(tbr_renderer *renderer);
 
 /* Ends the open line. Where none is open, or it has no columns, an empty one is added. */
-static inline tbr_status tbr_new_line_hard(tbr_renderer *renderer) {
-    return renderer ? (tbr_status)tbr1_new_line_hard(tbr_handle_of(renderer), &renderer) : TBR_NO_RENDERER;
-}
+tbr_status tbr_new_line_hard(tbr_renderer *renderer);
 
 /* Ends the open line, and adds an empty one. */
-static inline tbr_status tbr_add_empty_line(tbr_renderer *renderer) {
-    return renderer ? (tbr_status)tbr1_add_empty_line(tbr_handle_of(renderer), &renderer) : TBR_NO_RENDERER;
-}
+tbr_status tbr_add_empty_line(tbr_renderer *renderer);
 
 /* Ends the open line, and adds a border of the level's width. Where lines are padded the border is text. */
-static inline tbr_status tbr_add_border(tbr_renderer *renderer) {
-    return renderer ? (tbr_status)tbr1_add_border(tbr_handle_of(renderer), &renderer) : TBR_NO_RENDERER;
-}
+tbr_status tbr_add_border(tbr_renderer *renderer);
 
 /* The same with so many columns: 0, or more than the level has, are allowed. */
-static inline tbr_status tbr_add_border_width(tbr_renderer *renderer, size_t columns) {
-    return renderer ? (tbr_status)tbr1_add_border_width(tbr_handle_of(renderer), columns, &renderer)
-                    : TBR_NO_RENDERER;
-}
+tbr_status tbr_add_border_width(tbr_renderer *renderer, size_t columns);
 
 /* Begins a mode of white space. TBR_BAD_ARGUMENT where it is none. Where none has begun, all is TBR_NORMAL. */
-static inline tbr_status tbr_push_white_space(tbr_renderer *renderer, tbr_white_space mode) {
-    return renderer ? (tbr_status)tbr1_push_white_space(tbr_handle_of(renderer), (uint32_t)mode, &renderer)
-                    : TBR_NO_RENDERER;
-}
+tbr_status tbr_push_white_space(tbr_renderer *renderer, tbr_white_space mode);
 
 /* Ends the mode that was pushed last. TBR_NOTHING_TO_END where none was. */
-static inline tbr_status tbr_pop_white_space(tbr_renderer *renderer) {
-    return renderer ? (tbr_status)tbr1_pop_white_space(tbr_handle_of(renderer), &renderer) : TBR_NO_RENDERER;
-}
+tbr_status tbr_pop_white_space(tbr_renderer *renderer);
 
 /* Puts a marker where the text is, as an anchor for links. TBR_NOT_UTF8 where its name isn't. */
-static inline tbr_status tbr_add_marker_n(tbr_renderer *renderer, const char *name, size_t length) {
-    if (tbr_is_missing(name, length)) {
-        return TBR_BAD_ARGUMENT;
-    }
-    return renderer ? (tbr_status)tbr1_add_marker(tbr_handle_of(renderer), tbr_bytes_of(name), length, &renderer)
-                    : TBR_NO_RENDERER;
-}
+tbr_status tbr_add_marker_n(tbr_renderer *renderer, const char *name, size_t length);
 
-static inline tbr_status tbr_add_marker(tbr_renderer *renderer, const char *name) {
-    return tbr_add_marker_n(renderer, name, tbr_length_of(name));
-}
+tbr_status tbr_add_marker(tbr_renderer *renderer, const char *name);
 
 /* ---- filling it: decorated text ---- */
 
@@ -506,108 +340,55 @@ static inline tbr_status tbr_add_marker(tbr_renderer *renderer, const char *name
  */
 
 /* Begins a link to a target, which may be empty. TBR_NOT_UTF8 where it isn't UTF-8. */
-static inline tbr_status tbr_start_link_n(tbr_renderer *renderer, const char *target, size_t length) {
-    if (tbr_is_missing(target, length)) {
-        return TBR_BAD_ARGUMENT;
-    }
-    return renderer ? (tbr_status)tbr1_start_link(tbr_handle_of(renderer), tbr_bytes_of(target), length, &renderer)
-                    : TBR_NO_RENDERER;
-}
+tbr_status tbr_start_link_n(tbr_renderer *renderer, const char *target, size_t length);
 
-static inline tbr_status tbr_start_link(tbr_renderer *renderer, const char *target) {
-    return tbr_start_link_n(renderer, target, tbr_length_of(target));
-}
+tbr_status tbr_start_link(tbr_renderer *renderer, const char *target);
 
 /* Ends the link that was begun last, and with footnotes shows its number. */
-static inline tbr_status tbr_end_link(tbr_renderer *renderer) {
-    return renderer ? (tbr_status)tbr1_end_link(tbr_handle_of(renderer), &renderer) : TBR_NO_RENDERER;
-}
+tbr_status tbr_end_link(tbr_renderer *renderer);
 
-static inline tbr_status tbr_start_emphasis(tbr_renderer *renderer) {
-    return renderer ? (tbr_status)tbr1_start_emphasis(tbr_handle_of(renderer), &renderer) : TBR_NO_RENDERER;
-}
+tbr_status tbr_start_emphasis(tbr_renderer *renderer);
 
-static inline tbr_status tbr_end_emphasis(tbr_renderer *renderer) {
-    return renderer ? (tbr_status)tbr1_end_emphasis(tbr_handle_of(renderer), &renderer) : TBR_NO_RENDERER;
-}
+tbr_status tbr_end_emphasis(tbr_renderer *renderer);
 
-static inline tbr_status tbr_start_strong(tbr_renderer *renderer) {
-    return renderer ? (tbr_status)tbr1_start_strong(tbr_handle_of(renderer), &renderer) : TBR_NO_RENDERER;
-}
+tbr_status tbr_start_strong(tbr_renderer *renderer);
 
-static inline tbr_status tbr_end_strong(tbr_renderer *renderer) {
-    return renderer ? (tbr_status)tbr1_end_strong(tbr_handle_of(renderer), &renderer) : TBR_NO_RENDERER;
-}
+tbr_status tbr_end_strong(tbr_renderer *renderer);
 
 /* Begins struck out text. With strokes on, each of its characters that takes columns gets U+0336 after it. */
-static inline tbr_status tbr_start_strikeout(tbr_renderer *renderer) {
-    return renderer ? (tbr_status)tbr1_start_strikeout(tbr_handle_of(renderer), &renderer) : TBR_NO_RENDERER;
-}
+tbr_status tbr_start_strikeout(tbr_renderer *renderer);
 
-static inline tbr_status tbr_end_strikeout(tbr_renderer *renderer) {
-    return renderer ? (tbr_status)tbr1_end_strikeout(tbr_handle_of(renderer), &renderer) : TBR_NO_RENDERER;
-}
+tbr_status tbr_end_strikeout(tbr_renderer *renderer);
 
-static inline tbr_status tbr_start_code(tbr_renderer *renderer) {
-    return renderer ? (tbr_status)tbr1_start_code(tbr_handle_of(renderer), &renderer) : TBR_NO_RENDERER;
-}
+tbr_status tbr_start_code(tbr_renderer *renderer);
 
-static inline tbr_status tbr_end_code(tbr_renderer *renderer) {
-    return renderer ? (tbr_status)tbr1_end_code(tbr_handle_of(renderer), &renderer) : TBR_NO_RENDERER;
-}
+tbr_status tbr_end_code(tbr_renderer *renderer);
 
-static inline tbr_status tbr_start_superscript(tbr_renderer *renderer) {
-    return renderer ? (tbr_status)tbr1_start_superscript(tbr_handle_of(renderer), &renderer) : TBR_NO_RENDERER;
-}
+tbr_status tbr_start_superscript(tbr_renderer *renderer);
 
-static inline tbr_status tbr_end_superscript(tbr_renderer *renderer) {
-    return renderer ? (tbr_status)tbr1_end_superscript(tbr_handle_of(renderer), &renderer) : TBR_NO_RENDERER;
-}
+tbr_status tbr_end_superscript(tbr_renderer *renderer);
 
 /* Begins a preformatted stretch. That is a matter of annotations: push TBR_PRE to keep white space. */
-static inline tbr_status tbr_start_preformatted(tbr_renderer *renderer) {
-    return renderer ? (tbr_status)tbr1_start_preformatted(tbr_handle_of(renderer), &renderer) : TBR_NO_RENDERER;
-}
+tbr_status tbr_start_preformatted(tbr_renderer *renderer);
 
-static inline tbr_status tbr_end_preformatted(tbr_renderer *renderer) {
-    return renderer ? (tbr_status)tbr1_end_preformatted(tbr_handle_of(renderer), &renderer) : TBR_NO_RENDERER;
-}
+tbr_status tbr_end_preformatted(tbr_renderer *renderer);
 
 /* Begins text in a colour. */
-static inline tbr_status tbr_start_colour(tbr_renderer *renderer, uint8_t red, uint8_t green, uint8_t blue) {
-    return renderer ? (tbr_status)tbr1_start_colour(tbr_handle_of(renderer), red, green, blue, &renderer)
-                    : TBR_NO_RENDERER;
-}
+tbr_status tbr_start_colour(tbr_renderer *renderer, uint8_t red, uint8_t green, uint8_t blue);
 
-static inline tbr_status tbr_end_colour(tbr_renderer *renderer) {
-    return renderer ? (tbr_status)tbr1_end_colour(tbr_handle_of(renderer), &renderer) : TBR_NO_RENDERER;
-}
+tbr_status tbr_end_colour(tbr_renderer *renderer);
 
 /* Begins text on a background in a colour. */
-static inline tbr_status tbr_start_background(tbr_renderer *renderer, uint8_t red, uint8_t green, uint8_t blue) {
-    return renderer ? (tbr_status)tbr1_start_background(tbr_handle_of(renderer), red, green, blue, &renderer)
-                    : TBR_NO_RENDERER;
-}
+tbr_status tbr_start_background(tbr_renderer *renderer, uint8_t red, uint8_t green, uint8_t blue);
 
-static inline tbr_status tbr_end_background(tbr_renderer *renderer) {
-    return renderer ? (tbr_status)tbr1_end_background(tbr_handle_of(renderer), &renderer) : TBR_NO_RENDERER;
-}
+tbr_status tbr_end_background(tbr_renderer *renderer);
 
 /* Adds an image, shown by its title. The options say what one without a title shows. TBR_NOT_UTF8 where one of the two
    isn't UTF-8. */
-static inline tbr_status tbr_add_image_n(tbr_renderer *renderer, const char *source, size_t source_length,
-    const char *title, size_t title_length) {
-    if (tbr_is_missing(source, source_length) || tbr_is_missing(title, title_length)) {
-        return TBR_BAD_ARGUMENT;
-    }
-    return renderer ? (tbr_status)tbr1_add_image(tbr_handle_of(renderer), tbr_bytes_of(source), source_length,
-                          tbr_bytes_of(title), title_length, &renderer)
-                    : TBR_NO_RENDERER;
-}
+tbr_status tbr_add_image_n(tbr_renderer *renderer, const char *source, size_t source_length,
+    const char *title, size_t title_length);
 
-static inline tbr_status tbr_add_image(tbr_renderer *renderer, const char *source, const char *title) {
-    return tbr_add_image_n(renderer, source, tbr_length_of(source), title, tbr_length_of(title));
-}
+tbr_status tbr_add_image(tbr_renderer *renderer, const char *source, const char *title);
 
 /* ---- filling it: levels ---- */
 
@@ -618,65 +399,40 @@ static inline tbr_status tbr_add_image(tbr_renderer *renderer, const char *sourc
  */
 
 /* Opens a level of so many columns, whose lines tbr_append_sub takes. TBR_BAD_WIDTH at 0. */
-static inline tbr_status tbr_start_sub(tbr_renderer *renderer, size_t width) {
-    return renderer ? (tbr_status)tbr1_start_sub(tbr_handle_of(renderer), width, &renderer) : TBR_NO_RENDERER;
-}
+tbr_status tbr_start_sub(tbr_renderer *renderer, size_t width);
 
 /* Closes the level that tbr_start_sub opened, and adds its lines to the one outside: the first line after `first`, each
    other line after `others`. TBR_NOTHING_TO_END where the innermost level isn't one of these, TBR_STILL_OPEN where
    cells wait in it, TBR_NOT_UTF8 where one of the two isn't UTF-8. */
-static inline tbr_status tbr_append_sub_n(tbr_renderer *renderer, const char *first, size_t first_length,
-    const char *others, size_t others_length) {
-    if (tbr_is_missing(first, first_length) || tbr_is_missing(others, others_length)) {
-        return TBR_BAD_ARGUMENT;
-    }
-    return renderer ? (tbr_status)tbr1_append_sub(tbr_handle_of(renderer), tbr_bytes_of(first), first_length,
-                          tbr_bytes_of(others), others_length, &renderer)
-                    : TBR_NO_RENDERER;
-}
+tbr_status tbr_append_sub_n(tbr_renderer *renderer, const char *first, size_t first_length,
+    const char *others, size_t others_length);
 
-static inline tbr_status tbr_append_sub(tbr_renderer *renderer, const char *first, const char *others) {
-    return tbr_append_sub_n(renderer, first, tbr_length_of(first), others, tbr_length_of(others));
-}
+tbr_status tbr_append_sub(tbr_renderer *renderer, const char *first, const char *others);
 
 /* Opens a cell of so many columns that spans so many rows. TBR_BAD_WIDTH at no column, TBR_BAD_ARGUMENT at no row, or
    where the alignment is none of its values. */
-static inline tbr_status tbr_start_cell(tbr_renderer *renderer, size_t width, size_t span, tbr_alignment alignment) {
-    return renderer
-        ? (tbr_status)tbr1_start_cell(tbr_handle_of(renderer), width, span, (uint32_t)alignment, &renderer)
-        : TBR_NO_RENDERER;
-}
+tbr_status tbr_start_cell(tbr_renderer *renderer, size_t width, size_t span, tbr_alignment alignment);
 
 /* Closes the cell that is open, which then waits for a row. TBR_NOTHING_TO_END where the innermost level is no cell,
    TBR_STILL_OPEN where cells wait in it. */
-static inline tbr_status tbr_end_cell(tbr_renderer *renderer) {
-    return renderer ? (tbr_status)tbr1_end_cell(tbr_handle_of(renderer), &renderer) : TBR_NO_RENDERER;
-}
+tbr_status tbr_end_cell(tbr_renderer *renderer);
 
 /* Adds the cells that wait as a row, side by side, joined to a border that is the last line, with a border below. What
    a cell of more rows has below this one overhangs into the next. With `collapse`, borders at the tops and bottoms of
    cells become one with those of the row. TBR_ROW_DOES_NOT_FIT where cells are in the way of what overhangs; they go on
    waiting then. */
-static inline tbr_status tbr_add_row(tbr_renderer *renderer, bool collapse) {
-    return renderer ? (tbr_status)tbr1_add_row(tbr_handle_of(renderer), collapse, &renderer) : TBR_NO_RENDERER;
-}
+tbr_status tbr_add_row(tbr_renderer *renderer, bool collapse);
 
 /* Adds the cells that wait, one below another, whatever rows they span. */
-static inline tbr_status tbr_add_vertical_row(tbr_renderer *renderer) {
-    return renderer ? (tbr_status)tbr1_add_vertical_row(tbr_handle_of(renderer), &renderer) : TBR_NO_RENDERER;
-}
+tbr_status tbr_add_vertical_row(tbr_renderer *renderer);
 
 /* Ends the last line, and with footnotes adds the targets of all links. Then lines can be taken, and the renderer
    can't be filled any more. TBR_STILL_OPEN where a level is open or cells wait. */
-static inline tbr_status tbr_finish(tbr_renderer *renderer) {
-    return renderer ? (tbr_status)tbr1_finish(tbr_handle_of(renderer), &renderer) : TBR_NO_RENDERER;
-}
+tbr_status tbr_finish(tbr_renderer *renderer);
 
 /* The same for a caller who wants the text as a whole. `*length` is the number of its bytes, and tbr_text has it. No
    line can be taken then: tbr_next_line answers TBR_NO_LINE. It takes less time and memory than tbr_finish. */
-static inline tbr_status tbr_finish_text(tbr_renderer *renderer, size_t *length) {
-    return renderer ? (tbr_status)tbr1_finish_text(tbr_handle_of(renderer), length, &renderer) : TBR_NO_RENDERER;
-}
+tbr_status tbr_finish_text(tbr_renderer *renderer, size_t *length);
 
 /* ---- questions to a renderer that is being filled ---- */
 
@@ -684,96 +440,46 @@ static inline tbr_status tbr_finish_text(tbr_renderer *renderer, size_t *length)
    isn't kept. */
 
 /* The refusal that is kept, or TBR_OK, also where it is finished. */
-static inline tbr_status tbr_refusal(tbr_renderer *renderer) {
-    return renderer ? (tbr_status)tbr1_refusal(tbr_handle_of(renderer), &renderer) : TBR_NO_RENDERER;
-}
+tbr_status tbr_refusal(tbr_renderer *renderer);
 
 /* Whether the innermost level has no line, and no text on an open one. */
-static inline tbr_status tbr_is_empty(tbr_renderer *renderer, bool *is_empty) {
-    return renderer ? (tbr_status)tbr1_is_empty(tbr_handle_of(renderer), is_empty, &renderer) : TBR_NO_RENDERER;
-}
+tbr_status tbr_is_empty(tbr_renderer *renderer, bool *is_empty);
 
 /* Whether cells that span more rows than came yet overhang in the innermost level. Lines that they still have when
    it is closed or finished are lost. */
-static inline tbr_status tbr_has_overhang(tbr_renderer *renderer, bool *has_overhang) {
-    return renderer ? (tbr_status)tbr1_has_overhang(tbr_handle_of(renderer), has_overhang, &renderer)
-                    : TBR_NO_RENDERER;
-}
+tbr_status tbr_has_overhang(tbr_renderer *renderer, bool *has_overhang);
 
 /* The columns of the innermost level. */
-static inline tbr_status tbr_width(tbr_renderer *renderer, size_t *columns) {
-    return renderer ? (tbr_status)tbr1_width(tbr_handle_of(renderer), columns, &renderer) : TBR_NO_RENDERER;
-}
+tbr_status tbr_width(tbr_renderer *renderer, size_t *columns);
 
 /* The columns that the innermost level has left after a prefix of so many columns, but at least `least`.
    TBR_TOO_NARROW, which isn't kept, where fewer than these are left and `overflow` isn't on. */
-static inline tbr_status tbr_width_minus(tbr_renderer *renderer, size_t prefix, size_t least, size_t *columns) {
-    return renderer ? (tbr_status)tbr1_width_minus(tbr_handle_of(renderer), prefix, least, columns, &renderer)
-                    : TBR_NO_RENDERER;
-}
+tbr_status tbr_width_minus(tbr_renderer *renderer, size_t prefix, size_t least, size_t *columns);
 
 /* How many levels are open inside the renderer. */
-static inline tbr_status tbr_open_levels(tbr_renderer *renderer, size_t *count) {
-    return renderer ? (tbr_status)tbr1_open_levels(tbr_handle_of(renderer), count, &renderer) : TBR_NO_RENDERER;
-}
+tbr_status tbr_open_levels(tbr_renderer *renderer, size_t *count);
 
 /* How many links are open in the innermost level. */
-static inline tbr_status tbr_open_links(tbr_renderer *renderer, size_t *count) {
-    return renderer ? (tbr_status)tbr1_open_links(tbr_handle_of(renderer), count, &renderer) : TBR_NO_RENDERER;
-}
+tbr_status tbr_open_links(tbr_renderer *renderer, size_t *count);
 
 /* How many cells wait for a row in the innermost level. */
-static inline tbr_status tbr_waiting_cells(tbr_renderer *renderer, size_t *count) {
-    return renderer ? (tbr_status)tbr1_waiting_cells(tbr_handle_of(renderer), count, &renderer) : TBR_NO_RENDERER;
-}
+tbr_status tbr_waiting_cells(tbr_renderer *renderer, size_t *count);
 
 /* The prefixes of the decorator, to be passed to tbr_append_sub. All answer TBR_OUT_OF_MEMORY, which isn't kept. */
 
 /* What comes before each line of a quoted block, as "> ". */
-static inline tbr_status tbr_quote_prefix(tbr_renderer *renderer, char *out, size_t room, size_t *length) {
-    uint8_t spare = 0;
-    if (tbr_is_missing(out, room)) {
-        return TBR_BAD_ARGUMENT;
-    }
-    return renderer
-        ? (tbr_status)tbr1_quote_prefix(tbr_handle_of(renderer), tbr_room_of(out, &spare), room, length, &renderer)
-        : TBR_NO_RENDERER;
-}
+tbr_status tbr_quote_prefix(tbr_renderer *renderer, char *out, size_t room, size_t *length);
 
 /* What comes before the first line of an item of a list, as "* ". Before the others come as many spaces. */
-static inline tbr_status tbr_item_prefix(tbr_renderer *renderer, char *out, size_t room, size_t *length) {
-    uint8_t spare = 0;
-    if (tbr_is_missing(out, room)) {
-        return TBR_BAD_ARGUMENT;
-    }
-    return renderer
-        ? (tbr_status)tbr1_item_prefix(tbr_handle_of(renderer), tbr_room_of(out, &spare), room, length, &renderer)
-        : TBR_NO_RENDERER;
-}
+tbr_status tbr_item_prefix(tbr_renderer *renderer, char *out, size_t room, size_t *length);
 
 /* The same of the item of a list that has a number, as "3. ". */
-static inline tbr_status tbr_ordered_item_prefix(tbr_renderer *renderer, int64_t number, char *out, size_t room,
-    size_t *length) {
-    uint8_t spare = 0;
-    if (tbr_is_missing(out, room)) {
-        return TBR_BAD_ARGUMENT;
-    }
-    return renderer ? (tbr_status)tbr1_ordered_item_prefix(tbr_handle_of(renderer), number, tbr_room_of(out, &spare),
-                          room, length, &renderer)
-                    : TBR_NO_RENDERER;
-}
+tbr_status tbr_ordered_item_prefix(tbr_renderer *renderer, int64_t number, char *out, size_t room,
+    size_t *length);
 
 /* What comes before each line of a header of the given level, as "## ". */
-static inline tbr_status tbr_header_prefix(tbr_renderer *renderer, size_t level, char *out, size_t room,
-    size_t *length) {
-    uint8_t spare = 0;
-    if (tbr_is_missing(out, room)) {
-        return TBR_BAD_ARGUMENT;
-    }
-    return renderer ? (tbr_status)tbr1_header_prefix(tbr_handle_of(renderer), level, tbr_room_of(out, &spare), room,
-                          length, &renderer)
-                    : TBR_NO_RENDERER;
-}
+tbr_status tbr_header_prefix(tbr_renderer *renderer, size_t level, char *out, size_t room,
+    size_t *length);
 
 /* ---- lines of a renderer that is finished ---- */
 
@@ -782,96 +488,42 @@ static inline tbr_status tbr_header_prefix(tbr_renderer *renderer, size_t level,
 /* The text of all lines that tbr_next_line hasn't taken, each with a newline. It takes none. TBR_OUT_OF_MEMORY, which
    is kept. At TBR_BUFFER_TOO_SMALL the renderer keeps the text until it is copied or a line is taken, so that a second
    call doesn't put it together anew. After tbr_finish_text it takes no memory. */
-static inline tbr_status tbr_text(tbr_renderer *renderer, char *out, size_t room, size_t *length) {
-    uint8_t spare = 0;
-    if (tbr_is_missing(out, room)) {
-        return TBR_BAD_ARGUMENT;
-    }
-    return renderer ? (tbr_status)tbr1_text(tbr_handle_of(renderer), tbr_room_of(out, &spare), room, length, &renderer)
-                    : TBR_NO_RENDERER;
-}
+tbr_status tbr_text(tbr_renderer *renderer, char *out, size_t room, size_t *length);
 
 /* Takes the next line, which the calls below are about, and frees the one before. TBR_NO_LINE where none is left; the
    line that was taken last stays. TBR_OUT_OF_MEMORY, which is kept. */
-static inline tbr_status tbr_next_line(tbr_renderer *renderer, tbr_line *line) {
-    return renderer ? (tbr_status)tbr1_next_line(tbr_handle_of(renderer), line, &renderer) : TBR_NO_RENDERER;
-}
+tbr_status tbr_next_line(tbr_renderer *renderer, tbr_line *line);
 
 /* The calls below take no memory, and answer TBR_NO_LINE where tbr_next_line has taken no line yet. */
 
 /* The text of the line, without a newline. */
-static inline tbr_status tbr_line_text(tbr_renderer *renderer, char *out, size_t room, size_t *length) {
-    uint8_t spare = 0;
-    if (tbr_is_missing(out, room)) {
-        return TBR_BAD_ARGUMENT;
-    }
-    return renderer
-        ? (tbr_status)tbr1_line_text(tbr_handle_of(renderer), tbr_room_of(out, &spare), room, length, &renderer)
-        : TBR_NO_RENDERER;
-}
+tbr_status tbr_line_text(tbr_renderer *renderer, char *out, size_t room, size_t *length);
 
 /* A piece of the line, by its place from 0. TBR_NO_PIECE where it has none there. */
-static inline tbr_status tbr_get_piece(tbr_renderer *renderer, size_t place, tbr_piece *piece) {
-    return renderer ? (tbr_status)tbr1_get_piece(tbr_handle_of(renderer), place, piece, &renderer) : TBR_NO_RENDERER;
-}
+tbr_status tbr_get_piece(tbr_renderer *renderer, size_t place, tbr_piece *piece);
 
 /* The name of the marker at a place. TBR_NO_PIECE where none is there. */
-static inline tbr_status tbr_marker_name(tbr_renderer *renderer, size_t place, char *out, size_t room,
-    size_t *length) {
-    uint8_t spare = 0;
-    if (tbr_is_missing(out, room)) {
-        return TBR_BAD_ARGUMENT;
-    }
-    return renderer ? (tbr_status)tbr1_marker_name(tbr_handle_of(renderer), place, tbr_room_of(out, &spare), room,
-                          length, &renderer)
-                    : TBR_NO_RENDERER;
-}
+tbr_status tbr_marker_name(tbr_renderer *renderer, size_t place, char *out, size_t room,
+    size_t *length);
 
 /* The annotation at a place of the piece at a place. Both places count from 0, and the outermost stretch comes first.
    TBR_NO_PIECE where there is none. */
-static inline tbr_status tbr_get_annotation(tbr_renderer *renderer, size_t piece, size_t place,
-    tbr_annotation *annotation) {
-    return renderer ? (tbr_status)tbr1_get_annotation(tbr_handle_of(renderer), piece, place, annotation, &renderer)
-                    : TBR_NO_RENDERER;
-}
+tbr_status tbr_get_annotation(tbr_renderer *renderer, size_t piece, size_t place,
+    tbr_annotation *annotation);
 
 /* The target of a link, or the source of an image, by the place of its annotation. TBR_NO_PIECE where no annotation
    with one is there. */
-static inline tbr_status tbr_annotation_target(tbr_renderer *renderer, size_t piece, size_t place, char *out,
-    size_t room, size_t *length) {
-    uint8_t spare = 0;
-    if (tbr_is_missing(out, room)) {
-        return TBR_BAD_ARGUMENT;
-    }
-    return renderer ? (tbr_status)tbr1_annotation_target(tbr_handle_of(renderer), piece, place,
-                          tbr_room_of(out, &spare), room, length, &renderer)
-                    : TBR_NO_RENDERER;
-}
+tbr_status tbr_annotation_target(tbr_renderer *renderer, size_t piece, size_t place, char *out,
+    size_t room, size_t *length);
 
-/* ---- statuses ---- */
+/* ---- statuses and versions ---- */
 
 /* A status in words. The text belongs to the library. */
-static inline const char *tbr_status_text(tbr_status status) {
-    switch (status) {
-    case TBR_OK: return "well";
-    case TBR_OUT_OF_MEMORY: return "out of memory";
-    case TBR_TOO_NARROW: return "too narrow";
-    case TBR_NOT_A_COMMAND: return "not a command";
-    case TBR_NOTHING_TO_END: return "nothing to end";
-    case TBR_ROW_DOES_NOT_FIT: return "row does not fit";
-    case TBR_NOT_UTF8: return "not UTF-8";
-    case TBR_BAD_WIDTH: return "a width of 0 columns";
-    case TBR_BAD_ARGUMENT: return "bad argument";
-    case TBR_STILL_OPEN: return "a level is open or cells wait";
-    case TBR_FINISHED: return "the renderer is finished";
-    case TBR_NOT_FINISHED: return "the renderer is not finished";
-    case TBR_NO_LINE: return "no line";
-    case TBR_NO_PIECE: return "no such piece";
-    case TBR_BUFFER_TOO_SMALL: return "the buffer is too small";
-    case TBR_NO_RENDERER: return "no renderer";
-    }
-    return "no status";
-}
+const char *tbr_status_text(tbr_status status);
+
+/* The version of the library that runs, which is TBR_VERSION of its own header. A library that was built without its
+   proofs has "+unproved" after that. The text belongs to the library. */
+const char *tbr_version(void);
 
 #ifdef __cplusplus
 }

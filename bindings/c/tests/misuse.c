@@ -3,6 +3,7 @@
  * renderer goes on as it was.
  */
 #include <stdio.h>
+#include <string.h>
 
 #include "text_block_renderer.h"
 

@@ -1,0 +1,12 @@
+# A version serves whoever asks for an earlier one of the same first number.
+set(PACKAGE_VERSION "@NUMBERS@")
+string(REGEX MATCH "^[0-9]+" _tbr_first "${PACKAGE_VERSION}")
+if(PACKAGE_FIND_VERSION VERSION_GREATER PACKAGE_VERSION OR NOT PACKAGE_FIND_VERSION_MAJOR EQUAL _tbr_first)
+  set(PACKAGE_VERSION_COMPATIBLE FALSE)
+else()
+  set(PACKAGE_VERSION_COMPATIBLE TRUE)
+  if(PACKAGE_FIND_VERSION VERSION_EQUAL PACKAGE_VERSION)
+    set(PACKAGE_VERSION_EXACT TRUE)
+  endif()
+endif()
+unset(_tbr_first)

@@ -1,0 +1,163 @@
+"""Man pages and shell completions of both programs, from what `blockview --help` says and from the text here.
+
+blockrender takes no arguments, so its page is written here, and nothing completes it.
+"""
+import re
+import subprocess
+from dataclasses import dataclass
+
+OPTION = re.compile(r"^ +(?:-\w, )?--([\w-]+)(?: <(\w+)>)?(?: {2,}(.*))?$")
+VALUES = re.compile(r" *\[possible values: ([^\]]+)\]")
+FOLDERS = {
+    "man": ("man/man1", "{}.1"),
+    "bash": ("bash-completion/completions", "{}"),
+    "zsh": ("zsh/site-functions", "_{}"),
+    "fish": ("fish/vendor_completions.d", "{}.fish"),
+}
+BLOCKRENDER = r"""
+.SH NAME
+blockrender \- renders a script of text blocks as text
+.SH SYNOPSIS
+.B blockrender
+<
+.I SCRIPT
+.SH DESCRIPTION
+Reads a script on standard input up to its end, and writes its text on standard output: blocks, links, and rows of cells
+in lines of the width that the script names. It takes no arguments. Nothing is written where the script is refused. The
+text is written as it comes, control characters among it;
+.BR blockview (1)
+leaves them out.
+.SH EXIT STATUS
+.TP
+.B 0
+The text was written.
+.TP
+.B 1
+A text is too narrow for its line, or memory was refused.
+.TP
+.B 2
+A line of the script isn't a command, or comes where it may not.
+.TP
+.B 3
+Standard input can't be read, or standard output can't be written.
+"""
+
+
+@dataclass(frozen=True)
+class Option:
+    """An option of a program: its name, what comes after it, the words that may, and what it does."""
+
+    name: str
+    value: str
+    words: list
+    meaning: str
+
+
+@dataclass(frozen=True)
+class Help:
+    """What a program says of itself."""
+
+    about: str
+    usage: str
+    options: list
+    rest: str
+
+
+def lay_out(share, program, version):
+    """Writes pages and completions below a folder, for a program blockview and for blockrender beside it."""
+    told = read(subprocess.run([program, "--help"], stdout=subprocess.PIPE, check=True).stdout.decode())
+    write(share, "man", "blockview", page("blockview", version, viewed(told)))
+    write(share, "man", "blockrender", page("blockrender", version, BLOCKRENDER + ".SH SEE ALSO\n.BR blockview (1)\n"))
+    for shell, completion in (("bash", bash), ("zsh", zsh), ("fish", fish)):
+        write(share, shell, "blockview", completion("blockview", told.options, files=True))
+        write(share, shell, "blockrender", completion("blockrender", [], files=False))
+
+
+def write(share, kind, name, text):
+    folder, form = FOLDERS[kind]
+    (share / folder).mkdir(parents=True, exist_ok=True)
+    (share / folder / form.format(name)).write_text(text, encoding="utf-8")
+
+
+def read(text):
+    """The parts of a help text."""
+    about, usage, *sections = text.split("\n\n")
+    at = next(i for i, section in enumerate(sections) if section.startswith("Options:"))
+    options = list(options_of(sections[at].splitlines()[1:]))
+    return Help(about, usage.removeprefix("Usage: "), options, "\n\n".join(sections[at + 1 :]).strip("\n"))
+
+
+def options_of(lines):
+    """The options of a help text, whose meanings may go on in further lines."""
+    starts = [i for i, line in enumerate(lines) if OPTION.match(line)]
+    for start, end in zip(starts, [*starts[1:], len(lines)]):
+        name, value, meaning = OPTION.match(lines[start]).groups()
+        meaning = " ".join([meaning or "", *(line.strip() for line in lines[start + 1 : end])]).strip()
+        words = VALUES.search(meaning)
+        yield Option(name, value or "", words[1].split(", ") if words else [], VALUES.sub("", meaning))
+
+
+def page(name, version, body):
+    """A man page."""
+    return f'.TH {name.upper()} 1 "" "text_block_renderer {version}" "User Commands"{body}'
+
+
+def viewed(told):
+    """The page of a program as it says it itself."""
+    name, _, usage = told.usage.partition(" ")
+    body = f"\n.SH NAME\n{name} \\- {roff(told.about[0].lower() + told.about[1:])}\n"
+    body += f".SH SYNOPSIS\n.B {name}\n{roff(usage)}\n.SH OPTIONS\n"
+    for option in told.options:
+        value = f" \\fI{option.value}\\fR" if option.value else ""
+        words = f" One of {', '.join(option.words)}." if option.words else ""
+        body += f".TP\n\\fB\\-\\-{roff(option.name)}\\fR{value}\n{roff(option.meaning)}.{words}\n"
+    return body + f".SH SCRIPTS\n.nf\n{roff(told.rest)}\n.fi\n.SH SEE ALSO\n.BR blockrender (1)\n"
+
+
+def roff(text):
+    """A text as man pages write it."""
+    lines = text.replace("\\", "\\e").replace("-", "\\-").splitlines()
+    return "\n".join("\\&" + line if line.startswith((".", "'")) else line for line in lines)
+
+
+def bash(name, options, files):
+    """What completes a program in bash."""
+    cases = "".join(
+        f'    --{it.name}) COMPREPLY=($(compgen -W "{" ".join(it.words)}" -- "$word")); return ;;\n' for it in options if it.value
+    )
+    names = " ".join(f"--{it.name}" for it in options)
+    return f"""\
+_{name}() {{
+    local word=${{COMP_WORDS[COMP_CWORD]}}
+    COMPREPLY=()
+    case ${{COMP_WORDS[COMP_CWORD - 1]}} in
+{cases}    esac
+    case $word in
+    -*) COMPREPLY=($(compgen -W "{names}" -- "$word")) ;;
+    esac
+}}
+complete {"-o default " if files else ""}-F _{name} {name}
+"""
+
+
+def zsh(name, options, files):
+    """What completes a program in zsh."""
+    words = [f"'--{it.name}{zsh_value(it)}'" for it in options] + (["'*:file:_files'"] if files else [])
+    return f"#compdef {name}\n_arguments {' '.join(words)}\n"
+
+
+def zsh_value(option):
+    """What comes after the name of an option, and what it does."""
+    meaning = re.sub(r"(['\[\]:])", lambda it: "'\\''" if it[1] == "'" else "\\" + it[1], option.meaning)
+    value = f":{option.value}:({' '.join(option.words)})" if option.value else ""
+    return f"{'=' if option.value else ''}[{meaning}]{value}"
+
+
+def fish(name, options, files):
+    """What completes a program in fish."""
+    lines = [f"complete -c {name}{'' if files else ' -f'}"] if not files else []
+    for it in options:
+        value = f" -x -a '{' '.join(it.words)}'" if it.value else ""
+        meaning = it.meaning.replace("\\", "\\\\").replace("'", "\\'")
+        lines.append(f"complete -c {name} -l {it.name}{value} -d '{meaning}'")
+    return "\n".join(lines) + "\n"
