@@ -1,4 +1,8 @@
-//! Finds the library: in the folder that TEXT_BLOCK_RENDERER_LIB names, or where pkg-config says.
+//! Finds the library, and says how to get it where it isn't there.
+//!
+//! It is looked for in the folder that TEXT_BLOCK_RENDERER_LIB names. Where that isn't set, the first of these has it:
+//! `lib` beside this file, the folders that `./build` and `./build quick` fill in the repository, and where pkg-config
+//! says.
 
 use std::env;
 use std::path::{Path, PathBuf};
@@ -6,53 +10,98 @@ use std::process::Command;
 
 const NAME: &str = "text_block_renderer";
 const FOLDER: &str = "TEXT_BLOCK_RENDERER_LIB";
+/// What is in the repository, above the folder of this crate.
+const HEADER: &str = "../../include/text_block_renderer.h";
+const MADE: &str = "../../out";
+const PROVED: &str = "../../out/lib";
+const UNPROVED: &str = "../../out/quick/lib";
+/// Where the packed crate has it.
+const BESIDE: &str = "lib";
+
+const HOW_TO_GET_IT: &str =
+    "In its repository ./build quick makes it without proofs, and ./build with them. Elsewhere \
+                             set TEXT_BLOCK_RENDERER_LIB to the folder that has it";
 
 fn main() {
     println!("cargo::rerun-if-env-changed={FOLDER}");
     println!("cargo::rerun-if-env-changed=PKG_CONFIG_PATH");
+    println!("cargo::rerun-if-changed=build.rs");
     match find() {
         Ok(folder) => link(&folder),
-        Err(missing) => println!("cargo::error={missing}"),
+        Err(missing) => fail_to_link(&missing),
     }
 }
 
 /// The folder of the library, or what is missing.
 fn find() -> Result<PathBuf, String> {
-    match env::var_os(FOLDER) {
-        Some(folder) => {
-            has_library(PathBuf::from(folder)).map_err(|missing| format!("{missing}, which {FOLDER} names"))
-        }
-        None => by_pkg_config(),
+    match env::var_os(FOLDER).filter(|folder| !folder.is_empty()) {
+        Some(folder) => named(Path::new(&folder)),
+        None => beside().or_else(in_repository).or_else(by_pkg_config).ok_or_else(|| {
+            format!("lib{NAME} isn't found: {FOLDER} isn't set, and neither {BESIDE}/ nor pkg-config has it. {HOW_TO_GET_IT}")
+        }),
     }
 }
 
-fn by_pkg_config() -> Result<PathBuf, String> {
-    let asked = Command::new("pkg-config").args(["--variable=libdir", NAME]).output();
-    let folder =
-        asked.ok().filter(|answer| answer.status.success()).and_then(|answer| String::from_utf8(answer.stdout).ok());
-    match folder {
-        Some(folder) => has_library(PathBuf::from(folder.trim())),
-        None => Err(format!(
-            "the library {NAME} isn't found: set {FOLDER} to the folder of lib{NAME}.a or lib{NAME}.so, which ./build \
-             makes, or PKG_CONFIG_PATH to that of {NAME}.pc, which ./install puts into PREFIX/lib/pkgconfig"
-        )),
-    }
-}
-
-fn has_library(folder: PathBuf) -> Result<PathBuf, String> {
-    if is_static(&folder) || folder.join(format!("lib{NAME}.so")).exists() {
+/// The folder that the variable names, which begins at the root or in that of this crate.
+fn named(folder: &Path) -> Result<PathBuf, String> {
+    let folder = absolute(folder);
+    if has_library(&folder) {
         return Ok(folder);
     }
-    Err(format!("there is no lib{NAME}.a and no lib{NAME}.so in {}", folder.display()))
+    let path = folder.display();
+    Err(format!("{path}, which {FOLDER} names, has no lib{NAME}.a and no lib{NAME}.so. {HOW_TO_GET_IT}"))
 }
 
-fn is_static(folder: &Path) -> bool {
-    folder.join(format!("lib{NAME}.a")).exists()
+fn beside() -> Option<PathBuf> {
+    Some(absolute(Path::new(BESIDE))).filter(|folder| has_library(folder))
+}
+
+/// The proved library comes first, so what is made is watched.
+fn in_repository() -> Option<PathBuf> {
+    if !Path::new(HEADER).exists() {
+        return None;
+    }
+    println!("cargo::rerun-if-changed={MADE}");
+    [PROVED, UNPROVED].iter().map(|folder| absolute(Path::new(folder))).find(|folder| has_library(folder))
+}
+
+fn by_pkg_config() -> Option<PathBuf> {
+    let asked = Command::new("pkg-config").args(["--variable=libdir", NAME]).output().ok()?;
+    let folder = String::from_utf8(asked.stdout).ok()?;
+    Some(PathBuf::from(folder.trim())).filter(|folder| asked.status.success() && has_library(folder))
+}
+
+fn absolute(folder: &Path) -> PathBuf {
+    env::current_dir().map(|here| here.join(folder)).unwrap_or_else(|_| folder.to_owned())
+}
+
+fn has_library(folder: &Path) -> bool {
+    static_in(folder).exists() || shared_in(folder).exists()
+}
+
+fn static_in(folder: &Path) -> PathBuf {
+    folder.join(format!("lib{NAME}.a"))
+}
+
+fn shared_in(folder: &Path) -> PathBuf {
+    folder.join(format!("lib{NAME}.so"))
 }
 
 fn link(folder: &Path) {
-    let kind = if is_static(folder) { "static" } else { "dylib" };
+    let (kind, file) = match static_in(folder) {
+        file if file.exists() => ("static", file),
+        _ => ("dylib", shared_in(folder)),
+    };
     println!("cargo::rustc-link-search=native={}", folder.display());
     println!("cargo::rustc-link-lib={kind}={NAME}");
-    println!("cargo::rerun-if-changed={}", folder.display());
+    println!("cargo::rerun-if-changed={}", file.display());
+}
+
+/// Warns, as `cargo check` and `cargo doc` need no library. Where it is linked, the compiler says that it doesn't find
+/// this name.
+fn fail_to_link(missing: &str) {
+    println!("cargo::warning={missing}");
+    println!(
+        "cargo::rustc-link-lib=static={NAME} (run ./build quick in its repository, or set {FOLDER} to its folder)"
+    );
 }

@@ -89,3 +89,24 @@ impl fmt::Display for Error {
 }
 
 impl error::Error for Error {}
+
+#[cfg(test)]
+mod tests {
+    use super::*;
+    use crate::sys;
+    use std::ffi::CStr;
+
+    #[test]
+    fn each_status_has_the_words_of_the_library() {
+        for status in 1..=15 {
+            // SAFETY: the library answers a text that ends by a NUL, and lives as long as the library.
+            let words = unsafe { CStr::from_ptr(sys::tbr_status_text(status)) };
+            assert_eq!(
+                Error::check(status).map_err(|error| error.to_string()),
+                Err(words.to_str().unwrap().to_owned())
+            );
+        }
+        assert_eq!(Error::check(0), Ok(()));
+        assert_eq!(Error::check(16), Err(Error::Unknown(16)));
+    }
+}

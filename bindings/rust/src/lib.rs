@@ -9,6 +9,7 @@ mod options;
 mod renderer;
 mod script;
 mod sys;
+mod version;
 mod width;
 
 pub use error::Error;
@@ -17,4 +18,5 @@ pub use lines::Lines;
 pub use options::{Cell, CellAlign, ImageRenderMode, Options, WhiteSpace};
 pub use renderer::Renderer;
 pub use script::{render_script, ScriptError};
+pub use version::version;
 pub use width::text_width;

@@ -6,7 +6,8 @@ use std::iter::FusedIterator;
 
 /// The lines of a renderer, one by one. What was taken is freed.
 ///
-/// A line is refused with `OutOfMemory` alone, and no line comes after a refusal.
+/// A line is refused with `OutOfMemory` alone, and no line comes after a refusal. As a [`Renderer`](crate::Renderer),
+/// it is `Send` and isn't `Sync`.
 ///
 /// ```
 /// use text_block_renderer::{Options, Renderer, RichAnnotation};
@@ -44,18 +45,16 @@ impl Lines {
     /// The same, where so many bytes are expected.
     pub(crate) fn text_of(&self, bytes: usize) -> Result<String, Error> {
         // SAFETY: the renderer is live, and so is the room.
-        self.handle.text(bytes, |it, out, length, back| unsafe {
-            sys::tbr1_text(it, out.as_mut_ptr(), out.len(), length, back)
-        })
+        self.handle.text(bytes, |it, out, room, length| unsafe { sys::tbr_text(it, out, room, length) })
     }
 
     fn take(&mut self) -> Result<TaggedLine, Error> {
         // SAFETY: the renderer is live, and so is the answer.
-        let line: sys::Line = self.handle.ask(|it, line, back| unsafe { sys::tbr1_next_line(it, line, back) })?;
+        let line: sys::Line = self.handle.ask(|it, line| unsafe { sys::tbr_next_line(it, line) })?;
         // SAFETY: the renderer is live, and so is the room.
-        let text = self.handle.text(line.bytes, |it, out, length, back| unsafe {
-            sys::tbr1_line_text(it, out.as_mut_ptr(), out.len(), length, back)
-        })?;
+        let text = self
+            .handle
+            .text(line.bytes, |it, out, room, length| unsafe { sys::tbr_line_text(it, out, room, length) })?;
         Ok(TaggedLine {
             elements: (0..line.pieces).map(|place| self.element(place, &text)).collect::<Result<_, _>>()?,
             width: line.columns,
@@ -66,8 +65,7 @@ impl Lines {
     /// The element of the line at a place, where the line has this text.
     fn element(&self, place: usize, text: &str) -> Result<TaggedLineElement, Error> {
         // SAFETY: the renderer is live, and so is the answer.
-        let piece: sys::Piece =
-            self.handle.ask(|it, piece, back| unsafe { sys::tbr1_get_piece(it, place, piece, back) })?;
+        let piece: sys::Piece = self.handle.ask(|it, piece| unsafe { sys::tbr_get_piece(it, place, piece) })?;
         if piece.kind != sys::TEXT {
             return Ok(TaggedLineElement::FragmentStart(self.marker_name(place, piece.name_bytes)?));
         }
@@ -79,15 +77,13 @@ impl Lines {
 
     fn marker_name(&self, place: usize, bytes: usize) -> Result<String, Error> {
         // SAFETY: the renderer is live, and so is the room.
-        self.handle.text(bytes, |it, out, length, back| unsafe {
-            sys::tbr1_marker_name(it, place, out.as_mut_ptr(), out.len(), length, back)
-        })
+        self.handle.text(bytes, |it, out, room, length| unsafe { sys::tbr_marker_name(it, place, out, room, length) })
     }
 
     fn annotation(&self, piece: usize, place: usize) -> Result<RichAnnotation, Error> {
         // SAFETY: the renderer is live, and so is the answer.
         let found: sys::Annotation =
-            self.handle.ask(|it, found, back| unsafe { sys::tbr1_get_annotation(it, piece, place, found, back) })?;
+            self.handle.ask(|it, found| unsafe { sys::tbr_get_annotation(it, piece, place, found) })?;
         let target = || self.target(piece, place, found.target_bytes);
         let colour = Colour { r: found.red, g: found.green, b: found.blue };
         Ok(match found.kind {
@@ -107,8 +103,8 @@ impl Lines {
 
     fn target(&self, piece: usize, place: usize, bytes: usize) -> Result<String, Error> {
         // SAFETY: the renderer is live, and so is the room.
-        self.handle.text(bytes, |it, out, length, back| unsafe {
-            sys::tbr1_annotation_target(it, piece, place, out.as_mut_ptr(), out.len(), length, back)
+        self.handle.text(bytes, |it, out, room, length| unsafe {
+            sys::tbr_annotation_target(it, piece, place, out, room, length)
         })
     }
 }

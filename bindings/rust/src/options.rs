@@ -1,4 +1,5 @@
 use crate::sys;
+use std::mem;
 
 /// What a renderer is told to do: its width and how decorated text is shown, and settings that can be changed.
 ///
@@ -123,6 +124,7 @@ impl Options {
 
     pub(crate) fn to_sys(self) -> sys::Options {
         sys::Options {
+            size: mem::size_of::<sys::Options>(),
             width: self.width,
             wrap_width: self.wrap_width.unwrap_or(0),
             decorator: self.decorator as u32,
@@ -191,5 +193,18 @@ impl Cell {
 impl From<usize> for Cell {
     fn from(width: usize) -> Cell {
         Cell::new(width)
+    }
+}
+
+#[cfg(test)]
+mod tests {
+    use super::*;
+
+    #[test]
+    fn a_plain_renderer_has_the_defaults_of_the_library() {
+        let mut defaults = sys::Options::default();
+        // SAFETY: the options have as many bytes as are told.
+        unsafe { sys::tbr_options_init(&mut defaults, mem::size_of::<sys::Options>(), 24) };
+        assert_eq!(Options::plain(24).to_sys(), defaults);
     }
 }

@@ -13,14 +13,10 @@ use std::fmt;
 /// other refusal leaves it as it was. [`TooNarrow`](Error::TooNarrow) comes only where a line has one column. Besides
 /// what is said of a call, any that takes memory can answer `OutOfMemory`, and any that places a word `TooNarrow`.
 ///
-/// The library asks that a renderer be used on the thread that made it, so it is neither `Send` nor `Sync`:
+/// It is `Send`: it may go from one thread to another. It isn't `Sync`, as the library takes one call at a time, and a
+/// question too may write what the renderer keeps:
 ///
-/// ```compile_fail
-/// fn is_sent<T: Send>() {}
-/// is_sent::<text_block_renderer::Renderer>();
-/// ```
-///
-/// ```compile_fail
+/// ```compile_fail,E0277
 /// fn is_shared<T: Sync>() {}
 /// is_shared::<text_block_renderer::Renderer>();
 /// ```
@@ -37,14 +33,14 @@ impl Renderer {
 
     /// Its lines, with the footnotes of its links after them. `StillOpen` where a level is open or cells wait.
     pub fn into_lines(self) -> Result<Lines, Error> {
-        self.handle.plain(sys::tbr1_finish)?;
+        self.handle.plain(sys::tbr_finish)?;
         Ok(Lines::new(self.handle))
     }
 
     /// The text of its lines, each with a newline. It refuses as [`into_lines`](Renderer::into_lines) does.
     pub fn into_string(self) -> Result<String, Error> {
         // SAFETY: the renderer is live, and so is the answer.
-        let bytes = self.handle.ask(|it, bytes, back| unsafe { sys::tbr1_finish_text(it, bytes, back) })?;
+        let bytes = self.handle.ask(|it, bytes| unsafe { sys::tbr_finish_text(it, bytes) })?;
         Lines::new(self.handle).text_of(bytes)
     }
 }
@@ -54,65 +50,65 @@ impl Renderer {
     /// Adds text, whose white space counts as the mode that was pushed last says. A text ends no word: two texts
     /// without white space between them make one.
     pub fn add_inline_text(&mut self, text: &str) -> Result<(), Error> {
-        self.handle.with_text(sys::tbr1_add_text, text)
+        self.handle.with_text(sys::tbr_add_text_n, text)
     }
 
     /// Begins a block: ends the open line, and adds an empty one if any line has content.
     pub fn start_block(&mut self) -> Result<(), Error> {
-        self.handle.plain(sys::tbr1_start_block)
+        self.handle.plain(sys::tbr_start_block)
     }
 
     /// Ends a block: text that comes begins a new one. In `Normal` white space before it is ignored. It may come at any
     /// time.
     pub fn end_block(&mut self) -> Result<(), Error> {
-        self.handle.plain(sys::tbr1_end_block)
+        self.handle.plain(sys::tbr_end_block)
     }
 
     /// Begins a table, as a block is begun.
     pub fn start_table(&mut self) -> Result<(), Error> {
-        self.handle.plain(sys::tbr1_start_table)
+        self.handle.plain(sys::tbr_start_table)
     }
 
     /// Ends the open line, if there is one.
     pub fn new_line(&mut self) -> Result<(), Error> {
-        self.handle.plain(sys::tbr1_new_line)
+        self.handle.plain(sys::tbr_new_line)
     }
 
     /// Ends the open line. Where none is open, or it has no columns, an empty one is added.
     pub fn new_line_hard(&mut self) -> Result<(), Error> {
-        self.handle.plain(sys::tbr1_new_line_hard)
+        self.handle.plain(sys::tbr_new_line_hard)
     }
 
     /// Ends the open line, and adds an empty one.
     pub fn add_empty_line(&mut self) -> Result<(), Error> {
-        self.handle.plain(sys::tbr1_add_empty_line)
+        self.handle.plain(sys::tbr_add_empty_line)
     }
 
     /// Ends the open line, and adds a border of the level's width.
     pub fn add_horizontal_border(&mut self) -> Result<(), Error> {
-        self.handle.plain(sys::tbr1_add_border)
+        self.handle.plain(sys::tbr_add_border)
     }
 
     /// The same with so many columns: 0, or more than the level has, are allowed.
     pub fn add_horizontal_border_width(&mut self, columns: usize) -> Result<(), Error> {
         // SAFETY: the renderer is live.
-        self.handle.call(|it, back| unsafe { sys::tbr1_add_border_width(it, columns, back) })
+        self.handle.call(|it| unsafe { sys::tbr_add_border_width(it, columns) })
     }
 
     /// Begins a mode of white space. Where none has begun, all is `Normal`.
     pub fn push_ws(&mut self, mode: WhiteSpace) -> Result<(), Error> {
         // SAFETY: the renderer is live.
-        self.handle.call(|it, back| unsafe { sys::tbr1_push_white_space(it, mode as u32, back) })
+        self.handle.call(|it| unsafe { sys::tbr_push_white_space(it, mode as u32) })
     }
 
     /// Ends the mode that was pushed last. `NothingToEnd` where none was.
     pub fn pop_ws(&mut self) -> Result<(), Error> {
-        self.handle.plain(sys::tbr1_pop_white_space)
+        self.handle.plain(sys::tbr_pop_white_space)
     }
 
     /// Puts a marker where the text is, as an anchor for links.
     pub fn record_frag_start(&mut self, name: &str) -> Result<(), Error> {
-        self.handle.with_text(sys::tbr1_add_marker, name)
+        self.handle.with_text(sys::tbr_add_marker_n, name)
     }
 }
 
@@ -121,101 +117,101 @@ impl Renderer {
 impl Renderer {
     /// Begins a link to a target, which may be empty.
     pub fn start_link(&mut self, target: &str) -> Result<(), Error> {
-        self.handle.with_text(sys::tbr1_start_link, target)
+        self.handle.with_text(sys::tbr_start_link_n, target)
     }
 
     /// Ends the link that was begun last, and with footnotes shows its number.
     pub fn end_link(&mut self) -> Result<(), Error> {
-        self.handle.plain(sys::tbr1_end_link)
+        self.handle.plain(sys::tbr_end_link)
     }
 
     /// Begins emphasised text.
     pub fn start_emphasis(&mut self) -> Result<(), Error> {
-        self.handle.plain(sys::tbr1_start_emphasis)
+        self.handle.plain(sys::tbr_start_emphasis)
     }
 
     /// Ends emphasised text.
     pub fn end_emphasis(&mut self) -> Result<(), Error> {
-        self.handle.plain(sys::tbr1_end_emphasis)
+        self.handle.plain(sys::tbr_end_emphasis)
     }
 
     /// Begins strong text.
     pub fn start_strong(&mut self) -> Result<(), Error> {
-        self.handle.plain(sys::tbr1_start_strong)
+        self.handle.plain(sys::tbr_start_strong)
     }
 
     /// Ends strong text.
     pub fn end_strong(&mut self) -> Result<(), Error> {
-        self.handle.plain(sys::tbr1_end_strong)
+        self.handle.plain(sys::tbr_end_strong)
     }
 
     /// Begins struck out text. If strokes are on, each character of it that takes columns gets one, U+0336.
     pub fn start_strikeout(&mut self) -> Result<(), Error> {
-        self.handle.plain(sys::tbr1_start_strikeout)
+        self.handle.plain(sys::tbr_start_strikeout)
     }
 
     /// Ends struck out text.
     pub fn end_strikeout(&mut self) -> Result<(), Error> {
-        self.handle.plain(sys::tbr1_end_strikeout)
+        self.handle.plain(sys::tbr_end_strikeout)
     }
 
     /// Begins code.
     pub fn start_code(&mut self) -> Result<(), Error> {
-        self.handle.plain(sys::tbr1_start_code)
+        self.handle.plain(sys::tbr_start_code)
     }
 
     /// Ends code.
     pub fn end_code(&mut self) -> Result<(), Error> {
-        self.handle.plain(sys::tbr1_end_code)
+        self.handle.plain(sys::tbr_end_code)
     }
 
     /// Begins a superscript.
     pub fn start_superscript(&mut self) -> Result<(), Error> {
-        self.handle.plain(sys::tbr1_start_superscript)
+        self.handle.plain(sys::tbr_start_superscript)
     }
 
     /// Ends a superscript.
     pub fn end_superscript(&mut self) -> Result<(), Error> {
-        self.handle.plain(sys::tbr1_end_superscript)
+        self.handle.plain(sys::tbr_end_superscript)
     }
 
     /// Begins a preformatted stretch. That is a matter of annotations: push `Pre` to keep white space.
     pub fn push_preformat(&mut self) -> Result<(), Error> {
-        self.handle.plain(sys::tbr1_start_preformatted)
+        self.handle.plain(sys::tbr_start_preformatted)
     }
 
     /// Ends a preformatted stretch.
     pub fn pop_preformat(&mut self) -> Result<(), Error> {
-        self.handle.plain(sys::tbr1_end_preformatted)
+        self.handle.plain(sys::tbr_end_preformatted)
     }
 
     /// Begins text in a colour.
     pub fn push_colour(&mut self, colour: Colour) -> Result<(), Error> {
         let Colour { r, g, b } = colour;
         // SAFETY: the renderer is live.
-        self.handle.call(|it, back| unsafe { sys::tbr1_start_colour(it, r, g, b, back) })
+        self.handle.call(|it| unsafe { sys::tbr_start_colour(it, r, g, b) })
     }
 
     /// Ends the colour that was pushed last.
     pub fn pop_colour(&mut self) -> Result<(), Error> {
-        self.handle.plain(sys::tbr1_end_colour)
+        self.handle.plain(sys::tbr_end_colour)
     }
 
     /// Begins text on a background in a colour.
     pub fn push_bgcolour(&mut self, colour: Colour) -> Result<(), Error> {
         let Colour { r, g, b } = colour;
         // SAFETY: the renderer is live.
-        self.handle.call(|it, back| unsafe { sys::tbr1_start_background(it, r, g, b, back) })
+        self.handle.call(|it| unsafe { sys::tbr_start_background(it, r, g, b) })
     }
 
     /// Ends the background that was pushed last.
     pub fn pop_bgcolour(&mut self) -> Result<(), Error> {
-        self.handle.plain(sys::tbr1_end_background)
+        self.handle.plain(sys::tbr_end_background)
     }
 
     /// Adds an image, shown by its title. The options say what one without a title shows.
     pub fn add_image(&mut self, source: &str, title: &str) -> Result<(), Error> {
-        self.handle.with_texts(sys::tbr1_add_image, source, title)
+        self.handle.with_texts(sys::tbr_add_image_n, source, title)
     }
 }
 
@@ -250,14 +246,14 @@ impl Renderer {
     /// Opens a level of so many columns, whose lines `append_subrender` takes. `BadWidth` at 0.
     pub fn start_subrender(&mut self, width: usize) -> Result<(), Error> {
         // SAFETY: the renderer is live.
-        self.handle.call(|it, back| unsafe { sys::tbr1_start_sub(it, width, back) })
+        self.handle.call(|it| unsafe { sys::tbr_start_sub(it, width) })
     }
 
     /// Closes the level that `start_subrender` opened, and adds its lines to the one outside: the first after `first`,
     /// each other after `others`. `NothingToEnd` where the innermost level isn't one of these, `StillOpen` where cells
     /// wait in it.
     pub fn append_subrender(&mut self, first: &str, others: &str) -> Result<(), Error> {
-        self.handle.with_texts(sys::tbr1_append_sub, first, others)
+        self.handle.with_texts(sys::tbr_append_sub_n, first, others)
     }
 
     /// Fills a cell, which then waits for a row. `BadWidth` at 0 columns, `BadArgument` at 0 rows.
@@ -277,13 +273,13 @@ impl Renderer {
     pub fn start_cell(&mut self, cell: impl Into<Cell>) -> Result<(), Error> {
         let Cell { width, span, align } = cell.into();
         // SAFETY: the renderer is live.
-        self.handle.call(|it, back| unsafe { sys::tbr1_start_cell(it, width, span, align as u32, back) })
+        self.handle.call(|it| unsafe { sys::tbr_start_cell(it, width, span, align as u32) })
     }
 
     /// Closes the cell that is open, which then waits for a row. `NothingToEnd` where the innermost level is no cell,
     /// `StillOpen` where cells wait in it.
     pub fn end_cell(&mut self) -> Result<(), Error> {
-        self.handle.plain(sys::tbr1_end_cell)
+        self.handle.plain(sys::tbr_end_cell)
     }
 
     /// Adds the cells that wait as a row, side by side, joined to a border that is the last line, with a border below.
@@ -293,12 +289,12 @@ impl Renderer {
     /// `RowDoesNotFit` where cells are in the way of what overhangs; they go on waiting then.
     pub fn append_columns_with_borders(&mut self, collapse: bool) -> Result<(), Error> {
         // SAFETY: the renderer is live.
-        self.handle.call(|it, back| unsafe { sys::tbr1_add_row(it, collapse, back) })
+        self.handle.call(|it| unsafe { sys::tbr_add_row(it, collapse) })
     }
 
     /// Adds the cells that wait, one below another, whatever rows they span.
     pub fn append_vert_row(&mut self) -> Result<(), Error> {
-        self.handle.plain(sys::tbr1_add_vertical_row)
+        self.handle.plain(sys::tbr_add_vertical_row)
     }
 }
 
@@ -306,50 +302,50 @@ impl Renderer {
 impl Renderer {
     /// The refusal that is kept, if there is one.
     pub fn failure(&self) -> Option<Error> {
-        self.handle.plain(sys::tbr1_refusal).err()
+        self.handle.plain(sys::tbr_refusal).err()
     }
 
     /// Whether it has no line, and no text on an open one.
     pub fn empty(&self) -> Result<bool, Error> {
         // SAFETY: the renderer is live, and so is the answer.
-        self.handle.ask(|it, answer, back| unsafe { sys::tbr1_is_empty(it, answer, back) })
+        self.handle.ask(|it, answer| unsafe { sys::tbr_is_empty(it, answer) })
     }
 
     /// Whether cells that span more rows than came yet overhang. Lines that they have at the end are lost.
     pub fn has_overhang(&self) -> Result<bool, Error> {
         // SAFETY: as above.
-        self.handle.ask(|it, answer, back| unsafe { sys::tbr1_has_overhang(it, answer, back) })
+        self.handle.ask(|it, answer| unsafe { sys::tbr_has_overhang(it, answer) })
     }
 
     /// Its columns.
     pub fn width(&self) -> Result<usize, Error> {
         // SAFETY: as above.
-        self.handle.ask(|it, answer, back| unsafe { sys::tbr1_width(it, answer, back) })
+        self.handle.ask(|it, answer| unsafe { sys::tbr_width(it, answer) })
     }
 
     /// The columns that it has left after a prefix, but at least `min_width`. `TooNarrow`, which isn't kept, where
     /// fewer than these are left and no overflow is allowed.
     pub fn width_minus(&self, prefix_len: usize, min_width: usize) -> Result<usize, Error> {
         // SAFETY: as above.
-        self.handle.ask(|it, answer, back| unsafe { sys::tbr1_width_minus(it, prefix_len, min_width, answer, back) })
+        self.handle.ask(|it, answer| unsafe { sys::tbr_width_minus(it, prefix_len, min_width, answer) })
     }
 
     /// How many levels are open inside the renderer.
     pub fn depth(&self) -> Result<usize, Error> {
         // SAFETY: as above.
-        self.handle.ask(|it, answer, back| unsafe { sys::tbr1_open_levels(it, answer, back) })
+        self.handle.ask(|it, answer| unsafe { sys::tbr_open_levels(it, answer) })
     }
 
     /// How many links are open.
     pub fn open_links(&self) -> Result<usize, Error> {
         // SAFETY: as above.
-        self.handle.ask(|it, answer, back| unsafe { sys::tbr1_open_links(it, answer, back) })
+        self.handle.ask(|it, answer| unsafe { sys::tbr_open_links(it, answer) })
     }
 
     /// How many cells wait for a row.
     pub fn waiting_cells(&self) -> Result<usize, Error> {
         // SAFETY: as above.
-        self.handle.ask(|it, answer, back| unsafe { sys::tbr1_waiting_cells(it, answer, back) })
+        self.handle.ask(|it, answer| unsafe { sys::tbr_waiting_cells(it, answer) })
     }
 }
 
@@ -358,32 +354,27 @@ impl Renderer {
     /// What comes before each line of a header of the given level, as `## `.
     pub fn header_prefix(&self, level: usize) -> Result<String, Error> {
         // SAFETY: the renderer is live, and so is the room.
-        self.handle.text(PREFIX_ROOM, |it, out, length, back| unsafe {
-            sys::tbr1_header_prefix(it, level, out.as_mut_ptr(), out.len(), length, back)
-        })
+        self.handle
+            .text(PREFIX_ROOM, |it, out, room, length| unsafe { sys::tbr_header_prefix(it, level, out, room, length) })
     }
 
     /// What comes before each line of a quoted block, as `> `.
     pub fn quote_prefix(&self) -> Result<String, Error> {
         // SAFETY: as above.
-        self.handle.text(PREFIX_ROOM, |it, out, length, back| unsafe {
-            sys::tbr1_quote_prefix(it, out.as_mut_ptr(), out.len(), length, back)
-        })
+        self.handle.text(PREFIX_ROOM, |it, out, room, length| unsafe { sys::tbr_quote_prefix(it, out, room, length) })
     }
 
     /// What comes before the first line of an item of a list, as `* `. Before the others come as many spaces.
     pub fn unordered_item_prefix(&self) -> Result<String, Error> {
         // SAFETY: as above.
-        self.handle.text(PREFIX_ROOM, |it, out, length, back| unsafe {
-            sys::tbr1_item_prefix(it, out.as_mut_ptr(), out.len(), length, back)
-        })
+        self.handle.text(PREFIX_ROOM, |it, out, room, length| unsafe { sys::tbr_item_prefix(it, out, room, length) })
     }
 
     /// The same of the item of a list that has a number, as `3. `.
     pub fn ordered_item_prefix(&self, number: i64) -> Result<String, Error> {
         // SAFETY: as above.
-        self.handle.text(PREFIX_ROOM, |it, out, length, back| unsafe {
-            sys::tbr1_ordered_item_prefix(it, number, out.as_mut_ptr(), out.len(), length, back)
+        self.handle.text(PREFIX_ROOM, |it, out, room, length| unsafe {
+            sys::tbr_ordered_item_prefix(it, number, out, room, length)
         })
     }
 }

@@ -57,7 +57,7 @@ pub fn render_script(script: &[u8]) -> Result<String, ScriptError> {
 /// Writes as much of the text of a script as there is room for, and answers its length.
 fn render_into(script: &[u8], out: &mut [u8]) -> Result<usize, ScriptError> {
     // SAFETY: both slices have as many bytes as are told.
-    let answer = unsafe { sys::tbr1_render(script.as_ptr(), script.len(), out.as_mut_ptr(), out.len()) };
+    let answer = unsafe { sys::tbr_render(script.as_ptr().cast(), script.len(), out.as_mut_ptr().cast(), out.len()) };
     let line = Some(answer.line).filter(|&line| line > 0);
     Error::check(answer.status).map_err(|error| ScriptError { line, error })?;
     Ok(answer.length)

@@ -1,23 +1,17 @@
 //! What the library exports, as `include/text_block_renderer.h` declares it.
 
+use std::ffi::c_char;
+
 /// A renderer of the library's, had by pointers alone.
 #[repr(C)]
 pub struct Renderer {
     _opaque: [u8; 0],
 }
 
-/// How a renderer goes into a call.
 #[repr(C)]
-#[derive(Clone, Copy)]
-pub struct Handle {
-    pub at: *mut Renderer,
-}
-
-/// Where it comes back, as the same pointer.
-pub type Back<'a> = &'a mut *mut Renderer;
-
-#[repr(C)]
+#[cfg_attr(test, derive(Debug, Default, PartialEq))]
 pub struct Options {
+    pub size: usize,
     pub width: usize,
     pub wrap_width: usize,
     pub decorator: u32,
@@ -80,118 +74,112 @@ pub struct Annotation {
 }
 
 extern "C" {
-    pub fn tbr1_render(script: *const u8, length: usize, out: *mut u8, room: usize) -> Answer;
-    pub fn tbr1_text_width(text: *const u8, length: usize, columns: &mut usize) -> u32;
-    pub fn tbr1_new(options: &Options, back: Back) -> u32;
-    pub fn tbr1_free(renderer: Handle);
+    pub fn tbr_render(script: *const c_char, length: usize, out: *mut c_char, room: usize) -> Answer;
+    pub fn tbr_text_width_n(text: *const c_char, length: usize, columns: &mut usize) -> u32;
+    #[cfg(test)]
+    pub fn tbr_options_init(options: &mut Options, size: usize, width: usize);
+    pub fn tbr_new(options: &Options, renderer: &mut *mut Renderer) -> u32;
+    pub fn tbr_free(renderer: *mut Renderer);
 
-    pub fn tbr1_add_text(renderer: Handle, text: *const u8, length: usize, back: Back) -> u32;
-    pub fn tbr1_start_block(renderer: Handle, back: Back) -> u32;
-    pub fn tbr1_end_block(renderer: Handle, back: Back) -> u32;
-    pub fn tbr1_start_table(renderer: Handle, back: Back) -> u32;
-    pub fn tbr1_new_line(renderer: Handle, back: Back) -> u32;
-    pub fn tbr1_new_line_hard(renderer: Handle, back: Back) -> u32;
-    pub fn tbr1_add_empty_line(renderer: Handle, back: Back) -> u32;
-    pub fn tbr1_add_border(renderer: Handle, back: Back) -> u32;
-    pub fn tbr1_add_border_width(renderer: Handle, columns: usize, back: Back) -> u32;
-    pub fn tbr1_push_white_space(renderer: Handle, mode: u32, back: Back) -> u32;
-    pub fn tbr1_pop_white_space(renderer: Handle, back: Back) -> u32;
-    pub fn tbr1_start_preformatted(renderer: Handle, back: Back) -> u32;
-    pub fn tbr1_end_preformatted(renderer: Handle, back: Back) -> u32;
-    pub fn tbr1_start_link(renderer: Handle, target: *const u8, length: usize, back: Back) -> u32;
-    pub fn tbr1_end_link(renderer: Handle, back: Back) -> u32;
-    pub fn tbr1_start_emphasis(renderer: Handle, back: Back) -> u32;
-    pub fn tbr1_end_emphasis(renderer: Handle, back: Back) -> u32;
-    pub fn tbr1_start_strong(renderer: Handle, back: Back) -> u32;
-    pub fn tbr1_end_strong(renderer: Handle, back: Back) -> u32;
-    pub fn tbr1_start_strikeout(renderer: Handle, back: Back) -> u32;
-    pub fn tbr1_end_strikeout(renderer: Handle, back: Back) -> u32;
-    pub fn tbr1_start_code(renderer: Handle, back: Back) -> u32;
-    pub fn tbr1_end_code(renderer: Handle, back: Back) -> u32;
-    pub fn tbr1_start_superscript(renderer: Handle, back: Back) -> u32;
-    pub fn tbr1_end_superscript(renderer: Handle, back: Back) -> u32;
-    pub fn tbr1_start_colour(renderer: Handle, red: u8, green: u8, blue: u8, back: Back) -> u32;
-    pub fn tbr1_end_colour(renderer: Handle, back: Back) -> u32;
-    pub fn tbr1_start_background(renderer: Handle, red: u8, green: u8, blue: u8, back: Back) -> u32;
-    pub fn tbr1_end_background(renderer: Handle, back: Back) -> u32;
-    pub fn tbr1_add_image(
-        renderer: Handle,
-        source: *const u8,
+    pub fn tbr_add_text_n(renderer: *mut Renderer, text: *const c_char, length: usize) -> u32;
+    pub fn tbr_start_block(renderer: *mut Renderer) -> u32;
+    pub fn tbr_end_block(renderer: *mut Renderer) -> u32;
+    pub fn tbr_start_table(renderer: *mut Renderer) -> u32;
+    pub fn tbr_new_line(renderer: *mut Renderer) -> u32;
+    pub fn tbr_new_line_hard(renderer: *mut Renderer) -> u32;
+    pub fn tbr_add_empty_line(renderer: *mut Renderer) -> u32;
+    pub fn tbr_add_border(renderer: *mut Renderer) -> u32;
+    pub fn tbr_add_border_width(renderer: *mut Renderer, columns: usize) -> u32;
+    pub fn tbr_push_white_space(renderer: *mut Renderer, mode: u32) -> u32;
+    pub fn tbr_pop_white_space(renderer: *mut Renderer) -> u32;
+    pub fn tbr_start_preformatted(renderer: *mut Renderer) -> u32;
+    pub fn tbr_end_preformatted(renderer: *mut Renderer) -> u32;
+    pub fn tbr_start_link_n(renderer: *mut Renderer, target: *const c_char, length: usize) -> u32;
+    pub fn tbr_end_link(renderer: *mut Renderer) -> u32;
+    pub fn tbr_start_emphasis(renderer: *mut Renderer) -> u32;
+    pub fn tbr_end_emphasis(renderer: *mut Renderer) -> u32;
+    pub fn tbr_start_strong(renderer: *mut Renderer) -> u32;
+    pub fn tbr_end_strong(renderer: *mut Renderer) -> u32;
+    pub fn tbr_start_strikeout(renderer: *mut Renderer) -> u32;
+    pub fn tbr_end_strikeout(renderer: *mut Renderer) -> u32;
+    pub fn tbr_start_code(renderer: *mut Renderer) -> u32;
+    pub fn tbr_end_code(renderer: *mut Renderer) -> u32;
+    pub fn tbr_start_superscript(renderer: *mut Renderer) -> u32;
+    pub fn tbr_end_superscript(renderer: *mut Renderer) -> u32;
+    pub fn tbr_start_colour(renderer: *mut Renderer, red: u8, green: u8, blue: u8) -> u32;
+    pub fn tbr_end_colour(renderer: *mut Renderer) -> u32;
+    pub fn tbr_start_background(renderer: *mut Renderer, red: u8, green: u8, blue: u8) -> u32;
+    pub fn tbr_end_background(renderer: *mut Renderer) -> u32;
+    pub fn tbr_add_image_n(
+        renderer: *mut Renderer,
+        source: *const c_char,
         source_length: usize,
-        title: *const u8,
+        title: *const c_char,
         title_length: usize,
-        back: Back,
     ) -> u32;
-    pub fn tbr1_add_marker(renderer: Handle, name: *const u8, length: usize, back: Back) -> u32;
-    pub fn tbr1_start_sub(renderer: Handle, width: usize, back: Back) -> u32;
-    pub fn tbr1_append_sub(
-        renderer: Handle,
-        first: *const u8,
+    pub fn tbr_add_marker_n(renderer: *mut Renderer, name: *const c_char, length: usize) -> u32;
+    pub fn tbr_start_sub(renderer: *mut Renderer, width: usize) -> u32;
+    pub fn tbr_append_sub_n(
+        renderer: *mut Renderer,
+        first: *const c_char,
         first_length: usize,
-        others: *const u8,
+        others: *const c_char,
         others_length: usize,
-        back: Back,
     ) -> u32;
-    pub fn tbr1_start_cell(renderer: Handle, width: usize, span: usize, alignment: u32, back: Back) -> u32;
-    pub fn tbr1_end_cell(renderer: Handle, back: Back) -> u32;
-    pub fn tbr1_add_row(renderer: Handle, collapse: bool, back: Back) -> u32;
-    pub fn tbr1_add_vertical_row(renderer: Handle, back: Back) -> u32;
-    pub fn tbr1_finish(renderer: Handle, back: Back) -> u32;
-    pub fn tbr1_finish_text(renderer: Handle, length: &mut usize, back: Back) -> u32;
+    pub fn tbr_start_cell(renderer: *mut Renderer, width: usize, span: usize, alignment: u32) -> u32;
+    pub fn tbr_end_cell(renderer: *mut Renderer) -> u32;
+    pub fn tbr_add_row(renderer: *mut Renderer, collapse: bool) -> u32;
+    pub fn tbr_add_vertical_row(renderer: *mut Renderer) -> u32;
+    pub fn tbr_finish(renderer: *mut Renderer) -> u32;
+    pub fn tbr_finish_text(renderer: *mut Renderer, length: &mut usize) -> u32;
 
-    pub fn tbr1_refusal(renderer: Handle, back: Back) -> u32;
-    pub fn tbr1_is_empty(renderer: Handle, is_empty: &mut bool, back: Back) -> u32;
-    pub fn tbr1_has_overhang(renderer: Handle, has_overhang: &mut bool, back: Back) -> u32;
-    pub fn tbr1_width(renderer: Handle, columns: &mut usize, back: Back) -> u32;
-    pub fn tbr1_width_minus(renderer: Handle, prefix: usize, least: usize, columns: &mut usize, back: Back) -> u32;
-    pub fn tbr1_open_levels(renderer: Handle, count: &mut usize, back: Back) -> u32;
-    pub fn tbr1_open_links(renderer: Handle, count: &mut usize, back: Back) -> u32;
-    pub fn tbr1_waiting_cells(renderer: Handle, count: &mut usize, back: Back) -> u32;
-    pub fn tbr1_quote_prefix(renderer: Handle, out: *mut u8, room: usize, length: &mut usize, back: Back) -> u32;
-    pub fn tbr1_item_prefix(renderer: Handle, out: *mut u8, room: usize, length: &mut usize, back: Back) -> u32;
-    pub fn tbr1_ordered_item_prefix(
-        renderer: Handle,
+    pub fn tbr_refusal(renderer: *mut Renderer) -> u32;
+    pub fn tbr_is_empty(renderer: *mut Renderer, is_empty: &mut bool) -> u32;
+    pub fn tbr_has_overhang(renderer: *mut Renderer, has_overhang: &mut bool) -> u32;
+    pub fn tbr_width(renderer: *mut Renderer, columns: &mut usize) -> u32;
+    pub fn tbr_width_minus(renderer: *mut Renderer, prefix: usize, least: usize, columns: &mut usize) -> u32;
+    pub fn tbr_open_levels(renderer: *mut Renderer, count: &mut usize) -> u32;
+    pub fn tbr_open_links(renderer: *mut Renderer, count: &mut usize) -> u32;
+    pub fn tbr_waiting_cells(renderer: *mut Renderer, count: &mut usize) -> u32;
+    pub fn tbr_quote_prefix(renderer: *mut Renderer, out: *mut c_char, room: usize, length: &mut usize) -> u32;
+    pub fn tbr_item_prefix(renderer: *mut Renderer, out: *mut c_char, room: usize, length: &mut usize) -> u32;
+    pub fn tbr_ordered_item_prefix(
+        renderer: *mut Renderer,
         number: i64,
-        out: *mut u8,
+        out: *mut c_char,
         room: usize,
         length: &mut usize,
-        back: Back,
     ) -> u32;
-    pub fn tbr1_header_prefix(
-        renderer: Handle,
+    pub fn tbr_header_prefix(
+        renderer: *mut Renderer,
         level: usize,
-        out: *mut u8,
+        out: *mut c_char,
         room: usize,
         length: &mut usize,
-        back: Back,
     ) -> u32;
 
-    pub fn tbr1_text(renderer: Handle, out: *mut u8, room: usize, length: &mut usize, back: Back) -> u32;
-    pub fn tbr1_next_line(renderer: Handle, line: &mut Line, back: Back) -> u32;
-    pub fn tbr1_line_text(renderer: Handle, out: *mut u8, room: usize, length: &mut usize, back: Back) -> u32;
-    pub fn tbr1_get_piece(renderer: Handle, place: usize, piece: &mut Piece, back: Back) -> u32;
-    pub fn tbr1_marker_name(
-        renderer: Handle,
+    pub fn tbr_text(renderer: *mut Renderer, out: *mut c_char, room: usize, length: &mut usize) -> u32;
+    pub fn tbr_next_line(renderer: *mut Renderer, line: &mut Line) -> u32;
+    pub fn tbr_line_text(renderer: *mut Renderer, out: *mut c_char, room: usize, length: &mut usize) -> u32;
+    pub fn tbr_get_piece(renderer: *mut Renderer, place: usize, piece: &mut Piece) -> u32;
+    pub fn tbr_marker_name(
+        renderer: *mut Renderer,
         place: usize,
-        out: *mut u8,
+        out: *mut c_char,
         room: usize,
         length: &mut usize,
-        back: Back,
     ) -> u32;
-    pub fn tbr1_get_annotation(
-        renderer: Handle,
+    pub fn tbr_get_annotation(renderer: *mut Renderer, piece: usize, place: usize, annotation: &mut Annotation) -> u32;
+    pub fn tbr_annotation_target(
+        renderer: *mut Renderer,
         piece: usize,
         place: usize,
-        annotation: &mut Annotation,
-        back: Back,
-    ) -> u32;
-    pub fn tbr1_annotation_target(
-        renderer: Handle,
-        piece: usize,
-        place: usize,
-        out: *mut u8,
+        out: *mut c_char,
         room: usize,
         length: &mut usize,
-        back: Back,
     ) -> u32;
+
+    #[cfg(test)]
+    pub fn tbr_status_text(status: u32) -> *const c_char;
+    pub fn tbr_version() -> *const c_char;
 }

@@ -11,6 +11,6 @@ use crate::Error;
 pub fn text_width(text: &str) -> Result<usize, Error> {
     let mut columns = 0;
     // SAFETY: the text has as many bytes as are told, and the answer lives through the call.
-    Error::check(unsafe { sys::tbr1_text_width(text.as_ptr(), text.len(), &mut columns) })?;
+    Error::check(unsafe { sys::tbr_text_width_n(text.as_ptr().cast(), text.len(), &mut columns) })?;
     Ok(columns)
 }
