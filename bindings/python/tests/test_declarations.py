@@ -5,18 +5,31 @@ import re
 import unittest
 from pathlib import Path
 
-from text_block_renderer import CellAlign, Decorator, ImageRenderMode, Kind, WhiteSpace, errors
+from text_block_renderer import (
+    CellAlign,
+    Decorator,
+    ImageRenderMode,
+    Kind,
+    WhiteSpace,
+    __version__,
+    errors,
+    library_version,
+)
 from text_block_renderer import _library as library
 
 HEADER = Path(__file__).resolve().parents[3] / "include" / "text_block_renderer.h"
+PROJECT = Path(__file__).resolve().parents[1] / "pyproject.toml"
 C_TYPES = {
     "size_t": ctypes.c_size_t,
     "uint32_t": ctypes.c_uint32,
     "uint8_t": ctypes.c_uint8,
     "int64_t": ctypes.c_int64,
     "bool": ctypes.c_bool,
-    "const uint8_t *": ctypes.c_char_p,
-    "uint8_t *": ctypes.c_char_p,
+    "const char *": ctypes.c_char_p,
+    "char *": ctypes.c_char_p,
+    "tbr_white_space": ctypes.c_uint32,
+    "tbr_alignment": ctypes.c_uint32,
+    "tbr_renderer *": ctypes.c_void_p,
     "size_t *": ctypes.POINTER(ctypes.c_size_t),
     "bool *": ctypes.POINTER(ctypes.c_bool),
     "tbr_line *": ctypes.POINTER(library.Line),
@@ -54,17 +67,16 @@ class Declarations(unittest.TestCase):
         cls.header = re.sub(r"/\*.*?\*/", "", HEADER.read_text(), flags=re.S)
 
     def test_each_call_is_declared(self) -> None:
-        calls = re.findall(
-            r"^uint32_t tbr1_(\w+)\(tbr_handle renderer,([^;]*?),?\s*tbr_renderer \*\*back\);", self.header, re.M
-        )
+        calls = re.findall(r"^tbr_status tbr_(\w+)\(tbr_renderer \*renderer(.*?)\);", self.header, re.M | re.S)
         taken = {name: tuple(c_types(parameters)) for name, parameters in calls}
-        self.assertEqual(taken, library.CALLS)
+        without_length = {name for name in taken if f"{name}_n" in taken}
+        self.assertEqual({name: taken[name] for name in taken if name not in without_length}, library.CALLS)
 
     def test_calls_without_a_renderer_are_declared(self) -> None:
-        for name in ("render", "text_width"):
-            parameters = re.search(rf"^\w+ tbr1_{name}\((.*?)\);", self.header, re.M | re.S)
+        for name in ("render", "text_width_n"):
+            parameters = re.search(rf"^\w+ tbr_{name}\((.*?)\);", self.header, re.M | re.S)
             assert parameters
-            function = getattr(library.LIBRARY, f"tbr1_{name}")
+            function = getattr(library.LIBRARY, f"tbr_{name}")
             self.assertEqual(list(function.argtypes), c_types(parameters[1]), name)
 
     def test_each_struct_has_its_fields(self) -> None:
@@ -82,12 +94,20 @@ class Declarations(unittest.TestCase):
             self.assertEqual([value.value for value in enum], numbers, name)
 
     def test_each_status_has_its_exception(self) -> None:
-        texts = re.findall(r'case TBR_(\w+): return "(.*?)";', self.header)
-        numbers = dict(re.findall(r"TBR_(\w+) = (\d+)", self.header[: self.header.index("} tbr_status;")]))
-        for name, text in texts:
-            refused = errors.refusal(int(numbers[name]))
-            self.assertEqual(str(refused) if refused else "well", text, name)
-        self.assertEqual(len(texts), len(numbers))
+        numbers = re.findall(r"TBR_\w+ = (\d+)", self.header[: self.header.index("} tbr_status;")])
+        words = library.LIBRARY.tbr_status_text
+        words.restype = ctypes.c_char_p
+        for number in map(int, numbers):
+            refused = errors.refusal(number)
+            self.assertEqual(str(refused) if refused else "well", words(number).decode(), number)
+        self.assertEqual(len(numbers), 16)
+
+    def test_each_version_is_that_of_the_header(self) -> None:
+        version = re.search(r'^#define TBR_VERSION "(.*)"$', self.header, re.M)
+        assert version
+        self.assertEqual(__version__, version[1])
+        self.assertIn(f'\nversion = "{version[1]}"\n', PROJECT.read_text())
+        self.assertIn(library_version(), (version[1], f"{version[1]}+unproved"))
 
 
 if __name__ == "__main__":

@@ -156,20 +156,31 @@ class Use(unittest.TestCase):
         with self.assertWarns(ResourceWarning):
             Renderer(9)
 
-    def test_a_renderer_stays_on_its_thread(self) -> None:
-        seen: list[Exception] = []
-
+    def test_a_renderer_goes_from_thread_to_thread(self) -> None:
         def use(renderer: Renderer) -> None:
-            try:
-                renderer.add_inline_text("a")
-            except RuntimeError as error:
-                seen.append(error)
+            renderer.add_inline_text("two")
+            texts.append(renderer.into_string())
 
+        texts: list[str] = []
         with Renderer(9) as renderer:
+            renderer.add_inline_text("one ")
             thread = threading.Thread(target=use, args=(renderer,))
             thread.start()
             thread.join()
-        self.assertEqual(len(seen), 1)
+        self.assertEqual(texts, ["one two\n"])
+
+    def test_calls_of_threads_take_turns(self) -> None:
+        def use() -> None:
+            for _ in range(500):
+                renderer.add_inline_text("word ")
+
+        with Renderer(4) as renderer:
+            threads = [threading.Thread(target=use) for _ in range(4)]
+            for thread in threads:
+                thread.start()
+            for thread in threads:
+                thread.join()
+            self.assertEqual(renderer.into_string(), "word\n" * 2000)
 
     def test_each_thread_has_its_own(self) -> None:
         texts: list[str] = []

@@ -23,7 +23,10 @@ from .lines import Annotation, FragmentStart, Kind, TaggedLine, TaggedString
 from .options import CellAlign, Colour, Decorator, ImageRenderMode, WhiteSpace
 from .renderer import Renderer
 from .script import render_script
+from .versions import library_version
 from .widths import text_width
+
+__version__ = "0.2.0"
 
 __all__ = [
     "Annotation",
@@ -54,6 +57,7 @@ __all__ = [
     "TaggedString",
     "TooNarrowError",
     "WhiteSpace",
+    "library_version",
     "render_script",
     "text_width",
 ]

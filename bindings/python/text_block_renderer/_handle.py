@@ -1,52 +1,43 @@
 """A renderer of the library's that is owned, and the calls to it."""
 
-import ctypes
 from collections.abc import Callable
 from ctypes import Structure, byref, c_bool, c_size_t, c_void_p, create_string_buffer
-from threading import get_ident
+from threading import RLock
 from typing import Any, TypeVar
 
-from ._library import LIBRARY, Handle, Options
-from .errors import BufferTooSmallError, NoRendererError, check
+from ._arguments import utf8
+from ._library import LIBRARY, Options
+from .errors import BufferTooSmallError, check
 
-_MOST = 2 ** (8 * ctypes.sizeof(c_size_t)) - 1
 _Answer = TypeVar("_Answer", bound=Structure)
 
 
-def size(number: int) -> int:
-    """The number, where it is one of columns, rows or bytes. ctypes would cut it."""
-    if not 0 <= number <= _MOST:
-        raise ValueError(f"{number} is not between 0 and {_MOST}")
-    return number
-
-
 class OwnedRenderer:
-    """A renderer that is freed once, and used on the thread that made it, as the library asks."""
+    """A renderer that is freed once, and used by one call at a time: a call on another thread waits."""
 
     def __init__(self, options: Options) -> None:
         self._at = c_void_p()
-        self._thread = get_ident()
-        check(LIBRARY.tbr1_new(byref(options), byref(self._at)))
+        self._lock = RLock()
+        check(LIBRARY.tbr_new(byref(options), byref(self._at)))
 
     def close(self) -> None:
-        """Frees it, once."""
-        if self._at:
-            handle = self._handle()
-            self._at = c_void_p()
-            LIBRARY.tbr1_free(handle)
+        """Frees it, once. Each later call raises `NoRendererError`."""
+        with self._lock:
+            at, self._at = self._at, c_void_p()
+            LIBRARY.tbr_free(at)
 
     @property
     def is_closed(self) -> bool:
         return not self._at
 
     def call(self, name: str, *arguments: Any) -> None:
-        """Makes a call with the renderer, which comes back as the same pointer."""
+        """Makes a call with the renderer."""
         check(self._status(name, *arguments))
 
-    def with_texts(self, name: str, *texts: str) -> None:
+    def with_texts(self, call: str, **texts: str) -> None:
         """Makes a call with texts, each as its bytes and their number."""
-        encoded = [text.encode("utf-8", "surrogatepass") for text in texts]
-        self.call(name, *(argument for text in encoded for argument in (text, len(text))))
+        encoded = [utf8(text, name) for name, text in texts.items()]
+        self.call(call, *(argument for text in encoded for argument in (text, len(text))))
 
     def number(self, name: str, *arguments: Any) -> int:
         """The answer of a question that writes a number."""
@@ -68,12 +59,13 @@ class OwnedRenderer:
     def text(self, room: int, name: str, *arguments: Any) -> str:
         """The text that a call writes into a buffer, which is given first so much room."""
         length = c_size_t()
-        buffer = create_string_buffer(max(room, 1))
-        try:
-            self.call(name, *arguments, buffer, room, byref(length))
-        except BufferTooSmallError:
-            buffer = create_string_buffer(length.value)
-            self.call(name, *arguments, buffer, length, byref(length))
+        with self._lock:
+            buffer = create_string_buffer(max(room, 1))
+            try:
+                self.call(name, *arguments, buffer, room, byref(length))
+            except BufferTooSmallError:
+                buffer = create_string_buffer(length.value)
+                self.call(name, *arguments, buffer, length, byref(length))
         return buffer.raw[: length.value].decode()
 
     def refusal(self) -> int:
@@ -81,12 +73,6 @@ class OwnedRenderer:
         return self._status("refusal")
 
     def _status(self, name: str, *arguments: Any) -> int:
-        function: Callable[..., int] = getattr(LIBRARY, f"tbr1_{name}")
-        return function(self._handle(), *arguments, byref(c_void_p()))
-
-    def _handle(self) -> Handle:
-        if not self._at:
-            raise NoRendererError
-        if get_ident() != self._thread:
-            raise RuntimeError("a renderer is used on the thread that made it")
-        return Handle(self._at)
+        function: Callable[..., int] = getattr(LIBRARY, f"tbr_{name}")
+        with self._lock:
+            return function(self._at, *arguments)

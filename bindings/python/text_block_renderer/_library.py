@@ -1,23 +1,15 @@
 """The library, and what it exports, as `include/text_block_renderer.h` declares it."""
 
 import ctypes
-import os
 from ctypes import POINTER, Structure, c_bool, c_char_p, c_int64, c_size_t, c_uint8, c_uint32, c_void_p
-from pathlib import Path
 from typing import Any
 
-FOLDER = "TEXT_BLOCK_RENDERER_LIB"
-FILE = "libtext_block_renderer.so"
-
-
-class Handle(Structure):
-    """How a renderer goes into a call."""
-
-    _fields_ = [("at", c_void_p)]
+from ._search import FILE, FOLDER, HOW_TO_GET_IT, folders, library_file
 
 
 class Options(Structure):
     _fields_ = [
+        ("size", c_size_t),
         ("width", c_size_t),
         ("wrap_width", c_size_t),
         ("decorator", c_uint32),
@@ -65,9 +57,9 @@ _BUFFER = (c_char_p, c_size_t, POINTER(c_size_t))
 _SIZE = (POINTER(c_size_t),)
 _FLAG = (POINTER(c_bool),)
 
-# What each call takes between the renderer that goes in and the pointer by which it comes back.
+# What each call takes after the renderer. Texts go in by the calls that take their lengths.
 CALLS: dict[str, tuple[type[Any], ...]] = {
-    "add_text": _TEXT,
+    "add_text_n": _TEXT,
     "start_block": (),
     "end_block": (),
     "start_table": (),
@@ -80,7 +72,7 @@ CALLS: dict[str, tuple[type[Any], ...]] = {
     "pop_white_space": (),
     "start_preformatted": (),
     "end_preformatted": (),
-    "start_link": _TEXT,
+    "start_link_n": _TEXT,
     "end_link": (),
     "start_emphasis": (),
     "end_emphasis": (),
@@ -96,10 +88,10 @@ CALLS: dict[str, tuple[type[Any], ...]] = {
     "end_colour": (),
     "start_background": _COLOUR,
     "end_background": (),
-    "add_image": _TEXT + _TEXT,
-    "add_marker": _TEXT,
+    "add_image_n": _TEXT + _TEXT,
+    "add_marker_n": _TEXT,
     "start_sub": (c_size_t,),
-    "append_sub": _TEXT + _TEXT,
+    "append_sub_n": _TEXT + _TEXT,
     "start_cell": (c_size_t, c_size_t, c_uint32),
     "end_cell": (),
     "add_row": (c_bool,),
@@ -128,39 +120,43 @@ CALLS: dict[str, tuple[type[Any], ...]] = {
 }
 
 
-def _file() -> str:
-    """In the folder that the environment names, or beside this package, or where the system's loader looks."""
-    if folder := os.environ.get(FOLDER):
-        return str(Path(folder) / FILE)
-    beside = Path(__file__).with_name(FILE)
-    return str(beside) if beside.exists() else FILE
-
-
 def load() -> ctypes.CDLL:
-    """The library, with the types of what it exports. OSError where it isn't found, or is another one."""
-    name = _file()
+    """The library, with the types of what it exports. ImportError where it isn't found, or is another one."""
+    file = library_file()
     try:
-        library = ctypes.CDLL(name)
+        library = ctypes.CDLL(file)
+    except OSError as error:
+        raise ImportError(f"{_why(file, error)}. {HOW_TO_GET_IT}") from error
+    try:
         _declare(library)
-    except (OSError, AttributeError) as error:
-        where = f"set {FOLDER} to the folder of {FILE}, which ./build makes"
-        raise OSError(f"the library of text_block_renderer isn't found: {error}; {where}") from error
+    except AttributeError as error:
+        raise ImportError(f"{file} is of another version than this package: {error}. {HOW_TO_GET_IT}") from error
     return library
+
+
+def _why(file: str, error: OSError) -> str:
+    """Why a file isn't loaded."""
+    if file != FILE:
+        return f"{file} isn't loaded: {error}"
+    tried = ", ".join(map(str, folders()))
+    return f"{FILE} isn't found: {FOLDER} isn't set, none of {tried} has it, and the system's loader says: {error}"
 
 
 def _declare(library: ctypes.CDLL) -> None:
     for name, taken in CALLS.items():
-        function = getattr(library, f"tbr1_{name}")
-        function.argtypes = (Handle, *taken, POINTER(c_void_p))
+        function = getattr(library, f"tbr_{name}")
+        function.argtypes = (c_void_p, *taken)
         function.restype = c_uint32
-    library.tbr1_new.argtypes = (POINTER(Options), POINTER(c_void_p))
-    library.tbr1_new.restype = c_uint32
-    library.tbr1_free.argtypes = (Handle,)
-    library.tbr1_free.restype = None
-    library.tbr1_render.argtypes = (c_char_p, c_size_t, c_char_p, c_size_t)
-    library.tbr1_render.restype = Answer
-    library.tbr1_text_width.argtypes = (*_TEXT, *_SIZE)
-    library.tbr1_text_width.restype = c_uint32
+    library.tbr_new.argtypes = (POINTER(Options), POINTER(c_void_p))
+    library.tbr_new.restype = c_uint32
+    library.tbr_free.argtypes = (c_void_p,)
+    library.tbr_free.restype = None
+    library.tbr_render.argtypes = (*_TEXT, c_char_p, c_size_t)
+    library.tbr_render.restype = Answer
+    library.tbr_text_width_n.argtypes = (*_TEXT, *_SIZE)
+    library.tbr_text_width_n.restype = c_uint32
+    library.tbr_version.argtypes = ()
+    library.tbr_version.restype = c_char_p
 
 
 LIBRARY = load()

@@ -2,12 +2,12 @@
 
 from collections.abc import Iterator
 from dataclasses import dataclass
-from enum import IntEnum
+from enum import Enum
 
 from .options import Colour
 
 
-class Kind(IntEnum):
+class Kind(Enum):
     """What a stretch of text is."""
 
     DEFAULT = 0

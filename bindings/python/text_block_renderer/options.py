@@ -1,10 +1,10 @@
 """What a renderer and its calls are told."""
 
 from dataclasses import dataclass
-from enum import IntEnum
+from enum import Enum
 
 
-class Decorator(IntEnum):
+class Decorator(Enum):
     """How decorated text is shown."""
 
     PLAIN = 0
@@ -15,7 +15,7 @@ class Decorator(IntEnum):
     """As `TRIVIAL`, and by annotations of each piece of a line."""
 
 
-class ImageRenderMode(IntEnum):
+class ImageRenderMode(Enum):
     """What an image without a title shows."""
 
     IGNORE_EMPTY = 0
@@ -26,7 +26,7 @@ class ImageRenderMode(IntEnum):
     """What follows the last `/` of its source."""
 
 
-class WhiteSpace(IntEnum):
+class WhiteSpace(Enum):
     """What becomes of white space."""
 
     NORMAL = 0
@@ -37,7 +37,7 @@ class WhiteSpace(IntEnum):
     """It is kept, and words go on a fresh line where they don't fit."""
 
 
-class CellAlign(IntEnum):
+class CellAlign(Enum):
     """Where the lines of a cell are in its columns."""
 
     LEFT = 0

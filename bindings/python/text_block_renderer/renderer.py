@@ -1,12 +1,14 @@
 """The renderer."""
 
+import ctypes
 import warnings
 from collections.abc import Iterator
-from contextlib import contextmanager, suppress
+from contextlib import contextmanager
 from types import TracebackType
 
 from . import _library as library
-from ._handle import OwnedRenderer, size
+from ._arguments import integer, member, parts, size, utf8
+from ._handle import OwnedRenderer
 from .errors import NoLineError, RendererError, refusal
 from .lines import Annotation, FragmentStart, Kind, TaggedLine, TaggedString
 from .options import CellAlign, Colour, Decorator, ImageRenderMode, WhiteSpace
@@ -27,7 +29,12 @@ class Renderer:
     line has one column. Besides what is said of a call, any that takes memory can raise `OutOfMemoryError`, and any
     that places a word `TooNarrowError`.
 
-    A renderer is used on the thread that made it; another one gets a `RuntimeError`. Use it by `with`, or `close` it.
+    A call looks at what it is given before it does anything: `TypeError` where a text isn't a `str`, a number isn't
+    whole, or a choice is no member of its enum; `ValueError` where a number is out of bounds. Flags count by their
+    truth.
+
+    A renderer may go from thread to thread; a call waits while another thread is in one. Use it by `with`, or `close`
+    it.
     """
 
     def __init__(
@@ -57,10 +64,11 @@ class Renderer:
         """
         self._owned = OwnedRenderer(
             library.Options(
-                width=size(width),
-                wrap_width=size(wrap_width or 0),
-                decorator=decorator,
-                images=img_mode,
+                size=ctypes.sizeof(library.Options),
+                width=size(width, "width"),
+                wrap_width=0 if wrap_width is None else size(wrap_width, "wrap_width"),
+                decorator=member(decorator, "decorator", Decorator),
+                images=member(img_mode, "img_mode", ImageRenderMode),
                 overflow=allow_width_overflow,
                 pad=pad_block_width,
                 footnotes=include_link_footnotes,
@@ -86,8 +94,7 @@ class Renderer:
         owned = getattr(self, "_owned", None)
         if owned and not owned.is_closed:
             warnings.warn("a renderer wasn't closed", ResourceWarning, source=self)
-            with suppress(RuntimeError):
-                owned.close()
+            owned.close()
 
     # ---- taking its lines
 
@@ -141,7 +148,7 @@ class Renderer:
         A text ends no word: two texts without white space between them make one. `NotUtf8Error` where it has a
         surrogate.
         """
-        self._owned.with_texts("add_text", text)
+        self._owned.with_texts("add_text_n", text=text)
 
     def start_block(self) -> None:
         """Begins a block: ends the open line, and adds an empty one if any line has content."""
@@ -176,11 +183,11 @@ class Renderer:
 
     def add_horizontal_border_width(self, columns: int) -> None:
         """The same with so many columns: 0, or more than the level has, are allowed."""
-        self._owned.call("add_border_width", size(columns))
+        self._owned.call("add_border_width", size(columns, "columns"))
 
     def push_ws(self, mode: WhiteSpace) -> None:
         """Begins a mode of white space. Where none has begun, all is `NORMAL`."""
-        self._owned.call("push_white_space", mode)
+        self._owned.call("push_white_space", member(mode, "mode", WhiteSpace))
 
     def pop_ws(self) -> None:
         """Ends the mode that was pushed last. `NothingToEndError` where none was."""
@@ -188,13 +195,13 @@ class Renderer:
 
     def record_frag_start(self, name: str) -> None:
         """Puts a marker where the text is, as an anchor for links. `NotUtf8Error` where it has a surrogate."""
-        self._owned.with_texts("add_marker", name)
+        self._owned.with_texts("add_marker_n", name=name)
 
     # ---- decorated text: an end asks only that its own beginning came more often, and else raises `NothingToEndError`
 
     def start_link(self, target: str) -> None:
         """Begins a link to a target, which may be empty. `NotUtf8Error` where it has a surrogate."""
-        self._owned.with_texts("start_link", target)
+        self._owned.with_texts("start_link_n", target=target)
 
     def end_link(self) -> None:
         """Ends the link that was begun last, and with footnotes shows its number."""
@@ -250,7 +257,7 @@ class Renderer:
 
     def push_colour(self, colour: Colour) -> None:
         """Begins text in a colour. `ValueError` where a part of it isn't between 0 and 255."""
-        self._owned.call("start_colour", *_parts(colour))
+        self._owned.call("start_colour", *parts(colour))
 
     def pop_colour(self) -> None:
         """Ends the colour that was pushed last."""
@@ -258,7 +265,7 @@ class Renderer:
 
     def push_bgcolour(self, colour: Colour) -> None:
         """Begins text on a background in a colour. `ValueError` where a part of it isn't between 0 and 255."""
-        self._owned.call("start_background", *_parts(colour))
+        self._owned.call("start_background", *parts(colour))
 
     def pop_bgcolour(self) -> None:
         """Ends the background that was pushed last."""
@@ -266,7 +273,7 @@ class Renderer:
 
     def add_image(self, source: str, title: str) -> None:
         """Adds an image, shown by its title. `img_mode` says what one without a title shows."""
-        self._owned.with_texts("add_image", source, title)
+        self._owned.with_texts("add_image_n", source=source, title=title)
 
     # ---- levels, and rows of cells
 
@@ -276,20 +283,22 @@ class Renderer:
 
         Leave room for the prefixes, as by `width_minus`. Where an exception leaves the block, the level stays open.
         """
+        utf8(first, "first")  # a prefix is refused here, and not where the block ends
+        utf8(others, "others")
         self.start_subrender(width)
         yield
         self.append_subrender(first, others)
 
     def start_subrender(self, width: int) -> None:
         """Opens a level of so many columns, whose lines `append_subrender` takes. `BadWidthError` at 0."""
-        self._owned.call("start_sub", size(width))
+        self._owned.call("start_sub", size(width, "width"))
 
     def append_subrender(self, first: str, others: str) -> None:
         """Closes the level that `start_subrender` opened, and adds its lines, after these prefixes, to the one outside.
 
         `NothingToEndError` where the innermost level isn't one of these, `StillOpenError` where cells wait in it.
         """
-        self._owned.with_texts("append_sub", first, others)
+        self._owned.with_texts("append_sub_n", first=first, others=others)
 
     @contextmanager
     def cell(self, width: int, span: int = 1, align: CellAlign = CellAlign.LEFT) -> Iterator[None]:
@@ -303,7 +312,8 @@ class Renderer:
 
     def start_cell(self, width: int, span: int = 1, align: CellAlign = CellAlign.LEFT) -> None:
         """Opens a cell. `BadWidthError` at 0 columns, `BadArgumentError` at 0 rows."""
-        self._owned.call("start_cell", size(width), size(span), align)
+        alignment = member(align, "align", CellAlign)
+        self._owned.call("start_cell", size(width, "width"), size(span, "span"), alignment)
 
     def end_cell(self) -> None:
         """Closes the cell that is open, which then waits for a row.
@@ -348,7 +358,7 @@ class Renderer:
 
         `TooNarrowError`, which isn't kept, where fewer than these are left and no overflow is allowed.
         """
-        return self._owned.number("width_minus", size(prefix_len), size(min_width))
+        return self._owned.number("width_minus", size(prefix_len, "prefix_len"), size(min_width, "min_width"))
 
     def depth(self) -> int:
         """How many levels are open inside the renderer."""
@@ -366,7 +376,7 @@ class Renderer:
 
     def header_prefix(self, level: int) -> str:
         """What comes before each line of a header of the given level, as `## `."""
-        return self._owned.text(_PREFIX_ROOM, "header_prefix", size(level))
+        return self._owned.text(_PREFIX_ROOM, "header_prefix", size(level, "level"))
 
     def quote_prefix(self) -> str:
         """What comes before each line of a quoted block, as `> `."""
@@ -378,13 +388,5 @@ class Renderer:
 
     def ordered_item_prefix(self, number: int) -> str:
         """The same of the item of a list that has a number, as `3. `. `ValueError` past 64 bits."""
-        if not -(2**63) <= number < 2**63:
-            raise ValueError(f"{number} doesn't fit 64 bits")
-        return self._owned.text(_PREFIX_ROOM, "ordered_item_prefix", number)
-
-
-def _parts(colour: Colour) -> tuple[int, int, int]:
-    parts = (colour.r, colour.g, colour.b)
-    if not all(0 <= part <= 255 for part in parts):
-        raise ValueError(f"{colour} has a part that isn't between 0 and 255")
-    return parts
+        shown = integer(number, "number", -(2**63), 2**63 - 1)
+        return self._owned.text(_PREFIX_ROOM, "ordered_item_prefix", shown)

@@ -2,6 +2,7 @@
 
 from ctypes import byref, c_size_t
 
+from ._arguments import utf8
 from ._library import LIBRARY
 from .errors import check
 
@@ -9,9 +10,10 @@ from .errors import check
 def text_width(text: str) -> int:
     """The columns of a text: those of its characters together, as a renderer counts them.
 
-    Control characters, as a tab or a newline, take none. `NotUtf8Error` where it has a surrogate.
+    Control characters, as a tab or a newline, take none. `NotUtf8Error` where it has a surrogate, `TypeError` where
+    it isn't a `str`.
     """
-    encoded = text.encode("utf-8", "surrogatepass")
+    encoded = utf8(text, "text")
     columns = c_size_t()
-    check(LIBRARY.tbr1_text_width(encoded, len(encoded), byref(columns)))
+    check(LIBRARY.tbr_text_width_n(encoded, len(encoded), byref(columns)))
     return columns.value
