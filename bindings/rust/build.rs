@@ -36,9 +36,7 @@ fn main() {
 fn find() -> Result<PathBuf, String> {
     match env::var_os(FOLDER).filter(|folder| !folder.is_empty()) {
         Some(folder) => named(Path::new(&folder)),
-        None => beside().or_else(in_repository).or_else(by_pkg_config).ok_or_else(|| {
-            format!("lib{NAME} isn't found: {FOLDER} isn't set, and neither {BESIDE}/ nor pkg-config has it. {HOW_TO_GET_IT}")
-        }),
+        None => beside().or_else(in_repository).or_else(by_pkg_config).ok_or_else(missing),
     }
 }
 
@@ -69,6 +67,11 @@ fn by_pkg_config() -> Option<PathBuf> {
     let asked = Command::new("pkg-config").args(["--variable=libdir", NAME]).output().ok()?;
     let folder = String::from_utf8(asked.stdout).ok()?;
     Some(PathBuf::from(folder.trim())).filter(|folder| asked.status.success() && has_library(folder))
+}
+
+fn missing() -> String {
+    let looked = format!("{FOLDER} isn't set, and neither {BESIDE}/ nor pkg-config has it");
+    format!("lib{NAME} isn't found: {looked}. {HOW_TO_GET_IT}")
 }
 
 fn absolute(folder: &Path) -> PathBuf {

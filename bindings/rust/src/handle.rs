@@ -55,8 +55,7 @@ impl Handle {
         Ok(answer)
     }
 
-    /// The text that a call writes into a buffer. That has first so much room, and where this is too little as much as the
-    /// text takes.
+    /// The text that a call writes into a buffer. That has so much room at first, and else as much as the text takes.
     pub fn text(
         &self,
         room: usize,
