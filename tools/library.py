@@ -61,10 +61,15 @@ def lay_out(prefix, built):
     shutil.copy(HEADER, prefix / "include")
     describe(prefix, "lib", built.suffix)
     manuals.lay_out(prefix / "share", prefix / "bin" / "blockview", version() + built.suffix)
+    link(built.objects, built.suffix, prefix / "lib")
+
+
+def link(objects, suffix, lib):
+    """Makes the static and the shared library of what has the proved calls."""
     with tempfile.TemporaryDirectory() as room:
-        calls = compiled(Path(room, "calls.o"), built.suffix)
-        archive([*built.objects, calls], prefix / "lib")
-        share([*built.objects, calls], prefix / "lib")
+        calls = compiled(Path(room, "calls.o"), suffix)
+        archive([*objects, calls], lib)
+        share([*objects, calls], lib)
 
 
 def describe(prefix, lib, suffix):
