@@ -82,8 +82,12 @@ def differs(program, case):
     how = {"input": case.script.encode(), "capture_output": True, "timeout": SECONDS, "check": False}
     ran = subprocess.run(program, **how)
     ended = f"{ran.returncode} {ran.stderr.decode(errors='replace')}".strip()
-    seen = Case(case.name, case.script, ran.stdout.decode(errors="replace"), ended)
-    lines = [it.answer().splitlines(keepends=True) for it in (case, seen)]
+    return difference(case, ran.stdout.decode(errors="replace"), ended)
+
+
+def difference(case, text, ended):
+    """How an answer differs from the right one, or nothing."""
+    lines = [it.answer().splitlines(keepends=True) for it in (case, Case(case.name, case.script, text, ended))]
     return "".join(difflib.unified_diff(*lines, "right", "seen"))
 
 
