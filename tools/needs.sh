@@ -13,6 +13,7 @@ needs() {
         python3) command -v python3 >/dev/null || lack python3 "Python 3.8 or later, on Debian the package python3" ;;
         c++) command -v c++ >/dev/null || lack c++ "a C++ compiler, on Debian the package g++" ;;
         cargo) command -v cargo >/dev/null || lack cargo "the package manager of Rust, on Debian the package cargo" ;;
+        abidiff) command -v abidiff >/dev/null || lack abidiff "what compares binary interfaces, on Debian the package abigail-tools" ;;
         cc) command -v cc >/dev/null || lack cc "a C compiler, on Debian the package gcc" ;;
         esac
     done

@@ -1,0 +1,214 @@
+"""The packages of a release. Each is made in an empty folder, and answers its path there.
+
+Times are those of the commit, names are in order, and owners are root, so that the same commit gives the same bytes.
+"""
+import base64
+import gzip
+import hashlib
+import io
+import os
+import re
+import shutil
+import subprocess
+import tarfile
+import time
+import tomllib
+import zipfile
+from pathlib import Path
+
+import kit
+import library
+
+# What an archive has of the repository.
+PAGES = ["README.md", "CHANGELOG.md", "SECURITY.md", "LICENSE", "docs", "examples", "bindings", "install", "uninstall"]
+LINK = re.compile(r"(!?)\[([^\]]*)\]\(([^)#\s]*)(#[^)\s]*)?\)")
+PYTHON = Path(kit.TOP, "bindings", "python")
+RUST = Path(kit.TOP, "bindings", "rust")
+MULTIARCH = "lib/x86_64-linux-gnu"
+PACKAGE = "text-block-renderer"
+# There is no address, and Debian asks for one.
+MAINTAINER = "The founders of text_block_renderer <founders@text-block-renderer.invalid>"
+
+
+def stripped(release, tree):
+    """A copy of what was built, without the names that only debuggers read."""
+    shutil.copytree(release.built, tree, symlinks=True, ignore=lambda folder, _: ["quick", "verdict"] if Path(folder) == release.built else [])
+    programs = [*(tree / "bin").iterdir(), *(it for it in (tree / "lib").glob("*.so.*") if not it.is_symlink())]
+    subprocess.run(["strip", "--strip-unneeded", *programs], check=True)
+    subprocess.run(["strip", "--strip-debug", *(tree / "lib").glob("*.a")], check=True)
+    return tree
+
+
+def archive(release, tree, room):
+    """What is installed, the pages, the examples and the packages of other languages, in one folder."""
+    name = f"{library.NAME}-{release.version}-x86_64-linux"
+    top = room / name
+    shutil.copytree(tree, top, symlinks=True)
+    listed = subprocess.run(["git", "-C", kit.TOP, "archive", release.commit, *PAGES], stdout=subprocess.PIPE, check=True)
+    with tarfile.open(fileobj=io.BytesIO(listed.stdout)) as tar:
+        tar.extractall(top, filter="data")
+    for page in top.rglob("*.md"):
+        page.write_text(without_dead_links(page), encoding="utf-8")
+    (top / "PROVED.md").write_text(release.proved(), encoding="utf-8")
+    files = sorted(it for it in top.rglob("*") if it.is_file() and not it.is_symlink())
+    sums = "".join(f"{hashlib.sha256(it.read_bytes()).hexdigest()}  {it.relative_to(top)}\n" for it in files)
+    (top / "SHA256SUMS").write_text(sums, encoding="utf-8")
+    return packed(release, top, room / f"{name}.tar.gz")
+
+
+def without_dead_links(page):
+    """A page in which links to what isn't there are their own words."""
+
+    def kept(link):
+        is_picture, words, target, _ = link.groups()
+        if "://" in target or not target or (page.parent / target).exists():
+            return link[0]
+        return words if not is_picture else ""
+
+    return LINK.sub(kept, page.read_text(encoding="utf-8"))
+
+
+def packed(release, folder, made):
+    """A folder as a compressed archive."""
+    with open(made, "wb") as file, gzip.GzipFile("", "wb", 9, file, mtime=0) as zipped:
+        with tarfile.open(fileobj=zipped, mode="w", format=tarfile.GNU_FORMAT) as tar:
+            for path in [folder, *sorted(folder.rglob("*"))]:
+                tar.add(path, path.relative_to(folder.parent), recursive=False, filter=lambda it: plain(it, release.seconds))
+    return made
+
+
+def plain(entry, seconds):
+    """An entry of an archive that says nothing of the machine."""
+    entry.mtime, entry.uid, entry.gid, entry.uname, entry.gname = seconds, 0, 0, "root", "root"
+    entry.mode = 0o777 if entry.issym() else 0o755 if entry.mode & 0o100 else 0o644
+    return entry
+
+
+def wheel(release, tree, room):
+    """The package for Python with the library in it."""
+    project = tomllib.loads((PYTHON / "pyproject.toml").read_text(encoding="utf-8"))["project"]
+    code = (tree / "lib" / f"lib{library.NAME}.so").read_bytes()
+    tag = f"py3-none-manylinux_{'_'.join(map(str, glibc(code)))}_x86_64"
+    info = f"{library.NAME}-{release.version}.dist-info"
+    files = {str(it.relative_to(PYTHON)): it.read_bytes() for it in sorted((PYTHON / library.NAME).iterdir()) if it.is_file()}
+    files[f"{library.NAME}/lib{library.NAME}.so"] = code
+    files[f"{info}/licenses/LICENSE"] = Path(kit.TOP, "LICENSE").read_bytes()
+    files[f"{info}/METADATA"] = metadata(release, project).encode()
+    files[f"{info}/WHEEL"] = f"Wheel-Version: 1.0\nGenerator: {library.NAME}\nRoot-Is-Purelib: false\nTag: {tag}\n".encode()
+    rows = [f"{name},sha256={digest(data)},{len(data)}" for name, data in files.items()]
+    files[f"{info}/RECORD"] = "\n".join([*rows, f"{info}/RECORD,,", ""]).encode()
+    made = room / f"{library.NAME}-{release.version}-{tag}.whl"
+    with zipfile.ZipFile(made, "w", zipfile.ZIP_DEFLATED) as zipped:
+        for name, data in files.items():
+            entry = zipfile.ZipInfo(name, time.gmtime(release.seconds)[:6])
+            entry.external_attr = 0o644 << 16
+            zipped.writestr(entry, data, zipfile.ZIP_DEFLATED)
+    return made
+
+
+def glibc(code):
+    """The least version of the C library that has all that these bytes of a shared library ask for."""
+    return max((int(major), int(minor)) for major, minor in re.findall(rb"GLIBC_(\d+)\.(\d+)", code))
+
+
+def metadata(release, project):
+    """What pip reads of a package."""
+    lines = ["Metadata-Version: 2.4", f"Name: {project['name']}", f"Version: {release.version}"]
+    lines += [f"Summary: {project['description']}", "License: MIT", "License-File: LICENSE"]
+    lines += [f"Requires-Python: {project['requires-python']}", f"Keywords: {','.join(project['keywords'])}"]
+    lines += [f"Classifier: {it}" for it in project["classifiers"]]
+    lines += ["Description-Content-Type: text/markdown", "", (PYTHON / "README.md").read_text(encoding="utf-8")]
+    return "\n".join(lines)
+
+
+def digest(data):
+    """A checksum as wheels write it."""
+    return base64.urlsafe_b64encode(hashlib.sha256(data).digest()).rstrip(b"=").decode()
+
+
+def crate(release, tree, room):
+    """The crate with the static library in it, as cargo packs it."""
+    top = room / "crate"
+    shutil.copytree(RUST, top, ignore=shutil.ignore_patterns("target", "lib"))
+    (top / "lib").mkdir()
+    shutil.copy(tree / "lib" / f"lib{library.NAME}.a", top / "lib")
+    manifest = top / "Cargo.toml"
+    manifest.write_text(manifest.read_text(encoding="utf-8").replace(f'"{library.version()}"', f'"{release.version}"', 1), encoding="utf-8")
+    words = ["cargo", "package", "--offline", "--allow-dirty", "--no-verify", "--quiet", "--target-dir", room / "target"]
+    library.run(words, cwd=top, env={**os.environ, "RUSTFLAGS": ""})
+    return room / "target" / "package" / f"{library.NAME}-{release.version}.crate"
+
+
+def debian(release, tree, room):
+    """A Debian package with the programs, the library and the header."""
+    top = room / "top"
+    usr = top / "usr"
+    shutil.copytree(tree, usr, symlinks=True, ignore=shutil.ignore_patterns("pkgconfig", "cmake"))
+    (usr / "multiarch").mkdir()
+    for it in (usr / "lib").iterdir():
+        it.rename(usr / "multiarch" / it.name)
+    (usr / "multiarch").rename(usr / MULTIARCH)
+    library.describe(usr, MULTIARCH, "" if release.version == library.version() else release.version.removeprefix(library.version()))
+    (usr / "share" / "zsh" / "site-functions").rename(usr / "share" / "zsh" / "vendor-completions")
+    documents(release, usr / "share" / "doc" / PACKAGE)
+    for page in sorted((usr / "share" / "man").rglob("*.1")):
+        zip_file(page)
+    control(release, top)
+    for path in [top, *top.rglob("*")]:
+        if not path.is_symlink():
+            path.chmod(0o755 if path.is_dir() or path.parent == usr / "bin" else 0o644)
+    made = room / f"{PACKAGE}_{release.version}_amd64.deb"
+    words = ["dpkg-deb", "--root-owner-group", "--uniform-compression", "-Zxz", "--build", top, made]
+    library.run(words, env={**os.environ, "SOURCE_DATE_EPOCH": str(release.seconds)})
+    return made
+
+
+def documents(release, folder):
+    """What a Debian package says of itself."""
+    folder.mkdir(parents=True)
+    licence = Path(kit.TOP, "LICENSE").read_text(encoding="utf-8")
+    (folder / "copyright").write_text(f"This is the text block renderer {release.version}.\n\n{licence}", encoding="utf-8")
+    shutil.copy(Path(kit.TOP, "README.md"), folder)
+    page = folder / "README.md"
+    page.write_text(without_dead_links(page), encoding="utf-8")
+    (folder / "PROVED.md").write_text(release.proved(), encoding="utf-8")
+    shutil.copy(Path(kit.TOP, "CHANGELOG.md"), folder / "changelog")
+    made = time.strftime("%a, %d %b %Y %H:%M:%S +0000", time.gmtime(release.seconds))
+    entry = f"{PACKAGE} ({release.version}) unstable; urgency=medium\n\n  * As /usr/share/doc/{PACKAGE}/changelog.gz says.\n"
+    (folder / "changelog.Debian").write_text(f"{entry}\n -- {MAINTAINER}  {made}\n", encoding="utf-8")
+    zip_file(folder / "changelog")
+    zip_file(folder / "changelog.Debian")
+
+
+def zip_file(path):
+    """Puts a file compressed in its own place."""
+    with open(f"{path}.gz", "wb") as file, gzip.GzipFile("", "wb", 9, file, mtime=0) as zipped:
+        zipped.write(path.read_bytes())
+    path.unlink()
+
+
+def control(release, top):
+    """What dpkg reads of a package."""
+    folder = top / "DEBIAN"
+    size = sum(it.stat().st_size for it in top.rglob("*") if it.is_file() and not it.is_symlink()) // 1024
+    code = [*(top / "usr" / "bin").iterdir(), top / "usr" / MULTIARCH / f"lib{library.NAME}.so"]
+    libc = ".".join(map(str, max(glibc(it.read_bytes()) for it in code)))
+    fields = {
+        "Package": PACKAGE,
+        "Version": release.version,
+        "Architecture": "amd64",
+        "Maintainer": MAINTAINER,
+        "Installed-Size": size,
+        "Depends": f"libc6 (>= {libc})",
+        "Section": "text",
+        "Priority": "optional",
+        "Description": "text, tables and links as lines of a width, by a proved renderer\n"
+        " The programs blockrender and blockview lay out text, quotes, lists, links and\n"
+        " tables in lines of a width. The library does the same for programs in C, call by\n"
+        " call. PROVED.md says what is proved of them.",
+    }
+    folder.mkdir()
+    (folder / "control").write_text("".join(f"{name}: {value}\n" for name, value in fields.items()), encoding="utf-8")
+    (folder / "triggers").write_text("activate-noawait ldconfig\n", encoding="ascii")
+    of_calls = library.version().split(".")[0]
+    (folder / "shlibs").write_text(f"lib{library.NAME} {of_calls} {PACKAGE} (>= {library.version()})\n", encoding="ascii")
