@@ -13,8 +13,8 @@ const FOLDER: &str = "TEXT_BLOCK_RENDERER_LIB";
 /// What is in the repository, above the folder of this crate.
 const HEADER: &str = "../../include/text_block_renderer.h";
 const MADE: &str = "../../out";
-const PROVED: &str = "../../out/lib";
-const UNPROVED: &str = "../../out/quick/lib";
+/// Where a release has it, and the repository with proofs and without.
+const ABOVE: [&str; 3] = ["../../lib", "../../out/lib", "../../out/quick/lib"];
 /// Where the packed crate has it.
 const BESIDE: &str = "lib";
 
@@ -60,7 +60,7 @@ fn in_repository() -> Option<PathBuf> {
         return None;
     }
     println!("cargo::rerun-if-changed={MADE}");
-    [PROVED, UNPROVED].iter().map(|folder| absolute(Path::new(folder))).find(|folder| has_library(folder))
+    ABOVE.iter().map(|folder| absolute(Path::new(folder))).find(|folder| has_library(folder))
 }
 
 fn by_pkg_config() -> Option<PathBuf> {

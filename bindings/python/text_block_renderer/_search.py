@@ -27,7 +27,9 @@ def library_file() -> str:
 
 
 def folders() -> list[Path]:
-    """Those that may have it, where the environment names none: that of the package, and in the repository two more."""
+    """Those that may have it, where the environment names none: that of the package, and those of a release or of the
+    repository, if the package is in one.
+    """
     if not (_REPOSITORY / "include" / "text_block_renderer.h").exists():
         return [_PACKAGE]
-    return [_PACKAGE, _REPOSITORY / "out" / "lib", _REPOSITORY / "out" / "quick" / "lib"]
+    return [_PACKAGE, *(_REPOSITORY / folder for folder in ("lib", "out/lib", "out/quick/lib"))]
