@@ -1,4 +1,4 @@
-"""What a page may not have: more words than there is room for, long sentences, dead links, names of nothing.
+"""What a page may not have: more words than there is room for, long sentences, dead links, names that don't exist.
 
 A word has a letter or a digit; those in tables and code count too. A sentence is one of a paragraph, an item or a cell of
 a table, where a piece of code counts as one word.
