@@ -19,8 +19,10 @@ from pathlib import Path
 import kit
 import library
 
-# What an archive has of the repository.
-PAGES = ["README.md", "CHANGELOG.md", "SECURITY.md", "LICENSE", "docs", "examples", "bindings", "install", "uninstall"]
+# What an archive has of the repository, and a Debian package of that.
+PAGES = ["README.md", "CHANGELOG.md", "SECURITY.md", "docs", "bench/README.md"]
+PAGES += [f"crates/{crate}/README.md" for crate in ("blockview", "tbr_view", "tbr_show")]
+OTHERS = ["LICENSE", "examples", "bindings", "install", "uninstall"]
 LINK = re.compile(r"(!?)\[([^\]]*)\]\(([^)#\s]*)(#[^)\s]*)?\)")
 PYTHON = Path(kit.TOP, "bindings", "python")
 RUST = Path(kit.TOP, "bindings", "rust")
@@ -44,16 +46,21 @@ def archive(release, tree, room):
     name = f"{library.NAME}-{release.version}-x86_64-linux"
     top = room / name
     shutil.copytree(tree, top, symlinks=True)
-    listed = subprocess.run(["git", "-C", kit.TOP, "archive", release.commit, *PAGES], stdout=subprocess.PIPE, check=True)
-    with tarfile.open(fileobj=io.BytesIO(listed.stdout)) as tar:
-        tar.extractall(top, filter="data")
-    for page in top.rglob("*.md"):
-        page.write_text(without_dead_links(page), encoding="utf-8")
-    (top / "PROVED.md").write_text(release.proved(), encoding="utf-8")
+    take(release, [*PAGES, *OTHERS], top)
     files = sorted(it for it in top.rglob("*") if it.is_file() and not it.is_symlink())
     sums = "".join(f"{hashlib.sha256(it.read_bytes()).hexdigest()}  {it.relative_to(top)}\n" for it in files)
     (top / "SHA256SUMS").write_text(sums, encoding="utf-8")
     return packed(release, top, room / f"{name}.tar.gz")
+
+
+def take(release, names, folder):
+    """Takes files and folders of the repository, and adds the page on what was proved. No page has a dead link then."""
+    listed = subprocess.run(["git", "-C", kit.TOP, "archive", release.commit, *names], stdout=subprocess.PIPE, check=True)
+    with tarfile.open(fileobj=io.BytesIO(listed.stdout)) as tar:
+        tar.extractall(folder, filter="data")
+    (folder / "PROVED.md").write_text(release.proved(), encoding="utf-8")
+    for page in folder.rglob("*.md"):
+        page.write_text(without_dead_links(page), encoding="utf-8")
 
 
 def without_dead_links(page):
@@ -166,13 +173,10 @@ def debian(release, tree, room):
 def documents(release, folder):
     """What a Debian package says of itself."""
     folder.mkdir(parents=True)
+    take(release, PAGES, folder)
     licence = Path(kit.TOP, "LICENSE").read_text(encoding="utf-8")
     (folder / "copyright").write_text(f"This is the text block renderer {release.version}.\n\n{licence}", encoding="utf-8")
-    shutil.copy(Path(kit.TOP, "README.md"), folder)
-    page = folder / "README.md"
-    page.write_text(without_dead_links(page), encoding="utf-8")
-    (folder / "PROVED.md").write_text(release.proved(), encoding="utf-8")
-    shutil.copy(Path(kit.TOP, "CHANGELOG.md"), folder / "changelog")
+    (folder / "CHANGELOG.md").rename(folder / "changelog")
     made = time.strftime("%a, %d %b %Y %H:%M:%S +0000", time.gmtime(release.seconds))
     entry = f"{PACKAGE} ({release.version}) unstable; urgency=medium\n\n  * As /usr/share/doc/{PACKAGE}/changelog.gz says.\n"
     (folder / "changelog.Debian").write_text(f"{entry}\n -- {MAINTAINER}  {made}\n", encoding="utf-8")
