@@ -207,9 +207,9 @@ def control(release, top):
         "Section": "text",
         "Priority": "optional",
         "Description": "text, tables and links as lines of a width, by a proved renderer\n"
-        " The programs blockrender and blockview lay out text, quotes, lists, links and\n"
-        " tables in lines of a width. The library does the same for programs in C, call by\n"
-        " call. PROVED.md says what is proved of them.",
+        " The programs blockrender and blockview lay out text, quotes, lists, links\n"
+        " and tables in lines of a width. The library does the same for programs in C,\n"
+        " call by call. PROVED.md says what is proved of them.",
     }
     folder.mkdir()
     (folder / "control").write_text("".join(f"{name}: {value}\n" for name, value in fields.items()), encoding="utf-8")

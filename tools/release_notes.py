@@ -20,6 +20,9 @@ PROVED = """\
 | the gate | {verdict} |
 
 {claim}
+"""
+CLAIM = """\
+Each function of the programs, and of the library but for `text_block_renderer.c`, is proved to meet its contract.
 
 ## The laws
 
@@ -27,9 +30,7 @@ Each is a function whose contract is the law; its file is in the repository.
 
 | law | what it says |
 |---|---|
-{laws}
-"""
-CLAIM = "Each function of the programs, and of the library but for `text_block_renderer.c`, is proved to meet its contract."
+{laws}"""
 NO_CLAIM = "Nothing: this was built without proofs."
 
 
@@ -53,10 +54,8 @@ class Release:
     def proved(self):
         """The page on what was proved."""
         rt = subprocess.run([kit.RT, "version"], stdout=subprocess.PIPE, check=True, text=True).stdout.strip()
-        claim = NO_CLAIM if "+" in self.version else CLAIM
-        return PROVED.format(
-            version=self.version, commit=self.commit, kit=rt, verdict=self.verdict(), claim=claim, laws="\n".join(laws())
-        )
+        claim = NO_CLAIM if "+" in self.version else CLAIM.format(laws="\n".join(laws()))
+        return PROVED.format(version=self.version, commit=self.commit, kit=rt, verdict=self.verdict(), claim=claim)
 
     def verdict(self):
         """What the gate said of this commit here."""
