@@ -37,6 +37,11 @@ def encoded(target):
     return urllib.parse.quote(target, safe=SAFE)
 
 
+def is_followed(target):
+    """Whether a link may lead to a target: it has no scheme, or one of those."""
+    return ":" not in target or target.startswith(FOLLOWED)
+
+
 def require(holds, what):
     if not holds:
         raise Wrong(what)
@@ -69,7 +74,7 @@ def text_of_json(lines):
 
 
 def read_ansi(text):
-    """The characters that a terminal shows, and the links, each with its characters."""
+    """The characters that a terminal shows, and the links, each with its characters. No link leads to a script."""
     shown, links, target = [], [], ""
     at = 0
     while at < len(text):
@@ -78,6 +83,7 @@ def read_ansi(text):
             require(code in BEGINS | ENDS, f"an unknown selection {found[1]}")
         elif found := LINKS.match(text, at):
             target = found[1]
+            require(is_followed(target), f"a hyperlink to {target}")
         else:
             c = text[at]
             require(not CONTROL.match(c), f"a control character U+{ord(c):04X} in text for a terminal")
@@ -93,12 +99,14 @@ def read_ansi(text):
 
 
 def links_of_json(lines):
-    """The characters of links, each with its target as it is in a link; of links inside another the inner one."""
+    """The characters of links, each with its target as it is in a link; of links inside another the inner one.
+
+    A link without a target leads nowhere, and so does one to a target that isn't followed.
+    """
     for line in lines:
         for piece in line["pieces"]:
             targets = [it["target"] for it in piece.get("annotations", []) if it["kind"] == "link"]
-            # A link without a target is none for a terminal.
-            if targets and targets[-1]:
+            if targets and targets[-1] and is_followed(targets[-1]):
                 yield from ((encoded(targets[-1]), c) for c in clean(piece["text"]))
 
 
@@ -154,5 +162,5 @@ def read_html(text):
     # A newline at the front of `pre` isn't shown.
     require(shown.startswith("\n"), "no newline at the front")
     for href in page.hrefs:
-        require(":" not in href or href.startswith(FOLLOWED), f"a link to {href}")
+        require(is_followed(href), f"a link to {href}")
     return shown[1:]

@@ -22,7 +22,7 @@ use Rattle.tbr_decor.specs.declared.annotation.RichAnnotation.{RichAnnotation}
 use Rattle.tbr_decor.specs.declared.annotation.RichAnnotation.TheVariants as rich
 use Rattle.tbr_show.specs.Written.{printable, colour_parts}
 use Rattle.tbr_show.specs.declared.target.TheConstants.{NOT_OF_URLS}
-use Rattle.tbr_show.specs.Target.{encoded}
+use Rattle.tbr_show.specs.Target.{encoded, is_followed}
 use Rattle.tbr_show.specs.Ansi.{selects, links, begins, ends, element, line, escape_character}
 use Rattle.tbr_show.specs.Terminal.{seen, among, sequence, command}
 
@@ -165,6 +165,10 @@ each_from_all P (c ∷ cs) h = (All-head P c cs h, each_from_all P cs (All-tail 
 encoded_is_shown : (target : List ℕ) → Each IsShown (encoded target)
 encoded_is_shown target = each_from_all IsShown (encoded target) (All-percent_encode IsShown NOT_OF_URLS target kept_is_shown escape_is_shown)
 
+shown_if : (leads : Bool) (target : List ℕ) → Each IsShown (cond leads (encoded target) [])
+shown_if true target = encoded_is_shown target
+shown_if false target = tt
+
 -- ---- annotations
 
 colour_marks : (ground : List ℕ) → Each IsParameter ground → (c : Colour) → IsMark (selects (ground ++ colour_parts (codes ";") c))
@@ -174,8 +178,9 @@ begins_marks : (a : RichAnnotation) → IsMark (begins a)
 unfolding IsParameter
 begins_marks rich.Default = no_mark
 begins_marks (rich.Link target) =
-    let shown = encoded_is_shown (string_bytes target) in
-    both_marks (selects (codes "4")) (links (encoded (string_bytes target))) (selects_marks (codes "4") ((refl, refl), tt)) (links_marks (encoded (string_bytes target)) shown)
+    let leads = shown_if (is_followed (string_bytes target)) (string_bytes target) in
+    let to = cond (is_followed (string_bytes target)) (encoded (string_bytes target)) [] in
+    both_marks (selects (codes "4")) (links to) (selects_marks (codes "4") ((refl, refl), tt)) (links_marks to leads)
 begins_marks (rich.Image source) = selects_marks (codes "2") ((refl, refl), tt)
 begins_marks rich.Emphasis = selects_marks (codes "3") ((refl, refl), tt)
 begins_marks rich.Strong = selects_marks (codes "1") ((refl, refl), tt)

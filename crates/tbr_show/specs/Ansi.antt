@@ -1,12 +1,12 @@
 -- Lines as they are written for a terminal.
-use Rattle.std.specs.Prelude.{ℕ, List, [], ◌∷◌, ◌++◌, flat_map, codes, string_bytes, Vec}
+use Rattle.std.specs.Prelude.{ℕ, if◌then◌else◌, List, [], ◌∷◌, ◌++◌, flat_map, codes, string_bytes, Vec}
 use Rattle.std.specs.declared.alloc.Global.{Global}
 use Rattle.tbr_model.specs.Codes.{newline_character}
 use Rattle.tbr_tagged.specs.Elements.{Element, piece, marker_element, characters}
 use Rattle.tbr_decor.specs.declared.annotation.RichAnnotation.{RichAnnotation}
 use Rattle.tbr_decor.specs.declared.annotation.RichAnnotation.TheVariants as rich
 use Rattle.tbr_show.specs.Written.{printable, colour_parts}
-use Rattle.tbr_show.specs.Target.{encoded}
+use Rattle.tbr_show.specs.Target.{encoded, is_followed}
 
 abbrev pub escape_character : ℕ
 escape_character = 0x1B
@@ -19,10 +19,15 @@ selects parameters = escape_character ∷ codes "[" ++ parameters ++ codes "m"
 abbrev pub links : List ℕ → List ℕ
 links target = escape_character ∷ codes "]8;;" ++ target ++ escape_character ∷ codes "\\"
 
+-- What begins a link: it is underlined, and leads to its target if that is followed. Another one leads nowhere, also
+-- inside a link that does.
+abbrev pub link : List ℕ → List ℕ
+link target = selects (codes "4") ++ links (if is_followed target then encoded target else [])
+
 -- what begins an annotation
 abbrev pub begins : RichAnnotation → List ℕ
 begins rich.Default = []
-begins (rich.Link target) = selects (codes "4") ++ links (encoded (string_bytes target))
+begins (rich.Link target) = link (string_bytes target)
 begins (rich.Image source) = selects (codes "2")
 begins rich.Emphasis = selects (codes "3")
 begins rich.Strong = selects (codes "1")

@@ -3,13 +3,14 @@ ghost use Rattle.std.specs.Prelude.{◌≡◌, ◌++◌, flat_map, OnOk};
 ghost use Rattle.tbr_tagged.specs.View.{chars_of, element_of};
 ghost use Rattle.tbr_show.specs.Ansi as model;
 
-use crate::target::push_target;
+use crate::target::{is_followed, push_target};
 use crate::text::{push_ascii, push_parts, push_printable};
 use tbr_decor::RichAnnotation;
 use tbr_lines::{OutOfMemory, TaggedLine, TaggedLineElement};
 
 /// Appends a line with its newline: each piece without its control characters, between what begins its annotations and
-/// what ends them. Markers aren't shown. Where memory is refused, part of the line may have been appended.
+/// what ends them. Markers aren't shown. A link to a target with another scheme than `http`, `https`, `mailto` and
+/// `ftp` is underlined, and leads nowhere. Where memory is refused, part of the line may have been appended.
 pub fn push_line(
     text: &mut String,
     line: &TaggedLine<Vec<RichAnnotation>>,
@@ -74,11 +75,7 @@ fn push_begin(text: &mut String, annotation: &RichAnnotation) -> Result<(), OutO
 {
     match annotation {
         RichAnnotation::Default | RichAnnotation::Preformat(_) => Ok(()),
-        RichAnnotation::Link(target) => {
-            push_ascii(text, "\u{1b}[4m\u{1b}]8;;")?;
-            push_target(text, target.as_str())?;
-            push_ascii(text, "\u{1b}\\")
-        }
+        RichAnnotation::Link(target) => push_link(text, target.as_str()),
         RichAnnotation::Image(_) => push_ascii(text, "\u{1b}[2m"),
         RichAnnotation::Emphasis => push_ascii(text, "\u{1b}[3m"),
         RichAnnotation::Strong => push_ascii(text, "\u{1b}[1m"),
@@ -95,6 +92,18 @@ fn push_begin(text: &mut String, annotation: &RichAnnotation) -> Result<(), OutO
             push_ascii(text, "m")
         }
     }
+}
+
+/// Begins a link, which is underlined. It leads to its target if that may be followed, and else nowhere.
+fn push_link(text: &mut String, target: &str) -> Result<(), OutOfMemory>
+    ensures { OnOk result (chars_of text.new ≡ chars_of text.old ++ model.link target.now) }
+{
+    if !is_followed(target) {
+        return push_ascii(text, "\u{1b}[4m\u{1b}]8;;\u{1b}\\");
+    }
+    push_ascii(text, "\u{1b}[4m\u{1b}]8;;")?;
+    push_target(text, target)?;
+    push_ascii(text, "\u{1b}\\")
 }
 
 /// What ends an annotation.
