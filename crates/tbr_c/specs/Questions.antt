@@ -86,6 +86,10 @@ prefix_of asked (Rich p) =
 prefix_of asked (Finished lines) = Err fault.Finished
 prefix_of asked (Refused e) = Err (fault_of e)
 
+-- there is such a text, and it has so many bytes
+abbrev pub Needs : Result (List ℕ) Fault → ℕ → Type 0
+Needs answer n = MatchResult answer (λ text. length text ≡ n) (λ _. ⊥)
+
 -- with what a kept refusal is told
 abbrev pub refusal_of : State → Result (Unit {0}) Fault
 refusal_of (Refused e) = Err (fault_of e)

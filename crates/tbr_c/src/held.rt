@@ -1,9 +1,9 @@
 //! What C holds.
-ghost use Rattle.std.specs.Prelude.{◌≡◌, ◌≢◌, ◌<◌, ℕ, List, None, Some, Result, Ok, Err, IfOk, IfErr, OnOk, MatchResult, string_bytes};
+ghost use Rattle.std.specs.Prelude.{◌≡◌, ◌≢◌, ◌<◌, ℕ, List, None, Some, Result, Ok, Err, IfOk, IfErr, IfSome, OnOk, MatchResult, string_bytes};
 ghost use Rattle.tbr_c.specs.Answers.{IsAnswer, IsEnd, HasLength, IsNext};
 ghost use Rattle.tbr_c.specs.Arguments.{Reads};
 ghost use Rattle.tbr_c.specs.State.{CanGoOn, Begins, MayFinish, EndsIn, after_refusal};
-ghost use Rattle.tbr_c.specs.Questions.{facts_of, width_left, prefix_of, refusal_of, line_taken, rest_of};
+ghost use Rattle.tbr_c.specs.Questions.{facts_of, width_left, prefix_of, Needs, refusal_of, line_taken, rest_of};
 ghost use Rattle.tbr_c.specs.declared.state.State.TheVariants as S;
 ghost use Rattle.tbr_decor.specs.Prefix.{asked_prefix};
 ghost use Rattle.tbr_c_lines.specs.Copied.{CopiesMade};
@@ -155,6 +155,14 @@ impl Held {
         ensures left { self.new ≡ self.old }
     {
         self.state.prefix(prefix)
+    }
+
+    /// The bytes of a prefix, where they are known before it is made, as those of headings are. `None` also where they
+    /// pass `usize`, and where nothing can be filled any more.
+    pub fn length_ahead(&self, prefix: DecoratorPrefix) -> Option<usize>
+        ensures { IfSome result (λ n. Needs (prefix_of (asked_prefix prefix) self.now) n) }
+    {
+        self.state.length_ahead(prefix)
     }
 
     /// Takes the next line, and answers its size. `NotFinished` where the renderer isn't finished, `NoLine` where none

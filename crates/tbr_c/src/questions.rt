@@ -1,13 +1,14 @@
 //! Questions to a renderer that is filled. None changes it.
-ghost use Rattle.std.specs.Prelude.{◌≡◌, Some};
+ghost use Rattle.std.specs.Prelude.{◌≡◌, ◌<◌, Some, IfSome};
 ghost use Rattle.tbr_decor.specs.Prefix.{asked_prefix};
 ghost use Rattle.tbr_decor.specs.Prefix as prefixes;
 ghost use Rattle.tbr_c_lines.specs.Status.{status_of};
 ghost use Rattle.tbr_c_lines.specs.Copied.{CopiesMade};
-ghost use Rattle.tbr_c.specs.Questions.{Puts, facts_of, fact_of, width_left, prefix_of, refusal_of};
+ghost use Rattle.tbr_c.specs.Questions.{Puts, facts_of, fact_of, width_left, prefix_of, Needs, refusal_of};
 
 use crate::answers::{copy, put};
 use crate::handle::{Handle, Returned, hand_back};
+use crate::held::Held;
 use crate::state::Facts;
 use tbr_c_lines::{Fault, status};
 use tbr_decor::DecoratorPrefix;
@@ -114,7 +115,15 @@ pub extern "C" fn tbr1_waiting_cells(
     )
 }
 
-/// Copies a prefix of the decorator.
+/// The bytes of a prefix that is known to have more than there is room for, before it is made.
+fn too_long(held: &Held, prefix: DecoratorPrefix, room: usize) -> Option<usize>
+    ensures { IfSome result (λ n. Needs (prefix_of (asked_prefix prefix) held.now) n × (room < n)) }
+{
+    let needed = held.length_ahead(prefix)?;
+    if needed > room { Some(needed) } else { None }
+}
+
+/// Copies a prefix of the decorator. One that has no room isn't made, where its length is known before.
 fn prefix(
     renderer: Handle,
     prefix: DecoratorPrefix,
@@ -127,6 +136,11 @@ fn prefix(
     ensures same { back.new.value ≡ Some renderer.value }
 {
     let mut held = renderer.open();
+    if let Some(needed) = too_long(&held, prefix, out.len()) {
+        hand_back(held, back);
+        *length = needed;
+        return Fault::BufferTooSmall.code();
+    }
     let text = held.prefix(prefix);
     hand_back(held, back);
     match &text {

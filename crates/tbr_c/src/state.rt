@@ -1,9 +1,9 @@
 //! How far a renderer is that C holds: filled, finished or refused.
-ghost use Rattle.std.specs.Prelude.{◌≡◌, ◌≢◌, ◌<◌, ◌⊎◌, [], Some, Ok, Err, IfOk, IfErr, OnOk, MatchResult, flat_map, string_bytes, encode_utf8_all};
+ghost use Rattle.std.specs.Prelude.{◌≡◌, ◌≢◌, ◌<◌, ◌⊎◌, [], Some, Ok, Err, IfOk, IfErr, IfSome, OnOk, MatchResult, length, flat_map, string_bytes, encode_utf8_all};
 ghost use Rattle.tbr_tagged.specs.declared.Error.TheVariants as Refusal;
 ghost use Rattle.tbr_tagged.specs.UnicodeColumns.{unicode_columns};
 ghost use Rattle.tbr_decor.specs.Decoration.{decoration_of};
-ghost use Rattle.tbr_decor.specs.Prefix.{asked_prefix};
+ghost use Rattle.tbr_decor.specs.Prefix.{asked_prefix, header};
 ghost use Rattle.tbr_script.specs.declared.error.RunError.{RunError as Unrun};
 ghost use Rattle.tbr_script.specs.declared.error.RunError.TheVariants as script;
 ghost use Rattle.tbr_commands.specs.Command.{command_of, IsSized};
@@ -13,7 +13,7 @@ ghost use Rattle.tbr_c_lines.specs.Copied.{CopiesMade};
 ghost use Rattle.tbr_c_lines.specs.Status.{fault_of_command, status_of};
 ghost use Rattle.tbr_c_lines.specs.Lines.{line_text};
 ghost use Rattle.tbr_c.specs.State.{CanGoOn, Begins, MayFinish, kept, after_refusal, HasEnded, Does, Refuses, refused_as, EndsAs, EndsIn, RefusesEnd, lines_in, TakesLine, HasNoNext};
-ghost use Rattle.tbr_c.specs.Questions.{on_top, facts_in, facts_of, width_left, prefix_of, rest_of};
+ghost use Rattle.tbr_c.specs.Questions.{on_top, facts_in, facts_of, width_left, prefix_of, Needs, rest_of};
 ghost use Rattle.tbr_c.specs.declared.state.State.TheVariants as S;
 ghost use Rattle.tbr_c_lines.specs.declared.fault.Fault.TheVariants as F;
 
@@ -23,6 +23,7 @@ use tbr_annotations::Annotations;
 use tbr_c_lines::{Fault, LineSize, Lines, Rest, of_command};
 use tbr_commands::{Command, Decorator, Opening};
 use tbr_decor::{DecoratorPrefix, PlainDecorator, RichDecorator, TextDecorator, TrivialDecorator};
+use tbr_headings::{Headings, heading_length};
 use tbr_lines::{Error, RenderLine, UnicodeColumns};
 use tbr_program::Program;
 use tbr_renderer::Renderer;
@@ -159,6 +160,23 @@ impl State {
             State::Rich(program) => prefix_in(program, prefix),
             State::Finished(_) => Err(Fault::Finished),
             State::Refused(e) => Err(Fault::from(*e)),
+        }
+    }
+
+    /// The bytes of a prefix, where they are known before it is made, as those of headings are. `None` also where they
+    /// pass `usize`, and where nothing can be filled any more.
+    pub fn length_ahead(&self, prefix: DecoratorPrefix) -> Option<usize>
+        requires { CanGoOn self.now }
+        ensures { IfSome result (λ n. Needs (prefix_of (asked_prefix prefix) self.now) n) }
+    {
+        let DecoratorPrefix::Header(level) = prefix else {
+            return None;
+        };
+        match self {
+            State::Plain(program) => heading_length_in(program, level),
+            State::Trivial(program) => heading_length_in(program, level),
+            State::Rich(program) => heading_length_in(program, level),
+            State::Finished(_) | State::Refused(_) => None,
         }
     }
 
@@ -316,6 +334,18 @@ fn prefix_in<D: TextDecorator>(
     ensures left { program.new ≡ program.old }
 {
     Ok(program.prefix(prefix)?)
+}
+
+/// The bytes of the prefix of headings of a level, by a program's decorator. `None` where they pass `usize`.
+fn heading_length_in<D: Headings>(
+    _program: &Program<D, UnicodeColumns>,
+    level: usize,
+) -> Option<usize>
+    requires { GoesOn _program.now }
+    ensures { let text = on_top [] (λ r. D.prefix_text r.decorator (header level)) _program.now.stack in
+        IfSome result (λ n. length (encode_utf8_all text) ≡ n) }
+{
+    heading_length::<D>(level)
 }
 
 /// The text of a program. It refuses with `NotACommand` only where a level is open or cells wait.
