@@ -2,6 +2,8 @@ pub mod Block
 pub mod Statement
 pub mod Read
 pub mod Words
+pub mod Number
 pub mod Fault
 pub mod Problem
+pub mod Stretch
 pub mod Level

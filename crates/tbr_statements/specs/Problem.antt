@@ -2,7 +2,7 @@
 use Rattle.std.specs.Prelude.{◌≡◌, ℕ, Option}
 use Rattle.std.specs.Option.{option_map}
 use Rattle.tbr_statements.specs.declared.problem.Kind.{Kind}
-use Rattle.tbr_statements.specs.declared.problem.Kind.TheVariants.{TooNarrow, LinesLost}
+use Rattle.tbr_statements.specs.declared.problem.Kind.TheVariants.{TooNarrow, LinesLost, NotEnded, RowTooWide}
 use Rattle.tbr_statements.specs.declared.problem.Related.{Related}
 use Rattle.tbr_statements.specs.declared.problem.Problem.{Problem}
 use Rattle.tbr_statements.specs.declared.problem.Refusal.{Refusal}
@@ -11,6 +11,8 @@ use Rattle.tbr_statements.specs.declared.problem.Refusal.TheVariants.{OutOfMemor
 -- the status with which a program ends that finds a problem of a kind
 abbrev pub status_of : Kind → ℕ
 status_of LinesLost = 0
+status_of NotEnded = 0
+status_of RowTooWide = 0
 status_of TooNarrow = 1
 status_of other = 2
 

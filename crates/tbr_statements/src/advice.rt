@@ -1,7 +1,6 @@
 //! What errors say: what is wrong with a line, and one way to put it right.
 ghost use Rattle.std.specs.Prelude.{◌≡◌, None, Some, IfOk};
 ghost use Rattle.std.specs.Option.{option_map};
-ghost use Rattle.tbr_commands.specs.Syntax.{ending_name};
 ghost use Rattle.tbr_statements.specs.Problem.{IsOf, Tells};
 ghost use Rattle.tbr_statements.specs.Statement.{word_of};
 ghost use Rattle.tbr_statements.specs.declared.problem.Kind.TheVariants as kind_is;
@@ -10,13 +9,18 @@ use crate::block::Block;
 use crate::fault::{Fault, fault_of};
 use crate::level::{Level, Notes, TooWide};
 use crate::problem::{Kind, Problem, Refusal, Related};
+use crate::stretch::{Stretch, ending};
 use std::alloc::{AllocError, Global};
-use tbr_commands::{Command, Kind as Ended, Request};
+use tbr_commands::{Command, Request};
+
+/// The column of a line's command.
+const FIRST: Option<usize> = Some(1);
 
 /// A problem with a line, or that memory for its text was refused.
 fn refusal(
     kind: Kind,
     line: usize,
+    column: Option<usize>,
     related: Option<Related>,
     texts: Result<(String, String), AllocError>,
 ) -> Refusal
@@ -26,6 +30,7 @@ fn refusal(
         Ok((message, help)) => Refusal::Script(Problem {
             kind,
             line,
+            column,
             message,
             related,
             help,
@@ -38,18 +43,30 @@ fn refusal(
 pub fn not_a_command(alloc: Global, line: usize, writing: &[u8]) -> Refusal
     ensures { Tells result kind_is.NotACommand line None }
 {
-    match fault_of(alloc, writing, false) {
-        Ok(Fault { message, help }) => refusal(Kind::NotACommand, line, None, Ok((message, help))),
-        Err(_) => Refusal::OutOfMemory,
-    }
+    faulty(line, fault_of(alloc, writing, false))
 }
 
 /// The line isn't the first command that it should be.
 pub fn not_an_opening(alloc: Global, line: usize, writing: &[u8]) -> Refusal
     ensures { Tells result kind_is.NotACommand line None }
 {
-    match fault_of(alloc, writing, true) {
-        Ok(Fault { message, help }) => refusal(Kind::NotACommand, line, None, Ok((message, help))),
+    faulty(line, fault_of(alloc, writing, true))
+}
+
+/// The line has a fault.
+fn faulty(line: usize, fault: Result<Fault, AllocError>) -> Refusal
+    ensures { Tells result kind_is.NotACommand line None }
+{
+    match fault {
+        Ok(fault) => {
+            let Fault {
+                column,
+                message,
+                help,
+            } = fault;
+            let texts = Ok((message, help));
+            refusal(Kind::NotACommand, line, column, None, texts)
+        }
         Err(_) => Refusal::OutOfMemory,
     }
 }
@@ -63,7 +80,7 @@ pub fn nothing_there(alloc: Global, line: usize) -> Refusal
         "the script has no command",
         "begin it with `new 60 plain`",
     );
-    refusal(Kind::NotACommand, line, None, texts)
+    refusal(Kind::NotACommand, line, None, None, texts)
 }
 
 /// A command ends what isn't open, or another level than the innermost.
@@ -71,18 +88,15 @@ pub fn not_open(alloc: Global, line: usize, word: &str, level: Option<&Level>) -
     ensures { Tells result kind_is.NothingToEnd line (option_map (λ l. l.now.line) level.entry) }
 {
     let Some(level) = level else {
-        return refusal(Kind::NothingToEnd, line, None, nothing_to_end(alloc, word));
+        let texts = nothing_to_end(alloc, word);
+        return refusal(Kind::NothingToEnd, line, FIRST, None, texts);
     };
     let related = Some(Related {
         line: level.line,
         note: level.by.note(),
     });
-    refusal(
-        Kind::NothingToEnd,
-        line,
-        related,
-        inside(alloc, word, level),
-    )
+    let texts = inside(alloc, word, level);
+    refusal(Kind::NothingToEnd, line, FIRST, related, texts)
 }
 
 /// What is said where nothing is open that a command ends.
@@ -113,7 +127,8 @@ pub fn still_open(alloc: Global, line: usize, level: &Level) -> Refusal
     });
     let name = level.by.name();
     let end = level.by.end();
-    refusal(Kind::StillOpen, line, related, unended(alloc, name, end))
+    let texts = unended(alloc, name, end);
+    refusal(Kind::StillOpen, line, None, related, texts)
 }
 
 /// What is said where a level isn't ended.
@@ -133,7 +148,7 @@ pub fn cells_wait(alloc: Global, line: usize, first_cell: Option<usize>) -> Refu
         note: "the first cell that waits was opened here",
     });
     let texts = both(alloc, "cells wait for their row", "write `row` before it");
-    refusal(Kind::CellsWait, line, related, texts)
+    refusal(Kind::CellsWait, line, None, related, texts)
 }
 
 /// A row is in the way of cells that overhang from the rows above.
@@ -144,12 +159,8 @@ pub fn row_does_not_fit(alloc: Global, line: usize, columns: usize, notes: &Note
         line,
         note: "this cell takes more rows than one",
     });
-    refusal(
-        Kind::RowDoesNotFit,
-        line,
-        related,
-        in_the_way(alloc, columns, notes.row_columns),
-    )
+    let texts = in_the_way(alloc, columns, notes.row_columns);
+    refusal(Kind::RowDoesNotFit, line, FIRST, related, texts)
 }
 
 /// What is said of a row that doesn't fit.
@@ -174,7 +185,7 @@ pub fn too_narrow(alloc: Global, line: usize, too_wide: Option<TooWide>) -> Refu
         line: found.line,
         note: "the text is here",
     });
-    refusal(Kind::TooNarrow, line, related, wider(alloc, too_wide))
+    refusal(Kind::TooNarrow, line, None, related, wider(alloc, too_wide))
 }
 
 /// What is said of a character that is wider than its block.
@@ -197,13 +208,8 @@ fn wider(alloc: Global, too_wide: Option<TooWide>) -> Result<(String, String), A
 pub fn no_room(alloc: Global, line: usize, block: Block, columns: usize, width: usize) -> Refusal
     ensures { Tells result kind_is.NoRoom line None }
 {
-    let name = block.name();
-    refusal(
-        Kind::NoRoom,
-        line,
-        None,
-        no_column(alloc, name, columns, width),
-    )
+    let texts = no_column(alloc, block.name(), columns, width);
+    refusal(Kind::NoRoom, line, FIRST, None, texts)
 }
 
 /// What is said of a prefix that leaves no column.
@@ -235,9 +241,47 @@ pub fn lost_lines(alloc: Global, line: usize, cell: Option<usize>) -> Result<Pro
     Ok(Problem {
         kind: Kind::LinesLost,
         line,
+        column: None,
         message,
         related,
         help,
+    })
+}
+
+/// What began on a line isn't ended in its level.
+pub fn not_ended(alloc: Global, line: usize, stretch: Stretch) -> Result<Problem, AllocError>
+    ensures { IfOk result (λ problem. IsOf problem kind_is.NotEnded line None) }
+{
+    let word = stretch.word();
+    let end = stretch.end();
+    Ok(Problem {
+        kind: Kind::NotEnded,
+        line,
+        column: FIRST,
+        message: format!(in alloc; "`{word}` isn't ended")?,
+        related: None,
+        help: format!(in alloc; "write `{end}` after it, in the same block or cell")?,
+    })
+}
+
+/// A row takes more columns than were set in the place of those of the script.
+pub fn row_too_wide(
+    alloc: Global,
+    line: usize,
+    columns: usize,
+    width: usize,
+) -> Result<Problem, AllocError>
+    ensures { IfOk result (λ problem. IsOf problem kind_is.RowTooWide line None) }
+{
+    Ok(Problem {
+        kind: Kind::RowTooWide,
+        line,
+        column: FIRST,
+        message: format!(in alloc; "the row takes {columns} columns, and --width says {width}")?,
+        related: None,
+        help: format!(in alloc;
+            "cells keep the columns that the script says: give --width {columns}"
+        )?,
     })
 }
 
@@ -259,22 +303,5 @@ pub fn word(command: &Command) -> &'static str
         Command::EndCell => "endcell",
         Command::Append(_) => "append",
         _ => "it",
-    }
-}
-
-/// The word that ends what is of a kind.
-fn ending(kind: Ended) -> &'static str
-    ensures { result.now ≡ ending_name kind }
-{
-    match kind {
-        Ended::Mode => "endws",
-        Ended::Preformat => "endpre",
-        Ended::Emphasis => "endem",
-        Ended::Strong => "endstrong",
-        Ended::Strikeout => "endstrike",
-        Ended::Code => "endcode",
-        Ended::Superscript => "endsuper",
-        Ended::Colour => "endcolour",
-        Ended::Background => "endbg",
     }
 }

@@ -1,11 +1,13 @@
 //! Why a line is no command.
-ghost use Rattle.std.specs.Prelude.{◌≡◌};
+ghost use Rattle.std.specs.Prelude.{◌≡◌, ◌≤◌, length, IfOk, IfSome};
 ghost use Rattle.tbr_statements.specs.Fault as model;
 
-use crate::words::{DECORATORS, FORMS, OPTIONS, first_word, form_of, nearest};
+use crate::number::Number;
+use crate::placed::{PlacedWords, characters};
+use crate::words::{ALIGNMENTS, DECORATORS, FORMS, MODES, OPTIONS, first_word, form_of, nearest};
 use std::alloc::{AllocError, Global};
 use tbr_commands::Opening;
-use tbr_script::{Words, parse_size, unescape};
+use tbr_script::unescape;
 
 /// U+FEFF, which some editors put in front of a file.
 const BYTE_ORDER_MARK: char = '\u{feff}';
@@ -15,19 +17,31 @@ const TEXT_BELOW: [&str; 9] = [
     "heading", "quote", "item", "ordered", "block", "line", "em", "strong", "code",
 ];
 
+/// What is before the number of an option.
+const WRAP: &str = "wrap=";
+
 /// What is wrong with a line, and one way to put it right.
 #[derive(Debug, Drop)]
 pub struct Fault {
+    /// The character of the line where the word at fault begins, counted from 1, if a word is at fault.
+    pub column: Option<usize>,
     /// What is wrong.
     pub message: String,
     /// The way to put it right.
     pub help: String,
 }
 
+/// The column of a line's first word.
+const FIRST: usize = 1;
+
 /// Why a line is no command, or no first command.
 pub fn fault_of(alloc: Global, line: &[u8], is_first: bool) -> Result<Fault, AllocError> {
     let Ok(line) = str::from_utf8(line) else {
-        return fixed(alloc, "the line isn't UTF-8", "save the file as UTF-8");
+        return Ok(Fault {
+            column: None,
+            message: String::from_str(alloc, "the line isn't UTF-8")?,
+            help: String::from_str(alloc, "save the file as UTF-8")?,
+        });
     };
     if let Some(fault) = fault_of_file(alloc, line)? {
         return Ok(fault);
@@ -39,11 +53,13 @@ pub fn fault_of(alloc: Global, line: &[u8], is_first: bool) -> Result<Fault, All
         ("new", true) => fault_of_opening(alloc, line),
         ("new", false) => fixed(
             alloc,
+            FIRST,
             "`new` comes once, at the beginning",
             "take the line away",
         ),
         (word, true) if form_of(word).is_some() => fixed(
             alloc,
+            FIRST,
             "the first command isn't `new`",
             "begin the script with `new 60 plain`",
         ),
@@ -52,8 +68,9 @@ pub fn fault_of(alloc: Global, line: &[u8], is_first: bool) -> Result<Fault, All
 }
 
 /// A fault whose texts are known.
-fn fixed(alloc: Global, message: &str, help: &str) -> Result<Fault, AllocError> {
+fn fixed(alloc: Global, column: usize, message: &str, help: &str) -> Result<Fault, AllocError> {
     Ok(Fault {
+        column: Some(column),
         message: String::from_str(alloc, message)?,
         help: String::from_str(alloc, help)?,
     })
@@ -64,6 +81,7 @@ fn fault_of_file(alloc: Global, line: &str) -> Result<Option<Fault>, AllocError>
     if line.starts_with(BYTE_ORDER_MARK) {
         let fault = fixed(
             alloc,
+            FIRST,
             "the line begins with a byte order mark",
             "save the file without it",
         )?;
@@ -72,6 +90,7 @@ fn fault_of_file(alloc: Global, line: &str) -> Result<Option<Fault>, AllocError>
     if line.ends_with('\r') {
         let fault = fixed(
             alloc,
+            characters(line),
             "the line ends with CR LF",
             "save the file with lines that end with LF, as `tr -d '\\r'` makes it",
         )?;
@@ -85,6 +104,7 @@ fn fault_of_spaces(alloc: Global, line: &str) -> Result<Option<Fault>, AllocErro
     if line.starts_with(' ') || line.starts_with('\t') {
         let fault = fixed(
             alloc,
+            FIRST,
             "white space is before the command",
             "begin the line with the command",
         )?;
@@ -93,6 +113,7 @@ fn fault_of_spaces(alloc: Global, line: &str) -> Result<Option<Fault>, AllocErro
     let trimmed = line.trim_end_matches(' ');
     if trimmed.len() < line.len() && form_of(trimmed).is_some() {
         let fault = Fault {
+            column: Some(characters(trimmed).saturating_add(1)),
             message: String::from_str(alloc, "a space is after the command")?,
             help: format!(in alloc; "write `{trimmed}`")?,
         };
@@ -106,18 +127,28 @@ fn fault_of_word(alloc: Global, word: &str, line: &str) -> Result<Fault, AllocEr
     let Some(form) = form_of(word) else {
         return unknown_word(alloc, word);
     };
-    if takes_text(word) && !has_good_escapes(alloc, line)? {
-        return fixed(
-            alloc,
-            "a backslash begins no escape",
-            "write `\\\\` for a backslash; there are `\\n`, `\\t`, `\\\\` and `\\u{h}` besides",
-        );
+    if takes_text(word) {
+        return fault_of_text(alloc, word, form, line);
     }
-    let besides = besides(word);
+    match fault_of_arguments(alloc, word, form, line)? {
+        Some(fault) => Ok(fault),
+        None => written_otherwise(alloc, word, form),
+    }
+}
+
+/// A command isn't written as it should be.
+fn written_otherwise(alloc: Global, word: &str, form: &str) -> Result<Fault, AllocError> {
     Ok(Fault {
+        column: Some(FIRST),
         message: format!(in alloc; "`{word}` isn't written so")?,
-        help: format!(in alloc; "write it as `{form}`{besides}")?,
+        help: help_of(alloc, word, form)?,
     })
+}
+
+/// How a command of this word is written.
+fn help_of(alloc: Global, word: &str, form: &str) -> Result<String, AllocError> {
+    let besides = besides(word);
+    format!(in alloc; "write it as `{form}`{besides}")
 }
 
 /// What is said besides of how the command of a word is written.
@@ -133,6 +164,81 @@ fn besides(word: &str) -> &'static str
     }
 }
 
+/// The first of the words after a command's that may not be there, if there is one.
+fn fault_of_arguments(
+    alloc: Global,
+    word: &str,
+    form: &str,
+    line: &str,
+) -> Result<Option<Fault>, AllocError> {
+    let mut words = PlacedWords::of(line);
+    let _ = words.next();
+    let mut place = 0usize;
+    while let Some((column, argument)) = words.next() {
+        let fault = fault_of_argument(alloc, word, form, place, argument, column)?;
+        if fault.is_some() {
+            return Ok(fault);
+        }
+        place = place.saturating_add(1);
+    }
+    Ok(None)
+}
+
+/// What is wrong with the word at a place after a command's, counted from 0, if that is it.
+fn fault_of_argument(
+    alloc: Global,
+    word: &str,
+    form: &str,
+    place: usize,
+    argument: &str,
+    column: usize,
+) -> Result<Option<Fault>, AllocError> {
+    if let Some(number) = Number::of(word, place) {
+        if number.takes(argument) {
+            return Ok(None);
+        }
+        let message = not_in_limits(alloc, word, number, argument)?;
+        let help = help_of(alloc, word, form)?;
+        let column = Some(column);
+        return Ok(Some(Fault {
+            column,
+            message,
+            help,
+        }));
+    }
+    match (word, place, argument) {
+        ("cell", 2, "left" | "right" | "centre") | ("row", 0, "collapse") => Ok(None),
+        ("cell", 2, _) => Ok(Some(unknown(alloc, column, "an alignment", argument, &ALIGNMENTS)?)),
+        ("ws", 0, "normal" | "pre" | "prewrap") => Ok(None),
+        ("ws", 0, _) => Ok(Some(unknown(alloc, column, "a mode", argument, &MODES)?)),
+        _ => Ok(Some(too_much(alloc, word, form, column)?)),
+    }
+}
+
+/// What is said of a number that isn't within its limits.
+fn not_in_limits(
+    alloc: Global,
+    of: &str,
+    number: Number,
+    digits: &str,
+) -> Result<String, AllocError> {
+    let Number {
+        name,
+        least,
+        greatest,
+    } = number;
+    format!(in alloc; "`{of}` takes {name} from {least} to {greatest}, not `{digits}`")
+}
+
+/// A command has more than it may have.
+fn too_much(alloc: Global, word: &str, form: &str, column: usize) -> Result<Fault, AllocError> {
+    Ok(Fault {
+        column: Some(column),
+        message: format!(in alloc; "`{word}` has too much after it")?,
+        help: help_of(alloc, word, form)?,
+    })
+}
+
 /// A word that is no command.
 fn unknown_word(alloc: Global, word: &str) -> Result<Fault, AllocError> {
     let message = format!(in alloc; "`{word}` isn't a command")?;
@@ -140,7 +246,11 @@ fn unknown_word(alloc: Global, word: &str) -> Result<Fault, AllocError> {
         Some(form) => format!(in alloc; "write `{form}`")?,
         None => help_far_from_all(alloc, word)?,
     };
-    Ok(Fault { message, help })
+    Ok(Fault {
+        column: Some(FIRST),
+        message,
+        help,
+    })
 }
 
 /// The help where no command is near a word.
@@ -158,53 +268,120 @@ fn takes_text(word: &str) -> bool {
     matches!(word, "text" | "frag" | "link" | "image" | "append")
 }
 
-/// Whether each backslash of a line begins an escape.
-fn has_good_escapes(alloc: Global, line: &str) -> Result<bool, AllocError> {
-    Ok(unescape(alloc, line)?.is_some())
+/// What is wrong with a command that takes a text.
+fn fault_of_text(alloc: Global, word: &str, form: &str, line: &str) -> Result<Fault, AllocError> {
+    match bad_escape(alloc, line)? {
+        Some(column) => fixed(
+            alloc,
+            column,
+            "a backslash begins no escape",
+            "write `\\\\` for a backslash; there are `\\n`, `\\t`, `\\\\` and `\\u{h}` besides",
+        ),
+        None => written_otherwise(alloc, word, form),
+    }
+}
+
+/// The character of a line, counted from 1, where a backslash is that begins no escape, if one is there.
+fn bad_escape(alloc: Global, line: &str) -> Result<Option<usize>, AllocError> {
+    let mut rest = line;
+    while let Some((_, after)) = rest.split_once('\\') {
+        match after_escape(alloc, after)? {
+            Some(later) => rest = later,
+            None => {
+                let column = characters(line).saturating_sub(characters(after));
+                return Ok(Some(column));
+            }
+        }
+    }
+    Ok(None)
+}
+
+/// What follows the escape that begins after a backslash, if one does.
+fn after_escape(alloc: Global, after: &str) -> Result<Option<&str>, AllocError>
+    ensures { IfOk result (λ found. IfSome found (λ rest. length rest.now ≤ length after.now)) }
+{
+    let mut rest = after.chars();
+    match rest.next() {
+        Some('n' | 't' | '\\') => Ok(Some(rest.as_str())),
+        Some('u') => after_code(alloc, rest.as_str()),
+        _ => Ok(None),
+    }
+}
+
+/// What follows the braces of an escape, if a character is in them.
+fn after_code(alloc: Global, after: &str) -> Result<Option<&str>, AllocError>
+    ensures { IfOk result (λ found. IfSome found (λ rest. length rest.now ≤ length after.now)) }
+{
+    let Some((code, rest)) = after.split_once('}') else {
+        return Ok(None);
+    };
+    let escape = format!(in alloc; "\\u{code}}}")?;
+    match unescape(alloc, escape.as_str())? {
+        Some(_) => Ok(Some(rest)),
+        None => Ok(None),
+    }
 }
 
 /// What is wrong with a `new`.
 fn fault_of_opening(alloc: Global, line: &str) -> Result<Fault, AllocError> {
-    let mut words = Words::of(line);
+    let mut words = PlacedWords::of(line);
     let _ = words.next();
-    let (Some(width), Some(decorator)) = (words.next(), words.next()) else {
+    let (Some((at, width)), Some((column, decorator))) = (words.next(), words.next()) else {
         return fixed(
             alloc,
+            FIRST,
             "`new` has no width or no decorator",
             "write it as `new 60 plain`",
         );
     };
-    if parse_size(width).is_none() {
+    if let Some(number) = Number::of("new", 0)
+        && !number.takes(width)
+    {
         return Ok(Fault {
-            message: format!(in alloc; "`{width}` isn't a width, which is 1 or more")?,
+            column: Some(at),
+            message: not_in_limits(alloc, "new", number, width)?,
             help: String::from_str(alloc, "write it as `new 60 plain`")?,
         });
     }
     if !DECORATORS.contains(&decorator) {
-        return unknown(alloc, "a decorator", decorator, &DECORATORS);
+        return unknown(alloc, column, "a decorator", decorator, &DECORATORS);
     }
     fault_of_options(alloc, words)
 }
 
 /// The first of the words that is no option.
-fn fault_of_options(alloc: Global, words: Words<'_>) -> Result<Fault, AllocError> {
+fn fault_of_options(alloc: Global, words: PlacedWords<'_>) -> Result<Fault, AllocError> {
     let mut words = words;
-    while let Some(option) = words.next() {
+    while let Some((column, option)) = words.next() {
         let line = format!(in alloc; "new 1 plain {option}")?;
         if Opening::parse(line.as_bytes()).is_none() {
-            return unknown(alloc, "an option", option, &OPTIONS);
+            return fault_of_option(alloc, column, option);
         }
     }
     fixed(
         alloc,
+        FIRST,
         "`new` isn't written so",
         "write it as `new W DECORATOR OPTIONS`",
     )
 }
 
+/// What is wrong with a word that is no option.
+fn fault_of_option(alloc: Global, column: usize, option: &str) -> Result<Fault, AllocError> {
+    match option.strip_prefix(WRAP) {
+        Some(digits) => Ok(Fault {
+            column: Some(column.saturating_add(WRAP.len())),
+            message: not_in_limits(alloc, "wrap=N", Number::of_wrap(), digits)?,
+            help: String::from_str(alloc, "write it as `wrap=40`")?,
+        }),
+        None => unknown(alloc, column, "an option", option, &OPTIONS),
+    }
+}
+
 /// A word that isn't one of those that may be there.
 fn unknown(
     alloc: Global,
+    column: usize,
     what: &str,
     word: &str,
     among: &[&'static str],
@@ -214,7 +391,11 @@ fn unknown(
         Some(near) => format!(in alloc; "write `{near}`")?,
         None => listed(alloc, among)?,
     };
-    Ok(Fault { message, help })
+    Ok(Fault {
+        column: Some(column),
+        message,
+        help,
+    })
 }
 
 /// What may be there.

@@ -1,5 +1,5 @@
 //! What is wrong with a script.
-ghost use Rattle.std.specs.Prelude.{◌≡◌};
+ghost use Rattle.std.specs.Prelude.{◌≡◌, ◌==◌};
 ghost use Rattle.tbr_statements.specs.Problem as model;
 
 use std::alloc::{AllocError, AllocFailed};
@@ -24,29 +24,42 @@ pub enum Kind {
     NoRoom,
     /// A cell takes more rows than come, and lines of it are in no row.
     LinesLost,
+    /// What began isn't ended where its level closes, or the script ends.
+    NotEnded,
+    /// A row is wider than the columns that were set in the place of those of the script.
+    RowTooWide,
 }
 
 impl Kind {
-    /// The status with which a program ends that finds such a problem: that of `blockrender`, or 0 where something was
-    /// lost.
+    /// The status with which a program ends that finds such a problem: that of `blockrender`, or 0 where the script is
+    /// shown.
     pub fn status(self) -> u8
         ensures { result ≡ model.status_of self }
     {
         match self {
-            Kind::LinesLost => 0,
+            Kind::LinesLost | Kind::NotEnded | Kind::RowTooWide => 0,
             Kind::TooNarrow => 1,
             _ => 2,
         }
     }
+
+    /// Whether the script is shown nevertheless.
+    pub fn is_warning(self) -> bool
+        ensures { result ≡ (model.status_of self == 0) }
+    {
+        self.status() == 0
+    }
 }
 
-/// What is wrong with a script, or what was lost of it.
+/// What is wrong with a script, or what isn't shown as it says.
 #[derive(Debug, Drop)]
 pub struct Problem {
     /// Its kind.
     pub kind: Kind,
     /// The line at fault, counted from 1. Where the script ends too early it is the one after the last.
     pub line: usize,
+    /// The character of that line where the word at fault begins, counted from 1, if a word is at fault.
+    pub column: Option<usize>,
     /// What is wrong with it.
     pub message: String,
     /// Another line that this has to do with.

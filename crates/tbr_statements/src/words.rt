@@ -7,7 +7,7 @@ use std::alloc::{AllocError, Global};
 use strsim::levenshtein;
 
 /// The commands, each as it is written.
-pub const FORMS: [&str; 46] = [
+pub const FORMS: [&str; 45] = [
     "text T",
     "block",
     "endblock",
@@ -15,7 +15,7 @@ pub const FORMS: [&str; 46] = [
     "line",
     "hardline",
     "empty",
-    "border",
+    "border [N]",
     "quote",
     "endquote",
     "item",
@@ -28,7 +28,7 @@ pub const FORMS: [&str; 46] = [
     "append P | Q",
     "cell N SPAN [left|right|centre]",
     "endcell",
-    "row",
+    "row [collapse]",
     "vrow",
     "ws MODE",
     "endws",
@@ -53,7 +53,6 @@ pub const FORMS: [&str; 46] = [
     "image SOURCE | TITLE",
     "frag NAME",
     "new W DECORATOR OPTIONS",
-    "row collapse",
 ];
 
 /// The options of the first command.
@@ -72,6 +71,12 @@ pub const OPTIONS: [&str; 10] = [
 
 /// The decorators.
 pub const DECORATORS: [&str; 3] = ["plain", "trivial", "rich"];
+
+/// Where the lines of a cell may be.
+pub const ALIGNMENTS: [&str; 3] = ["left", "right", "centre"];
+
+/// The modes of white space.
+pub const MODES: [&str; 3] = ["normal", "pre", "prewrap"];
 
 /// The first word of a line: what is before its first space.
 pub fn first_word(line: &str) -> &str

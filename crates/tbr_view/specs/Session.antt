@@ -1,5 +1,5 @@
 -- What a script for people does, line after line.
-use Rattle.std.specs.Prelude.{◌≡◌, ◌⊎◌, ℕ, ◌-◌, ◌<◌, Bool, true, false, Option, None, Some, Ok, List, [], ◌∷◌, ◌++◌, map, take, length, string_bytes}
+use Rattle.std.specs.Prelude.{◌≡◌, ◌⊎◌, ℕ, ◌-◌, ◌<◌, nat_lt, ◌&&◌, if◌then◌else◌, Bool, true, false, Option, None, Some, Ok, List, [], ◌∷◌, ◌++◌, map, take, length, string_bytes}
 use Rattle.std.specs.List.{list_any}
 use Rattle.tbr_model.specs.Width.{width_of_text}
 use Rattle.tbr_tagged.specs.View.{chars_of}
@@ -25,7 +25,7 @@ use Rattle.tbr_statements.specs.declared.level.Level.{Level}
 use Rattle.tbr_statements.specs.declared.level.Opener.{Opener}
 use Rattle.tbr_statements.specs.declared.level.Opener.TheVariants.{Sub, Cell, Block as OfBlock}
 use Rattle.tbr_statements.specs.declared.problem.Problem.{Problem}
-use Rattle.tbr_statements.specs.declared.problem.Kind.TheVariants.{LinesLost}
+use Rattle.tbr_statements.specs.declared.problem.Kind.TheVariants.{LinesLost, RowTooWide}
 use Rattle.tbr_statements.specs.declared.statement.Statement.{Statement}
 use Rattle.tbr_statements.specs.declared.statement.Statement.TheVariants as statement
 use Rattle.tbr_statements.specs.Problem.{IsOf}
@@ -49,6 +49,24 @@ abbrev pub TellsLoss : Bool → ℕ → Option ℕ → List Problem → List Pro
 TellsLoss false number cell lost more = more ≡ lost
 TellsLoss true number cell lost more =
     (problem : Problem) × IsOf problem LinesLost number cell × (more ≡ lost ++ problem ∷ [])
+
+-- ---- rows that are too wide
+
+-- the columns that were set, if so many are more; 0 counts as none
+abbrev pub less_than : ℕ → Option ℕ → Option ℕ
+less_than columns None = None
+less_than columns (Some width) = if nat_lt 0 width && nat_lt width columns then Some width else None
+
+-- the same, if a command adds a row of so many columns
+abbrev pub passed : Option ℕ → declared.Command → ℕ → Option ℕ
+passed set (asked.Row collapse) columns = less_than columns set
+passed set other columns = None
+
+-- The first such row is told, on the line of this number. After it none is.
+abbrev pub TellsRow : Option ℕ → ℕ → Option ℕ → Option ℕ → List Problem → List Problem → Type 0
+TellsRow None number set left told more = (left ≡ set) × (more ≡ told)
+TellsRow (Some width) number set left told more =
+    (left ≡ None) × (problem : Problem) × IsOf problem RowTooWide number None × (more ≡ told ++ problem ∷ [])
 
 -- ---- where a script is
 

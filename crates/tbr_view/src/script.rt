@@ -14,7 +14,8 @@ use crate::session::Session;
 use crate::show::show;
 use std::alloc::Global;
 use tbr_commands::{Decorator, Opening};
-use tbr_decor::{PlainDecorator, RichDecorator, TextDecorator, TrivialDecorator};
+use tbr_decor::{PlainDecorator, RichDecorator, TrivialDecorator};
+use tbr_headings::Headings;
 use tbr_lines::{CharWidth, RenderLine};
 use tbr_script::split_line;
 use tbr_statements::{Problem, Refusal, advice, is_skipped};
@@ -53,6 +54,9 @@ pub struct Shown {
     pub text: String,
     /// What was lost.
     pub lost: Vec<Problem>,
+    /// What else isn't shown as the script says: stretches that aren't ended, and a row that is wider than the columns
+    /// that were set.
+    pub warnings: Vec<Problem>,
 }
 
 /// What is shown of a script. It refuses where the script is at fault, and where memory is refused.
@@ -64,21 +68,39 @@ pub fn view<W: CharWidth>(alloc: Global, script: &[u8], view: Settings) -> Resul
     match view.decorator.unwrap_or(opening.decorator) {
         Decorator::Plain => {
             let decorator = PlainDecorator::new();
-            let (lines, lost) = run::<_, W>(alloc, opening, decorator, number, rest)?;
+            let (lines, lost, warnings) = run::<_, W>(
+                alloc, opening, decorator, view.width, number, rest,
+            )?;
             let text = show::<_, W>(alloc, lines, view.format)?;
-            Ok(Shown { text, lost })
+            Ok(Shown {
+                text,
+                lost,
+                warnings,
+            })
         }
         Decorator::Trivial => {
             let decorator = TrivialDecorator::new();
-            let (lines, lost) = run::<_, W>(alloc, opening, decorator, number, rest)?;
+            let (lines, lost, warnings) = run::<_, W>(
+                alloc, opening, decorator, view.width, number, rest,
+            )?;
             let text = show::<_, W>(alloc, lines, view.format)?;
-            Ok(Shown { text, lost })
+            Ok(Shown {
+                text,
+                lost,
+                warnings,
+            })
         }
         Decorator::Rich => {
             let decorator = RichDecorator::new();
-            let (lines, lost) = run::<_, W>(alloc, opening, decorator, number, rest)?;
+            let (lines, lost, warnings) = run::<_, W>(
+                alloc, opening, decorator, view.width, number, rest,
+            )?;
             let text = show::<_, W>(alloc, lines, view.format)?;
-            Ok(Shown { text, lost })
+            Ok(Shown {
+                text,
+                lost,
+                warnings,
+            })
         }
     }
 }
@@ -130,20 +152,28 @@ fn first_command(alloc: Global, script: &[u8]) -> Result<(Opening, usize, &[u8])
     Err(advice::nothing_there(alloc, number))
 }
 
-/// The lines of a script after its first command, and what was lost of them.
-fn run<D: TextDecorator, W: CharWidth>(
+/// The lines of a script after its first command, what was lost of them, and what else isn't shown as it says.
+fn run<D: Headings, W: CharWidth>(
     alloc: Global,
     opening: Opening,
     decorator: D,
+    set_width: Option<usize>,
     number: usize,
     script: &[u8],
-) -> Result<(Vec<RenderLine<Annotations<D::Annotation>>>, Vec<Problem>), Refusal>
+) -> Result<
+    (
+        Vec<RenderLine<Annotations<D::Annotation>>>,
+        Vec<Problem>,
+        Vec<Problem>,
+    ),
+    Refusal,
+>
     requires width { 0 < opening.width }
     requires wrap_width { opening.options.wrap_width ≢ Some 0 }
     ensures { IfOk result (λ r. LinesGive W.columns (decoration_of D.TextDecorator) (begun opening decorator)
         (lines_of script.now) (map (map_line (tag_meant D.meaning)) (map line_seen r.0.items))) }
 {
-    let mut session: Session<D, W> = Session::new(alloc, opening, decorator)?;
+    let mut session: Session<D, W> = Session::new(alloc, opening, decorator, set_width)?;
     let mut rest = script;
     let mut number = number;
     while !rest.is_empty() {

@@ -14,28 +14,40 @@ ghost use Rattle.tbr_statements.specs.Statement.{IsSized};
 
 use std::alloc::{AllocError, Global};
 use tbr_commands::{Command, Layout, Opening, Request};
-use tbr_decor::TextDecorator;
+use tbr_headings::{Headings, heading_columns};
 use tbr_lines::{CharWidth, RenderLine, text_width};
 use tbr_program::Program;
 use tbr_script::{RunError, TextPair};
 use tbr_statements::{
-    Block, Levels, Opener, Problem, Refusal, Statement, TooWide, advice, is_skipped,
+    Block, Levels, Opener, Problem, Refusal, Statement, Stretch, Stretches, TooWide, advice,
+    is_skipped,
 };
 use text_block_renderer::{Annotations, Renderer};
 
 /// A script of which some lines were done.
 #[derive(Drop)]
-pub struct Session<D: TextDecorator, W: CharWidth> {
+pub struct Session<D: Headings, W: CharWidth> {
     alloc: Global,
     program: Program<D, W>,
     levels: Levels,
+    stretches: Stretches,
+    /// The columns that were set in the place of those of the script, until a row is wider.
+    set_width: Option<usize>,
     /// What was lost so far.
     lost: Vec<Problem>,
+    /// What else isn't shown as the script says.
+    warnings: Vec<Problem>,
 }
 
-impl<D: TextDecorator, W: CharWidth> Session<D, W> {
-    /// A script after its first command. It refuses only where memory is refused.
-    pub fn new(alloc: Global, opening: Opening, decorator: D) -> Result<Session<D, W>, Refusal>
+impl<D: Headings, W: CharWidth> Session<D, W> {
+    /// A script after its first command, with the columns that were set in the place of its own. It refuses only where
+    /// memory is refused.
+    pub fn new(
+        alloc: Global,
+        opening: Opening,
+        decorator: D,
+        set_width: Option<usize>,
+    ) -> Result<Session<D, W>, Refusal>
         requires width { 0 < opening.width }
         requires wrap_width { opening.options.wrap_width ≢ Some 0 }
         ensures begins { IfOk result (λ session.
@@ -50,7 +62,10 @@ impl<D: TextDecorator, W: CharWidth> Session<D, W> {
             alloc,
             program,
             levels: Levels::none(alloc),
+            stretches: Stretches::none(alloc),
+            set_width,
             lost: Vec::new(alloc),
+            warnings: Vec::new(alloc),
         })
     }
 
@@ -101,7 +116,10 @@ impl<D: TextDecorator, W: CharWidth> Session<D, W> {
         }
         self.note_texts(number, command);
         self.note_losses_of(number, command)?;
+        self.note_ends_of(command)?;
         self.command(number, command)?;
+        self.note_row(number, command)?;
+        self.note_stretch(number, command)?;
         self.note_levels(number, command)?;
         Ok(())
     }
@@ -143,6 +161,7 @@ impl<D: TextDecorator, W: CharWidth> Session<D, W> {
             (model.state_of D.meaning self.new.program self.new.levels.inside.items)) }
         ensures live { OnOk result (GoesOn self.new.program) }
     {
+        self.check_room(number, block)?;
         let Ok(prefix) = self.program.prefix(block.prefix()) else {
             return Err(Refusal::OutOfMemory);
         };
@@ -158,6 +177,19 @@ impl<D: TextDecorator, W: CharWidth> Session<D, W> {
         Ok(())
     }
 
+    /// Refuses a block whose prefix is known to leave it no column, before that is made.
+    fn check_room(&self, number: usize, block: Block) -> Result<(), Refusal>
+        requires { GoesOn self.now.program }
+    {
+        let width = self.program.top().width();
+        match columns_ahead::<D, W>(block) {
+            Some(columns) if width <= columns => Err(advice::no_room(
+                self.alloc, number, block, columns, width,
+            )),
+            _ => Ok(()),
+        }
+    }
+
     /// Closes the block that this command ends.
     fn close(&mut self, number: usize, by: &'static str) -> Result<(), Refusal>
         requires { GoesOn self.old.program }
@@ -170,6 +202,7 @@ impl<D: TextDecorator, W: CharWidth> Session<D, W> {
             return Err(self.not_open(by, number));
         }
         self.note_losses(number)?;
+        self.note_ends()?;
         match self.levels.leave() {
             Some(Opener::Block(block, prefixes)) => self.close_block(number, block, prefixes),
             _ => Err(self.not_open(by, number)),
@@ -292,6 +325,92 @@ impl<D: TextDecorator, W: CharWidth> Session<D, W> {
         }
     }
 
+    /// Notes the stretches of the innermost level that aren't ended: it closes, and they end with it.
+    fn note_ends(&mut self) -> Result<(), Refusal>
+        ensures program { self.new.program ≡ self.old.program }
+        ensures levels { self.new.levels ≡ self.old.levels }
+        ensures lost { self.new.lost ≡ self.old.lost }
+    {
+        let first = self.stretches.first_in(self.levels.inside.len());
+        self.warn_of(first)?;
+        self.stretches.end_from(first);
+        Ok(())
+    }
+
+    /// Warns of each stretch from this place on that isn't ended.
+    fn warn_of(&mut self, first: usize) -> Result<(), Refusal>
+        ensures program { self.new.program ≡ self.old.program }
+        ensures levels { self.new.levels ≡ self.old.levels }
+        ensures lost { self.new.lost ≡ self.old.lost }
+    {
+        for place in first..self.stretches.len() {
+            self.warn_at(place)?;
+        }
+        Ok(())
+    }
+
+    /// Warns of the stretch at a place, if it isn't ended.
+    fn warn_at(&mut self, place: usize) -> Result<(), Refusal>
+        ensures program { self.new.program ≡ self.old.program }
+        ensures levels { self.new.levels ≡ self.old.levels }
+        ensures lost { self.new.lost ≡ self.old.lost }
+        ensures stretches { self.new.stretches ≡ self.old.stretches }
+    {
+        if let Some((stretch, line)) = self.stretches.open_at(place) {
+            let problem = advice::not_ended(self.alloc, line, stretch)?;
+            self.warnings.push(problem)?;
+        }
+        Ok(())
+    }
+
+    /// Notes the stretches that aren't ended, if a command closes the innermost level.
+    fn note_ends_of(&mut self, command: &Command) -> Result<(), Refusal>
+        ensures program { self.new.program ≡ self.old.program }
+        ensures levels { self.new.levels ≡ self.old.levels }
+        ensures lost { self.new.lost ≡ self.old.lost }
+    {
+        match command {
+            Command::Append(_) | Command::EndCell => self.note_ends(),
+            _ => Ok(()),
+        }
+    }
+
+    /// Notes what a command began or ended in the innermost level.
+    fn note_stretch(&mut self, number: usize, command: &Command) -> Result<(), AllocError>
+        ensures program { self.new.program ≡ self.old.program }
+        ensures levels { self.new.levels ≡ self.old.levels }
+        ensures lost { self.new.lost ≡ self.old.lost }
+    {
+        if let Some(stretch) = Stretch::begun_by(command) {
+            return self
+                .stretches
+                .begin(stretch, number, self.levels.inside.len());
+        }
+        if let Some(stretch) = Stretch::ended_by(command) {
+            self.stretches.end(stretch);
+        }
+        Ok(())
+    }
+
+    /// Notes the first row that is wider than the columns that were set.
+    fn note_row(&mut self, number: usize, command: &Command) -> Result<(), Refusal>
+        ensures program { self.new.program ≡ self.old.program }
+        ensures levels { self.new.levels ≡ self.old.levels }
+        ensures lost { self.new.lost ≡ self.old.lost }
+        ensures warns { let columns = self.old.levels.notes.row_columns in
+            OnOk result (model.TellsRow (model.passed self.old.set_width command.now columns) number
+            self.old.set_width self.new.set_width self.old.warnings.items self.new.warnings.items) }
+    {
+        let columns = self.levels.notes.row_columns;
+        let Some(width) = passed(self.set_width, command, columns) else {
+            return Ok(());
+        };
+        let problem = advice::row_too_wide(self.alloc, number, columns, width)?;
+        self.warnings.push(problem)?;
+        self.set_width = None;
+        Ok(())
+    }
+
     /// Whether a cell that overhangs in the innermost level has lines that no row has shown.
     fn loses_lines(&self) -> bool
         requires { GoesOn self.now.program }
@@ -318,14 +437,23 @@ impl<D: TextDecorator, W: CharWidth> Session<D, W> {
             return Err(self.cells_wait(number));
         }
         self.note_losses(number)?;
+        self.note_ends()?;
         Ok(())
     }
 
-    /// The lines of the script, and what was lost of it. The number is that of the line after the last.
+    /// The lines of the script, what was lost of it, and what else isn't shown as it says. The number is that of the
+    /// line after the last.
     pub fn finish(
         mut self,
         number: usize,
-    ) -> Result<(Vec<RenderLine<Annotations<D::Annotation>>>, Vec<Problem>), Refusal>
+    ) -> Result<
+        (
+            Vec<RenderLine<Annotations<D::Annotation>>>,
+            Vec<Problem>,
+            Vec<Problem>,
+        ),
+        Refusal,
+    >
         requires { GoesOn self.program }
         ensures lines { IfOk result (λ r. model.EndsIn W.columns (decoration_of D.TextDecorator)
             (model.state_of D.meaning self.program self.levels.inside.items)
@@ -339,12 +467,14 @@ impl<D: TextDecorator, W: CharWidth> Session<D, W> {
             levels,
             alloc,
             lost,
+            warnings,
+            ..
         } = self;
         if program.open_levels() > 0 || program.waiting_cells() > 0 {
             return Err(Refusal::OutOfMemory);
         }
         match program.finish_lines() {
-            Ok(lines) => Ok((lines, lost)),
+            Ok(lines) => Ok((lines, lost, warnings)),
             Err(tbr_lines::Error::TooNarrow) => {
                 Err(advice::too_narrow(alloc, number, levels.notes.too_wide))
             }
@@ -370,6 +500,29 @@ impl<D: TextDecorator, W: CharWidth> Session<D, W> {
     /// A text has a character that is wider than its block.
     fn too_narrow(&self, number: usize) -> Refusal {
         advice::too_narrow(self.alloc, number, self.levels.too_wide())
+    }
+}
+
+/// The columns of the prefix of a block, where they are known before it is made. `None` also where they pass `usize`.
+fn columns_ahead<D: Headings, W: CharWidth>(block: Block) -> Option<usize> {
+    match block {
+        Block::Heading(level) => heading_columns::<D, W>(level),
+        _ => None,
+    }
+}
+
+/// The columns that were set, if a command adds a row of so many columns that is wider. 0 counts as none.
+fn passed(set: Option<usize>, command: &Command, columns: usize) -> Option<usize>
+    ensures { result ≡ model.passed set command.now columns }
+{
+    let Command::Row { .. } = command else {
+        return None;
+    };
+    let width = set?;
+    if 0 < width && width < columns {
+        Some(width)
+    } else {
+        None
     }
 }
 

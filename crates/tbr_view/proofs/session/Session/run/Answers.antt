@@ -11,7 +11,11 @@ returns-clause-does g c =
     let command = c.args.command.now in
     let next = c.note_levels.new.self in
     let may = sym c.may_not_append.ensures ∙ c.if-may_not_append.false in
-    let inside = ap (λ l. l.inside) (c.in_ok-command.ensures.levels ∙ c.in_ok-note_losses_of.ensures.levels) ∙ c.note_texts.ensures.inside in
-    let levels = ap (λ k. openers k.inside) c.in_ok-note_levels.ensures.levels ∙ openers_noted (known_in c.command.new.self.levels) c.args.number command ∙ ap (λ v. opened_by command (openers v.items)) inside in
+    let before = c.in_ok-note_ends_of.ensures.levels ∙ c.in_ok-note_losses_of.ensures.levels in
+    let after = c.in_ok-note_stretch.ensures.levels ∙ c.in_ok-note_row.ensures.levels in
+    let inside = ap (λ l. l.inside) (after ∙ c.in_ok-command.ensures.levels ∙ before) ∙ c.note_texts.ensures.inside in
+    let levels = ap (λ k. openers k.inside) c.in_ok-note_levels.ensures.levels ∙ openers_noted (known_in c.note_stretch.new.self.levels) c.args.number command ∙ ap (λ v. opened_by command (openers v.items)) inside in
+    let here = c.in_ok-note_ends_of.ensures.program ∙ c.in_ok-note_losses_of.ensures.program ∙ c.note_texts.ensures.program in
+    let there = c.in_ok-note_levels.ensures.program ∙ c.in_ok-note_stretch.ensures.program ∙ c.in_ok-note_row.ensures.program in
     commanded g.D.TextDecorator.meaning g.W.CharWidth.columns (decoration_of g.D.TextDecorator) self.program next.program self.levels.inside.items next.levels.inside.items
-    command c.note_losses_of.new.self.program c.command.new.self.program (c.in_ok-note_losses_of.ensures.program ∙ c.note_texts.ensures.program) c.in_ok-note_levels.ensures.program may c.in_ok-command.ensures.does levels
+    command c.note_ends_of.new.self.program c.command.new.self.program here there may c.in_ok-command.ensures.does levels
