@@ -7,6 +7,7 @@ ghost use Rattle.tbr_commands.specs.declared.opening.Decorator.{Decorator as Nam
 ghost use Rattle.blockview.specs.Arguments as model;
 ghost use Rattle.blockview.specs.Arguments.{AreColours, IsFormat, value_of};
 
+use crate::version::VERSION;
 use clap::builder::ArgAction;
 use clap::error::ErrorKind;
 use clap::parser::ValueSource;
@@ -15,53 +16,79 @@ use std::alloc::Global;
 use tbr_commands::Decorator;
 use tbr_view::{Format, Settings};
 
-/// How a script is written, and what the exit status says.
+/// How a script is written, and what the exit status says. No line has more than 80 columns.
 const AFTER_HELP: &str =
-    "A script begins with `new W DECORATOR OPTIONS`, as `new 60 plain footnotes`. Each line after it is a command:
+    "A script begins with `new W DECORATOR OPTIONS`, as `new 60 plain footnotes`.
+Each line after it is a command:
 
-  text T                  a text after one space; further spaces belong to it. Two texts without a space make one word
-  block, line, empty      an empty line between two blocks; a new line alone; an empty line
-  heading N .. endheading, quote .. endquote    a heading of level N, a quotation, with empty lines around them
-  item .. enditem         an item of a list, without empty lines; ordered N .. endordered: with its number
-  em, strong, strike, code, super   begin what endem, endstrong, endstrike, endcode, endsuper end
-  link TARGET .. endlink  a link; image SOURCE | TITLE: an image; frag NAME: a place to link to
-  colour R G B .. endcolour, bg R G B .. endbg   colours of text and of its background
-  border [N]              a border
-  cell N SPAN [left|right|centre] .. endcell    a cell of N columns, whatever W is, which waits for its row
-  row, vrow               the cells that wait, side by side or one below another
-  row collapse            a row that joins the borders of tables inside its cells with its own
-  sub N .. append P | Q   a block of N columns: its first line comes after P, and the others after Q
-  ws pre|prewrap .. endws white space that is kept
-  # ..                    a comment
+  text T          a text after one space; further spaces belong to it. Two texts
+                  without a space make one word
+  block           an empty line between two blocks
+  line, empty     a new line alone; an empty line
+  heading N .. endheading
+                  a heading of level N, with empty lines around it
+  quote .. endquote
+                  a quotation, with empty lines around it
+  item .. enditem, ordered N .. endordered
+                  an item of a list, without empty lines; with the number N
+  em, strong, strike, code, super
+                  begin what endem, endstrong, endstrike, endcode, endsuper end
+  link TARGET .. endlink
+                  a link; image SOURCE | TITLE: an image; frag NAME: a place to
+                  link to
+  colour R G B .. endcolour, bg R G B .. endbg
+                  colours of text and of its background
+  border [N]      a border
+  cell N SPAN [left|right|centre] .. endcell
+                  a cell of N columns, whatever W is, which waits for its row
+  row, vrow       the cells that wait, side by side or one below another
+  row collapse    a row that joins the borders of tables inside its cells with
+                  its own
+  sub N .. append P | Q
+                  a block of N columns: its first line comes after P, and the
+                  others after Q
+  ws pre|prewrap .. endws
+                  white space that is kept
+  # ..            a comment
 
-The text of a heading, quote, item or cell is on `text` lines between the command and its end. There \\n, \\t, \\\\ and
-\\u{h} are a newline, a tab, a backslash and the character of that code.
-A table is `border N` once, then for each row its cells and `row`, which draws the line below. The line between two
-cells takes a column, so that N is the columns of all cells and one for each line between. SPAN is 1, or the rows that
+The text of a heading, quote, item or cell is on `text` lines between the
+command and its end. There \\n, \\t, \\\\ and \\u{h} are a newline, a tab, a
+backslash and the character of that code.
+A table is `border N` once, then for each row its cells and `row`, which draws
+the line below. The line between two cells takes a column, so that N is the
+columns of all cells and one for each line between. SPAN is 1, or the rows that
 the cell takes; each further row has an empty cell of the same N there.
 
-Decorators: plain writes `#`, `>`, `*`, numbers, and brackets at links and images; rich all but the brackets; trivial
-none. In text em, strong and code leave no mark; rich keeps emphasis, links and colours for ansi, json and html.
-Options: footnotes writes [n] after each link, and the targets at the end; nowraplinks doesn't cut these; wrap=N wraps
-text to N columns; pad fills lines up to W; overflow allows a character wider than its line; nostrike: no strokes;
-noborders: no borders at tables; img=ignore|always|filename: without title nothing, the empty title, the file's name.
-Formats: text, as blockrender has it; ansi, with colours where --colour allows; json, an object a line; html, a <pre>.
-Exit status: 0 all was shown; 1 a text is too narrow, or memory is refused; 2 a script or the command line is wrong;
-3 a file isn't read, or the output isn't written. Of several files it is the greatest.";
+Decorators: plain writes `#`, `>`, `*`, numbers, and brackets at links and
+images; rich all but the brackets; trivial none. In text em, strong and code
+leave no mark; rich keeps emphasis, links and colours for ansi, json and html.
+Options: footnotes writes [n] after each link, and the targets at the end;
+nowraplinks doesn't cut these; wrap=N wraps text to N columns; pad fills lines
+up to W; overflow allows a character wider than its line; nostrike: no strokes;
+noborders: no borders at tables; img=ignore|always|filename: without title
+nothing, the empty title, the file's name.
+Formats: text, as blockrender has it; ansi, with colours where --colour allows;
+json, an object a line; html, a <pre>.
+Exit status: 0 all was shown; 1 a text is too narrow, or memory is refused; 2 a
+script or the command line is wrong; 3 a file isn't read, or the output isn't
+written. Of several files it is the greatest.";
 
 /// The command line, but for its words.
 pub fn command<'a>(alloc: Global) -> Result<Command<'a>, Error> {
     let files = Arg::new(alloc, "FILE")
-        .help("Scripts, each shown by itself; standard input where none is given, or for `-`")
+        .help("Scripts, each shown by itself; standard input for `-` or for none")
         .action(ArgAction::Append)
         .num_args(0..)
-        .default_value("-");
+        .default_value("-")
+        .hide_default_value(true);
     let format = Arg::new(alloc, "format")
         .long("format")
         .value_name("FORMAT")
         .value_parser(["text", "ansi", "json", "html"].as_slice())
         .default_value("text")
-        .help("What is written");
+        .hide_default_value(true)
+        .hide_possible_values(true)
+        .help("text, which is the default, ansi, json or html");
     let width = Arg::new(alloc, "width")
         .long("width")
         .value_name("N")
@@ -71,10 +98,11 @@ pub fn command<'a>(alloc: Global) -> Result<Command<'a>, Error> {
         .long("decorator")
         .value_name("NAME")
         .value_parser(["plain", "trivial", "rich"].as_slice())
-        .help("The decorator, in the place of that of `new`");
+        .hide_possible_values(true)
+        .help("plain, trivial or rich, in the place of that of `new`");
     Ok(
         Command::new(alloc, "blockview")
-            .version("0.1.0")
+            .version(VERSION)
             .about("Shows scripts of text blocks: letters, tables, help pages")
             .after_help(AFTER_HELP)
             .arg(files)?
@@ -93,7 +121,9 @@ fn colour<'a>(alloc: Global) -> Arg<'a> {
         .value_name("WHEN")
         .value_parser(["auto", "always", "never"].as_slice())
         .default_value("auto")
-        .help("auto: on a terminal without NO_COLOR")
+        .hide_default_value(true)
+        .hide_possible_values(true)
+        .help("auto, on a terminal without NO_COLOR, always or never")
 }
 
 /// `--ambiguous`.
@@ -103,7 +133,9 @@ fn ambiguous<'a>(alloc: Global) -> Arg<'a> {
         .value_name("WIDTH")
         .value_parser(["narrow", "wide"].as_slice())
         .default_value("narrow")
-        .help("Columns of ambiguous East Asian characters")
+        .hide_default_value(true)
+        .hide_possible_values(true)
+        .help("Of ambiguous East Asian characters: narrow or wide")
 }
 
 /// Whether `--colour` was given with another format than `ansi`, where it has no effect.

@@ -5,19 +5,22 @@ ghost use Rattle.std.specs.Prelude.{◌≡◌};
 ghost use Rattle.blockview.specs.Status.{status_of_refusal};
 
 use crate::arguments::{command, has_idle_colour, settings_of, shows_colours};
-use crate::report::report;
+use crate::output::Output;
+use crate::report::{report, unread};
 use clap::error::ErrorKind;
 use clap::{ArgMatches, Command, Error};
-use std::io::{IsTerminal, Read, Write};
+use std::io::{IsTerminal, Read};
 use std::process::ExitCode;
 use std::{env, fs, io};
 use tbr_lines::UnicodeColumns;
-use tbr_show::{AmbiguousWide, html};
+use tbr_show::AmbiguousWide;
 use tbr_statements::{Problem, Refusal};
-use tbr_view::{Format, Settings, Shown, view};
+use tbr_view::{Settings, Shown, view};
 
 mod arguments;
+mod output;
 mod report;
+mod version;
 
 /// The status where memory is refused.
 const OUT_OF_MEMORY: u8 = 1;
@@ -59,57 +62,68 @@ fn matches_of<'a>(rt: &HostRuntime, words: &'a [String]) -> Result<ArgMatches<'a
 fn show_all(rt: &HostRuntime, matches: &ArgMatches) -> u8 {
     let no_color = env::var(rt, "NO_COLOR").ok();
     let no_color = no_color.as_ref().map(|value| value.as_str());
-    let shown = settings_of(matches, shows_colours(rt.stdout().is_terminal(), no_color));
+    let settings = settings_of(matches, shows_colours(rt.stdout().is_terminal(), no_color));
     let is_wide = matches.get_str("ambiguous") == Some("wide");
     let files = matches.get_strs("FILE").unwrap_or(&[]);
-    let begun = begin(rt, shown.format);
+    let mut output = Output::new(settings.format);
     let mut status = 0;
     for file in files {
-        status = status.max(show_file(rt, file, shown, is_wide));
+        status = status.max(show_file(rt, file, settings, is_wide, &mut output));
     }
-    if begun.is_err() || end(rt, shown.format).is_err() {
-        return FAILED;
-    }
-    status
+    status.max(status_written(rt, output.end(rt)))
 }
 
-/// Writes what is before all files.
-fn begin(rt: &HostRuntime, format: Format) -> io::Result<()> {
-    match format {
-        Format::Html => write(rt, html::BEGINNING),
-        _ => Ok(()),
-    }
-}
-
-/// Writes what is after all files.
-fn end(rt: &HostRuntime, format: Format) -> io::Result<()> {
-    match format {
-        Format::Html => write(rt, html::END),
-        _ => Ok(()),
-    }
-}
-
-/// Writes a text to standard output.
-fn write(rt: &HostRuntime, text: &str) -> io::Result<()> {
-    io::writer(rt).write_all(text.as_bytes())
-}
-
-/// Shows a file, and answers the status.
-fn show_file(rt: &HostRuntime, file: &str, shown: Settings, is_wide: bool) -> u8 {
-    let Ok(script) = read(rt, file) else {
-        let _ = eprintln!(rt; "blockview: {file} can't be read");
-        return FAILED;
+/// Shows a file, and answers the status. Nothing is written of it before its text is complete.
+fn show_file(
+    rt: &HostRuntime,
+    file: &str,
+    settings: Settings,
+    is_wide: bool,
+    output: &mut Output,
+) -> u8 {
+    let script = match read(rt, file) {
+        Ok(script) => script,
+        Err(e) => return tell_unread(rt, file, &e),
     };
     let result = if is_wide {
-        view::<AmbiguousWide>(rt.alloc(), &script, shown)
+        view::<AmbiguousWide>(rt.alloc(), &script, settings)
     } else {
-        view::<UnicodeColumns>(rt.alloc(), &script, shown)
+        view::<UnicodeColumns>(rt.alloc(), &script, settings)
     };
     match result {
-        Ok(shown) => write_shown(rt, file, &script, &shown),
+        Ok(shown) => {
+            tell_warnings(rt, file, &script, &shown);
+            status_written(rt, output.write(rt, shown.text.as_str()))
+        }
         Err(refusal) => {
             tell_refusal(rt, file, &script, &refusal);
             status_of(&refusal)
+        }
+    }
+}
+
+/// Says why a file isn't read, and answers the status.
+fn tell_unread(rt: &HostRuntime, file: &str, e: &io::Error) -> u8 {
+    if let Ok(text) = unread(rt.alloc(), file, e.kind()) {
+        let _ = rt.eprint(text.as_str());
+    }
+    FAILED
+}
+
+/// Says what isn't shown of a file as it says.
+fn tell_warnings(rt: &HostRuntime, file: &str, script: &[u8], shown: &Shown) {
+    for problem in shown.lost.iter().chain(shown.warnings.iter()) {
+        tell(rt, file, script, problem);
+    }
+}
+
+/// The status after something was written, or wasn't, which it says.
+fn status_written(rt: &HostRuntime, written: io::Result<()>) -> u8 {
+    match written {
+        Ok(()) => 0,
+        Err(_) => {
+            let _ = rt.eprintln("blockview: standard output can't be written");
+            FAILED
         }
     }
 }
@@ -119,7 +133,7 @@ fn tell_refusal(rt: &HostRuntime, file: &str, script: &[u8], refusal: &Refusal) 
     match refusal {
         Refusal::Script(problem) => tell(rt, file, script, problem),
         Refusal::OutOfMemory => {
-            let _ = eprintln!(rt; "blockview: out of memory");
+            let _ = rt.eprintln("blockview: out of memory");
         }
     }
 }
@@ -142,20 +156,6 @@ fn read(rt: &HostRuntime, file: &str) -> io::Result<Vec<u8>> {
     let mut script = Vec::new(rt.alloc());
     rt.reader().read_to_end(&mut script)?;
     Ok(script)
-}
-
-/// Writes what is shown of a file, says what was lost, and answers the status.
-fn write_shown(rt: &HostRuntime, file: &str, script: &[u8], shown: &Shown) -> u8 {
-    for problem in &shown.lost {
-        tell(rt, file, script, problem);
-    }
-    match write(rt, shown.text.as_str()) {
-        Ok(()) => 0,
-        Err(_) => {
-            let _ = eprintln!(rt; "blockview: standard output can't be written");
-            FAILED
-        }
-    }
 }
 
 /// Writes a problem to standard error.
