@@ -1,5 +1,5 @@
-//! A renderer that C fills call by call and whose lines it takes. `text_block_renderer.h`, whose inline functions call
-//! what is exported here, says what each does.
+//! A renderer that C fills call by call and whose lines it takes. `text_block_renderer.c` calls what is exported here,
+//! and `text_block_renderer.h` says what each does.
 #![tactic(auto)]
 
 mod answers;
