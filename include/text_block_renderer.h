@@ -58,7 +58,7 @@ typedef enum tbr_status {
     /* Memory was refused, or a size passes SIZE_MAX. Kept. */
     TBR_OUT_OF_MEMORY = 1,
     /* A word that is placed holds a character wider than the line, and `overflow` isn't on. Never in lines of two
-       columns or more. Kept. */
+       columns or more. Kept. Where a prefix leaves no column it isn't kept. */
     TBR_TOO_NARROW = 2,
     /* Of tbr_render alone: a line of the script isn't a command, or is where it may not be. */
     TBR_NOT_A_COMMAND = 3,
@@ -390,6 +390,38 @@ tbr_status tbr_add_image_n(tbr_renderer *renderer, const char *source, size_t so
 
 tbr_status tbr_add_image(tbr_renderer *renderer, const char *source, const char *title);
 
+/* ---- filling it: quotes, lists and headers ---- */
+
+/*
+ * A start opens a level in the columns that the decorator's prefix leaves, and its end adds the lines of that level,
+ * each after the prefix. The lines of an item but the first come after as many spaces. A quote and a header are blocks,
+ * which begin as tbr_start_block says, and end as tbr_end_block says.
+ *
+ * A start answers TBR_TOO_NARROW where the prefix leaves no column and `overflow` isn't on. An end takes the innermost
+ * level, whichever call began it. It answers TBR_NOTHING_TO_END where none is open or that is a cell, and
+ * TBR_STILL_OPEN where cells wait in it. All of these leave the renderer as it was. So does TBR_OUT_OF_MEMORY where the
+ * prefix takes memory: tbr_refusal says whether one was kept.
+ */
+
+tbr_status tbr_start_quote(tbr_renderer *renderer);
+
+tbr_status tbr_end_quote(tbr_renderer *renderer);
+
+tbr_status tbr_start_item(tbr_renderer *renderer);
+
+tbr_status tbr_end_item(tbr_renderer *renderer);
+
+/* Begins the item of a list that has a number. Its end takes the same number. */
+tbr_status tbr_start_ordered_item(tbr_renderer *renderer, int64_t number);
+
+tbr_status tbr_end_ordered_item(tbr_renderer *renderer, int64_t number);
+
+/* Begins a header of a level, of which 1 is the highest. Its end takes the same level. TBR_BAD_ARGUMENT above 255, where
+   the decorator has a prefix for it. */
+tbr_status tbr_start_header(tbr_renderer *renderer, size_t level);
+
+tbr_status tbr_end_header(tbr_renderer *renderer, size_t level);
+
 /* ---- filling it: levels ---- */
 
 /*
@@ -465,7 +497,8 @@ tbr_status tbr_open_links(tbr_renderer *renderer, size_t *count);
 /* How many cells wait for a row in the innermost level. */
 tbr_status tbr_waiting_cells(tbr_renderer *renderer, size_t *count);
 
-/* The prefixes of the decorator, to be passed to tbr_append_sub. All answer TBR_OUT_OF_MEMORY, which isn't kept. */
+/* The prefixes of the decorator, which the calls for quotes, lists and headers use, and others may by tbr_append_sub.
+   All answer TBR_OUT_OF_MEMORY, which isn't kept. */
 
 /* What comes before each line of a quoted block, as "> ". */
 tbr_status tbr_quote_prefix(tbr_renderer *renderer, char *out, size_t room, size_t *length);

@@ -1,12 +1,11 @@
 /*
  * Prints a letter of the village: a paragraph with a link, a quote, a list and a table of prices.
  *
- * letter.out is what html2text's own renderer, version 0.17.4, gives after the same calls. That aligns no cell at the
- * right, so spaces in front of the prices did.
+ * letter.out is what html2text's own renderer, version 0.17.4, gives after the same calls, with blocks inside for the
+ * quote and the items. That aligns no cell at the right, so spaces in front of the prices did.
  */
 #include <stdio.h>
 #include <stdlib.h>
-#include <string.h>
 
 #include "text_block_renderer.h"
 
@@ -20,13 +19,10 @@ static void well(tbr_status status) {
     }
 }
 
-/* A block inside, whose lines come after prefixes. */
-static void add_block(tbr_renderer *letter, const char *text, const char *first, const char *others) {
-    size_t columns;
-    well(tbr_width_minus(letter, strlen(first), 1, &columns));
-    well(tbr_start_sub(letter, columns));
+static void add_item(tbr_renderer *letter, const char *text) {
+    well(tbr_start_item(letter));
     well(tbr_add_text(letter, text));
-    well(tbr_append_sub(letter, first, others));
+    well(tbr_end_item(letter));
 }
 
 static void add_greeting(tbr_renderer *letter) {
@@ -39,15 +35,15 @@ static void add_greeting(tbr_renderer *letter) {
     well(tbr_add_text(letter, "one year"));
     well(tbr_end_strikeout(letter));
     well(tbr_add_text(letter, " two years of work. The smith writes:"));
-    well(tbr_start_block(letter));
-    add_block(letter, "Come early. There is coffee on both sides of the river.", "> ", "> ");
+    well(tbr_start_quote(letter));
+    well(tbr_add_text(letter, "Come early. There is coffee on both sides of the river."));
+    well(tbr_end_quote(letter));
 }
 
 static void add_list(tbr_renderer *letter) {
-    well(tbr_start_block(letter));
     well(tbr_add_text(letter, "Please bring"));
-    add_block(letter, "a cup, since there are never enough of them,", "* ", "  ");
-    add_block(letter, "and a flag.", "* ", "  ");
+    add_item(letter, "a cup, since there are never enough of them,");
+    add_item(letter, "and a flag.");
 }
 
 static void add_cell(tbr_renderer *letter, const char *text, size_t width, tbr_alignment alignment) {

@@ -1,7 +1,8 @@
 /*
  * The calls of the library, as text_block_renderer.h declares them, over what is proved.
  *
- * Each looks whether pointers are NULL, and calls one function of the proved crates. Nothing here is proved.
+ * Each looks whether pointers are NULL, and calls one function of the proved crates. Those of quotes, lists and headers
+ * make several calls. Nothing here is proved.
  */
 #include "proved.h"
 
@@ -399,6 +400,92 @@ tbr_status tbr_header_prefix(tbr_renderer *renderer, size_t level, char *out, si
     return renderer ? (tbr_status)tbr1_header_prefix(handle_of(renderer), level, room_of(out, &spare), room,
                           length, &renderer)
                     : TBR_NO_RENDERER;
+}
+
+/* ---- filling it: quotes, lists and headers ---- */
+
+/* The most bytes of a prefix. It is ASCII, so that each takes a column. */
+enum { PREFIX_ROOM = 256 };
+
+/* Opens a level for a prefix of so many bytes, where the question for it answered that. */
+static tbr_status start_after(tbr_renderer *renderer, tbr_status asked, size_t length, bool is_apart) {
+    size_t columns;
+    tbr_status status = asked == TBR_BUFFER_TOO_SMALL ? TBR_OK : asked;
+    if (!status) status = tbr_width_minus(renderer, length, 1, &columns);
+    if (!status && length > PREFIX_ROOM) status = TBR_BAD_ARGUMENT;
+    if (!status && is_apart) status = tbr_start_block(renderer);
+    return status ? status : tbr_start_sub(renderer, columns);
+}
+
+/* Ends a block whose lines all come after a prefix, where the question for it answered that. */
+static tbr_status end_apart(tbr_renderer *renderer, tbr_status asked, const char *prefix, size_t length) {
+    tbr_status status = asked == TBR_BUFFER_TOO_SMALL ? TBR_BAD_ARGUMENT : asked;
+    if (!status) status = tbr_append_sub_n(renderer, prefix, length, prefix, length);
+    return status ? status : tbr_end_block(renderer);
+}
+
+/* Ends an item, where the question for its prefix answered that. */
+static tbr_status end_hanging(tbr_renderer *renderer, tbr_status asked, const char *prefix, size_t length) {
+    char others[PREFIX_ROOM];
+    memset(others, ' ', sizeof others);
+    return asked ? asked : tbr_append_sub_n(renderer, prefix, length, others, length);
+}
+
+/* The level for which the prefix of a header is asked: one above has no room either. */
+static size_t level_asked(size_t level) {
+    return level < PREFIX_ROOM ? level : PREFIX_ROOM;
+}
+
+tbr_status tbr_start_quote(tbr_renderer *renderer) {
+    size_t length = 0;
+    tbr_status asked = tbr_quote_prefix(renderer, NULL, 0, &length);
+    return start_after(renderer, asked, length, true);
+}
+
+tbr_status tbr_end_quote(tbr_renderer *renderer) {
+    char prefix[PREFIX_ROOM];
+    size_t length = 0;
+    tbr_status asked = tbr_quote_prefix(renderer, prefix, sizeof prefix, &length);
+    return end_apart(renderer, asked, prefix, length);
+}
+
+tbr_status tbr_start_item(tbr_renderer *renderer) {
+    size_t length = 0;
+    tbr_status asked = tbr_item_prefix(renderer, NULL, 0, &length);
+    return start_after(renderer, asked, length, false);
+}
+
+tbr_status tbr_end_item(tbr_renderer *renderer) {
+    char prefix[PREFIX_ROOM];
+    size_t length = 0;
+    tbr_status asked = tbr_item_prefix(renderer, prefix, sizeof prefix, &length);
+    return end_hanging(renderer, asked, prefix, length);
+}
+
+tbr_status tbr_start_ordered_item(tbr_renderer *renderer, int64_t number) {
+    size_t length = 0;
+    tbr_status asked = tbr_ordered_item_prefix(renderer, number, NULL, 0, &length);
+    return start_after(renderer, asked, length, false);
+}
+
+tbr_status tbr_end_ordered_item(tbr_renderer *renderer, int64_t number) {
+    char prefix[PREFIX_ROOM];
+    size_t length = 0;
+    tbr_status asked = tbr_ordered_item_prefix(renderer, number, prefix, sizeof prefix, &length);
+    return end_hanging(renderer, asked, prefix, length);
+}
+
+tbr_status tbr_start_header(tbr_renderer *renderer, size_t level) {
+    size_t length = 0;
+    tbr_status asked = tbr_header_prefix(renderer, level_asked(level), NULL, 0, &length);
+    return start_after(renderer, asked, length, true);
+}
+
+tbr_status tbr_end_header(tbr_renderer *renderer, size_t level) {
+    char prefix[PREFIX_ROOM];
+    size_t length = 0;
+    tbr_status asked = tbr_header_prefix(renderer, level_asked(level), prefix, sizeof prefix, &length);
+    return end_apart(renderer, asked, prefix, length);
 }
 
 /* ---- lines of a renderer that is finished ---- */

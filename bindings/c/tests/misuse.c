@@ -20,7 +20,7 @@ static void want(tbr_status answer, tbr_status wanted, const char *call, int lin
 }
 
 static void want_text(tbr_renderer *r, const char *wanted) {
-    char text[256];
+    char text[512];
     size_t length = 0;
     WANT(tbr_text(r, text, sizeof text, &length), TBR_OK);
     if (length != strlen(wanted) || memcmp(text, wanted, length)) {
@@ -69,6 +69,10 @@ static void no_renderer(void) {
     WANT(tbr_finish(NULL), TBR_NO_RENDERER);
     WANT(tbr_width(NULL, &size), TBR_NO_RENDERER);
     WANT(tbr_next_line(NULL, &line), TBR_NO_RENDERER);
+    WANT(tbr_start_quote(NULL), TBR_NO_RENDERER);
+    WANT(tbr_end_item(NULL), TBR_NO_RENDERER);
+    WANT(tbr_start_ordered_item(NULL, 1), TBR_NO_RENDERER);
+    WANT(tbr_end_header(NULL, SIZE_MAX), TBR_NO_RENDERER);
     tbr_free(NULL);
 }
 
@@ -104,6 +108,10 @@ static void nothing_to_end(tbr_renderer *r) {
     WANT(tbr_end_background(r), TBR_NOTHING_TO_END);
     WANT(tbr_append_sub(r, "", ""), TBR_NOTHING_TO_END);
     WANT(tbr_end_cell(r), TBR_NOTHING_TO_END);
+    WANT(tbr_end_quote(r), TBR_NOTHING_TO_END);
+    WANT(tbr_end_item(r), TBR_NOTHING_TO_END);
+    WANT(tbr_end_ordered_item(r, 1), TBR_NOTHING_TO_END);
+    WANT(tbr_end_header(r, 1), TBR_NOTHING_TO_END);
 }
 
 static void lines_too_early(tbr_renderer *r) {
@@ -128,8 +136,14 @@ static void still_open(tbr_renderer *r) {
     WANT(tbr_finish(r), TBR_STILL_OPEN);
     WANT(tbr_start_cell(r, 3, 1, TBR_LEFT), TBR_OK);
     WANT(tbr_append_sub(r, "", ""), TBR_NOTHING_TO_END);
+    WANT(tbr_end_quote(r), TBR_NOTHING_TO_END);
+    WANT(tbr_end_item(r), TBR_NOTHING_TO_END);
     WANT(tbr_end_cell(r), TBR_OK);
     WANT(tbr_append_sub(r, "", ""), TBR_STILL_OPEN);
+    WANT(tbr_end_quote(r), TBR_STILL_OPEN);
+    WANT(tbr_end_item(r), TBR_STILL_OPEN);
+    WANT(tbr_end_ordered_item(r, 1), TBR_STILL_OPEN);
+    WANT(tbr_end_header(r, 1), TBR_STILL_OPEN);
     WANT(tbr_add_vertical_row(r), TBR_OK);
     WANT(tbr_append_sub(r, "", ""), TBR_OK);
     WANT(tbr_start_cell(r, 3, 1, TBR_LEFT), TBR_OK);
@@ -148,6 +162,10 @@ static void fill_too_late(tbr_renderer *r) {
     WANT(tbr_start_block(r), TBR_FINISHED);
     WANT(tbr_start_link(r, "late"), TBR_FINISHED);
     WANT(tbr_start_sub(r, 3), TBR_FINISHED);
+    WANT(tbr_start_quote(r), TBR_FINISHED);
+    WANT(tbr_end_item(r), TBR_FINISHED);
+    WANT(tbr_start_ordered_item(r, 1), TBR_FINISHED);
+    WANT(tbr_start_header(r, SIZE_MAX), TBR_FINISHED);
     WANT(tbr_add_row(r, false), TBR_FINISHED);
     WANT(tbr_finish(r), TBR_FINISHED);
     WANT(tbr_is_empty(r, &is_so), TBR_FINISHED);
@@ -259,9 +277,63 @@ static void too_narrow(void) {
     WANT(tbr_refusal(r), TBR_TOO_NARROW);
     WANT(tbr_add_text(r, "a"), TBR_TOO_NARROW);
     WANT(tbr_end_link(r), TBR_TOO_NARROW);
+    WANT(tbr_start_quote(r), TBR_TOO_NARROW);
+    WANT(tbr_end_header(r, SIZE_MAX), TBR_TOO_NARROW);
     WANT(tbr_width(r, &columns), TBR_TOO_NARROW);
     WANT(tbr_finish(r), TBR_TOO_NARROW);
     WANT(tbr_next_line(r, &line), TBR_TOO_NARROW);
+    tbr_free(r);
+}
+
+/* A prefix that leaves no column is refused before the open line is ended. */
+static void no_room_for_a_prefix(void) {
+    tbr_renderer *r = new_renderer(2);
+    size_t levels = SIZE_MAX;
+    WANT(tbr_add_text(r, "a"), TBR_OK);
+    WANT(tbr_start_quote(r), TBR_TOO_NARROW);
+    WANT(tbr_start_item(r), TBR_TOO_NARROW);
+    WANT(tbr_start_ordered_item(r, INT64_MIN), TBR_TOO_NARROW);
+    WANT(tbr_start_header(r, 1), TBR_TOO_NARROW);
+    WANT(tbr_start_header(r, SIZE_MAX), TBR_TOO_NARROW);
+    WANT(tbr_refusal(r), TBR_OK);
+    WANT(tbr_open_levels(r, &levels), TBR_OK);
+    WANT(tbr_add_text(r, "b"), TBR_OK);
+    WANT(tbr_finish(r), TBR_OK);
+    want_text(r, "ab\n");
+    tbr_free(r);
+    if (levels) {
+        puts("a block that is too narrow is open");
+        failures++;
+    }
+}
+
+/* With `overflow` a column is left after any prefix. */
+static void a_column_with_overflow(void) {
+    tbr_options options = tbr_options_default(1);
+    tbr_renderer *r;
+    options.overflow = true;
+    WANT(tbr_new(&options, &r), TBR_OK);
+    WANT(tbr_start_item(r), TBR_OK);
+    WANT(tbr_add_text(r, "ab"), TBR_OK);
+    WANT(tbr_end_item(r), TBR_OK);
+    WANT(tbr_finish(r), TBR_OK);
+    want_text(r, "* a\n  b\n");
+    tbr_free(r);
+}
+
+/* The prefix of a level up to 255 is taken, also by an end, and one above that leaves all as it was. */
+static void levels_of_headers(void) {
+    tbr_renderer *r = new_renderer(300);
+    char wanted[256 + sizeof "a\n"];
+    memset(wanted, '#', 255);
+    strcpy(wanted + 255, " a\n");
+    WANT(tbr_start_header(r, 256), TBR_BAD_ARGUMENT);
+    WANT(tbr_start_header(r, 255), TBR_OK);
+    WANT(tbr_add_text(r, "a"), TBR_OK);
+    WANT(tbr_end_header(r, SIZE_MAX), TBR_BAD_ARGUMENT);
+    WANT(tbr_end_header(r, 255), TBR_OK);
+    WANT(tbr_finish(r), TBR_OK);
+    want_text(r, wanted);
     tbr_free(r);
 }
 
@@ -320,6 +392,9 @@ int main(void) {
     text_alone();
     widths();
     too_narrow();
+    no_room_for_a_prefix();
+    a_column_with_overflow();
+    levels_of_headers();
     row_that_does_not_fit();
     scripts();
     printf("misuse: %s\n", failures ? "failed" : "each answered by its status");

@@ -6,6 +6,7 @@
  */
 #include <stdio.h>
 #include <stdlib.h>
+#include <string.h>
 
 #include "text_block_renderer.h"
 
@@ -126,6 +127,64 @@ static tbr_status make(tbr_status (*finish)(tbr_renderer *), tbr_status (*take)(
 static tbr_status document(void) { return make(tbr_finish, take_lines); }
 static tbr_status text_of_document(void) { return make(finish_text, take_text); }
 
+/* ---- quotes, items and headers, which keep a refusal or are as they were ---- */
+
+static tbr_status start_tenth(tbr_renderer *r) { return tbr_start_ordered_item(r, 10); }
+static tbr_status end_tenth(tbr_renderer *r) { return tbr_end_ordered_item(r, 10); }
+static tbr_status start_title(tbr_renderer *r) { return tbr_start_header(r, 2); }
+static tbr_status end_title(tbr_renderer *r) { return tbr_end_header(r, 2); }
+
+static tbr_status (*const BLOCKS[])(tbr_renderer *) = {
+    add_words, start_title, add_words, end_title, tbr_start_quote, add_words, tbr_start_item, add_words, tbr_end_item,
+    start_tenth, add_words, end_tenth, tbr_end_quote, add_words,
+};
+
+/* Makes a call. One that is refused without being kept is made once more, when there is memory again. */
+static tbr_status make_or_repeat(tbr_renderer *r, tbr_status (*call)(tbr_renderer *)) {
+    tbr_status status = call(r);
+    if (status == TBR_OUT_OF_MEMORY && tbr_refusal(r) == TBR_OK) {
+        refused = 0;
+        status = call(r);
+    }
+    return status == TBR_OK || status == tbr_refusal(r) ? status : WRONG;
+}
+
+/* Makes blocks, and writes their text where no refusal was kept. */
+static tbr_status make_blocks(char *text, size_t room, size_t *length) {
+    tbr_options options = tbr_options_default(30);
+    tbr_renderer *r;
+    tbr_status status = tbr_new(&options, &r);
+    for (size_t i = 0; i < sizeof BLOCKS / sizeof BLOCKS[0] && status == TBR_OK; i++) {
+        status = make_or_repeat(r, BLOCKS[i]);
+    }
+    if (status == TBR_OK) {
+        status = tbr_finish_text(r, length);
+    }
+    if (status == TBR_OK) {
+        status = tbr_text(r, text, room, length);
+    }
+    tbr_free(r);
+    return status;
+}
+
+/* Blocks whose text is that of those that had all memory. */
+static tbr_status blocks(void) {
+    char text[2048], wanted[2048];
+    size_t length = 0, all = 0;
+    long asked = refused;
+    refused = 0;
+    if (make_blocks(wanted, sizeof wanted, &all) != TBR_OK) {
+        return WRONG;
+    }
+    refused = asked;
+    was_refused = false;
+    tbr_status status = make_blocks(text, sizeof text, &length);
+    if (status == TBR_OK && (length != all || memcmp(text, wanted, all))) {
+        return WRONG;
+    }
+    return status == TBR_OK && was_refused ? TBR_OUT_OF_MEMORY : status;
+}
+
 /* ---- questions, which keep no refusal ---- */
 
 static tbr_status questions(void) {
@@ -181,6 +240,7 @@ static bool refuse_each(const char *what, tbr_status (*run)(void)) {
 int main(void) {
     bool is_well = refuse_each("a document", document);
     is_well = refuse_each("a document's text", text_of_document) && is_well;
+    is_well = refuse_each("quotes, items and headers", blocks) && is_well;
     is_well = refuse_each("questions", questions) && is_well;
     is_well = refuse_each("a script", script) && is_well;
     return is_well ? 0 : 1;
