@@ -5,6 +5,7 @@ mod error;
 mod handle;
 mod line;
 mod lines;
+mod nested;
 mod options;
 mod renderer;
 mod script;

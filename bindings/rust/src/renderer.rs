@@ -215,6 +215,59 @@ impl Renderer {
     }
 }
 
+/// Quotes, items of lists and headers. A start opens a level in the columns that the decorator's prefix leaves, and its
+/// end adds the lines of that level after the prefix.
+///
+/// A start answers `TooNarrow`, which isn't kept, where the prefix leaves no column and no overflow is allowed. An end
+/// takes the innermost level, whichever call began it: `NothingToEnd` where that is none or a cell, `StillOpen` where
+/// cells wait in it. `OutOfMemory` isn't kept where the prefix takes memory: [`failure`](Renderer::failure) tells.
+impl Renderer {
+    /// Begins a quoted block, each line of which comes after a prefix.
+    pub fn start_quote(&mut self) -> Result<(), Error> {
+        self.handle.plain(sys::tbr_start_quote)
+    }
+
+    /// Ends a quoted block.
+    pub fn end_quote(&mut self) -> Result<(), Error> {
+        self.handle.plain(sys::tbr_end_quote)
+    }
+
+    /// Begins an item of a list. Its first line comes after a prefix, and the others after as many spaces.
+    pub fn start_item(&mut self) -> Result<(), Error> {
+        self.handle.plain(sys::tbr_start_item)
+    }
+
+    /// Ends an item of a list.
+    pub fn end_item(&mut self) -> Result<(), Error> {
+        self.handle.plain(sys::tbr_end_item)
+    }
+
+    /// Begins the item of a list that has this number.
+    pub fn start_ordered_item(&mut self, number: i64) -> Result<(), Error> {
+        // SAFETY: the renderer is live.
+        self.handle.call(|it| unsafe { sys::tbr_start_ordered_item(it, number) })
+    }
+
+    /// Ends the item that was begun with this number.
+    pub fn end_ordered_item(&mut self, number: i64) -> Result<(), Error> {
+        // SAFETY: the renderer is live.
+        self.handle.call(|it| unsafe { sys::tbr_end_ordered_item(it, number) })
+    }
+
+    /// Begins a header of a level, of which 1 is the highest. Each line of this block comes after a prefix.
+    /// `BadArgument` above 255, where the decorator has a prefix for it.
+    pub fn start_header(&mut self, level: usize) -> Result<(), Error> {
+        // SAFETY: the renderer is live.
+        self.handle.call(|it| unsafe { sys::tbr_start_header(it, level) })
+    }
+
+    /// Ends the header that was begun with this level.
+    pub fn end_header(&mut self, level: usize) -> Result<(), Error> {
+        // SAFETY: the renderer is live.
+        self.handle.call(|it| unsafe { sys::tbr_end_header(it, level) })
+    }
+}
+
 /// Levels, and rows of cells.
 impl Renderer {
     /// Fills a level of so many columns, and adds its lines: the first after `first`, each other after `others`.

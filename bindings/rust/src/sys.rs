@@ -118,6 +118,14 @@ extern "C" {
         title_length: usize,
     ) -> u32;
     pub fn tbr_add_marker_n(renderer: *mut Renderer, name: *const c_char, length: usize) -> u32;
+    pub fn tbr_start_quote(renderer: *mut Renderer) -> u32;
+    pub fn tbr_end_quote(renderer: *mut Renderer) -> u32;
+    pub fn tbr_start_item(renderer: *mut Renderer) -> u32;
+    pub fn tbr_end_item(renderer: *mut Renderer) -> u32;
+    pub fn tbr_start_ordered_item(renderer: *mut Renderer, number: i64) -> u32;
+    pub fn tbr_end_ordered_item(renderer: *mut Renderer, number: i64) -> u32;
+    pub fn tbr_start_header(renderer: *mut Renderer, level: usize) -> u32;
+    pub fn tbr_end_header(renderer: *mut Renderer, level: usize) -> u32;
     pub fn tbr_start_sub(renderer: *mut Renderer, width: usize) -> u32;
     pub fn tbr_append_sub_n(
         renderer: *mut Renderer,

@@ -22,7 +22,11 @@ fn an_end_needs_its_beginning() -> Result<(), Error> {
         Renderer::pop_colour,
         Renderer::pop_bgcolour,
         Renderer::end_cell,
+        Renderer::end_quote,
+        Renderer::end_item,
         |r: &mut Renderer| r.append_subrender("", ""),
+        |r: &mut Renderer| r.end_ordered_item(1),
+        |r: &mut Renderer| r.end_header(1),
     ];
     for end in ends {
         assert_eq!(end(&mut renderer), Err(Error::NothingToEnd));

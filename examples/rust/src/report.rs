@@ -7,9 +7,7 @@ use text_block_renderer::{Cell, Error, Options, Renderer};
 /// fit the width, the fields of each record come one below another.
 pub fn report(title: &str, records: &[Vec<String>], width: usize) -> Result<String, Error> {
     let mut page = Renderer::new(&Options::plain(width).draw_borders(false).allow_width_overflow(true))?;
-    let prefix = page.header_prefix(1)?;
-    let room = page.width_minus(prefix.len(), 1)?;
-    page.subrender(room, &prefix, &prefix, |heading| heading.add_inline_text(title))?;
+    page.header(1, |header| header.add_inline_text(title))?;
     if let Some((headings, records)) = records.split_first() {
         let columns = columns(headings, records)?;
         match widths(&columns, width) {
