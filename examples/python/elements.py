@@ -8,7 +8,7 @@ from collections.abc import Iterator
 from contextlib import AbstractContextManager
 
 from ruler import Ruler
-from text_block_renderer import Renderer, WhiteSpace, text_width
+from text_block_renderer import Renderer, text_width
 
 SUPERSCRIPTS = str.maketrans("0123456789", "⁰¹²³⁴⁵⁶⁷⁸⁹")
 
@@ -84,36 +84,32 @@ class Emphasis(Element):
     """Emphasised text."""
 
     def draw(self, page: Renderer) -> None:
-        page.start_emphasis()
-        super().draw(page)
-        page.end_emphasis()
+        with page.emphasis():
+            super().draw(page)
 
 
 class Strong(Element):
     """Strong text."""
 
     def draw(self, page: Renderer) -> None:
-        page.start_strong()
-        super().draw(page)
-        page.end_strong()
+        with page.strong():
+            super().draw(page)
 
 
 class Strikeout(Element):
     """Text that doesn't count any more."""
 
     def draw(self, page: Renderer) -> None:
-        page.start_strikeout()
-        super().draw(page)
-        page.end_strikeout()
+        with page.strikeout():
+            super().draw(page)
 
 
 class Code(Element):
     """Code in a line of text."""
 
     def draw(self, page: Renderer) -> None:
-        page.start_code()
-        super().draw(page)
-        page.end_code()
+        with page.code():
+            super().draw(page)
 
 
 class Superscript(Element):
@@ -130,9 +126,8 @@ class Superscript(Element):
         if digits := self.digits():
             page.add_inline_text(digits)
             return
-        page.start_superscript()
-        super().draw(page)
-        page.end_superscript()
+        with page.superscript():
+            super().draw(page)
 
     def measure(self, ruler: Ruler) -> None:
         if digits := self.digits():
@@ -153,9 +148,8 @@ class Link(Element):
     def draw(self, page: Renderer) -> None:
         if self.is_blank():
             return
-        page.start_link(self.attributes["href"])
-        super().draw(page)
-        page.end_link()
+        with page.link(self.attributes["href"]):
+            super().draw(page)
 
     def measure(self, ruler: Ruler) -> None:
         if self.is_blank():
@@ -236,11 +230,8 @@ class Preformatted(Block):
 
     def draw(self, page: Renderer) -> None:
         page.end_block()
-        page.push_ws(WhiteSpace.PRE)
-        page.push_preformat()
-        Element.draw(self, page)
-        page.pop_preformat()
-        page.pop_ws()
+        with page.preformatted():
+            Element.draw(self, page)
         page.end_block()
 
     def measure(self, ruler: Ruler) -> None:
@@ -263,39 +254,34 @@ class Rule(Element):
         ruler.end_line()
 
 
-class Prefixed(Element):
-    """A block, each line of which comes after a prefix."""
+class Heading(Element):
+    """A heading of the level that its tag has."""
 
-    def prefix(self, page: Renderer) -> str:
-        """The prefix that the page's decorator has for it."""
-        raise NotImplementedError
+    @property
+    def level(self) -> int:
+        return int(self.tag.removeprefix("h"))
 
     def draw(self, page: Renderer) -> None:
-        if self.is_blank():
-            return
-        page.start_block()
-        prefix = self.prefix(page)
-        with inside(page, prefix, prefix):
-            super().draw(page)
-        page.end_block()
+        if not self.is_blank():
+            with page.header(self.level):
+                super().draw(page)
 
     def measure(self, ruler: Ruler) -> None:
-        with ruler.prefixed(self.prefix(ruler.page)):
+        with ruler.prefixed(ruler.page.header_prefix(self.level)):
             super().measure(ruler)
 
 
-class Heading(Prefixed):
-    """A heading of the level that its tag has."""
-
-    def prefix(self, page: Renderer) -> str:
-        return page.header_prefix(int(self.tag.removeprefix("h")))
-
-
-class Quote(Prefixed):
+class Quote(Element):
     """A quoted block."""
 
-    def prefix(self, page: Renderer) -> str:
-        return page.quote_prefix()
+    def draw(self, page: Renderer) -> None:
+        if not self.is_blank():
+            with page.quote():
+                super().draw(page)
+
+    def measure(self, ruler: Ruler) -> None:
+        with ruler.prefixed(ruler.page.quote_prefix()):
+            super().measure(ruler)
 
 
 # ---- lists

@@ -57,6 +57,10 @@ class Refusals(unittest.TestCase):
                 renderer.pop_colour,
                 renderer.pop_bgcolour,
                 renderer.end_cell,
+                renderer.end_quote,
+                renderer.end_item,
+                lambda: renderer.end_ordered_item(1),
+                lambda: renderer.end_header(1),
                 lambda: renderer.append_subrender("", ""),
             ]
             for end in ends:

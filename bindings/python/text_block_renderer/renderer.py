@@ -3,12 +3,14 @@
 import ctypes
 import warnings
 from collections.abc import Iterator
-from contextlib import contextmanager
+from contextlib import AbstractContextManager, contextmanager
+from functools import partial
 from types import TracebackType
 
 from . import _library as library
 from ._arguments import integer, member, parts, size, utf8
 from ._handle import OwnedRenderer
+from ._nested import nested
 from .errors import NoLineError, RendererError, refusal
 from .lines import Annotation, FragmentStart, Kind, TaggedLine, TaggedString
 from .options import CellAlign, Colour, Decorator, ImageRenderMode, WhiteSpace
@@ -275,6 +277,207 @@ class Renderer:
         """Adds an image, shown by its title. `img_mode` says what one without a title shows."""
         self._owned.with_texts("add_image_n", source=source, title=title)
 
+    # ---- quotes, items of lists and headers: an end takes the innermost level, whichever call began it, and raises
+    # `NothingToEndError` where that is none or a cell, and `StillOpenError` where cells wait in it
+
+    def start_quote(self) -> None:
+        """Begins a quoted block, each line of which comes after the decorator's prefix.
+
+        `TooNarrowError`, which isn't kept, where the prefix leaves no column and no overflow is allowed.
+        `OutOfMemoryError` isn't kept where the prefix takes memory: `failure` tells.
+        """
+        self._owned.call("start_quote")
+
+    def end_quote(self) -> None:
+        """Ends a quoted block."""
+        self._owned.call("end_quote")
+
+    def start_item(self) -> None:
+        """Begins an item of a list. It refuses as `start_quote` does.
+
+        Its first line comes after the decorator's prefix, and the others after as many spaces.
+        """
+        self._owned.call("start_item")
+
+    def end_item(self) -> None:
+        """Ends an item of a list."""
+        self._owned.call("end_item")
+
+    def start_ordered_item(self, number: int) -> None:
+        """Begins the item of a list that has this number. `ValueError` past 64 bits.
+
+        It refuses as `start_quote` does.
+        """
+        self._owned.call("start_ordered_item", _number(number))
+
+    def end_ordered_item(self, number: int) -> None:
+        """Ends the item that was begun with this number."""
+        self._owned.call("end_ordered_item", _number(number))
+
+    def start_header(self, level: int) -> None:
+        """Begins a header of a level, of which 1 is the highest. Each line of this block comes after a prefix.
+
+        It refuses as `start_quote` does. `BadArgumentError` above 255, where the decorator has a prefix for it.
+        """
+        self._owned.call("start_header", size(level, "level"))
+
+    def end_header(self, level: int) -> None:
+        """Ends the header that was begun with this level."""
+        self._owned.call("end_header", size(level, "level"))
+
+    # ---- what a `with` block fills: it is ended also where an exception leaves the block. It isn't where the block
+    # leaves a level open, or cells waiting in a block, and raises `StillOpenError` then
+
+    def quote(self) -> AbstractContextManager[None]:
+        """Fills a quoted block, with empty lines around it, as `start_quote` and `end_quote` say.
+
+        >>> with Renderer(20) as mail:
+        ...     with mail.quote():
+        ...         mail.add_inline_text("See you at nine, at the gate.")
+        ...     print(mail.into_string(), end="")
+        > See you at nine,
+        > at the gate.
+        """
+        return nested(self.depth, self.start_quote, self.end_quote)
+
+    def item(self) -> AbstractContextManager[None]:
+        """Fills an item of a list, as `start_item` and `end_item` say.
+
+        >>> with Renderer(20) as mail:
+        ...     with mail.item():
+        ...         mail.add_inline_text("Bring bread and some cake.")
+        ...     print(mail.into_string(), end="")
+        * Bring bread and
+          some cake.
+        """
+        return nested(self.depth, self.start_item, self.end_item)
+
+    def ordered_item(self, number: int) -> AbstractContextManager[None]:
+        """Fills the item of a list that has this number, as `start_ordered_item` and `end_ordered_item` say.
+
+        >>> with Renderer(12) as page:
+        ...     for number, text in (9, "bread"), (10, "milk and cake"):
+        ...         with page.ordered_item(number):
+        ...             page.add_inline_text(text)
+        ...     print(page.into_string(), end="")
+        9. bread
+        10. milk and
+            cake
+        """
+        return nested(self.depth, partial(self.start_ordered_item, number), partial(self.end_ordered_item, number))
+
+    def header(self, level: int) -> AbstractContextManager[None]:
+        """Fills a header of a level, with empty lines around it, as `start_header` and `end_header` say.
+
+        >>> with Renderer(20) as page:
+        ...     with page.header(1):
+        ...         page.add_inline_text("Prices")
+        ...     page.add_inline_text("Bread: 3.20")
+        ...     print(page.into_string().splitlines())
+        ['# Prices', '', 'Bread: 3.20']
+        """
+        return nested(self.depth, partial(self.start_header, level), partial(self.end_header, level))
+
+    def link(self, target: str) -> AbstractContextManager[None]:
+        """Fills a link to a target, which may be empty. `NotUtf8Error` where it has a surrogate.
+
+        >>> with Renderer(24, include_link_footnotes=True) as page:
+        ...     with page.link("https://example.org"):
+        ...         page.add_inline_text("the rules")
+        ...     print(page.into_string().splitlines())
+        ['[the rules][1]', '', '[1]: https://example.org']
+        """
+        return nested(self.depth, partial(self.start_link, target), self.end_link)
+
+    def emphasis(self) -> AbstractContextManager[None]:
+        """Fills emphasised text.
+
+        >>> with Renderer(24, Decorator.RICH) as page:
+        ...     with page.emphasis(), page.strong(), page.code():
+        ...         page.add_inline_text("now")
+        ...     piece = next(next(page.into_lines()).tagged_strings())
+        >>> [annotation.kind.name for annotation in piece.annotations]
+        ['EMPHASIS', 'STRONG', 'CODE']
+        """
+        return nested(self.depth, self.start_emphasis, self.end_emphasis)
+
+    def strong(self) -> AbstractContextManager[None]:
+        """Fills strong text."""
+        return nested(self.depth, self.start_strong, self.end_strong)
+
+    def strikeout(self) -> AbstractContextManager[None]:
+        """Fills struck out text. If strokes are on, each character of it that takes columns gets one.
+
+        >>> with Renderer(24) as page:
+        ...     with page.strikeout():
+        ...         page.add_inline_text("rat")
+        ...     print(ascii(page.into_string()))
+        'r\\u0336a\\u0336t\\u0336\\n'
+        """
+        return nested(self.depth, self.start_strikeout, self.end_strikeout)
+
+    def code(self) -> AbstractContextManager[None]:
+        """Fills code."""
+        return nested(self.depth, self.start_code, self.end_code)
+
+    def superscript(self) -> AbstractContextManager[None]:
+        """Fills a superscript.
+
+        >>> with Renderer(24) as page:
+        ...     page.add_inline_text("x")
+        ...     with page.superscript():
+        ...         page.add_inline_text("2")
+        ...     print(page.into_string(), end="")
+        x^{2}
+        """
+        return nested(self.depth, self.start_superscript, self.end_superscript)
+
+    @contextmanager
+    def preformatted(self) -> Iterator[None]:
+        """Fills preformatted text, whose white space is kept: a newline ends a line, and a full line is cut.
+
+        It is `push_ws` with `WhiteSpace.PRE` and `push_preformat`, and the ends of both.
+
+        >>> with Renderer(20) as page:
+        ...     with page.preformatted():
+        ...         page.add_inline_text("foo\\n  bar   wib\\n")
+        ...     page.add_inline_text("and   as usual")
+        ...     print(page.into_string(), end="")
+        foo
+          bar   wib
+        and as usual
+        """
+        with self.white_space(WhiteSpace.PRE), nested(self.depth, self.push_preformat, self.pop_preformat):
+            yield
+
+    def colour(self, colour: Colour) -> AbstractContextManager[None]:
+        """Fills text in a colour. `ValueError` where a part of it isn't between 0 and 255.
+
+        >>> with Renderer(24, Decorator.RICH) as page:
+        ...     with page.background(Colour(0, 0, 0)), page.colour(Colour(255, 128, 0)):
+        ...         page.add_inline_text("now")
+        ...     piece = next(next(page.into_lines()).tagged_strings())
+        >>> [(annotation.kind.name, annotation.colour) for annotation in piece.annotations]
+        [('BACKGROUND', Colour(r=0, g=0, b=0)), ('COLOUR', Colour(r=255, g=128, b=0))]
+        """
+        return nested(self.depth, partial(self.push_colour, colour), self.pop_colour)
+
+    def background(self, colour: Colour) -> AbstractContextManager[None]:
+        """Fills text on a background in a colour. `ValueError` where a part of it isn't between 0 and 255."""
+        return nested(self.depth, partial(self.push_bgcolour, colour), self.pop_bgcolour)
+
+    def white_space(self, mode: WhiteSpace) -> AbstractContextManager[None]:
+        """Fills text whose white space counts as a mode says.
+
+        >>> with Renderer(5) as page:
+        ...     with page.white_space(WhiteSpace.PRE_WRAP):
+        ...         page.add_inline_text("ab  cd")
+        ...     print(page.into_string(), end="")
+        ab
+        cd
+        """
+        return nested(self.depth, partial(self.push_ws, mode), self.pop_ws)
+
     # ---- levels, and rows of cells
 
     @contextmanager
@@ -388,5 +591,9 @@ class Renderer:
 
     def ordered_item_prefix(self, number: int) -> str:
         """The same of the item of a list that has a number, as `3. `. `ValueError` past 64 bits."""
-        shown = integer(number, "number", -(2**63), 2**63 - 1)
-        return self._owned.text(_PREFIX_ROOM, "ordered_item_prefix", shown)
+        return self._owned.text(_PREFIX_ROOM, "ordered_item_prefix", _number(number))
+
+
+def _number(number: int) -> int:
+    """The number of an item, as the library takes it."""
+    return integer(number, "number", -(2**63), 2**63 - 1)

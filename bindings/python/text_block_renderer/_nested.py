@@ -1,0 +1,32 @@
+"""What a `with` block fills, so that its end isn't forgotten."""
+
+from collections.abc import Callable, Iterator
+from contextlib import contextmanager, suppress
+
+from .errors import NothingToEndError, RendererError, StillOpenError
+
+
+@contextmanager
+def nested(depth: Callable[[], int], start: Callable[[], None], end: Callable[[], None]) -> Iterator[None]:
+    """Starts something and ends it, also where an exception leaves the block, which then goes on.
+
+    It isn't ended where it isn't in the innermost level any more: `StillOpenError` where the block leaves a level open,
+    `NothingToEndError` where it closed the one that it was in.
+    """
+    start()
+    begun = depth()
+    try:
+        yield
+    except BaseException:
+        with suppress(RendererError):
+            _end_at(begun, depth(), end)
+        raise
+    _end_at(begun, depth(), end)
+
+
+def _end_at(begun: int, now: int, end: Callable[[], None]) -> None:
+    if now > begun:
+        raise StillOpenError
+    if now < begun:
+        raise NothingToEndError
+    end()
