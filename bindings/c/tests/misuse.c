@@ -285,7 +285,7 @@ static void too_narrow(void) {
     tbr_free(r);
 }
 
-/* A prefix that leaves no column is refused before the open line is ended. */
+/* A prefix that leaves no column, and an end of nothing, are refused before anything is done. */
 static void no_room_for_a_prefix(void) {
     tbr_renderer *r = new_renderer(2);
     size_t levels = SIZE_MAX;
@@ -295,6 +295,8 @@ static void no_room_for_a_prefix(void) {
     WANT(tbr_start_ordered_item(r, INT64_MIN), TBR_TOO_NARROW);
     WANT(tbr_start_header(r, 1), TBR_TOO_NARROW);
     WANT(tbr_start_header(r, SIZE_MAX), TBR_TOO_NARROW);
+    WANT(tbr_end_quote(r), TBR_NOTHING_TO_END);
+    WANT(tbr_end_header(r, 1), TBR_NOTHING_TO_END);
     WANT(tbr_refusal(r), TBR_OK);
     WANT(tbr_open_levels(r, &levels), TBR_OK);
     WANT(tbr_add_text(r, "b"), TBR_OK);

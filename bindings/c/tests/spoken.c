@@ -44,14 +44,19 @@ static bool is_text(tbr_renderer *r, const char *wanted) {
     return false;
 }
 
+/* The one that docs/C.md shows. */
+static tbr_status add_reply(tbr_renderer *mail) {
+    tbr_status status = tbr_start_quote(mail);
+    if (!status) status = tbr_add_text(mail, "See you at nine, at the gate.");
+    if (!status) status = tbr_end_quote(mail);
+    if (!status) status = tbr_start_item(mail);
+    if (!status) status = tbr_add_text(mail, "Bring bread and some cake.");
+    return status ? status : tbr_end_item(mail);
+}
+
 static bool a_quote_and_an_item(void) {
     tbr_renderer *r = new_renderer(20, TBR_PLAIN, false);
-    well(tbr_start_quote(r));
-    well(tbr_add_text(r, "See you at nine, at the gate."));
-    well(tbr_end_quote(r));
-    well(tbr_start_item(r));
-    well(tbr_add_text(r, "Bring bread and some cake."));
-    well(tbr_end_item(r));
+    well(add_reply(r));
     return is_text(r, "> See you at nine,\n> at the gate.\n* Bring bread and\n  some cake.\n");
 }
 

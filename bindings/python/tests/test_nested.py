@@ -120,7 +120,8 @@ class Nested(unittest.TestCase):
         self.assertGreater(results.attempted, 10)
 
     def test_the_programs_of_the_page_print_what_it_says(self) -> None:
-        programs = re.findall(r"^```python\n(.*?)^```\n\nprints\n\n```text\n(.*?)^```$", README.read_text(), re.M | re.S)
+        shown = r"^```python\n(.*?)^```\n\nprints\n\n```text\n(.*?)^```$"
+        programs = re.findall(shown, README.read_text(), re.M | re.S)
         names: dict[str, Any] = {}
         for program, expected in programs:
             with redirect_stdout(io.StringIO()) as printed:
