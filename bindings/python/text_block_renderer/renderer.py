@@ -22,9 +22,13 @@ _PREFIX_ROOM = 24
 class Renderer:
     """Writes blocks of text, one below another, into lines of a width in columns.
 
-    Its calls have the names of html2text's renderer. They fill the innermost level that is open: a level is a renderer
-    inside another one, which takes its lines after prefixes or as a cell of a table. What begins in a level ends
-    there.
+    Its calls have the names of html2text's renderer, where that has them. They fill the innermost level that is open:
+    a level is a renderer inside another one, which takes its lines after prefixes or as a cell of a table. What begins
+    in a level ends there.
+
+    What `quote`, `link` and others fill by `with` ends there, also where an exception leaves the block. It stays open
+    only where the block leaves a level open, or cells waiting in a quote, item or header. `StillOpenError` tells that,
+    if no exception does.
 
     A call that does nothing raises a `RendererError`. `OutOfMemoryError` and `TooNarrowError` leave the renderer
     refusing all that follows with the same. Each other refusal leaves it as it was. `TooNarrowError` comes only where a
@@ -325,8 +329,7 @@ class Renderer:
         """Ends the header that was begun with this level."""
         self._owned.call("end_header", size(level, "level"))
 
-    # ---- what a `with` block fills: it is ended also where an exception leaves the block. It isn't where the block
-    # leaves a level open, or cells waiting in a block, and raises `StillOpenError` then
+    # ---- quotes, items, headers and stretches of text that `with` fills
 
     def quote(self) -> AbstractContextManager[None]:
         """Fills a quoted block, with empty lines around it, as `start_quote` and `end_quote` say.

@@ -5,9 +5,9 @@ use std::fmt;
 
 /// Writes blocks of text, one below another, into lines of a width in columns.
 ///
-/// Its calls have the names of html2text's renderer. They fill the innermost level that is open: a level is a renderer
-/// inside another one, which takes its lines after prefixes or as a cell of a table. What begins in a level ends
-/// there.
+/// Its calls have the names of html2text's renderer, where that has them. They fill the innermost level that is open: a
+/// level is a renderer inside another one, which takes its lines after prefixes or as a cell of a table. What begins in
+/// a level ends there.
 ///
 /// A call that answers `OutOfMemory` or `TooNarrow` leaves the renderer refusing all that follows with the same. Each
 /// other refusal leaves it as it was. [`TooNarrow`](Error::TooNarrow) comes only where a line has one column. Besides
