@@ -1,0 +1,32 @@
+-- The three cases of the widths.
+use Rattle.std.proofs.Common.{◌≡◌, ℕ, ◌-◌, ◌<◌, ◌≤◌, List, map, Some, None, refl}
+use Rattle.std.specs.List.{sum_by}
+use Rattle.std.proofs.lemmas.Bool.{lt-ltb, le-ltb, le-leb, lt-leb}
+use Rattle.column_widths.specs.declared.need.Need.{Need}
+use Rattle.column_widths.specs.declared.need.Bound.TheVariants.{Least, Greatest}
+use Rattle.column_widths.specs.Table.{Table}
+use Rattle.column_widths.specs.Needs.{width_of, needs_of}
+use Rattle.column_widths.specs.Widths.{widths, widths_beside_lines, lines_of, shared}
+
+-- what columns need at least, and what they need at most
+abbrev pub all_least : List Need → ℕ
+all_least ns = sum_by (width_of Least) ns
+
+abbrev pub all_greatest : List Need → ℕ
+all_greatest ns = sum_by (width_of Greatest) ns
+
+pub widths_of_narrow : (room : ℕ) (ns : List Need) → room < all_least ns → widths_beside_lines room ns ≡ None
+widths_of_narrow room ns h = rw (lt-ltb room (all_least ns) h) refl
+
+pub widths_of_roomy : (room : ℕ) (ns : List Need) → all_least ns ≤ room → all_greatest ns ≤ room →
+    widths_beside_lines room ns ≡ Some (map (width_of Greatest) ns)
+widths_of_roomy room ns h k = rw (le-ltb room (all_least ns) h, le-leb (all_greatest ns) room k) refl
+
+pub widths_between : (room : ℕ) (ns : List Need) → all_least ns ≤ room → room < all_greatest ns →
+    widths_beside_lines room ns ≡ Some (shared (room - all_least ns) ns)
+widths_between room ns h k = rw (le-ltb room (all_least ns) h, lt-leb (all_greatest ns) room k) refl
+
+-- the widths as the program finds them
+pub widths_is : (t : Table) (room beside : ℕ) (ns : List Need) → ns ≡ needs_of t → lines_of t ≤ room →
+    beside ≡ room - lines_of t → widths_beside_lines beside ns ≡ widths t room
+widths_is t room beside ns same fits is_beside = rw (le-ltb room (lines_of t) fits, is_beside, same) refl

@@ -1,0 +1,3 @@
+pub mod Cases
+pub mod Shares
+pub mod Walks

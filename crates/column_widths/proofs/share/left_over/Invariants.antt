@@ -1,0 +1,7 @@
+use Rattle.std.proofs.Common.{◌≡◌, ◌-◌, take}
+use Rattle.std.specs.List.{sum_by}
+use Rattle.column_widths.specs.Widths.{share}
+use Rattle.column_widths.proofs.share.left_over.Given as goal
+
+abbrev pub invariant-loop-need : goal.invariant-loop-need
+invariant-loop-need l = l.left ≡ l.extra - sum_by (share l.extra l.all) (take l.need-index l.columns)

@@ -1,0 +1,10 @@
+use Rattle.std.proofs.Common.{◌≡◌, ◌-◌, ◌*◌, ◌^◌, ◌≤◌, take}
+use Rattle.std.specs.List.{sum_by}
+use Rattle.column_widths.specs.Widths.{slack}
+use Rattle.column_widths.proofs.share.total_slack.Given as goal
+
+abbrev pub invariant-loop-need : goal.invariant-loop-need
+invariant-loop-need l = record {
+  total : l.total ≡ sum_by slack (take l.need-index l.columns);
+  fits : l.total ≤ l.need-index * (2 ^ 64 - 1);
+}

@@ -1,0 +1,145 @@
+//! The columns of a table, and what its cells ask of them.
+ghost use Rattle.std.specs.Prelude.{◌≡◌, ◌≤◌, ◌-◌, ◌*◌, [], ◌∷◌, ◌++◌, ◌↔◌, List, All, length, option_map, IfOk, OnOk, OnErr, IsTrue, SomeIff};
+ghost use Rattle.column_widths.specs.Table.{Table, IsWithin};
+ghost use Rattle.column_widths.specs.Needs.{needs_of, after_cells, after_cell, is_of};
+ghost use Rattle.column_widths.specs.Widths.{widths, lines_of};
+
+use crate::fill::fill;
+use crate::need::{Bound, Need};
+use crate::share::widths_beside_lines;
+use std::alloc::{AllocError, Global};
+use std::marker::Model;
+
+/// What a cell asks of the columns that it spans.
+#[derive(Clone, Copy, Debug, PartialEq, Eq)]
+pub struct CellNeed {
+    /// Its first column, from 0.
+    pub column: usize,
+    /// How many columns it spans.
+    pub span: usize,
+    /// The columns of text that its longest word takes.
+    pub least: usize,
+    /// The columns of text that its widest line takes.
+    pub greatest: usize,
+}
+
+/// What a column needs that no cell spans: it is one wide.
+const UNSPANNED: Need = Need {
+    least: 1,
+    greatest: 1,
+};
+
+/// The columns of a table, and what its cells ask of them.
+///
+/// A contract sees how many columns there are, what a line between two takes, and the cells in order.
+#[derive(Drop)]
+pub struct Columns {
+    count: usize,
+    line: usize,
+    cells: Vec<CellNeed>,
+}
+
+impl Model for Columns {
+    ghost use Rattle.std.specs.Prelude.{◌≤◌, ◌+◌, All};
+    ghost use Rattle.column_widths.specs.Table.{Table, IsWithin};
+
+    ghost Value = { Table };
+
+    ghost view = { λ a. record { columns = a.count; line = a.line; cells = a.cells.items } };
+
+    ghost invariant = { λ a. All (IsWithin a.count) a.cells.items };
+}
+
+impl Columns {
+    /// So many columns without cells, with a line of `line` columns of text between two of them: 1, or 0 where there are
+    /// no lines. It takes no memory.
+    pub fn new(alloc: Global, count: usize, line: usize) -> Columns
+        ensures { result ≡ record { columns = count; line = line; cells = [] } }
+    {
+        Columns {
+            count,
+            line,
+            cells: Vec::new(alloc),
+        }
+    }
+
+    /// Whether a cell spans at least one column, and only columns that there are.
+    pub fn can_hold(&self, cell: CellNeed) -> bool
+        ensures { IsTrue result ↔ IsWithin self.now.columns cell }
+    {
+        cell.span >= 1 && cell.span <= self.count && cell.column <= self.count - cell.span
+    }
+
+    /// Adds a cell. `can_hold` tells whether it may be added. Where memory runs out, nothing changes.
+    pub fn need(&mut self, cell: CellNeed) -> Result<(), AllocError>
+        requires { IsWithin self.old.columns cell }
+        ensures ok { OnOk result (self.new ≡ record self.old { cells = self.old.cells ++ cell ∷ [] }) }
+        ensures err { OnErr result (self.new ≡ self.old) }
+    {
+        self.cells.push(cell)?;
+        Ok(())
+    }
+
+    /// A width for each column in so much room, lines between columns included, or `None` where the least widths don't
+    /// fit. The time grows with the cells, with the columns that they span, and with the square of the columns.
+    ///
+    /// It refuses only where memory runs out.
+    pub fn widths(&self, room: usize) -> Result<Option<Vec<usize>>, AllocError>
+        ensures { IfOk result (λ answer. option_map (λ w. w.items) answer ≡ widths self.now room) }
+    {
+        let alloc = *self.cells.allocator();
+        let needs = self.needs(alloc)?;
+        match self.room_beside_lines(room) {
+            Some(room) => widths_beside_lines(alloc, room, &needs),
+            None => Ok(None),
+        }
+    }
+
+    /// What each column needs.
+    fn needs(&self, alloc: Global) -> Result<Vec<Need>, AllocError>
+        ensures { IfOk result (λ ns. ns.items ≡ needs_of self.now) }
+    {
+        let cells: &[CellNeed] = &self.cells;
+        let mut needs = vec![in alloc; UNSPANNED; self.count]?;
+        fill_each(self.line, cells, true, &mut needs);
+        fill_each(self.line, cells, false, &mut needs);
+        Ok(needs)
+    }
+
+    /// What is left of so much room beside the lines, or `None` where they don't fit.
+    fn room_beside_lines(&self, room: usize) -> Option<usize>
+        ensures { SomeIff result (lines_of self.now ≤ room) (room - lines_of self.now) }
+    {
+        let lines = self.line.checked_mul(self.count.saturating_sub(1))?;
+        room.checked_sub(lines)
+    }
+}
+
+/// Whether a cell is of those that span one column, or else of the others.
+fn is_of(alone: bool, cell: CellNeed) -> bool
+    ensures { result ≡ is_of alone cell }
+{
+    (cell.span == 1) == alone
+}
+
+/// Fills the columns that a cell spans.
+fn fill_cell(line: usize, cell: CellNeed, needs: &mut [Need])
+    requires { IsWithin (length needs.old) cell }
+    ensures { needs.new ≡ after_cell line needs.old cell }
+{
+    let columns = &mut needs[cell.column..cell.column + cell.span];
+    fill(Bound::Least, line, cell.least, columns);
+    fill(Bound::Greatest, line, cell.greatest, columns);
+}
+
+/// Fills the columns of each cell that spans one column, or of each of the others.
+fn fill_each(line: usize, cells: &[CellNeed], alone: bool, needs: &mut [Need])
+    requires { All (IsWithin (length needs.old)) cells.now }
+    ensures { needs.new ≡ after_cells line cells.now alone needs.old }
+{
+    for cell in cells {
+        if is_of(alone, *cell) {
+            fill_cell(line, *cell, needs);
+        }
+    }
+}
