@@ -1,3 +1,11 @@
 pub mod Cases
+pub mod Counting
+pub mod AnyWidths
+pub mod LeftOver
+pub mod Order
+pub mod Ordered
+pub mod Ranks
+pub mod Rooms
 pub mod Shares
 pub mod Walks
+pub mod Within

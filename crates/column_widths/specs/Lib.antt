@@ -1,3 +1,4 @@
 pub mod Table
 pub mod Needs
 pub mod Widths
+pub mod Laws

@@ -5,5 +5,6 @@ pub use columns::{CellNeed, Columns};
 
 mod columns;
 mod fill;
+pub mod laws;
 mod need;
 mod share;
