@@ -1,6 +1,8 @@
 pub mod Cases
 pub mod Counting
+pub mod Alone
 pub mod AnyWidths
+mod Examples
 pub mod LeftOver
 pub mod Order
 pub mod Ordered

@@ -1,9 +1,10 @@
 //! The laws of the widths, each as the contract of a function that does nothing.
-ghost use Rattle.std.specs.Prelude.{◌≡◌, ◌↔◌, ℕ, ◌+◌, ◌<◌, ◌≤◌, Some, None, List, All, length, sum, slice_index};
+ghost use Rattle.std.specs.Prelude.{◌≡◌, ◌↔◌, ℕ, ◌+◌, ◌<◌, ◌≤◌, [], ◌∷◌, max, Some, None, List, All, length, sum, slice_index};
 ghost use Rattle.std.specs.List.{AllZip};
+ghost use Rattle.column_widths.specs.declared.need.Need.{Need};
 ghost use Rattle.column_widths.specs.declared.need.Bound.TheVariants.{Least, Greatest};
 ghost use Rattle.column_widths.specs.Table.{Table, IsWithin};
-ghost use Rattle.column_widths.specs.Needs.{needs_of};
+ghost use Rattle.column_widths.specs.Needs.{needs_of, filled};
 ghost use Rattle.column_widths.specs.Widths.{widths, lines_of};
 ghost use Rattle.column_widths.specs.Laws.{room_of, need_at, IsWithinNeed, HasRoom};
 
@@ -45,4 +46,14 @@ pub fn wider_needs_get_no_less()
         i < t.columns → j < t.columns →
         need_at Least t i ≤ need_at Least t j → need_at Greatest t i < need_at Greatest t j →
         slice_index ws i ≤ slice_index ws j }
+{}
+
+/// A cell that spans one column makes it need at least the longest word, and at most the widest line, of the widest.
+#[tactic(auto, using(crate::proofs::Alone::least_alone, crate::proofs::Alone::greatest_alone))]
+pub fn widest_cell_decides()
+    ensures least { (line asked : ℕ) (n : Need) → n.least ≤ n.greatest →
+        filled Least line asked (n ∷ [])
+        ≡ record { least = max n.least asked; greatest = max n.greatest (max n.least asked) } ∷ [] }
+    ensures greatest { (line asked : ℕ) (n : Need) →
+        filled Greatest line asked (n ∷ []) ≡ record { least = n.least; greatest = max n.greatest asked } ∷ [] }
 {}

@@ -8,3 +8,5 @@ mod fill;
 pub mod laws;
 mod need;
 mod share;
+#[cfg(test)]
+mod tests;
