@@ -12,7 +12,7 @@ use Rattle.column_widths.specs.Laws.{room_of, need_at, IsWithinNeed, HasRoom}
 use Rattle.column_widths.proofs.Cases.{widths_of_narrow, widths_of_roomy, widths_between}
 use Rattle.column_widths.proofs.LeftOver.{shared_sum}
 use Rattle.column_widths.proofs.Ordered.{needs_ordered}
-use Rattle.column_widths.proofs.Rooms.{zip_length, needs_length, widths_met}
+use Rattle.column_widths.proofs.Rooms.{zip_length, needs_length, widths_met, within_enough, greatest_enough, IsEnough}
 use Rattle.column_widths.proofs.Shares.{greatest_within}
 use Rattle.column_widths.proofs.Within.{shared_within, greatest_within_need, shared_no_less}
 
@@ -100,8 +100,16 @@ pub one_each : (t : Table) (room : ℕ) (ws : List ℕ) → widths t room ≡ So
 one_each t room ws e = sym (zip_length IsWithinNeed (needs_of t) ws (all_within t room ws e)) ∙ needs_length t
 
 pub words_fit : (t : Table) (room : ℕ) (ws : List ℕ) → All (IsWithin t.columns) t.cells → widths t room ≡ Some ws →
-    All (HasRoom t.line ws) t.cells
-words_fit t room ws within e = widths_met t ws within (all_within t room ws e)
+    All (HasRoom Least t.line ws) t.cells
+words_fit t room ws within e =
+    widths_met Least t ws within (within_enough (needs_of t) ws (all_within t room ws e))
+
+pub lines_fit : (t : Table) (room : ℕ) (ws : List ℕ) → All (IsWithin t.columns) t.cells → widths t room ≡ Some ws →
+    room_of Greatest t ≤ room → All (HasRoom Greatest t.line ws) t.cells
+lines_fit t room ws within e enough =
+    widths_met Greatest t ws within
+    (of_widths t room ws (λ xs. AllZip (IsEnough Greatest) (needs_of t) xs) e
+    (λ h g. greatest_enough (needs_of t)) (λ extra h g l. absurd (omega arith)))
 
 pub no_less : (t : Table) (room : ℕ) (ws : List ℕ) (i j : ℕ) → widths t room ≡ Some ws → i < t.columns → j < t.columns →
     need_at Least t i ≤ need_at Least t j → need_at Greatest t i < need_at Greatest t j →

@@ -3,6 +3,7 @@ use Rattle.std.specs.Prelude.{ℕ, ◌+◌, ◌-◌, ◌*◌, ◌≤◌, map, sl
 use Rattle.column_widths.specs.declared.columns.CellNeed.{CellNeed}
 use Rattle.column_widths.specs.declared.need.Need.{Need}
 use Rattle.column_widths.specs.declared.need.Bound.{Bound}
+use Rattle.column_widths.specs.declared.need.Bound.TheVariants.{Least, Greatest}
 use Rattle.column_widths.specs.Table.{Table}
 use Rattle.column_widths.specs.Needs.{width_of, needs_of}
 use Rattle.column_widths.specs.Widths.{lines_of}
@@ -19,6 +20,12 @@ need_at bound t place = slice_index (map (width_of bound) (needs_of t)) place
 abbrev pub IsWithinNeed : Need → ℕ → Type 0
 IsWithinNeed n width = (n.least ≤ width) × (width ≤ n.greatest)
 
--- the columns that a cell spans, and the lines between them, have room for its longest word
-abbrev pub HasRoom : ℕ → List ℕ → CellNeed → Type 0
-HasRoom line widths c = c.least ≤ sum (slice_range widths c.column (c.column + c.span)) + line * (c.span - 1)
+-- what a cell asks: its longest word, or its widest line
+abbrev pub asked_by : Bound → CellNeed → ℕ
+asked_by Least c = c.least
+asked_by Greatest c = c.greatest
+
+-- the columns that a cell spans, and the lines between them, have room for what it asks
+abbrev pub HasRoom : Bound → ℕ → List ℕ → CellNeed → Type 0
+HasRoom bound line widths c =
+    asked_by bound c ≤ sum (slice_range widths c.column (c.column + c.span)) + line * (c.span - 1)

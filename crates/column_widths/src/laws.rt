@@ -9,14 +9,12 @@ ghost use Rattle.column_widths.specs.Widths.{widths, lines_of};
 ghost use Rattle.column_widths.specs.Laws.{room_of, need_at, IsWithinNeed, HasRoom};
 
 /// There are no widths exactly where the least widths and the lines don't fit the room.
-#[tactic(auto, using(crate::proofs::AnyWidths::least_decides))]
 pub fn least_widths_decide()
     ensures { (t : Table) (room : ℕ) → (widths t room ≡ None) ↔ (room < room_of Least t) }
 {}
 
 /// The widths and the lines take the room to its last column of text, or, in more room than the columns can use, just
 /// that.
-#[tactic(auto, using(crate::proofs::AnyWidths::take_all, crate::proofs::AnyWidths::take_enough))]
 pub fn widths_take_the_room()
     ensures all { (t : Table) (room : ℕ) (ws : List ℕ) →
         widths t room ≡ Some ws → room ≤ room_of Greatest t → sum ws + lines_of t ≡ room }
@@ -25,7 +23,6 @@ pub fn widths_take_the_room()
 {}
 
 /// There is a width for each column: not below what the column needs at least, and not above what it needs at most.
-#[tactic(auto, using(crate::proofs::AnyWidths::all_within, crate::proofs::AnyWidths::one_each))]
 pub fn widths_are_within_needs()
     ensures each { (t : Table) (room : ℕ) (ws : List ℕ) →
         widths t room ≡ Some ws → AllZip IsWithinNeed (needs_of t) ws }
@@ -33,14 +30,18 @@ pub fn widths_are_within_needs()
 {}
 
 /// Each cell has room for its longest word in its columns and the lines between them.
-#[tactic(auto, using(crate::proofs::AnyWidths::words_fit))]
 pub fn longest_words_fit()
     ensures { (t : Table) (room : ℕ) (ws : List ℕ) → All (IsWithin t.columns) t.cells →
-        widths t room ≡ Some ws → All (HasRoom t.line ws) t.cells }
+        widths t room ≡ Some ws → All (HasRoom Least t.line ws) t.cells }
+{}
+
+/// Each cell has room for its widest line where there is as much room as the columns can use.
+pub fn widest_lines_fit()
+    ensures { (t : Table) (room : ℕ) (ws : List ℕ) → All (IsWithin t.columns) t.cells →
+        widths t room ≡ Some ws → room_of Greatest t ≤ room → All (HasRoom Greatest t.line ws) t.cells }
 {}
 
 /// A column that needs more at most, and no less at least, is at least as wide.
-#[tactic(auto, using(crate::proofs::AnyWidths::no_less))]
 pub fn wider_needs_get_no_less()
     ensures { (t : Table) (room : ℕ) (ws : List ℕ) (i j : ℕ) → widths t room ≡ Some ws →
         i < t.columns → j < t.columns →
@@ -49,7 +50,6 @@ pub fn wider_needs_get_no_less()
 {}
 
 /// A cell that spans one column makes it need at least the longest word, and at most the widest line, of the widest.
-#[tactic(auto, using(crate::proofs::Alone::least_alone, crate::proofs::Alone::greatest_alone))]
 pub fn widest_cell_decides()
     ensures least { (line asked : ℕ) (n : Need) → n.least ≤ n.greatest →
         filled Least line asked (n ∷ [])
