@@ -51,8 +51,8 @@ impl Model for Columns {
 }
 
 impl Columns {
-    /// So many columns without cells, with a line of `line` columns of text between two of them: 1, or 0 where there are
-    /// no lines. It takes no memory.
+    /// So many columns without cells, with a line of `line` columns of text between two of them: 1, or 0 where there
+    /// are no lines. It takes no memory.
     pub fn new(alloc: Global, count: usize, line: usize) -> Columns
         ensures { result ≡ record { columns = count; line = line; cells = [] } }
     {
@@ -87,12 +87,12 @@ impl Columns {
     pub fn widths(&self, room: usize) -> Result<Option<Vec<usize>>, AllocError>
         ensures { IfOk result (λ answer. option_map (λ w. w.items) answer ≡ widths self.now room) }
     {
+        let Some(room) = self.room_beside_lines(room) else {
+            return Ok(None);
+        };
         let alloc = *self.cells.allocator();
         let needs = self.needs(alloc)?;
-        match self.room_beside_lines(room) {
-            Some(room) => widths_beside_lines(alloc, room, &needs),
-            None => Ok(None),
-        }
+        widths_beside_lines(alloc, room, &needs)
     }
 
     /// What each column needs.
