@@ -57,7 +57,7 @@ def lay_out(prefix, built):
     for part in ("bin", "include", "lib"):
         (prefix / part).mkdir(parents=True)
     for program in built.programs:
-        shutil.copy2(program, prefix / "bin" / program.name.removesuffix(".fast"))
+        shutil.copy2(program, prefix / "bin" / program.stem)
     shutil.copy(HEADER, prefix / "include")
     describe(prefix, "lib", built.suffix)
     manuals.lay_out(prefix / "share", prefix / "bin" / "blockview", version() + built.suffix)
