@@ -309,6 +309,21 @@ static void no_room_for_a_prefix(void) {
     }
 }
 
+/* The length of a prefix is told at once where there is no room for it, however long it is. */
+static void prefix_of_a_deep_header(void) {
+    tbr_renderer *r = new_renderer(20);
+    char text[4];
+    size_t length = 0;
+    WANT(tbr_header_prefix(r, 2000000000, text, sizeof text, &length), TBR_BUFFER_TOO_SMALL);
+    if (length != 2000000001) {
+        printf("the prefix of a deep header has %zu bytes\n", length);
+        failures++;
+    }
+    WANT(tbr_header_prefix(r, SIZE_MAX, text, sizeof text, &length), TBR_OUT_OF_MEMORY);
+    WANT(tbr_refusal(r), TBR_OK);
+    tbr_free(r);
+}
+
 /* With `overflow` a column is left after any prefix. */
 static void a_column_with_overflow(void) {
     tbr_options options = tbr_options_default(1);
@@ -395,6 +410,7 @@ int main(void) {
     widths();
     too_narrow();
     no_room_for_a_prefix();
+    prefix_of_a_deep_header();
     a_column_with_overflow();
     levels_of_headers();
     row_that_does_not_fit();
