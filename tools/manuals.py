@@ -1,4 +1,4 @@
-"""Man pages and shell completions of both programs, from what `blockview --help` says and from the text here.
+"""Man pages and shell completions of both programs, from what blockview says of itself and from the text here.
 
 blockrender takes no arguments, so its page is written here, and nothing completes it.
 """
@@ -7,7 +7,7 @@ import subprocess
 from dataclasses import dataclass
 
 OPTION = re.compile(r"^ +(?:-\w, )?--([\w-]+)(?: <(\w+)>)?(?: {2,}(.*))?$")
-VALUES = re.compile(r" *\[possible values: ([^\]]+)\]")
+VALUES = re.compile(r"\[possible values: ([^\]]+)\]")
 FOLDERS = {
     "man": ("man/man1", "{}.1"),
     "bash": ("bash-completion/completions", "{}"),
@@ -65,7 +65,7 @@ class Help:
 
 def lay_out(share, program, version):
     """Writes pages and completions below a folder, for a program blockview and for blockrender beside it."""
-    told = read(subprocess.run([program, "--help"], stdout=subprocess.PIPE, check=True).stdout.decode())
+    told = read(program, said(program, "--help"))
     write(share, "man", "blockview", page("blockview", version, viewed(told)))
     write(share, "man", "blockrender", page("blockrender", version, BLOCKRENDER + ".SH SEE ALSO\n.BR blockview (1)\n"))
     for shell, completion in (("bash", bash), ("zsh", zsh), ("fish", fish)):
@@ -79,22 +79,31 @@ def write(share, kind, name, text):
     (share / folder / form.format(name)).write_text(text, encoding="utf-8")
 
 
-def read(text):
-    """The parts of a help text."""
+def said(program, *words):
+    """What a program says where it shows nothing."""
+    how = {"stdin": subprocess.DEVNULL, "stdout": subprocess.PIPE, "stderr": subprocess.STDOUT}
+    return subprocess.run([program, *words], check=False, **how).stdout.decode()
+
+
+def read(program, text):
+    """The parts of a program's help text."""
     about, usage, *sections = text.split("\n\n")
     at = next(i for i, section in enumerate(sections) if section.startswith("Options:"))
-    options = list(options_of(sections[at].splitlines()[1:]))
+    options = list(options_of(program, sections[at].splitlines()[1:]))
     return Help(about, usage.removeprefix("Usage: "), options, "\n\n".join(sections[at + 1 :]).strip("\n"))
 
 
-def options_of(lines):
-    """The options of a help text, whose meanings may go on in further lines."""
+def options_of(program, lines):
+    """The options of a help text, whose meanings may go on in further lines.
+
+    The words that may come after one are told where another comes.
+    """
     starts = [i for i, line in enumerate(lines) if OPTION.match(line)]
     for start, end in zip(starts, [*starts[1:], len(lines)]):
         name, value, meaning = OPTION.match(lines[start]).groups()
         meaning = " ".join([meaning or "", *(line.strip() for line in lines[start + 1 : end])]).strip()
-        words = VALUES.search(meaning)
-        yield Option(name, value or "", words[1].split(", ") if words else [], VALUES.sub("", meaning))
+        words = VALUES.search(said(program, f"--{name}", "?")) if value else None
+        yield Option(name, value or "", words[1].split(", ") if words else [], meaning)
 
 
 def page(name, version, body):
@@ -109,8 +118,7 @@ def viewed(told):
     body += f".SH SYNOPSIS\n.B {name}\n{roff(usage)}\n.SH OPTIONS\n"
     for option in told.options:
         value = f" \\fI{option.value}\\fR" if option.value else ""
-        words = f" One of {', '.join(option.words)}." if option.words else ""
-        body += f".TP\n\\fB\\-\\-{roff(option.name)}\\fR{value}\n{roff(option.meaning)}.{words}\n"
+        body += f".TP\n\\fB\\-\\-{roff(option.name)}\\fR{value}\n{roff(option.meaning)}.\n"
     return body + f".SH SCRIPTS\n.nf\n{roff(told.rest)}\n.fi\n.SH SEE ALSO\n.BR blockrender (1)\n"
 
 
