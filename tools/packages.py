@@ -34,7 +34,9 @@ MAINTAINER = "The founders of text_block_renderer <founders@text-block-renderer.
 
 def stripped(release, tree):
     """A copy of what was built, without the names that only debuggers read."""
-    shutil.copytree(release.built, tree, symlinks=True, ignore=lambda folder, _: ["quick", "verdict"] if Path(folder) == release.built else [])
+    tree.mkdir()
+    for part in library.PARTS:
+        shutil.copytree(release.built / part, tree / part, symlinks=True)
     programs = [*(tree / "bin").iterdir(), *(it for it in (tree / "lib").glob("*.so.*") if not it.is_symlink())]
     subprocess.run(["strip", "--strip-unneeded", *programs], check=True)
     subprocess.run(["strip", "--strip-debug", *(tree / "lib").glob("*.a")], check=True)
@@ -140,7 +142,8 @@ def crate(release, tree, room):
     (top / "lib").mkdir()
     shutil.copy(tree / "lib" / f"lib{library.NAME}.a", top / "lib")
     manifest = top / "Cargo.toml"
-    manifest.write_text(manifest.read_text(encoding="utf-8").replace(f'"{library.version()}"', f'"{release.version}"', 1), encoding="utf-8")
+    told = manifest.read_text(encoding="utf-8").replace(f'"{library.version()}"', f'"{release.version}"', 1)
+    manifest.write_text(told, encoding="utf-8")
     words = ["cargo", "package", "--offline", "--allow-dirty", "--no-verify", "--quiet", "--target-dir", room / "target"]
     library.run(words, cwd=top, env={**os.environ, "RUSTFLAGS": ""})
     return room / "target" / "package" / f"{library.NAME}-{release.version}.crate"
@@ -155,7 +158,7 @@ def debian(release, tree, room):
     for it in (usr / "lib").iterdir():
         it.rename(usr / "multiarch" / it.name)
     (usr / "multiarch").rename(usr / MULTIARCH)
-    library.describe(usr, MULTIARCH, "" if release.version == library.version() else release.version.removeprefix(library.version()))
+    library.describe(usr, MULTIARCH, release.version.removeprefix(library.version()))
     (usr / "share" / "zsh" / "site-functions").rename(usr / "share" / "zsh" / "vendor-completions")
     documents(release, usr / "share" / "doc" / PACKAGE)
     for page in sorted((usr / "share" / "man").rglob("*.1")):
