@@ -6,3 +6,4 @@ pub mod Measured
 pub mod Edges
 pub mod Drawn
 pub mod Recorded
+pub mod Laws

@@ -264,9 +264,11 @@ impl Drawing {
         ensures { OnOk result (self.new ≡ adding (row_end at self.old.table) self.old) }
     {
         if !self.table.is_beside() {
-            return self.add_if(at, self.table.has_cell(), Call::VerticalRow);
+            let has_cell = self.table.has_cell();
+            return self.add_if(at, has_cell, Call::VerticalRow);
         }
-        let rest = self.table.grid().rest(self.table.columns())?;
+        let columns = self.table.columns();
+        let rest = self.table.grid().rest(columns)?;
         self.add_empty(at, &rest)?;
         self.add(at, Call::Row)
     }

@@ -140,13 +140,13 @@ fn adjacent(column: usize, spots: &[Spot]) -> usize
     ensures value { result ≡ model.adjacent column spots.now }
     ensures within { result ≤ length spots.now }
 {
-    let mut column = column;
+    let mut next = column;
     let mut count = 0;
     for spot in spots {
-        if spot.column != column {
-            break;
+        if spot.column != next {
+            return count;
         }
-        column = spot.end;
+        next = spot.end;
         count += 1;
     }
     count
@@ -166,10 +166,11 @@ fn before_first(end: usize, spots: &[Spot]) -> usize
 fn end_of(column: usize, spots: &[Spot]) -> usize
     ensures { result ≡ model.end_of column spots.now }
 {
-    match spots.last() {
-        Some(spot) => spot.end,
-        None => column,
+    let mut end = column;
+    for spot in spots {
+        end = spot.end;
     }
+    end
 }
 
 /// Adds a cell in each of these columns.

@@ -9,6 +9,7 @@ mod drawing;
 mod drawn;
 mod drawn_table;
 mod grid;
+pub mod laws;
 mod level;
 mod measured_table;
 mod measuring;

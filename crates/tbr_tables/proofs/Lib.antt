@@ -1,0 +1,4 @@
+pub mod Cases
+pub mod Singles
+pub mod EachOnce
+pub mod Walks
