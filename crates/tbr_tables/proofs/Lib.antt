@@ -2,3 +2,5 @@ pub mod Cases
 pub mod Singles
 pub mod EachOnce
 pub mod Walks
+pub mod Sizes
+pub mod Tiles
