@@ -4,3 +4,5 @@ pub mod EachOnce
 pub mod Walks
 pub mod Sizes
 pub mod Tiles
+pub mod Within
+pub mod Widths

@@ -1,6 +1,6 @@
 -- What the laws of tables speak of.
 use Rattle.std.specs.Prelude.{◌≡◌, ℕ, ◌+◌, ◌<◌, ◌≤◌, Bool, true, false, if◌then◌else◌, Option, None, Some, List, [], ◌∷◌, ◌++◌, map, filter, fold, sum_by}
-use Rattle.std.specs.List.{AllByRecursion as Each}
+use Rattle.std.specs.List.{All, AllByRecursion as Each}
 use Rattle.tbr_tables.specs.declared.grid.Spot.{Spot}
 use Rattle.tbr_tables.specs.declared.step.TableCell.{TableCell}
 use Rattle.tbr_tables.specs.declared.step.Step.{Step}
@@ -8,6 +8,12 @@ use Rattle.tbr_tables.specs.declared.step.Step.TheVariants as step
 use Rattle.tbr_tables.specs.declared.drawn.Call.{Call}
 use Rattle.tbr_tables.specs.declared.drawn.Call.TheVariants.{Given, Sub, Cell}
 use Rattle.tbr_tables.specs.declared.drawn.Drawn.{Drawn}
+use Rattle.column_widths.specs.declared.need.Bound.TheVariants.{Least}
+use Rattle.column_widths.specs.Widths.{widths}
+use Rattle.column_widths.specs.Laws.{HasRoom}
+use Rattle.tbr_tables.specs.declared.shape.Shape.{Shape}
+use Rattle.tbr_tables.specs.Edges.{edges_from, cell_width}
+use Rattle.tbr_tables.specs.Recorded.{recorded}
 use Rattle.tbr_tables.specs.Grid.{Grid, first_row, passed, spot_for, placed, row_ended, rest_of_row}
 
 -- ---- steps
@@ -67,3 +73,20 @@ EndsBy end s = s.end ≤ end
 -- all cells of the open row of a table of so many columns: those that have come, and what fills it
 abbrev pub full_row : ℕ → Grid → List Spot
 full_row columns g = g.row ++ rest_of_row columns g
+
+-- ---- words
+
+-- Wherever columns are given widths, each cell has room for its longest word.
+abbrev pub WordsFit : Shape → Type 0
+WordsFit shape = (room : ℕ) (ws : List ℕ) → widths shape.columns room ≡ Some ws →
+    All (HasRoom Least shape.columns.line ws) shape.columns.cells
+
+-- the tables of what is recorded of steps with their texts
+abbrev pub shapes_of : (ℕ → Option ℕ) → ℕ → List (Step × List ℕ) → List Shape
+shapes_of columns wrap steps = (recorded columns wrap steps).measured.shapes
+
+-- ---- widths
+
+-- the width of a cell between columns of these widths, where its row is in so much room
+abbrev pub width_at : List ℕ → ℕ → Spot → ℕ
+width_at ws room s = cell_width (Some (edges_from 0 ws)) room s.column s.end
