@@ -32,7 +32,7 @@ tiles_apart : (a b : ℕ) (xs ys : List Spot) → Tiles a xs b → Apart b ys �
 tiles_apart a b [] ys h g = subst (λ (n : ℕ). Apart n ys) (sym h) g
 tiles_apart a b (x ∷ xs) ys h g = let first = h.0 in (omega (arith, first), h.1, tiles_apart x.end b xs ys h.2 g)
 
-tiles_end : (a b : ℕ) (xs : List Spot) → Tiles a xs b → a ≤ b
+pub tiles_end : (a b : ℕ) (xs : List Spot) → Tiles a xs b → a ≤ b
 tiles_end a b [] h = omega (arith, h)
 tiles_end a b (x ∷ xs) h = let first = h.0 in let more = h.1 in let rest = tiles_end x.end b xs h.2 in omega (arith, first, more, rest)
 
