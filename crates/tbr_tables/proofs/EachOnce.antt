@@ -1,6 +1,6 @@
 -- Each step is drawn once, in order.
-use Rattle.std.proofs.Common.{◌≡◌, ℕ, ◌+◌, Bool, true, false, cond, Option, None, Some, List, [], ◌∷◌, ◌++◌, refl, sym, ap, ◌∙◌, append_assoc, append-nil, nat_lt}
-use Rattle.std.specs.Prelude.{fold, flat_map, slice_get, is_some}
+use Rattle.std.proofs.Common.{◌≡◌, ℕ, ◌+◌, Bool, true, false, cond, List, [], ◌∷◌, ◌++◌, refl, sym, ap, ◌∙◌, append_assoc, append-nil, nat_lt}
+use Rattle.std.specs.Prelude.{fold, slice_get, is_some}
 use Rattle.std.specs.List.{enumerate_from}
 use Rattle.tbr_tables.specs.declared.grid.Spot.{Spot}
 use Rattle.tbr_tables.specs.declared.shape.Shape.{Shape}

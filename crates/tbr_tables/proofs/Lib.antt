@@ -1,4 +1,5 @@
 pub mod Cases
+mod Examples
 pub mod Singles
 pub mod EachOnce
 pub mod Walks

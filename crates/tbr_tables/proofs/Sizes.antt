@@ -1,5 +1,5 @@
 -- What opens has a size.
-use Rattle.std.proofs.Common.{◌≡◌, ℕ, ◌+◌, ◌-◌, ◌≤◌, max, Bool, true, false, cond, Option, None, Some, List, [], ◌∷◌, ◌++◌, refl, arith, nat_lt}
+use Rattle.std.proofs.Common.{ℕ, ◌+◌, ◌≤◌, Bool, true, false, cond, Option, None, Some, List, [], ◌∷◌, ◌++◌, arith, nat_lt}
 use Rattle.std.specs.Prelude.{fold, slice_get, is_some}
 use Rattle.std.specs.List.{enumerate_from, AllByRecursion as Each}
 use Rattle.tbr_tables.specs.declared.grid.Spot.{Spot}
@@ -10,7 +10,7 @@ use Rattle.tbr_tables.specs.declared.step.Step.TheVariants.{Text, BeginMode, End
 use Rattle.tbr_tables.specs.declared.drawn.Call.{Call}
 use Rattle.tbr_tables.specs.declared.drawn.Call.TheVariants as call
 use Rattle.tbr_tables.specs.declared.drawn.Drawn.{Drawn}
-use Rattle.tbr_tables.specs.Edges.{width_between, cell_width}
+use Rattle.tbr_tables.specs.Edges.{cell_width}
 use Rattle.tbr_tables.specs.Grid.{next_from_above, rest_of_row, spot_for}
 use Rattle.tbr_tables.specs.Drawn.{DrawnTable, Drawing, call_at, call_if, empty_cells, before_cell, row_end, table_start, table_end, table_of, table_left, width_in, columns_inside, cell_at, drawn_after, above_passed}
 use Rattle.tbr_tables.specs.Laws.{IsSized, HasSize}
@@ -52,10 +52,12 @@ sized_start : (at : ℕ) (t : DrawnTable) → Are (table_start at t)
 sized_start at t =
     let width = width_in t 0 t.columns in
     let inside = call_if at t.level.moves (call.Sub width) in
-    let border = call_if at (nat_lt 0 t.columns) (call.Border width) in
-    (tt, sized_append inside border
-    (sized_if at t.level.moves (call.Sub width) (width_seen t.edges t.level.room 0 t.columns))
-    (sized_if at (nat_lt 0 t.columns) (call.Border width) tt))
+    let border = call_if at (nat_lt 0 t.columns) (call.Border width) in (
+      tt,
+      sized_append inside border
+          (sized_if at t.level.moves (call.Sub width) (width_seen t.edges t.level.room 0 t.columns))
+          (sized_if at (nat_lt 0 t.columns) (call.Border width) tt),
+    )
 
 sized_end : (at : ℕ) (t : DrawnTable) → Are (table_end at t)
 sized_end at t =

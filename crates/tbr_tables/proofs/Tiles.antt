@@ -1,11 +1,11 @@
 -- The cells of a row follow one another.
-use Rattle.std.proofs.Common.{◌≡◌, ℕ, zero, suc, ◌+◌, ◌-◌, ◌<◌, ◌≤◌, min, max, eqb, Bool, true, false, cond, Option, None, Some, List, [], ◌∷◌, ◌++◌, take, drop, map, filter, refl, sym, ap, subst, ◌∙◌, arith}
+use Rattle.std.proofs.Common.{◌≡◌, ℕ, zero, suc, ◌+◌, ◌-◌, ◌<◌, ◌≤◌, max, eqb, Bool, true, false, cond, Option, None, Some, List, [], ◌∷◌, ◌++◌, take, drop, map, filter, refl, sym, subst, arith}
 use Rattle.std.specs.Prelude.{fold}
 use Rattle.std.specs.List.{AllByRecursion as Each}
 use Rattle.std.proofs.lemmas.Bool.{eqb-true, eqb-false}
 use Rattle.tbr_tables.specs.declared.grid.Spot.{Spot}
 use Rattle.tbr_tables.specs.declared.step.TableCell.{TableCell}
-use Rattle.tbr_tables.specs.Grid.{Grid, first_row, adjacent, end_of, next_from_above, passed, before_first, spot_for, placed, singles, between, rest_of_row, carried, row_ended, spans_more, one_row_less}
+use Rattle.tbr_tables.specs.Grid.{Grid, first_row, adjacent, end_of, next_from_above, passed, before_first, spot_for, placed, singles, between, rest_of_row, carried, spans_more, one_row_less}
 use Rattle.tbr_tables.specs.Laws.{Tiles, EndsBy, moved, grid_of, full_row}
 use Rattle.tbr_tables.proofs.Cases.{by_bool}
 
@@ -50,16 +50,16 @@ split column (s ∷ ss) h =
     let rest = split s.end ss h.2 in
     let n = adjacent s.end ss in
     let go : (b : Bool) → eqb s.column column ≡ b →
-        (Tiles column (take (cond b (suc n) 0) (s ∷ ss)) (end_of column (take (cond b (suc n) 0) (s ∷ ss))))
-        × (Apart (end_of column (take (cond b (suc n) 0) (s ∷ ss))) (drop (cond b (suc n) 0) (s ∷ ss)))
-        × (After (end_of column (take (cond b (suc n) 0) (s ∷ ss))) (drop (cond b (suc n) 0) (s ∷ ss))) =
-        λ b. elim b as (λ v. eqb s.column column ≡ v →
-        (Tiles column (take (cond v (suc n) 0) (s ∷ ss)) (end_of column (take (cond v (suc n) 0) (s ∷ ss))))
-        × (Apart (end_of column (take (cond v (suc n) 0) (s ∷ ss))) (drop (cond v (suc n) 0) (s ∷ ss)))
-        × (After (end_of column (take (cond v (suc n) 0) (s ∷ ss))) (drop (cond v (suc n) 0) (s ∷ ss)))) [
-          | true ↦ λ e. ((eqb-true s.column column e, h.1, rest.next), rest.others, rest.after)
-          | false ↦ λ e. (refl, h, let first = h.0 in let ne = eqb-false s.column column e in omega (arith, first, ne))
-        ] in
+    (Tiles column (take (cond b (suc n) 0) (s ∷ ss)) (end_of column (take (cond b (suc n) 0) (s ∷ ss))))
+    × (Apart (end_of column (take (cond b (suc n) 0) (s ∷ ss))) (drop (cond b (suc n) 0) (s ∷ ss)))
+    × (After (end_of column (take (cond b (suc n) 0) (s ∷ ss))) (drop (cond b (suc n) 0) (s ∷ ss))) =
+    λ b. elim b as (λ v. eqb s.column column ≡ v →
+    (Tiles column (take (cond v (suc n) 0) (s ∷ ss)) (end_of column (take (cond v (suc n) 0) (s ∷ ss))))
+    × (Apart (end_of column (take (cond v (suc n) 0) (s ∷ ss))) (drop (cond v (suc n) 0) (s ∷ ss)))
+    × (After (end_of column (take (cond v (suc n) 0) (s ∷ ss))) (drop (cond v (suc n) 0) (s ∷ ss)))) [
+      | true ↦ λ e. ((eqb-true s.column column e, h.1, rest.next), rest.others, rest.after)
+      | false ↦ λ e. (refl, h, let first = h.0 in let ne = eqb-false s.column column e in omega (arith, first, ne))
+    ] in
     let got = go (eqb s.column column) refl in
     record { next = got.0; others = got.1; after = got.2 }
 

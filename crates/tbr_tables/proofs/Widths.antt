@@ -1,5 +1,5 @@
 -- The cells of a row take the width of its table.
-use Rattle.std.proofs.Common.{◌≡◌, ◌↔◌, ℕ, zero, suc, ◌+◌, ◌-◌, ◌<◌, ◌≤◌, max, Option, None, Some, List, [], ◌∷◌, ◌++◌, length, get_or, refl, sym, ap, subst, ◌∙◌, arith, add-zero}
+use Rattle.std.proofs.Common.{◌≡◌, ◌↔◌, ℕ, zero, suc, ◌+◌, ◌-◌, ◌<◌, ◌≤◌, Option, None, Some, List, [], ◌∷◌, length, get_or, refl, sym, ap, subst, ◌∙◌, arith, add-zero}
 use Rattle.std.specs.List.{sum, sum_by, AllByRecursion as Each}
 use Rattle.std.proofs.lemmas.List.Sums.{sum_by-cons}
 use Rattle.column_widths.specs.declared.need.Bound.TheVariants.{Least}
@@ -15,7 +15,7 @@ use Rattle.tbr_tables.specs.declared.grid.Spot.{Spot}
 use Rattle.tbr_tables.specs.declared.shape.Shape.{Shape}
 use Rattle.tbr_tables.specs.Drawn.{table_of}
 use Rattle.tbr_tables.proofs.Tiles.{tiles_end}
-use Rattle.tbr_tables.specs.Edges.{edges_from, width_between, cell_width}
+use Rattle.tbr_tables.specs.Edges.{edges_from}
 use Rattle.tbr_tables.specs.Laws.{Tiles, width_at}
 
 -- an edge, counted from another
@@ -75,7 +75,7 @@ rows_width t room any ws row h tiles =
     let adds = row_adds ws any 0 t.columns row (columns_seen t room ws h) tiles (omega (arith, count)) in
     let first = first_edge 0 ws in
     let last : edge 0 ws t.columns ≡ 0 + sum ws + t.columns =
-        subst (λ (n : ℕ). edge 0 ws n ≡ 0 + sum ws + n) count (last_edge 0 ws) in
+    subst (λ (n : ℕ). edge 0 ws n ≡ 0 + sum ws + n) count (last_edge 0 ws) in
     one_less row t.columns (sum_by (width_at ws any) row) (sum ws) tiles (omega (arith, adds, first, last))
 
 pub border_width : (t : Table) (room any : ℕ) (ws : List ℕ) → widths t room ≡ Some ws → 0 < t.columns →

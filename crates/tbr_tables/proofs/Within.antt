@@ -1,5 +1,5 @@
 -- The cells of each table are within its columns.
-use Rattle.std.proofs.Common.{◌≡◌, ℕ, ◌+◌, ◌-◌, ◌<◌, ◌≤◌, max, Bool, true, false, cond, Option, None, Some, List, [], ◌∷◌, ◌++◌, length, take, refl, arith, nat_lt}
+use Rattle.std.proofs.Common.{ℕ, ◌+◌, ◌-◌, ◌≤◌, max, cond, Option, None, Some, List, [], ◌∷◌, length, take, arith, nat_lt}
 use Rattle.std.specs.Prelude.{fold}
 use Rattle.std.specs.List.{All, AllByRecursion as Each}
 use Rattle.std.proofs.lemmas.List.Elements.{All-nil, All-append, All-set, All-cons, All-weaker}
@@ -15,8 +15,8 @@ use Rattle.tbr_tables.specs.declared.step.Step.{Step}
 use Rattle.tbr_tables.specs.declared.step.Step.TheVariants.{Text, BeginMode, EndMode, EndLine, Border, Inside, Sub, Append, GivenCell, EndGivenCell, GivenRow, VerticalRow, Table, Cell, EndCell, Row, EndTable}
 use Rattle.tbr_tables.specs.Ruler.{room_of}
 use Rattle.tbr_tables.specs.Grid.{last_of}
-use Rattle.tbr_tables.specs.Measured.{Measured, no_shape, needing, need_at, cell_needs, mode_ended, table_left, room_or_none, measured_after, nothing_measured}
-use Rattle.tbr_tables.specs.Recorded.{Recorded, with_step, nothing_recorded, recorded}
+use Rattle.tbr_tables.specs.Measured.{Measured, no_shape, needing, need_at, cell_needs, table_left, room_or_none, measured_after}
+use Rattle.tbr_tables.specs.Recorded.{Recorded, with_step, nothing_recorded}
 use Rattle.tbr_tables.specs.Laws.{WordsFit, shapes_of}
 use Rattle.tbr_tables.proofs.Cases.{by_bool}
 

@@ -15,7 +15,7 @@ use Rattle.tbr_tables.specs.declared.step.Step.TheVariants.{Text, BeginMode, End
 use Rattle.tbr_tables.specs.Numbers.{held, next_of}
 use Rattle.tbr_tables.specs.Ruler.{room_of, line_ended, with_lines, after_text}
 use Rattle.tbr_tables.specs.Level.{new_level, with_cell, exactly, cells_added}
-use Rattle.tbr_tables.specs.Grid.{Grid, first_row, passed, spot_for, placed, last_of, row_ended}
+use Rattle.tbr_tables.specs.Grid.{first_row, passed, spot_for, placed, last_of, row_ended}
 
 -- ---- a table
 

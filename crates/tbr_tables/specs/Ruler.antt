@@ -12,18 +12,21 @@ use Rattle.tbr_tables.specs.Numbers.{held}
 abbrev pub no_text : ℕ → Ruler
 no_text limit = record { limit = limit; least = 0; greatest = 0; line = 0; word = 0; space = 0 }
 
--- its longest word and its widest line
-abbrev pub room_of : Ruler → Room
-room_of r = record { least = r.least; greatest = r.greatest }
-
--- the open line ends
-abbrev pub line_ended : Ruler → Ruler
-line_ended r = record r { line = 0; word = 0; space = 0 }
-
 -- a word and a line come that are so wide, as far as a line may be
 abbrev pub grown : ℕ → ℕ → Ruler → Ruler
 grown word line r =
     record r { least = max r.least (min word r.limit); greatest = max r.greatest (min line r.limit) }
+
+-- its longest word and its widest line, with those that are open
+abbrev pub settled : Ruler → Ruler
+settled r = grown r.word r.line r
+
+abbrev pub room_of : Ruler → Room
+room_of r = record { least = (settled r).least; greatest = (settled r).greatest }
+
+-- the open line ends
+abbrev pub line_ended : Ruler → Ruler
+line_ended r = record (settled r) { line = 0; word = 0; space = 0 }
 
 -- lines come that take this room
 abbrev pub with_lines : Room → Ruler → Ruler
@@ -32,9 +35,7 @@ with_lines room r = grown room.least room.greatest (line_ended r)
 -- so many columns join the word at the end of the line, after the white space there
 abbrev pub joined : ℕ → Ruler → Ruler
 joined columns r =
-    let line = held (held (r.line + r.space) + columns) in
-    let word = held (r.word + columns) in
-    grown word line (record r { line = line; word = word; space = 0 })
+    record r { line = held (held (r.line + r.space) + columns); word = held (r.word + columns); space = 0 }
 
 -- a character joins it, if it has a width
 abbrev pub shown : Option ℕ → Ruler → Ruler
@@ -47,7 +48,7 @@ to_tab_stop r = 8 - held (r.line + r.space) % 8
 
 -- the word ends, and so much white space is after it
 abbrev pub word_ended : ℕ → Ruler → Ruler
-word_ended space r = record r { word = 0; space = space }
+word_ended space r = record (settled r) { word = 0; space = space }
 
 -- what white space counts that comes where it is one space between words
 abbrev pub one_space : ℕ → Ruler → ℕ

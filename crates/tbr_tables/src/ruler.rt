@@ -2,7 +2,7 @@
 
 ghost use Rattle.std.specs.Prelude.{◌≡◌, chars};
 ghost use Rattle.tbr_tables.specs.Ruler as model;
-ghost use Rattle.tbr_tables.specs.Ruler.{no_text, room_of, line_ended, grown, with_lines, joined, shown, after_normal, after_kept, after_wrapped, after_char, after_text, own_space};
+ghost use Rattle.tbr_tables.specs.Ruler.{no_text, room_of, line_ended, grown, settled, with_lines, joined, shown, after_normal, after_kept, after_wrapped, after_char, after_text, own_space};
 
 use column_widths::Room;
 use tbr_model::{CharWidth, WhiteSpace};
@@ -18,9 +18,9 @@ const ZERO_WIDTH_SPACE: char = '\u{200b}';
 pub struct Ruler {
     /// The most columns that a line may take.
     pub limit: usize,
-    /// The columns of the longest word.
+    /// The columns of the longest word that has ended.
     pub least: usize,
-    /// The columns of the widest line.
+    /// The columns of the widest line, to the end of its last word that has ended.
     pub greatest: usize,
     /// The columns of the open line, to the end of its last word.
     pub line: usize,
@@ -49,9 +49,11 @@ impl Ruler {
     pub fn room(&self) -> Room
         ensures { result ≡ room_of self.now }
     {
+        let mut settled = *self;
+        settled.settle();
         Room {
-            least: self.least,
-            greatest: self.greatest,
+            least: settled.least,
+            greatest: settled.greatest,
         }
     }
 
@@ -68,6 +70,7 @@ impl Ruler {
     pub fn end_line(&mut self)
         ensures { self.new ≡ line_ended self.old }
     {
+        self.settle();
         self.line = 0;
         self.word = 0;
         self.space = 0;
@@ -89,6 +92,21 @@ impl Ruler {
         self.greatest = self.greatest.max(line.min(self.limit));
     }
 
+    /// The word and the line that are open count.
+    fn settle(&mut self)
+        ensures { self.new ≡ settled self.old }
+    {
+        self.grow(self.word, self.line);
+    }
+
+    /// The word at the end of the line ends.
+    fn end_word(&mut self)
+        ensures { self.new ≡ model.word_ended self.old.space self.old }
+    {
+        self.settle();
+        self.word = 0;
+    }
+
     /// A character joins the word at the end of the line.
     fn join(&mut self, columns: usize)
         ensures { self.new ≡ joined columns self.old }
@@ -96,7 +114,6 @@ impl Ruler {
         self.line = self.line.saturating_add(self.space).saturating_add(columns);
         self.word = self.word.saturating_add(columns);
         self.space = 0;
-        self.grow(self.word, self.line);
     }
 
     /// A character comes.
@@ -115,7 +132,7 @@ impl Ruler {
         ensures { self.new ≡ after_normal W.columns c self.old }
     {
         if is_wordbreak_point(c) {
-            self.word = 0;
+            self.end_word();
             if c != ZERO_WIDTH_SPACE && self.line > 0 {
                 self.space = 1;
             }
@@ -143,7 +160,7 @@ impl Ruler {
         if c == '\n' {
             self.end_line();
         } else if is_wordbreak_point(c) {
-            self.word = 0;
+            self.end_word();
             self.space = self.space.saturating_add(self.columns_of_space::<W>(c));
         } else {
             self.add_shown::<W>(c);

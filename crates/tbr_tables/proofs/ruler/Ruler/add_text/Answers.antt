@@ -1,4 +1,4 @@
-use Rattle.std.proofs.Common.{◌≡◌, fold, sym, ◌∙◌, ap, map-id}
+use Rattle.std.proofs.Common.{fold, sym, ◌∙◌, ap, map-id}
 use Rattle.std.proofs.lemmas.Iterator.{YieldsList-from_chars}
 use Rattle.std.proofs.lemmas.Iterator.Consumers.{YieldsList-end}
 use Rattle.tbr_tables.specs.Ruler.{after_char}
