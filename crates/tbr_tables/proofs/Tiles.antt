@@ -5,7 +5,7 @@ use Rattle.std.specs.List.{AllByRecursion as Each}
 use Rattle.std.proofs.lemmas.Bool.{eqb-true, eqb-false}
 use Rattle.tbr_tables.specs.declared.grid.Spot.{Spot}
 use Rattle.tbr_tables.specs.declared.step.TableCell.{TableCell}
-use Rattle.tbr_tables.specs.Grid.{Grid, first_row, adjacent, end_of, next_from_above, passed, before_first, spot_for, placed, singles, between, rest_of_row, carried, spans_more, one_row_less}
+use Rattle.tbr_tables.specs.Grid.{Grid, first_row, adjacent, end_of, next_from_above, passed, before_first, spot_for, placed, most_columns, singles, between, rest_of_row, carried, spans_more, one_row_less}
 use Rattle.tbr_tables.specs.Laws.{Tiles, EndsBy, moved, grid_of, full_row}
 use Rattle.tbr_tables.proofs.Cases.{by_bool}
 
@@ -79,7 +79,7 @@ passed_in_order g h =
     }
 
 -- the end of a cell that comes next
-ends_after : (column columns : ℕ) (above : List Spot) → After column above → column < before_first (column + max columns 1) above
+ends_after : (column columns : ℕ) (above : List Spot) → After column above → column < before_first (column + min (max columns 1) most_columns) above
 ends_after column columns [] h = omega arith
 ends_after column columns (s ∷ ss) h = omega (arith, h)
 
@@ -92,7 +92,7 @@ placed_in_order columns rows g h after =
     let spot = spot_for columns rows g in
     record {
       row = tiles_append 0 g.column spot.end g.row (spot ∷ []) h.row (refl, ends_after g.column columns g.above after, refl);
-      above = apart_after (g.column + max columns 1) g.column g.above h.above;
+      above = apart_after (g.column + min (max columns 1) most_columns) g.column g.above h.above;
     }
 
 carried_apart : (a : ℕ) (xs : List Spot) → Apart a xs → Apart a (carried xs)

@@ -40,11 +40,15 @@ abbrev pub before_first : ℕ → List Spot → ℕ
 before_first end [] = end
 before_first end (s ∷ ss) = min end s.column
 
+-- as many columns as browsers let a cell span
+abbrev pub most_columns : ℕ
+most_columns = 1000
+
 -- the place of a cell that would come next and span so many columns and rows: it ends where one from above begins
 abbrev pub spot_for : ℕ → ℕ → Grid → Spot
 spot_for columns rows g = record {
   column = g.column;
-  end = before_first (g.column + max columns 1) g.above;
+  end = before_first (g.column + min (max columns 1) most_columns) g.above;
   rows = max rows 1;
 }
 

@@ -7,6 +7,9 @@ use std::alloc::{AllocError, Global};
 use std::marker::Model;
 use tbr_tagged::OutOfMemory;
 
+/// As many columns as browsers let a cell span.
+const MOST_COLUMNS: usize = 1000;
+
 /// The place of a cell in a row.
 #[derive(Clone, Copy, Debug, PartialEq, Eq)]
 pub struct Spot {
@@ -84,7 +87,7 @@ impl Grid {
         ensures { IfOk result (λ spot. spot ≡ spot_for columns rows self.now) }
     {
         let column = self.column;
-        let Some(end) = column.checked_add(columns.max(1)) else {
+        let Some(end) = column.checked_add(columns.max(1).min(MOST_COLUMNS)) else {
             return Err(OutOfMemory);
         };
         Ok(Spot {

@@ -1,6 +1,7 @@
 //! How wide a text is: its widest line, and its longest word.
 
 ghost use Rattle.std.specs.Prelude.{◌≡◌, chars};
+ghost use Rattle.tbr_model.specs.Run.{is_break};
 ghost use Rattle.tbr_tables.specs.Ruler as model;
 ghost use Rattle.tbr_tables.specs.Ruler.{no_text, room_of, line_ended, grown, settled, with_lines, joined, shown, after_normal, after_kept, after_wrapped, after_char, after_text, own_space};
 
@@ -131,7 +132,7 @@ impl Ruler {
     fn add_normal<W: CharWidth>(&mut self, c: char)
         ensures { self.new ≡ after_normal W.columns c self.old }
     {
-        if is_wordbreak_point(c) {
+        if ends_word(c) {
             self.end_word();
             if c != ZERO_WIDTH_SPACE && self.line > 0 {
                 self.space = 1;
@@ -159,7 +160,7 @@ impl Ruler {
     {
         if c == '\n' {
             self.end_line();
-        } else if is_wordbreak_point(c) {
+        } else if ends_word(c) {
             self.end_word();
             self.space = self.space.saturating_add(self.columns_of_space::<W>(c));
         } else {
@@ -193,4 +194,15 @@ impl Ruler {
     {
         TAB - self.line.saturating_add(self.space) % TAB
     }
+}
+
+/// Whether a word ends before a character, as `is_wordbreak_point` tells. It is sooner known of printable ASCII.
+#[tactic(auto, using(tbr_model::proofs::rule::Printable::break_not))]
+fn ends_word(c: char) -> bool
+    ensures { result ≡ is_break c }
+{
+    if c > ' ' && c <= '~' {
+        return false;
+    }
+    is_wordbreak_point(c)
 }

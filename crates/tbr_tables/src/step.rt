@@ -6,7 +6,8 @@ use tbr_tagged::CellAlign;
 /// A cell of a table that finds its widths.
 #[derive(Clone, Copy, Debug, PartialEq, Eq)]
 pub struct TableCell {
-    /// The columns of the table that it spans, if no cell from above is in the way. 0 counts as 1.
+    /// The columns of the table that it spans, if no cell from above is in the way. 0 counts as 1, and more than 1,000
+    /// as 1,000, as in browsers.
     pub columns: usize,
     /// The rows that it spans, if so many come. 0 counts as 1.
     pub rows: usize,
