@@ -5,9 +5,9 @@ use Rattle.tbr_tables.specs.declared.level.Level.{Level}
 use Rattle.tbr_tables.specs.Numbers.{held}
 use Rattle.tbr_tables.specs.Ruler.{no_text, with_lines}
 
--- a level without lines, which are so wide at most, where so many modes of white space have begun
-abbrev pub new_level : ℕ → ℕ → Level
-new_level limit modes = record { ruler = no_text limit; modes = modes; row = 0; widest = 0 }
+-- a level without lines, which are so wide at most, those of text so wide, where so many modes of white space have begun
+abbrev pub new_level : ℕ → ℕ → ℕ → Level
+new_level limit wrap modes = record { ruler = no_text limit wrap; modes = modes; row = 0; widest = 0 }
 
 -- a cell of so many columns waits, with a line between it and one that waits already
 abbrev pub with_cell : ℕ → Level → Level

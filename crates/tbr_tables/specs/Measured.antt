@@ -1,5 +1,5 @@
 -- What the columns of tables need.
-use Rattle.std.specs.Prelude.{ℕ, ◌+◌, ◌-◌, nat_lt, min, max, if◌then◌else◌, Option, None, Some, unwrap_or, List, [], ◌∷◌, ◌++◌, length, take, drop, slice_get, slice_set}
+use Rattle.std.specs.Prelude.{ℕ, ◌+◌, ◌-◌, ◌^◌, nat_lt, min, max, if◌then◌else◌, Option, None, Some, unwrap_or, List, [], ◌∷◌, ◌++◌, length, take, drop, slice_get, slice_set}
 use Rattle.tbr_model.specs.declared.white_space.WhiteSpace.{WhiteSpace}
 use Rattle.tbr_model.specs.declared.white_space.WhiteSpace.TheVariants.{Normal}
 use Rattle.column_widths.specs.declared.columns.CellNeed.{CellNeed}
@@ -63,7 +63,7 @@ table_row_ended t = record t { shape = record t.shape { rows = held (t.shape.row
 -- ---- all tables
 
 -- The tables that began, in order, each as known at its end; the innermost table that is open, and the others, the
--- innermost first; the levels likewise; the modes of white space that have begun; and the most columns of a line.
+-- innermost first; the levels likewise; the modes of white space that have begun; and the most columns of a line of text.
 pub record Measured : Type 0 where
   pub shapes : List Shape
   pub table : MeasuredTable
@@ -73,13 +73,17 @@ pub record Measured : Type 0 where
   pub modes : List WhiteSpace
   pub wrap : ℕ
 
--- nothing has come, where lines take so many columns at most
+-- any number of columns
+abbrev pub any_width : ℕ
+any_width = 2 ^ 64 - 1
+
+-- nothing has come, where lines of text take so many columns at most
 abbrev pub nothing_measured : ℕ → Measured
 nothing_measured wrap = record {
   shapes = [];
   table = new_table 0;
   tables = [];
-  level = new_level wrap 0;
+  level = new_level any_width wrap 0;
   levels = [];
   modes = [];
   wrap = wrap;
@@ -97,7 +101,7 @@ mode_ended m =
 
 -- a level opens inside, whose lines take so many columns at most
 abbrev pub entered : ℕ → Measured → Measured
-entered limit m = record m { level = new_level limit (length m.modes); levels = m.level ∷ m.levels }
+entered limit m = record m { level = new_level limit m.wrap (length m.modes); levels = m.level ∷ m.levels }
 
 -- the innermost level closes
 abbrev pub left : Measured → Measured
@@ -150,7 +154,7 @@ measured_after columns m EndGivenCell text =
 measured_after columns m GivenRow text = record m { level = cells_added m.level.row m.level }
 measured_after columns m VerticalRow text = record m { level = cells_added m.level.widest m.level }
 measured_after columns m Table text = table_begun m
-measured_after columns m (Cell cell) text = entered m.wrap (record m { table = cell_placed cell m.table })
+measured_after columns m (Cell cell) text = entered any_width (record m { table = cell_placed cell m.table })
 measured_after columns m EndCell text =
     let outside = left m in
     record outside { table = cell_needs (room_of m.level.ruler) (last_of m.table.grid) m.table }

@@ -10,7 +10,7 @@ pub record Recorded : Type 0 where
   pub steps : List Step
   pub measured : Measured
 
--- nothing, where lines take so many columns at most
+-- nothing, where lines of text take so many columns at most
 abbrev pub nothing_recorded : ℕ → Recorded
 nothing_recorded wrap = record { steps = []; measured = nothing_measured wrap }
 

@@ -8,9 +8,9 @@ use Rattle.column_widths.specs.declared.room.Room.{Room}
 use Rattle.tbr_tables.specs.declared.ruler.Ruler.{Ruler}
 use Rattle.tbr_tables.specs.Numbers.{held}
 
--- no text, in lines of so many columns at most
-abbrev pub no_text : ℕ → Ruler
-no_text limit = record { limit = limit; least = 0; greatest = 0; line = 0; word = 0; space = 0 }
+-- no text, in lines of so many columns at most, and those of text of so many
+abbrev pub no_text : ℕ → ℕ → Ruler
+no_text limit wrap = record { limit = limit; wrap = wrap; least = 0; greatest = 0; line = 0; word = 0; space = 0 }
 
 -- a word and a line come that are so wide, as far as a line may be
 abbrev pub grown : ℕ → ℕ → Ruler → Ruler
@@ -19,7 +19,7 @@ grown word line r =
 
 -- its longest word and its widest line, with those that are open
 abbrev pub settled : Ruler → Ruler
-settled r = grown r.word r.line r
+settled r = grown (min r.word r.wrap) (min r.line r.wrap) r
 
 abbrev pub room_of : Ruler → Room
 room_of r = record { least = (settled r).least; greatest = (settled r).greatest }

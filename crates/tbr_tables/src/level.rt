@@ -20,12 +20,12 @@ pub struct Level {
 }
 
 impl Level {
-    /// A level whose lines take so many columns at most, where so many modes have begun.
-    pub fn new(limit: usize, modes: usize) -> Level
-        ensures { result ≡ new_level limit modes }
+    /// A level whose lines take so many columns at most, and those of text so many, where so many modes have begun.
+    pub fn new(limit: usize, wrap: usize, modes: usize) -> Level
+        ensures { result ≡ new_level limit wrap modes }
     {
         Level {
-            ruler: Ruler::new(limit),
+            ruler: Ruler::new(limit, wrap),
             modes,
             row: 0,
             widest: 0,

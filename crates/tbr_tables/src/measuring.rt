@@ -2,7 +2,7 @@
 ghost use Rattle.std.specs.Prelude.{◌≡◌, chars, length, OnOk, slice_set, IfOk};
 ghost use Rattle.column_widths.specs.Widths.{needed_room};
 ghost use Rattle.tbr_tables.specs.Ruler.{room_of};
-ghost use Rattle.tbr_tables.specs.Measured.{nothing_measured, mode_of, mode_ended, entered, left, lines_come, beside, cell_placed, cell_needs, table_begun, table_left, room_or_none, measured_after};
+ghost use Rattle.tbr_tables.specs.Measured.{nothing_measured, mode_of, mode_ended, any_width, entered, left, lines_come, beside, cell_placed, cell_needs, table_begun, table_left, room_or_none, measured_after};
 ghost use Rattle.tbr_tables.specs.Measured as model;
 ghost use Rattle.tbr_tables.specs.Level.{with_cell};
 ghost use Rattle.tbr_tables.specs.Grid.{last_of};
@@ -34,7 +34,7 @@ pub struct Measuring {
     levels: Vec<Level>,
     /// The modes of white space that have begun in all levels.
     modes: Vec<WhiteSpace>,
-    /// The most columns that a line takes.
+    /// The most columns that a line of text takes.
     wrap: usize,
 }
 
@@ -56,7 +56,7 @@ impl Model for Measuring {
 }
 
 impl Measuring {
-    /// Nothing has come, where lines take so many columns at most.
+    /// Nothing has come, where lines of text take so many columns at most.
     pub fn begun(alloc: Global, wrap: usize) -> Measuring
         ensures { result ≡ nothing_measured wrap }
     {
@@ -65,7 +65,7 @@ impl Measuring {
             shapes: Vec::new(alloc),
             table: MeasuredTable::begun(alloc, 0),
             tables: Vec::new(alloc),
-            level: Level::new(wrap, 0),
+            level: Level::new(usize::MAX, wrap, 0),
             levels: Vec::new(alloc),
             modes: Vec::new(alloc),
             wrap,
@@ -144,7 +144,7 @@ impl Measuring {
     fn enter(&mut self, limit: usize) -> Result<(), OutOfMemory>
         ensures { OnOk result (self.new ≡ entered limit self.old) }
     {
-        let inside = Level::new(limit, self.modes.len());
+        let inside = Level::new(limit, self.wrap, self.modes.len());
         let outside = mem::replace(&mut self.level, inside);
         self.levels.push(outside)?;
         Ok(())
@@ -194,10 +194,10 @@ impl Measuring {
     /// A cell of the innermost table opens.
     fn begin_cell(&mut self, cell: TableCell) -> Result<(), OutOfMemory>
         ensures { OnOk result
-            (self.new ≡ entered self.old.wrap (record self.old { table = cell_placed cell self.old.table })) }
+            (self.new ≡ entered any_width (record self.old { table = cell_placed cell self.old.table })) }
     {
         self.table.place(cell)?;
-        self.enter(self.wrap)
+        self.enter(usize::MAX)
     }
 
     /// It closes.

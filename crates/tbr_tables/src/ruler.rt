@@ -19,6 +19,8 @@ const ZERO_WIDTH_SPACE: char = '\u{200b}';
 pub struct Ruler {
     /// The most columns that a line may take.
     pub limit: usize,
+    /// The most columns that a line of text takes.
+    pub wrap: usize,
     /// The columns of the longest word that has ended.
     pub least: usize,
     /// The columns of the widest line, to the end of its last word that has ended.
@@ -32,12 +34,13 @@ pub struct Ruler {
 }
 
 impl Ruler {
-    /// No text, in lines of so many columns at most.
-    pub fn new(limit: usize) -> Ruler
-        ensures { result ≡ no_text limit }
+    /// No text, in lines of so many columns at most, and those of text of so many.
+    pub fn new(limit: usize, wrap: usize) -> Ruler
+        ensures { result ≡ no_text limit wrap }
     {
         Ruler {
             limit,
+            wrap,
             least: 0,
             greatest: 0,
             line: 0,
@@ -97,7 +100,7 @@ impl Ruler {
     fn settle(&mut self)
         ensures { self.new ≡ settled self.old }
     {
-        self.grow(self.word, self.line);
+        self.grow(self.word.min(self.wrap), self.line.min(self.wrap));
     }
 
     /// The word at the end of the line ends.
