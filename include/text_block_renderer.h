@@ -15,6 +15,11 @@
  * nothing is written, and a second call with more room has all of it. A buffer may not overlap what another argument
  * points to.
  *
+ * CONTROL CHARACTERS. A text that comes out has none but the newlines that end lines: not U+0000 to U+001F, U+007F, nor
+ * U+0080 to U+009F. Those of texts are white space or vanish. Those of prefixes, and of the targets that footnotes list,
+ * are shown as a browser shows them, so that an escape is %1B; `raw` of tbr_options lets them through. Annotations and
+ * the names of markers keep what came.
+ *
  * STATUSES. Each call answers TBR_OK or says why it did nothing. TBR_OUT_OF_MEMORY and TBR_TOO_NARROW are kept: what
  * the renderer was filled with is lost, and each later call but tbr_free answers the same. All other refusals leave
  * the renderer as it was. Calls that keep none say so. What an out pointer points to is written only where a call
@@ -42,9 +47,9 @@
 #include <stdint.h>
 
 #define TBR_VERSION_MAJOR 0
-#define TBR_VERSION_MINOR 2
+#define TBR_VERSION_MINOR 3
 #define TBR_VERSION_PATCH 0
-#define TBR_VERSION "0.2.0"
+#define TBR_VERSION "0.3.0"
 
 #ifdef __cplusplus
 extern "C" {
@@ -153,6 +158,11 @@ typedef struct tbr_options {
     bool strikeout_strokes;
     /* Whether borders of tables are drawn; those of tbr_add_border always are. */
     bool draw_borders;
+    /* For nothing. Since 0.3. */
+    uint16_t unused;
+    /* Whether control characters of prefixes, and of the targets that footnotes list, come out as they went in. Since
+       0.3. */
+    bool raw;
 } tbr_options;
 
 /* A renderer. */
@@ -247,6 +257,10 @@ typedef struct tbr_annotation {
  */
 tbr_answer tbr_render(const char *script, size_t length, char *out, size_t room);
 
+/* The same, where control characters of prefixes, and of the targets that footnotes list, come out as they went in. Its
+   text is that of the program blockrender. Since 0.3. */
+tbr_answer tbr_render_raw(const char *script, size_t length, char *out, size_t room);
+
 /* ---- how wide a text is ---- */
 
 /* The columns of a text: those of its characters together, as a renderer counts them. Control characters, as a tab or
@@ -259,8 +273,8 @@ tbr_status tbr_text_width(const char *text, size_t *columns);
 /* ---- making a renderer ---- */
 
 /* Sets options to those of a plain renderer of so many columns. Lines are as wide as it, neither padded nor wider. There
-   are no footnotes; where they are turned on, their lines are cut. Struck out text has strokes, borders are drawn, and
-   an image without a title shows nothing. `size` is the number of bytes that `options` has. */
+   are no footnotes; where they are turned on, their lines are cut. Struck out text has strokes, borders are drawn, an
+   image without a title shows nothing, and no control character comes out. `size` is the number of bytes that `options` has. */
 void tbr_options_init(tbr_options *options, size_t size, size_t width);
 
 /* The same options as a value. This is the one call that a program has in itself, so that their size is the one that it

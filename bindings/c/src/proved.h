@@ -22,13 +22,14 @@ typedef struct tbr1_options {
     bool wrap_links;
     bool strikeout_strokes;
     bool draw_borders;
+    bool raw;
 } tbr1_options;
 
 typedef struct tbr1_handle {
     tbr_renderer *at;
 } tbr1_handle;
 
-tbr_answer tbr1_render(const uint8_t *script, size_t length, uint8_t *out, size_t room);
+tbr_answer tbr1_render(const uint8_t *script, size_t length, bool raw, uint8_t *out, size_t room);
 uint32_t tbr1_text_width(const uint8_t *text, size_t length, size_t *columns);
 uint32_t tbr1_new(const tbr1_options *options, tbr_renderer **back);
 void tbr1_free(tbr1_handle renderer);

@@ -40,13 +40,21 @@ static bool is_missing(const char *text, size_t length) {
 
 /* ---- a script as a whole ---- */
 
-tbr_answer tbr_render(const char *script, size_t length, char *out, size_t room) {
+static tbr_answer rendered(const char *script, size_t length, bool raw, char *out, size_t room) {
     uint8_t spare = 0;
     if (is_missing(script, length) || is_missing(out, room)) {
         tbr_answer missing = {TBR_BAD_ARGUMENT, 0, 0};
         return missing;
     }
-    return tbr1_render(bytes_of(script), length, room_of(out, &spare), room);
+    return tbr1_render(bytes_of(script), length, raw, room_of(out, &spare), room);
+}
+
+tbr_answer tbr_render(const char *script, size_t length, char *out, size_t room) {
+    return rendered(script, length, false, out, room);
+}
+
+tbr_answer tbr_render_raw(const char *script, size_t length, char *out, size_t room) {
+    return rendered(script, length, true, out, room);
 }
 
 /* ---- how wide a text is ---- */
@@ -93,7 +101,7 @@ static tbr1_options options_of(const tbr_options *given) {
     tbr_options options = tbr_options_default(0);
     memcpy(&options, given, given->size < sizeof options ? given->size : sizeof options);
     tbr1_options passed = {options.width, options.wrap_width, options.decorator, options.images, options.overflow,
-        options.pad, options.footnotes, options.wrap_links, options.strikeout_strokes, options.draw_borders};
+        options.pad, options.footnotes, options.wrap_links, options.strikeout_strokes, options.draw_borders, options.raw};
     return passed;
 }
 

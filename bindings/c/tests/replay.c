@@ -3,7 +3,7 @@
  * same text, the same line on standard error, the same status.
  *
  * Besides, it asks for the lines piece by piece, for the text alone, and for the script as a whole. It ends with status
- * 99 where these aren't the same text.
+ * 99 where these aren't the same text. All is raw, as blockrender has it.
  */
 #include <stdio.h>
 #include <stdlib.h>
@@ -402,6 +402,7 @@ static bool opening(slice line, tbr_options *options) {
     bool is_last = false;
     slice word;
     *options = tbr_options_default(0);
+    options->raw = true;
     if (!next_word(&line, &is_last, &word) || !is_word(word, "new") || !next_word(&line, &is_last, &word)
         || !size(word, &options->width) || !next_word(&line, &is_last, &word) || !set_decorator(options, word)) {
         return false;
@@ -576,7 +577,7 @@ static void check_alone(slice script, outcome ended, buffer text) {
 /* That the script as a whole ends in the same way. */
 static void check_whole(slice script, outcome ended, buffer text) {
     char *out = memory(text.length);
-    tbr_answer answer = tbr_render(script.at, script.length, out, text.length);
+    tbr_answer answer = tbr_render_raw(script.at, script.length, out, text.length);
     check(answer.status == (uint32_t)ended.status && answer.line == ended.line, "the status as a whole");
     check(answer.length == text.length && !memcmp(out, text.at, text.length), "the text as a whole");
     free(out);

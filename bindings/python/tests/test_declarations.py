@@ -22,6 +22,7 @@ PROJECT = Path(__file__).resolve().parents[1] / "pyproject.toml"
 C_TYPES = {
     "size_t": ctypes.c_size_t,
     "uint32_t": ctypes.c_uint32,
+    "uint16_t": ctypes.c_uint16,
     "uint8_t": ctypes.c_uint8,
     "int64_t": ctypes.c_int64,
     "bool": ctypes.c_bool,
@@ -73,7 +74,7 @@ class Declarations(unittest.TestCase):
         self.assertEqual({name: taken[name] for name in taken if name not in without_length}, library.CALLS)
 
     def test_calls_without_a_renderer_are_declared(self) -> None:
-        for name in ("render", "text_width_n"):
+        for name in ("render", "render_raw", "text_width_n"):
             parameters = re.search(rf"^\w+ tbr_{name}\((.*?)\);", self.header, re.M | re.S)
             assert parameters
             function = getattr(library.LIBRARY, f"tbr_{name}")

@@ -15,6 +15,7 @@ from text_block_renderer import (
     Renderer,
     TaggedLine,
     WhiteSpace,
+    render_script,
     text_width,
 )
 
@@ -54,6 +55,24 @@ class Text(unittest.TestCase):
         marker, text = lines(calls, 20)[0]
         self.assertEqual(marker, FragmentStart("a\0b"))
         self.assertEqual(text.text, "bell")
+
+    def test_no_control_character_comes_out(self) -> None:
+        def calls(r: Renderer) -> None:
+            r.start_subrender(9)
+            with r.link("\x1b]0;x\x07"):
+                r.add_inline_text("here")
+            r.append_subrender("\x9b\n", "")
+
+        settings: dict[str, Any] = {"decorator": Decorator.RICH, "include_link_footnotes": True}
+        self.assertEqual(rendered(calls, 20, **settings), "%C2%9B%0Ahere[1]\n\n[1]: %1B]0;x%07\n")
+        self.assertEqual(rendered(calls, 20, raw=True, **settings), "\x9b\nhere[1]\n\n[1]: \x1b]0;x\x07\n")
+        link = list(lines(calls, 20, **settings)[0].tagged_strings())[1]
+        self.assertEqual(link.annotations, (Annotation(Kind.LINK, "\x1b]0;x\x07"),))
+
+    def test_no_control_character_of_a_script_comes_out(self) -> None:
+        script = "new 20 plain\nsub 9\ntext a\nappend \\u{1b}\\n | \n"
+        self.assertEqual(render_script(script), "%1B%0Aa\n")
+        self.assertEqual(render_script(script, raw=True), "\x1b\na\n")
 
     def test_white_space_is_kept_where_a_mode_says_so(self) -> None:
         def calls(r: Renderer) -> None:

@@ -26,7 +26,7 @@ from .script import render_script
 from .versions import library_version
 from .widths import text_width
 
-__version__ = "0.2.0"
+__version__ = "0.3.0"
 
 __all__ = [
     "Annotation",

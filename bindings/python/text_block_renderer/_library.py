@@ -1,7 +1,7 @@
 """The library, and what it exports, as `include/text_block_renderer.h` declares it."""
 
 import ctypes
-from ctypes import POINTER, Structure, c_bool, c_char_p, c_int64, c_size_t, c_uint8, c_uint32, c_void_p
+from ctypes import POINTER, Structure, c_bool, c_char_p, c_int64, c_size_t, c_uint8, c_uint16, c_uint32, c_void_p
 from typing import Any
 
 from ._search import FILE, FOLDER, HOW_TO_GET_IT, folders, library_file
@@ -20,6 +20,8 @@ class Options(Structure):
         ("wrap_links", c_bool),
         ("strikeout_strokes", c_bool),
         ("draw_borders", c_bool),
+        ("unused", c_uint16),
+        ("raw", c_bool),
     ]
 
 
@@ -159,8 +161,9 @@ def _declare(library: ctypes.CDLL) -> None:
     library.tbr_new.restype = c_uint32
     library.tbr_free.argtypes = (c_void_p,)
     library.tbr_free.restype = None
-    library.tbr_render.argtypes = (*_TEXT, c_char_p, c_size_t)
-    library.tbr_render.restype = Answer
+    for render in (library.tbr_render, library.tbr_render_raw):
+        render.argtypes = (*_TEXT, c_char_p, c_size_t)
+        render.restype = Answer
     library.tbr_text_width_n.argtypes = (*_TEXT, *_SIZE)
     library.tbr_text_width_n.restype = c_uint32
     library.tbr_version.argtypes = ()

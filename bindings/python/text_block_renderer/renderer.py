@@ -56,6 +56,7 @@ class Renderer:
         include_link_footnotes: bool = False,
         use_unicode_strikeout: bool = True,
         img_mode: ImageRenderMode = ImageRenderMode.IGNORE_EMPTY,
+        raw: bool = False,
     ) -> None:
         """A renderer of so many columns. `BadWidthError` at 0.
 
@@ -67,6 +68,8 @@ class Renderer:
         include_link_footnotes: links show numbers, and their targets come after the text under these.
         use_unicode_strikeout: struck out text has strokes.
         img_mode: what an image without a title shows.
+        raw: control characters of prefixes, and of the targets that footnotes list, come out as they went in. Else they
+            are shown as a browser shows them, so that an escape is `%1B`.
         """
         self._owned = OwnedRenderer(
             library.Options(
@@ -81,6 +84,7 @@ class Renderer:
                 wrap_links=wrap_links,
                 strikeout_strokes=use_unicode_strikeout,
                 draw_borders=draw_borders,
+                raw=raw,
             )
         )
 

@@ -18,6 +18,6 @@ pub use line::{Colour, RichAnnotation, TaggedLine, TaggedLineElement, TaggedStri
 pub use lines::Lines;
 pub use options::{Cell, CellAlign, ImageRenderMode, Options, WhiteSpace};
 pub use renderer::Renderer;
-pub use script::{render_script, ScriptError};
+pub use script::{render_script, render_script_raw, ScriptError};
 pub use version::version;
 pub use width::text_width;

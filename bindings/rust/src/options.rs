@@ -28,6 +28,7 @@ pub struct Options {
     include_link_footnotes: bool,
     use_unicode_strikeout: bool,
     img_mode: ImageRenderMode,
+    raw: bool,
 }
 
 /// How decorated text is shown.
@@ -78,6 +79,7 @@ impl Options {
             include_link_footnotes: false,
             use_unicode_strikeout: true,
             img_mode: ImageRenderMode::default(),
+            raw: false,
         }
     }
 
@@ -122,6 +124,12 @@ impl Options {
         Options { img_mode, ..self }
     }
 
+    /// Whether control characters of prefixes, and of the targets that footnotes list, come out as they went in. At
+    /// first they are shown as a browser shows them, so that an escape is `%1B`.
+    pub fn raw(self, raw: bool) -> Options {
+        Options { raw, ..self }
+    }
+
     pub(crate) fn to_sys(self) -> sys::Options {
         sys::Options {
             size: mem::size_of::<sys::Options>(),
@@ -135,6 +143,8 @@ impl Options {
             wrap_links: self.wrap_links,
             strikeout_strokes: self.use_unicode_strikeout,
             draw_borders: self.draw_borders,
+            unused: 0,
+            raw: self.raw,
         }
     }
 }

@@ -1,5 +1,5 @@
 -- What is answered to C.
-use Rattle.std.specs.Prelude.{◌≡◌, ◌≢◌, ℕ, Option, Some, Result, Ok, Err, OnOk, IfOk, IfErr, MatchResult, List, length}
+use Rattle.std.specs.Prelude.{◌≡◌, ◌≢◌, ℕ, Bool, Option, Some, Result, Ok, Err, OnOk, IfOk, IfErr, MatchResult, List, length}
 use Rattle.tbr_commands.specs.Command.{Command}
 use Rattle.tbr_commands.specs.declared.opening.Opening.{Opening}
 use Rattle.tbr_c_lines.specs.Copied.{CopiesMade}
@@ -59,16 +59,16 @@ GivesText before back old new status =
     (done : Result ℕ Fault) × (after : State) × IfOk done (HasLength before after) × IsEnd before done after
     × (back ≡ Some after) × Puts done old new status
 
--- A new renderer, or why there is none.
-abbrev pub IsMade : Result Opening Fault → Result State Fault → Type 0
-IsMade asked made =
-    MatchResult made (λ state. (opening : Opening) × (asked ≡ Ok opening) × Begins opening state)
+-- A new renderer, which is raw or not, or why there is none.
+abbrev pub IsMade : Result Opening Fault → (raw : Bool) → Result State Fault → Type 0
+IsMade asked raw made =
+    MatchResult made (λ state. (opening : Opening) × (asked ≡ Ok opening) × Begins opening raw state)
     (λ f. f ≢ fault.OutOfMemory → asked ≡ Err f)
 
 -- C is given a new renderer where one is made, and the status of that.
-abbrev pub GivesNew : Result Opening Fault → Option State → Option State → ℕ → Type 0
-GivesNew asked before back status =
-    (made : Result State Fault) × IsMade asked made × MatchResult made (λ state. back ≡ Some state) (λ _. back ≡ before)
+abbrev pub GivesNew : Result Opening Fault → (raw : Bool) → Option State → Option State → ℕ → Type 0
+GivesNew asked raw before back status =
+    (made : Result State Fault) × IsMade asked raw made × MatchResult made (λ state. back ≡ Some state) (λ _. back ≡ before)
     × (status ≡ status_of made)
 
 -- The text of all lines that weren't taken is copied, or it is refused, and C is given back what the renderer holds then.

@@ -41,14 +41,14 @@ impl Model for Held {
 }
 
 impl Held {
-    /// A renderer without text. It refuses only where memory is refused.
-    pub fn new(alloc: Global, opening: Opening) -> Result<Held, Fault>
+    /// A renderer without text, which is `raw` or not. It refuses only where memory is refused.
+    pub fn new(alloc: Global, opening: Opening, raw: bool) -> Result<Held, Fault>
         requires width { 0 < opening.width }
         requires wrap_width { opening.options.wrap_width ≢ Some 0 }
-        ensures begins { IfOk result (λ held. Begins opening held) }
+        ensures begins { IfOk result (λ held. Begins opening raw held) }
         ensures memory { IfErr result (λ fault. fault ≡ F.OutOfMemory) }
     {
-        let state = State::new(alloc, opening)?;
+        let state = State::new(alloc, opening, raw)?;
         Ok(Held { alloc, state })
     }
 

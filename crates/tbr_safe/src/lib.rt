@@ -1,0 +1,8 @@
+//! Texts without control characters: these are shown as a browser shows them in an address.
+#![tactic(auto)]
+
+pub use escapes::{escape, escape_all};
+pub use laws::{no_control_character_is_left, other_texts_stay};
+
+mod escapes;
+mod laws;
