@@ -132,6 +132,22 @@ typedef enum tbr_alignment {
     TBR_CENTRE = 2
 } tbr_alignment;
 
+/* How lines are shown. None of these lets a control character of a text, a target or a name out, but text of a renderer
+   that is raw. Links of TBR_FORMAT_ANSI and TBR_FORMAT_HTML lead to http, https, mailto, ftp and where there is no
+   scheme, and to nothing else. Since 0.3. */
+typedef enum tbr_format {
+    /* The text alone. */
+    TBR_FORMAT_TEXT = 0,
+    /* For a terminal: emphasis, strong and struck out text, code and colours by control sequences, and hyperlinks. */
+    TBR_FORMAT_ANSI = 1,
+    /* For HTML: what is in a <pre>, with links, emphasis and colours as elements, and markers as places to link to. A
+       character of two columns is in a <span class="wide">, to be shown as two characters wide. */
+    TBR_FORMAT_HTML = 2,
+    /* An object of JSON for each line: columns, whether it is a border, and its pieces and markers. Targets and names
+       are as they came, their control characters as escapes. */
+    TBR_FORMAT_JSON = 3
+} tbr_format;
+
 /* What a renderer is told to do. Make it by tbr_options_default, which sets all fields. A later version may have more
    fields at the end. */
 typedef struct tbr_options {
@@ -537,14 +553,23 @@ tbr_status tbr_header_prefix(tbr_renderer *renderer, size_t level, char *out, si
    call doesn't put it together anew. After tbr_finish_text it takes no memory. */
 tbr_status tbr_text(tbr_renderer *renderer, char *out, size_t room, size_t *length);
 
+/* The same lines in a format, each with a newline. It takes none. TBR_NO_LINE after tbr_finish_text, but for
+   TBR_FORMAT_TEXT, which is tbr_text. TBR_BAD_ARGUMENT where the format is none of its values. TBR_OUT_OF_MEMORY, which
+   is kept. At TBR_BUFFER_TOO_SMALL they are kept for a second call in the same format. Since 0.3. */
+tbr_status tbr_text_as(tbr_renderer *renderer, tbr_format format, char *out, size_t room, size_t *length);
+
 /* Takes the next line, which the calls below are about, and frees the one before. TBR_NO_LINE where none is left; the
    line that was taken last stays. TBR_OUT_OF_MEMORY, which is kept. */
 tbr_status tbr_next_line(tbr_renderer *renderer, tbr_line *line);
 
-/* The calls below take no memory, and answer TBR_NO_LINE where tbr_next_line has taken no line yet. */
+/* The calls below take no memory but for tbr_line_as, and answer TBR_NO_LINE where tbr_next_line has taken no line yet. */
 
 /* The text of the line, without a newline. */
 tbr_status tbr_line_text(tbr_renderer *renderer, char *out, size_t room, size_t *length);
+
+/* The line in a format, without a newline. TBR_BAD_ARGUMENT where that is none of its values. TBR_OUT_OF_MEMORY, which
+   is kept. Since 0.3. */
+tbr_status tbr_line_as(tbr_renderer *renderer, tbr_format format, char *out, size_t room, size_t *length);
 
 /* A piece of the line, by its place from 0. TBR_NO_PIECE where it has none there. */
 tbr_status tbr_get_piece(tbr_renderer *renderer, size_t place, tbr_piece *piece);

@@ -92,6 +92,11 @@ uint32_t tbr1_header_prefix(tbr1_handle renderer, size_t level, uint8_t *out, si
     tbr_renderer **back);
 
 uint32_t tbr1_text(tbr1_handle renderer, uint8_t *out, size_t room, size_t *length, tbr_renderer **back);
+/* The number of a format is one below that of its tbr_format: TBR_FORMAT_TEXT has none. */
+uint32_t tbr1_text_as(tbr1_handle renderer, uint32_t format, uint8_t *out, size_t room, size_t *length,
+    tbr_renderer **back);
+uint32_t tbr1_line_as(tbr1_handle renderer, uint32_t format, uint8_t *out, size_t room, size_t *length,
+    tbr_renderer **back);
 uint32_t tbr1_next_line(tbr1_handle renderer, tbr_line *line, tbr_renderer **back);
 uint32_t tbr1_line_text(tbr1_handle renderer, uint8_t *out, size_t room, size_t *length, tbr_renderer **back);
 uint32_t tbr1_get_piece(tbr1_handle renderer, size_t place, tbr_piece *piece, tbr_renderer **back);

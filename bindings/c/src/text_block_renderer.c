@@ -521,6 +521,32 @@ tbr_status tbr_line_text(tbr_renderer *renderer, char *out, size_t room, size_t 
         : TBR_NO_RENDERER;
 }
 
+tbr_status tbr_text_as(tbr_renderer *renderer, tbr_format format, char *out, size_t room, size_t *length) {
+    uint8_t spare = 0;
+    if (format == TBR_FORMAT_TEXT) {
+        return tbr_text(renderer, out, room, length);
+    }
+    if (is_missing(out, room)) {
+        return TBR_BAD_ARGUMENT;
+    }
+    return renderer ? (tbr_status)tbr1_text_as(handle_of(renderer), (uint32_t)format - 1, room_of(out, &spare), room,
+                          length, &renderer)
+                    : TBR_NO_RENDERER;
+}
+
+tbr_status tbr_line_as(tbr_renderer *renderer, tbr_format format, char *out, size_t room, size_t *length) {
+    uint8_t spare = 0;
+    if (format == TBR_FORMAT_TEXT) {
+        return tbr_line_text(renderer, out, room, length);
+    }
+    if (is_missing(out, room)) {
+        return TBR_BAD_ARGUMENT;
+    }
+    return renderer ? (tbr_status)tbr1_line_as(handle_of(renderer), (uint32_t)format - 1, room_of(out, &spare), room,
+                          length, &renderer)
+                    : TBR_NO_RENDERER;
+}
+
 tbr_status tbr_get_piece(tbr_renderer *renderer, size_t place, tbr_piece *piece) {
     return renderer ? (tbr_status)tbr1_get_piece(handle_of(renderer), place, piece, &renderer) : TBR_NO_RENDERER;
 }

@@ -86,6 +86,24 @@ static tbr_status take_lines(tbr_renderer *r) {
     return status == TBR_NO_LINE ? TBR_OK : status;
 }
 
+/* Takes all lines in each format, which are made once for two calls, and then each line. */
+static tbr_status take_formats(tbr_renderer *r) {
+    static char text[65536];
+    tbr_line line;
+    tbr_status status = TBR_OK;
+    size_t length;
+    for (int format = TBR_FORMAT_ANSI; format <= TBR_FORMAT_JSON && status == TBR_OK; format++) {
+        status = tbr_text_as(r, (tbr_format)format, text, 1, &length);
+        if (status == TBR_BUFFER_TOO_SMALL) status = tbr_text_as(r, (tbr_format)format, text, sizeof text, &length);
+    }
+    while (status == TBR_OK && (status = tbr_next_line(r, &line)) == TBR_OK) {
+        for (int format = TBR_FORMAT_ANSI; format <= TBR_FORMAT_JSON && status == TBR_OK; format++) {
+            status = tbr_line_as(r, (tbr_format)format, text, sizeof text, &length);
+        }
+    }
+    return status == TBR_NO_LINE ? TBR_OK : status;
+}
+
 /* Takes the text alone, for which it takes no memory. */
 static tbr_status take_text(tbr_renderer *r) {
     size_t length;
@@ -125,6 +143,7 @@ static tbr_status make(tbr_status (*finish)(tbr_renderer *), tbr_status (*take)(
 }
 
 static tbr_status document(void) { return make(tbr_finish, take_lines); }
+static tbr_status formats_of_document(void) { return make(tbr_finish, take_formats); }
 static tbr_status text_of_document(void) { return make(finish_text, take_text); }
 
 /* ---- quotes, items and headers, which keep a refusal or are as they were ---- */
@@ -239,6 +258,7 @@ static bool refuse_each(const char *what, tbr_status (*run)(void)) {
 
 int main(void) {
     bool is_well = refuse_each("a document", document);
+    is_well = refuse_each("a document in formats", formats_of_document) && is_well;
     is_well = refuse_each("a document's text", text_of_document) && is_well;
     is_well = refuse_each("quotes, items and headers", blocks) && is_well;
     is_well = refuse_each("questions", questions) && is_well;

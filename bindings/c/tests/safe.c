@@ -185,20 +185,41 @@ static void close_levels(tbr_renderer *r) {
     }
 }
 
-/* Whether a text has a control character that doesn't end a line. */
-static bool has_control(const char *text, size_t length) {
+/* How many bytes a control sequence of TBR_FORMAT_ANSI has, or 0 where there is none: one that selects how characters are
+   shown, or a link to a target without spaces and controls. */
+static size_t sequence(const char *text, size_t length) {
+    size_t at = 2;
+    if (length > 2 && !memcmp(text, "\x1b[", 2)) {
+        while (at < length && ((text[at] >= '0' && text[at] <= '9') || text[at] == ';')) at++;
+        return at < length && text[at] == 'm' ? at + 1 : 0;
+    }
+    if (length < 5 || memcmp(text, "\x1b]8;;", 5)) {
+        return 0;
+    }
+    for (at = 5; at < length && text[at] > ' ' && text[at] < 0x7f; at++) {}
+    return at + 1 < length && !memcmp(text + at, "\x1b\\", 2) ? at + 2 : 0;
+}
+
+/* Whether lines have a control character that doesn't end one, nor is of a sequence of their format. */
+static bool has_control(const char *text, size_t length, tbr_format format) {
     for (size_t i = 0; i < length; i++) {
         unsigned char c = (unsigned char)text[i];
-        if ((c < 0x20 && c != '\n') || c == 0x7f) return true;
-        if (c == 0xc2 && i + 1 < length && (unsigned char)text[i + 1] < 0xa0) return true;
+        size_t own = format == TBR_FORMAT_ANSI ? sequence(text + i, length - i) : 0;
+        if (own) {
+            i += own - 1;
+        } else if ((c < 0x20 && c != '\n') || c == 0x7f) {
+            return true;
+        } else if (c == 0xc2 && i + 1 < length && (unsigned char)text[i + 1] < 0xa0) {
+            return true;
+        }
     }
     return false;
 }
 
-/* Whether the text of a renderer that is finished has one. */
-static bool shows_control(tbr_renderer *r) {
+/* Whether the lines of a renderer that is finished have one in a format. */
+static bool shows_control(tbr_renderer *r, tbr_format format) {
     size_t length = 0;
-    tbr_status status = tbr_text(r, NULL, 0, &length);
+    tbr_status status = tbr_text_as(r, format, NULL, 0, &length);
     if (status != TBR_BUFFER_TOO_SMALL) {
         well(status);
         return false;
@@ -207,10 +228,15 @@ static bool shows_control(tbr_renderer *r) {
     if (!text) {
         exit(EXIT_FAILURE);
     }
-    well(tbr_text(r, text, length, &length));
-    bool shows = has_control(text, length);
+    well(tbr_text_as(r, format, text, length, &length));
+    bool shows = has_control(text, length, format);
     free(text);
     return shows;
+}
+
+/* Whether they do in any format but text. */
+static bool shows_control_formatted(tbr_renderer *r) {
+    return shows_control(r, TBR_FORMAT_ANSI) || shows_control(r, TBR_FORMAT_HTML) || shows_control(r, TBR_FORMAT_JSON);
 }
 
 /* Makes a document, and answers whether its text has a control character. One that is refused has no text. */
@@ -229,7 +255,12 @@ static bool document(bool raw) {
         some_call(r);
     }
     close_levels(r);
-    bool shows = tbr_finish(r) == TBR_OK && shows_control(r);
+    bool is_finished = tbr_finish(r) == TBR_OK;
+    bool shows = is_finished && shows_control(r, TBR_FORMAT_TEXT);
+    if (is_finished && shows_control_formatted(r)) {
+        printf("a control character in a format\n");
+        failures++;
+    }
     tbr_free(r);
     return shows;
 }

@@ -8,6 +8,7 @@ from pathlib import Path
 from text_block_renderer import (
     CellAlign,
     Decorator,
+    Format,
     ImageRenderMode,
     Kind,
     WhiteSpace,
@@ -30,6 +31,7 @@ C_TYPES = {
     "char *": ctypes.c_char_p,
     "tbr_white_space": ctypes.c_uint32,
     "tbr_alignment": ctypes.c_uint32,
+    "tbr_format": ctypes.c_uint32,
     "tbr_renderer *": ctypes.c_void_p,
     "size_t *": ctypes.POINTER(ctypes.c_size_t),
     "bool *": ctypes.POINTER(ctypes.c_bool),
@@ -47,6 +49,7 @@ STRUCTS = {
 ENUMS = {
     "tbr_decorator": Decorator,
     "tbr_images": ImageRenderMode,
+    "tbr_format": Format,
     "tbr_white_space": WhiteSpace,
     "tbr_alignment": CellAlign,
     "tbr_annotation_kind": Kind,

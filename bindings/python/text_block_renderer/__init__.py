@@ -20,7 +20,7 @@ from .errors import (
     TooNarrowError,
 )
 from .lines import Annotation, FragmentStart, Kind, TaggedLine, TaggedString
-from .options import CellAlign, Colour, Decorator, ImageRenderMode, WhiteSpace
+from .options import CellAlign, Colour, Decorator, Format, ImageRenderMode, WhiteSpace
 from .renderer import Renderer
 from .script import render_script
 from .versions import library_version
@@ -37,6 +37,7 @@ __all__ = [
     "Colour",
     "Decorator",
     "FinishedError",
+    "Format",
     "FragmentStart",
     "ImageRenderMode",
     "Kind",

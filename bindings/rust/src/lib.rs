@@ -16,7 +16,7 @@ mod width;
 pub use error::Error;
 pub use line::{Colour, RichAnnotation, TaggedLine, TaggedLineElement, TaggedString};
 pub use lines::Lines;
-pub use options::{Cell, CellAlign, ImageRenderMode, Options, WhiteSpace};
+pub use options::{Cell, CellAlign, Format, ImageRenderMode, Options, WhiteSpace};
 pub use renderer::Renderer;
 pub use script::{render_script, render_script_raw, ScriptError};
 pub use version::version;

@@ -149,6 +149,23 @@ impl Options {
     }
 }
 
+/// How lines are shown. None of these lets a control character of a text, a target or a name out, but the text of a
+/// renderer that is raw. Links of `Ansi` and `Html` lead to `http`, `https`, `mailto`, `ftp` and where there is no scheme,
+/// and to nothing else.
+#[derive(Clone, Copy, Debug, Default, PartialEq, Eq, Hash)]
+pub enum Format {
+    /// The text alone.
+    #[default]
+    Text = 0,
+    /// For a terminal: emphasis, strong and struck out text, code and colours by control sequences, and hyperlinks.
+    Ansi = 1,
+    /// What is in a `<pre>`: links, emphasis and colours as elements, and markers as places to link to. A character of
+    /// two columns is in a `<span class="wide">`, to be shown as two characters wide.
+    Html = 2,
+    /// An object of JSON for each line: columns, whether it is a border, and its pieces and markers.
+    Json = 3,
+}
+
 /// What becomes of white space.
 #[derive(Clone, Copy, Debug, Default, PartialEq, Eq, Hash)]
 pub enum WhiteSpace {

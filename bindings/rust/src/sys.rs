@@ -170,6 +170,20 @@ extern "C" {
     ) -> u32;
 
     pub fn tbr_text(renderer: *mut Renderer, out: *mut c_char, room: usize, length: &mut usize) -> u32;
+    pub fn tbr_text_as(
+        renderer: *mut Renderer,
+        format: u32,
+        out: *mut c_char,
+        room: usize,
+        length: &mut usize,
+    ) -> u32;
+    pub fn tbr_line_as(
+        renderer: *mut Renderer,
+        format: u32,
+        out: *mut c_char,
+        room: usize,
+        length: &mut usize,
+    ) -> u32;
     pub fn tbr_next_line(renderer: *mut Renderer, line: &mut Line) -> u32;
     pub fn tbr_line_text(renderer: *mut Renderer, out: *mut c_char, room: usize, length: &mut usize) -> u32;
     pub fn tbr_get_piece(renderer: *mut Renderer, place: usize, piece: &mut Piece) -> u32;

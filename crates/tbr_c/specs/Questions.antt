@@ -14,6 +14,9 @@ use Rattle.tbr_program.specs.Progress.{Progress}
 use Rattle.tbr_program.specs.Decorations.{plain_decoration, trivial_decoration, rich_decoration}
 use Rattle.tbr_c_lines.specs.Status.{code_of, fault_of}
 use Rattle.tbr_c_lines.specs.Lines.{text_of}
+use Rattle.tbr_c_lines.specs.Formats.{lines_to_show, current_as}
+use Rattle.tbr_c_lines.specs.declared.formats.Format.{Format}
+use Rattle.tbr_c_lines.specs.declared.lines.Rest.{Rest}
 use Rattle.tbr_c_lines.specs.Line.{Line, placed, marked, annotated, target_of, kind_of}
 use Rattle.tbr_c_lines.specs.declared.fault.Fault.{Fault}
 use Rattle.tbr_c_lines.specs.declared.fault.Fault.TheVariants as fault
@@ -106,6 +109,14 @@ refusal_of other = Ok tt
 -- the text of all lines that weren't taken, each with a newline
 abbrev pub rest_of : State → Result (List ℕ) Fault
 rest_of state = and_then (lines_in state) (λ lines. Ok (encode_utf8_all (text_of lines.rest)))
+
+-- the lines that weren't taken, where there are such and not only their text
+abbrev pub rest_to_show : State → Result Rest Fault
+rest_to_show state = and_then (lines_in state) (λ lines. lines_to_show lines.rest)
+
+-- the line that was taken last in a format
+abbrev pub line_as : Format → State → Result (List ℕ) Fault
+line_as format state = and_then (lines_in state) (current_as format)
 
 -- ---- of the line that was taken last
 

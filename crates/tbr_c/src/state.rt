@@ -11,17 +11,18 @@ ghost use Rattle.tbr_program.specs.Progress.{GoesOn, progress_meant};
 ghost use Rattle.tbr_program.specs.Commands.{after_command, ended, started as begun};
 ghost use Rattle.tbr_program.specs.Safe.{shown_command, shown_links};
 ghost use Rattle.tbr_c_lines.specs.Copied.{CopiesMade};
+ghost use Rattle.tbr_c_lines.specs.Formats.{CopiesShown};
 ghost use Rattle.tbr_c_lines.specs.Status.{fault_of_command, status_of};
 ghost use Rattle.tbr_c_lines.specs.Lines.{line_text};
 ghost use Rattle.tbr_c.specs.State.{CanGoOn, Begins, MayFinish, kept, after_refusal, HasEnded, Does, Refuses, refused_as, EndsAs, EndsIn, RefusesEnd, lines_in, TakesLine, HasNoNext};
-ghost use Rattle.tbr_c.specs.Questions.{on_top, facts_in, facts_of, width_left, prefix_of, Needs, rest_of};
+ghost use Rattle.tbr_c.specs.Questions.{on_top, facts_in, facts_of, width_left, prefix_of, Needs, rest_of, rest_to_show, line_as};
 ghost use Rattle.tbr_c.specs.declared.state.State.TheVariants as S;
 ghost use Rattle.tbr_c_lines.specs.declared.fault.Fault.TheVariants as F;
 
 use std::alloc::Global;
 use std::collections::VecDeque;
 use tbr_annotations::Annotations;
-use tbr_c_lines::{Fault, LineSize, Lines, Rest, of_command};
+use tbr_c_lines::{Fault, Format, LineSize, Lines, Rest, of_command};
 use tbr_commands::{Command, Decorator, Opening};
 use tbr_decor::{DecoratorPrefix, PlainDecorator, RichDecorator, TextDecorator, TrivialDecorator};
 use tbr_headings::{Headings, heading_length};
@@ -260,6 +261,48 @@ impl State {
     {
         match self {
             State::Finished(lines) => lines.copy_text(alloc, out, needed),
+            State::Refused(e) => Err(Fault::from(*e)),
+            _ => Err(Fault::NotFinished),
+        }
+    }
+
+    /// Copies all lines that weren't taken in a format, each with a newline, as `copy_out` does. `NotFinished` where the
+    /// renderer isn't finished, `NoLine` where there is only its text. It refuses where memory is refused too.
+    pub fn copy_shown(
+        &mut self,
+        alloc: Global,
+        format: Format,
+        out: &mut [u8],
+        needed: &mut usize,
+    ) -> Result<(), Fault>
+        requires { CanGoOn self.old }
+        ensures shown { CopiesShown format (rest_to_show self.old)
+            out.old out.new needed.old needed.new (status_of result) }
+        ensures none { IfErr (rest_to_show self.old) (λ f. result ≡ Err f) }
+        ensures left { self.new ≡ self.old }
+    {
+        match self {
+            State::Finished(lines) => lines.copy_shown(alloc, format, out, needed),
+            State::Refused(e) => Err(Fault::from(*e)),
+            _ => Err(Fault::NotFinished),
+        }
+    }
+
+    /// Copies the line that was taken last in a format, without a newline, as `copy_out` does. `NotFinished` where the
+    /// renderer isn't finished, `NoLine` where none was taken. It refuses where memory is refused too.
+    pub fn copy_current(
+        &self,
+        alloc: Global,
+        format: Format,
+        out: &mut [u8],
+        needed: &mut usize,
+    ) -> Result<(), Fault>
+        ensures shown { CopiesMade (line_as format self.now)
+            out.old out.new needed.old needed.new (status_of result) }
+        ensures none { IfErr (line_as format self.now) (λ f. result ≡ Err f) }
+    {
+        match self {
+            State::Finished(lines) => lines.copy_current(alloc, format, out, needed),
             State::Refused(e) => Err(Fault::from(*e)),
             _ => Err(Fault::NotFinished),
         }
