@@ -1,5 +1,6 @@
 //! The lines of a renderer that is finished.
-ghost use Rattle.std.specs.Prelude.{◌≡◌, ◌≢◌, ◌++◌, ℕ, List, [], None, Some, Ok, Err, encode_utf8_all, flat_map, string_bytes, IfOk, IfErr, IfSome, OnOk, MatchResult};
+ghost use Rattle.std.specs.Prelude.{◌≡◌, ◌≢◌, ◌++◌, ◌∷◌, ℕ, List, [], None, Some, Ok, Err, encode_utf8_all, flat_map, string_bytes, IfOk, IfErr, IfSome, OnOk, MatchResult};
+ghost use Rattle.tbr_model.specs.Codes.{newline_character};
 ghost use Rattle.tbr_tagged.specs.View.{chars_of};
 ghost use Rattle.tbr_c_lines.specs.Copied.{CopiesMade, IsCopied};
 ghost use Rattle.tbr_c_lines.specs.Formats.{ShowsLine, AreShown, lines_to_show, CopiesShown, is_bare, current_as};
@@ -305,8 +306,7 @@ fn append_shown<A: Annotation>(
     let out = written_out(alloc, line.clone()?)?;
     let seen = Line::new(alloc, out)?;
     push_line(text, &seen, format, is_bare)?;
-    text.push('\n')?;
-    Ok(())
+    end_line(text)
 }
 
 /// The text of these lines, each with a newline.
@@ -325,6 +325,13 @@ fn append_line<T>(text: &mut String, line: &RenderLine<T>) -> Result<(), OutOfMe
     ensures { OnOk result (chars_of text.new ≡ chars_of text.old ++ left.line_text line.now) }
 {
     line.append_to(text)?;
+    end_line(text)
+}
+
+/// Appends a newline.
+fn end_line(text: &mut String) -> Result<(), OutOfMemory>
+    ensures { OnOk result (chars_of text.new ≡ chars_of text.old ++ newline_character ∷ []) }
+{
     text.push('\n')?;
     Ok(())
 }

@@ -1,6 +1,6 @@
 -- Control characters and their escapes.
 use Rattle.std.proofs.Common.{◌≡◌, ℕ, ◌<◌, ◌||◌, Bool, true, false, List, [], ◌∷◌, ◌++◌, refl, ap, sym, subst, ◌∙◌, if◌then◌else◌, arith}
-use Rattle.std.specs.Prelude.{All, flat_map, encode_utf8}
+use Rattle.std.specs.Prelude.{All, encode_utf8}
 use Rattle.std.specs.Char.{is_control}
 use Rattle.std.specs.List.{range_with_len, list_any, AllByRecursion as Each}
 use Rattle.std.proofs.lemmas.Bool.{false≢true}
@@ -16,7 +16,7 @@ use Rattle.percent_encoding.proofs.PercentLemmas.{IsEscapeByte, All-percent_enco
 use Rattle.tbr_safe.specs.Escaped.{escaped_character, escaped}
 
 -- no control character
-IsShown : ℕ → Type 0
+abbrev pub IsShown : ℕ → Type 0
 IsShown c = is_control c ≡ false
 
 -- ---- what is left
@@ -28,7 +28,6 @@ controls_are_escaped b h =
     subst (λ n. contains CONTROLS n ≡ true) (get_or-range_with_len 0 32 b 0 h ∙ omega arith) all
 
 kept_is_shown : (b : ℕ) → should_percent_encode CONTROLS b ≡ false → IsShown b
-unfolding IsShown
 kept_is_shown b kept =
     let below = ascii_from_kept CONTROLS b kept in
     let outside = outside_from_kept CONTROLS b kept in
@@ -37,14 +36,13 @@ kept_is_shown b kept =
     grind (arith, nat_tests, below, high, delete)
 
 escape_is_shown : (b : ℕ) → IsEscapeByte b → IsShown b
-unfolding IsShown
 escape_is_shown b h = grind (arith, nat_tests)
 
 each_from_all : (P : ℕ → Type 0) (cs : List ℕ) → All P cs → Each P cs
 each_from_all P [] h = tt
 each_from_all P (c ∷ cs) h = (All-head P c cs h, each_from_all P cs (All-tail P c cs h))
 
-each_both : (P : ℕ → Type 0) (xs ys : List ℕ) → Each P xs → Each P ys → Each P (xs ++ ys)
+pub each_both : (P : ℕ → Type 0) (xs ys : List ℕ) → Each P xs → Each P ys → Each P (xs ++ ys)
 each_both P [] ys h k = k
 each_both P (x ∷ xs) ys h k = (h.0, each_both P xs ys h.1 k)
 
@@ -52,7 +50,6 @@ encoded_is_shown : (bytes : List ℕ) → Each IsShown (percent_encode CONTROLS 
 encoded_is_shown bytes = each_from_all IsShown (percent_encode CONTROLS bytes) (All-percent_encode IsShown CONTROLS bytes kept_is_shown escape_is_shown)
 
 character_is_shown : (c : ℕ) → Each IsShown (escaped_character c)
-unfolding IsShown
 character_is_shown c = go (is_control c) refl
   where
     go : (b : Bool) → is_control c ≡ b → Each IsShown (if b then percent_encode CONTROLS (encode_utf8 c) else c ∷ [])
@@ -60,7 +57,6 @@ character_is_shown c = go (is_control c) refl
     go false is = (is, tt)
 
 pub none_left : (cs : List ℕ) → Each (λ c. is_control c ≡ false) (escaped cs)
-unfolding IsShown
 none_left [] = tt
 none_left (c ∷ cs) = each_both IsShown (escaped_character c) (escaped cs) (character_is_shown c) (none_left cs)
 

@@ -2,7 +2,9 @@
 #![tactic(auto)]
 
 pub use escapes::{escape, escape_all};
-pub use laws::{no_control_character_is_left, other_texts_stay};
+pub use laws::{
+    footnotes_of_escaped_targets_have_none, no_control_character_is_left, other_texts_stay,
+};
 
 mod escapes;
 mod laws;

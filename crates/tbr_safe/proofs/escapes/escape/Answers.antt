@@ -1,6 +1,5 @@
-use Rattle.std.proofs.Common.{◌≡◌, ◌++◌, chars, encode_utf8_all, string_bytes, sym, ap, ◌∙◌}
+use Rattle.std.proofs.Common.{◌++◌, chars, encode_utf8_all, string_bytes, sym, ap, ◌∙◌}
 use Rattle.std.proofs.lemmas.Str.{IsUtf8-string_bytes, encodes-chars, chars-nil}
-use Rattle.tbr_tagged.specs.View.{chars_of}
 use Rattle.tbr_safe.specs.Escaped.{escaped}
 use Rattle.tbr_safe.proofs.escapes.escape.Goals as goal
 
