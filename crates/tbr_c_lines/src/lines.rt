@@ -48,7 +48,6 @@ impl Model for Lines {
 
     ghost use Rattle.std.specs.Prelude.{◌≡◌, IfSome};
     ghost use Rattle.tbr_tagged.specs.View.{chars_of};
-
     ghost use Rattle.tbr_c_lines.specs.Formats.{ShowsRest};
 
     ghost invariant = { λ l. IfSome l.text (λ text. chars_of text ≡ text_of l.rest)

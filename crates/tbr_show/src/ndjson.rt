@@ -53,11 +53,7 @@ fn write_line<W: CharWidth>(
 }
 
 /// Writes what is before the pieces of a line of so many columns, which may be a border.
-pub fn begin_line(
-    writer: &mut Writer,
-    is_border: bool,
-    columns: usize,
-) -> Result<(), OutOfMemory>
+pub fn begin_line(writer: &mut Writer, is_border: bool, columns: usize) -> Result<(), OutOfMemory>
     ensures tokens { OnOk result
         (writer.new.tokens ≡ writer.old.tokens ++ model.begin_tokens is_border columns) }
     ensures before { OnOk result (writer.new.before ≡ writer.old.before) }

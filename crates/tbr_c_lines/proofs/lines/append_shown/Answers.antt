@@ -24,8 +24,13 @@ returns g c =
     (λ h. (
       shown ++ newline_character ∷ [],
       (
-        c.in_ok-clone.field-0, c.in_ok-out.out, seen, c.in_ok-clone.ensures,
-        (c.in_ok-out.ensures.written, c.in_ok-out.ensures.merged), c.in_ok-seen.ensures, refl,
+        c.in_ok-clone.field-0,
+        c.in_ok-out.out,
+        seen,
+        c.in_ok-clone.ensures,
+        (c.in_ok-out.ensures.written, c.in_ok-out.ensures.merged),
+        c.in_ok-seen.ensures,
+        refl,
       ),
       h ∙ ap (λ cs. cs ++ newline_character ∷ []) c.in_ok-push_line.ensures ∙ append_assoc old shown (newline_character ∷ []),
     ))

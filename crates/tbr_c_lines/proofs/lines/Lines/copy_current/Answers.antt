@@ -21,6 +21,6 @@ returns-clause-shown c =
     let bare = c.is_bare.ensures ∙ ap (λ l. is_bare l.rest) c.self.view_is in
     let same : chars_of text ≡ cs = c.in_ok-push_line.ensures ∙ ap (λ ds. ds ++ line_as c.is_bare.result format line) empty ∙ ap (λ b. line_as b format line) bare in
     let copied = copied_as text cs c.args.out.now done.new.out c.args.needed.now done.new.needed (status_of done.result) same
-        (subst (λ bytes. IsCopied bytes c.args.out.now done.new.out done.new.needed (status_of done.result)) c.as_bytes.ensures.value done.ensures) in
+    (subst (λ bytes. IsCopied bytes c.args.out.now done.new.out done.new.needed (status_of done.result)) c.as_bytes.ensures.value done.ensures) in
     subst (λ o. CopiesMade (bytes_as lines.rest format (ok_or o fault.NoLine)) c.args.out.now done.new.out c.args.needed.now done.new.needed (status_of done.result))
     (sym c.in_ok-line.ensures) copied
