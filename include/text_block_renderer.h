@@ -15,6 +15,11 @@
  * nothing is written, and a second call with more room has all of it. A buffer may not overlap what another argument
  * points to.
  *
+ * CONTROL CHARACTERS. A text that comes out has none but the newlines that end lines: not U+0000 to U+001F, U+007F, nor
+ * U+0080 to U+009F. Those of texts are white space or vanish. Those of prefixes, and of the targets that footnotes list,
+ * are shown as a browser shows them, so that an escape is %1B; `raw` of tbr_options lets them through. Annotations and
+ * the names of markers keep what came.
+ *
  * STATUSES. Each call answers TBR_OK or says why it did nothing. TBR_OUT_OF_MEMORY and TBR_TOO_NARROW are kept: what
  * the renderer was filled with is lost, and each later call but tbr_free answers the same. All other refusals leave
  * the renderer as it was. Calls that keep none say so. What an out pointer points to is written only where a call
@@ -42,9 +47,9 @@
 #include <stdint.h>
 
 #define TBR_VERSION_MAJOR 0
-#define TBR_VERSION_MINOR 2
+#define TBR_VERSION_MINOR 3
 #define TBR_VERSION_PATCH 0
-#define TBR_VERSION "0.2.0"
+#define TBR_VERSION "0.3.0"
 
 #ifdef __cplusplus
 extern "C" {
@@ -127,6 +132,22 @@ typedef enum tbr_alignment {
     TBR_CENTRE = 2
 } tbr_alignment;
 
+/* How lines are shown. None of these lets a control character of a text, a target or a name out, but text of a renderer
+   that is raw. Links of TBR_FORMAT_ANSI and TBR_FORMAT_HTML lead to http, https, mailto, ftp and where there is no
+   scheme, and to nothing else. Since 0.3. */
+typedef enum tbr_format {
+    /* The text alone. */
+    TBR_FORMAT_TEXT = 0,
+    /* For a terminal: emphasis, strong and struck out text, code and colours by control sequences, and hyperlinks. */
+    TBR_FORMAT_ANSI = 1,
+    /* For HTML: what is in a <pre>, with links, emphasis and colours as elements, and markers as places to link to. A
+       character of two columns is in a <span class="wide">, to be shown as two characters wide. */
+    TBR_FORMAT_HTML = 2,
+    /* An object of JSON for each line: columns, whether it is a border, and its pieces and markers. Targets and names
+       are as they came, their control characters as escapes. */
+    TBR_FORMAT_JSON = 3
+} tbr_format;
+
 /* What a renderer is told to do. Make it by tbr_options_default, which sets all fields. A later version may have more
    fields at the end. */
 typedef struct tbr_options {
@@ -153,6 +174,11 @@ typedef struct tbr_options {
     bool strikeout_strokes;
     /* Whether borders of tables are drawn; those of tbr_add_border always are. */
     bool draw_borders;
+    /* For nothing. Since 0.3. */
+    uint16_t unused;
+    /* Whether control characters of prefixes, and of the targets that footnotes list, come out as they went in. Since
+       0.3. */
+    bool raw;
 } tbr_options;
 
 /* A renderer. */
@@ -247,6 +273,10 @@ typedef struct tbr_annotation {
  */
 tbr_answer tbr_render(const char *script, size_t length, char *out, size_t room);
 
+/* The same, where control characters of prefixes, and of the targets that footnotes list, come out as they went in. Its
+   text is that of the program blockrender. Since 0.3. */
+tbr_answer tbr_render_raw(const char *script, size_t length, char *out, size_t room);
+
 /* ---- how wide a text is ---- */
 
 /* The columns of a text: those of its characters together, as a renderer counts them. Control characters, as a tab or
@@ -259,8 +289,8 @@ tbr_status tbr_text_width(const char *text, size_t *columns);
 /* ---- making a renderer ---- */
 
 /* Sets options to those of a plain renderer of so many columns. Lines are as wide as it, neither padded nor wider. There
-   are no footnotes; where they are turned on, their lines are cut. Struck out text has strokes, borders are drawn, and
-   an image without a title shows nothing. `size` is the number of bytes that `options` has. */
+   are no footnotes; where they are turned on, their lines are cut. Struck out text has strokes, borders are drawn, an
+   image without a title shows nothing, and no control character comes out. `size` is the number of bytes that `options` has. */
 void tbr_options_init(tbr_options *options, size_t size, size_t width);
 
 /* The same options as a value. This is the one call that a program has in itself, so that their size is the one that it
@@ -523,14 +553,23 @@ tbr_status tbr_header_prefix(tbr_renderer *renderer, size_t level, char *out, si
    call doesn't put it together anew. After tbr_finish_text it takes no memory. */
 tbr_status tbr_text(tbr_renderer *renderer, char *out, size_t room, size_t *length);
 
+/* The same lines in a format, each with a newline. It takes none. TBR_NO_LINE after tbr_finish_text, but for
+   TBR_FORMAT_TEXT, which is tbr_text. TBR_BAD_ARGUMENT where the format is none of its values. TBR_OUT_OF_MEMORY, which
+   is kept. At TBR_BUFFER_TOO_SMALL they are kept for a second call in the same format. Since 0.3. */
+tbr_status tbr_text_as(tbr_renderer *renderer, tbr_format format, char *out, size_t room, size_t *length);
+
 /* Takes the next line, which the calls below are about, and frees the one before. TBR_NO_LINE where none is left; the
    line that was taken last stays. TBR_OUT_OF_MEMORY, which is kept. */
 tbr_status tbr_next_line(tbr_renderer *renderer, tbr_line *line);
 
-/* The calls below take no memory, and answer TBR_NO_LINE where tbr_next_line has taken no line yet. */
+/* The calls below take no memory but for tbr_line_as, and answer TBR_NO_LINE where tbr_next_line has taken no line yet. */
 
 /* The text of the line, without a newline. */
 tbr_status tbr_line_text(tbr_renderer *renderer, char *out, size_t room, size_t *length);
+
+/* The line in a format, without a newline. TBR_BAD_ARGUMENT where that is none of its values. TBR_OUT_OF_MEMORY, which
+   is kept. Since 0.3. */
+tbr_status tbr_line_as(tbr_renderer *renderer, tbr_format format, char *out, size_t room, size_t *length);
 
 /* A piece of the line, by its place from 0. TBR_NO_PIECE where it has none there. */
 tbr_status tbr_get_piece(tbr_renderer *renderer, size_t place, tbr_piece *piece);

@@ -53,7 +53,7 @@ fn main(rt: HostRuntime) -> ExitCode {
     let alloc = rt.alloc();
     let options = Options {
         width: 1, wrap_width: 0, decorator: 0, images: 0, overflow: false, pad: false, footnotes: false,
-        wrap_links: true, strikeout_strokes: true, draw_borders: true,
+        wrap_links: true, strikeout_strokes: true, draw_borders: true, raw: false,
     };
     let bytes = [65u8];
     let mut out = [0u8];

@@ -22,13 +22,14 @@ typedef struct tbr1_options {
     bool wrap_links;
     bool strikeout_strokes;
     bool draw_borders;
+    bool raw;
 } tbr1_options;
 
 typedef struct tbr1_handle {
     tbr_renderer *at;
 } tbr1_handle;
 
-tbr_answer tbr1_render(const uint8_t *script, size_t length, uint8_t *out, size_t room);
+tbr_answer tbr1_render(const uint8_t *script, size_t length, bool raw, uint8_t *out, size_t room);
 uint32_t tbr1_text_width(const uint8_t *text, size_t length, size_t *columns);
 uint32_t tbr1_new(const tbr1_options *options, tbr_renderer **back);
 void tbr1_free(tbr1_handle renderer);
@@ -91,6 +92,11 @@ uint32_t tbr1_header_prefix(tbr1_handle renderer, size_t level, uint8_t *out, si
     tbr_renderer **back);
 
 uint32_t tbr1_text(tbr1_handle renderer, uint8_t *out, size_t room, size_t *length, tbr_renderer **back);
+/* The number of a format is one below that of its tbr_format: TBR_FORMAT_TEXT has none. */
+uint32_t tbr1_text_as(tbr1_handle renderer, uint32_t format, uint8_t *out, size_t room, size_t *length,
+    tbr_renderer **back);
+uint32_t tbr1_line_as(tbr1_handle renderer, uint32_t format, uint8_t *out, size_t room, size_t *length,
+    tbr_renderer **back);
 uint32_t tbr1_next_line(tbr1_handle renderer, tbr_line *line, tbr_renderer **back);
 uint32_t tbr1_line_text(tbr1_handle renderer, uint8_t *out, size_t room, size_t *length, tbr_renderer **back);
 uint32_t tbr1_get_piece(tbr1_handle renderer, size_t place, tbr_piece *piece, tbr_renderer **back);

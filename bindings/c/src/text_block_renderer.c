@@ -40,13 +40,21 @@ static bool is_missing(const char *text, size_t length) {
 
 /* ---- a script as a whole ---- */
 
-tbr_answer tbr_render(const char *script, size_t length, char *out, size_t room) {
+static tbr_answer rendered(const char *script, size_t length, bool raw, char *out, size_t room) {
     uint8_t spare = 0;
     if (is_missing(script, length) || is_missing(out, room)) {
         tbr_answer missing = {TBR_BAD_ARGUMENT, 0, 0};
         return missing;
     }
-    return tbr1_render(bytes_of(script), length, room_of(out, &spare), room);
+    return tbr1_render(bytes_of(script), length, raw, room_of(out, &spare), room);
+}
+
+tbr_answer tbr_render(const char *script, size_t length, char *out, size_t room) {
+    return rendered(script, length, false, out, room);
+}
+
+tbr_answer tbr_render_raw(const char *script, size_t length, char *out, size_t room) {
+    return rendered(script, length, true, out, room);
 }
 
 /* ---- how wide a text is ---- */
@@ -93,7 +101,7 @@ static tbr1_options options_of(const tbr_options *given) {
     tbr_options options = tbr_options_default(0);
     memcpy(&options, given, given->size < sizeof options ? given->size : sizeof options);
     tbr1_options passed = {options.width, options.wrap_width, options.decorator, options.images, options.overflow,
-        options.pad, options.footnotes, options.wrap_links, options.strikeout_strokes, options.draw_borders};
+        options.pad, options.footnotes, options.wrap_links, options.strikeout_strokes, options.draw_borders, options.raw};
     return passed;
 }
 
@@ -511,6 +519,32 @@ tbr_status tbr_line_text(tbr_renderer *renderer, char *out, size_t room, size_t 
     return renderer
         ? (tbr_status)tbr1_line_text(handle_of(renderer), room_of(out, &spare), room, length, &renderer)
         : TBR_NO_RENDERER;
+}
+
+tbr_status tbr_text_as(tbr_renderer *renderer, tbr_format format, char *out, size_t room, size_t *length) {
+    uint8_t spare = 0;
+    if (format == TBR_FORMAT_TEXT) {
+        return tbr_text(renderer, out, room, length);
+    }
+    if (is_missing(out, room)) {
+        return TBR_BAD_ARGUMENT;
+    }
+    return renderer ? (tbr_status)tbr1_text_as(handle_of(renderer), (uint32_t)format - 1, room_of(out, &spare), room,
+                          length, &renderer)
+                    : TBR_NO_RENDERER;
+}
+
+tbr_status tbr_line_as(tbr_renderer *renderer, tbr_format format, char *out, size_t room, size_t *length) {
+    uint8_t spare = 0;
+    if (format == TBR_FORMAT_TEXT) {
+        return tbr_line_text(renderer, out, room, length);
+    }
+    if (is_missing(out, room)) {
+        return TBR_BAD_ARGUMENT;
+    }
+    return renderer ? (tbr_status)tbr1_line_as(handle_of(renderer), (uint32_t)format - 1, room_of(out, &spare), room,
+                          length, &renderer)
+                    : TBR_NO_RENDERER;
 }
 
 tbr_status tbr_get_piece(tbr_renderer *renderer, size_t place, tbr_piece *piece) {

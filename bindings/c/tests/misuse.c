@@ -123,6 +123,8 @@ static void lines_too_early(tbr_renderer *r) {
     WANT(tbr_text(r, text, sizeof text, &length), TBR_NOT_FINISHED);
     WANT(tbr_next_line(r, &line), TBR_NOT_FINISHED);
     WANT(tbr_line_text(r, text, sizeof text, &length), TBR_NOT_FINISHED);
+    WANT(tbr_text_as(r, TBR_FORMAT_ANSI, text, sizeof text, &length), TBR_NOT_FINISHED);
+    WANT(tbr_line_as(r, TBR_FORMAT_JSON, text, sizeof text, &length), TBR_NOT_FINISHED);
     WANT(tbr_get_piece(r, 0, &piece), TBR_NOT_FINISHED);
     WANT(tbr_marker_name(r, 0, text, sizeof text, &length), TBR_NOT_FINISHED);
     WANT(tbr_get_annotation(r, 0, 0, &annotation), TBR_NOT_FINISHED);
@@ -201,6 +203,40 @@ static void pieces_that_are_not_there(tbr_renderer *r) {
     WANT(tbr_line_text(r, text, sizeof text, &length), TBR_OK);
 }
 
+/* Lines in formats, of a renderer that is finished. A refusal leaves it as it was. */
+static void formats(void) {
+    tbr_renderer *r = new_renderer(9);
+    tbr_line line;
+    char text[16];
+    size_t length = SIZE_MAX;
+    WANT(tbr_add_text(r, "a < b"), TBR_OK);
+    WANT(tbr_finish(r), TBR_OK);
+    WANT(tbr_text_as(NULL, TBR_FORMAT_HTML, text, sizeof text, &length), TBR_NO_RENDERER);
+    WANT(tbr_line_as(NULL, TBR_FORMAT_HTML, text, sizeof text, &length), TBR_NO_RENDERER);
+    WANT(tbr_text_as(r, (tbr_format)4, text, sizeof text, &length), TBR_BAD_ARGUMENT);
+    WANT(tbr_line_as(r, (tbr_format)4, text, sizeof text, &length), TBR_BAD_ARGUMENT);
+    WANT(tbr_text_as(r, TBR_FORMAT_HTML, NULL, 1, &length), TBR_BAD_ARGUMENT);
+    WANT(tbr_line_as(r, TBR_FORMAT_HTML, NULL, 1, &length), TBR_BAD_ARGUMENT);
+    WANT(tbr_line_as(r, TBR_FORMAT_HTML, text, sizeof text, &length), TBR_NO_LINE);
+    if (length != SIZE_MAX) {
+        puts("a call that refuses writes a length");
+        failures++;
+    }
+    WANT(tbr_text_as(r, TBR_FORMAT_HTML, text, 8, &length), TBR_BUFFER_TOO_SMALL);
+    WANT(tbr_text_as(r, TBR_FORMAT_ANSI, text, 6, &length), TBR_OK);
+    WANT(tbr_text_as(r, TBR_FORMAT_HTML, text, 9, &length), TBR_OK);
+    if (length != 9 || memcmp(text, "a &lt; b\n", 9)) {
+        puts("lines in HTML are others");
+        failures++;
+    }
+    WANT(tbr_next_line(r, &line), TBR_OK);
+    WANT(tbr_text_as(r, TBR_FORMAT_HTML, NULL, 0, &length), TBR_OK);
+    WANT(tbr_line_as(r, TBR_FORMAT_HTML, text, 7, &length), TBR_BUFFER_TOO_SMALL);
+    WANT(tbr_line_as(r, TBR_FORMAT_HTML, text, 8, &length), TBR_OK);
+    want_text(r, "");
+    tbr_free(r);
+}
+
 /* A renderer that is finished for its text alone is finished, and has no line. */
 static void text_alone(void) {
     tbr_renderer *r = new_renderer(9);
@@ -218,6 +254,9 @@ static void text_alone(void) {
     WANT(tbr_add_text(r, "late"), TBR_FINISHED);
     WANT(tbr_next_line(r, &line), TBR_NO_LINE);
     WANT(tbr_line_text(r, text, sizeof text, &length), TBR_NO_LINE);
+    WANT(tbr_text_as(r, TBR_FORMAT_JSON, text, sizeof text, &length), TBR_NO_LINE);
+    WANT(tbr_line_as(r, TBR_FORMAT_JSON, text, sizeof text, &length), TBR_NO_LINE);
+    WANT(tbr_text_as(r, TBR_FORMAT_TEXT, text, sizeof text, &length), TBR_OK);
     WANT(tbr_text(r, text, 1, &length), TBR_BUFFER_TOO_SMALL);
     want_text(r, "two words\n");
     want_text(r, "two words\n");
@@ -407,6 +446,7 @@ int main(void) {
     no_renderer();
     each_in_one_renderer();
     text_alone();
+    formats();
     widths();
     too_narrow();
     no_room_for_a_prefix();

@@ -44,14 +44,14 @@ void *__wrap_realloc(void *at, size_t size) {
 /* ---- a document, call by call ---- */
 
 static tbr_status add_words(tbr_renderer *r) { return tbr_add_text(r, "The old bridge opens again on Sunday. "); }
-static tbr_status start_link(tbr_renderer *r) { return tbr_start_link(r, "https://example.org/bridge"); }
+static tbr_status start_link(tbr_renderer *r) { return tbr_start_link(r, "https://example.org/\x1b" "bridge"); }
 static tbr_status push_pre_wrap(tbr_renderer *r) { return tbr_push_white_space(r, TBR_PRE_WRAP); }
 static tbr_status start_red(tbr_renderer *r) { return tbr_start_colour(r, 255, 0, 0); }
 static tbr_status start_grey(tbr_renderer *r) { return tbr_start_background(r, 128, 128, 128); }
 static tbr_status add_image(tbr_renderer *r) { return tbr_add_image(r, "cats/tom.png", "Tom the cat"); }
 static tbr_status add_marker(tbr_renderer *r) { return tbr_add_marker(r, "chapter"); }
 static tbr_status start_quote(tbr_renderer *r) { return tbr_start_sub(r, 18); }
-static tbr_status append_quote(tbr_renderer *r) { return tbr_append_sub(r, "> ", "> "); }
+static tbr_status append_quote(tbr_renderer *r) { return tbr_append_sub(r, "> \x1b", "> \x7f"); }
 static tbr_status start_tall(tbr_renderer *r) { return tbr_start_cell(r, 9, 2, TBR_LEFT); }
 static tbr_status start_flat(tbr_renderer *r) { return tbr_start_cell(r, 10, 1, TBR_RIGHT); }
 static tbr_status add_row(tbr_renderer *r) { return tbr_add_row(r, false); }
@@ -81,6 +81,24 @@ static tbr_status take_lines(tbr_renderer *r) {
         status = tbr_next_line(r, &line);
         if (status == TBR_OK) {
             status = tbr_line_text(r, text, sizeof text, &length);
+        }
+    }
+    return status == TBR_NO_LINE ? TBR_OK : status;
+}
+
+/* Takes all lines in each format, which are made once for two calls, and then each line. */
+static tbr_status take_formats(tbr_renderer *r) {
+    static char text[65536];
+    tbr_line line;
+    tbr_status status = TBR_OK;
+    size_t length;
+    for (int format = TBR_FORMAT_ANSI; format <= TBR_FORMAT_JSON && status == TBR_OK; format++) {
+        status = tbr_text_as(r, (tbr_format)format, text, 1, &length);
+        if (status == TBR_BUFFER_TOO_SMALL) status = tbr_text_as(r, (tbr_format)format, text, sizeof text, &length);
+    }
+    while (status == TBR_OK && (status = tbr_next_line(r, &line)) == TBR_OK) {
+        for (int format = TBR_FORMAT_ANSI; format <= TBR_FORMAT_JSON && status == TBR_OK; format++) {
+            status = tbr_line_as(r, (tbr_format)format, text, sizeof text, &length);
         }
     }
     return status == TBR_NO_LINE ? TBR_OK : status;
@@ -125,6 +143,7 @@ static tbr_status make(tbr_status (*finish)(tbr_renderer *), tbr_status (*take)(
 }
 
 static tbr_status document(void) { return make(tbr_finish, take_lines); }
+static tbr_status formats_of_document(void) { return make(tbr_finish, take_formats); }
 static tbr_status text_of_document(void) { return make(finish_text, take_text); }
 
 /* ---- quotes, items and headers, which keep a refusal or are as they were ---- */
@@ -212,7 +231,7 @@ static tbr_status questions(void) {
 
 static tbr_status script(void) {
     static const char SCRIPT[] =
-        "new 20 rich footnotes\ntext The \nlink https://example.org\ntext old bridge\nendlink\ntext  opens\n"
+        "new 20 rich footnotes\ntext The \nlink https://example.org\\u{1b}\ntext old bridge\nendlink\ntext  opens\n"
         "border 11\ncell 5 2\ntext Bread\nendcell\ncell 5 1\ntext two\nendcell\nrow\n";
     char out[256];
     return (tbr_status)tbr_render(SCRIPT, sizeof SCRIPT - 1, out, sizeof out).status;
@@ -239,6 +258,7 @@ static bool refuse_each(const char *what, tbr_status (*run)(void)) {
 
 int main(void) {
     bool is_well = refuse_each("a document", document);
+    is_well = refuse_each("a document in formats", formats_of_document) && is_well;
     is_well = refuse_each("a document's text", text_of_document) && is_well;
     is_well = refuse_each("quotes, items and headers", blocks) && is_well;
     is_well = refuse_each("questions", questions) && is_well;

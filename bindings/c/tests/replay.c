@@ -2,8 +2,11 @@
  * Reads a script from standard input, and makes its calls on a renderer one by one. It ends as blockrender does: the
  * same text, the same line on standard error, the same status.
  *
- * Besides, it asks for the lines piece by piece, for the text alone, and for the script as a whole. It ends with status
- * 99 where these aren't the same text.
+ * Besides, it asks for the lines piece by piece, for the text alone, for the script as a whole, and for lines in each
+ * format. It ends with status 99 where these aren't the same. All is raw, as blockrender has it.
+ *
+ *     replay          writes the text
+ *     replay FORMAT   writes the lines in a format of blockview: ansi, html or json
  */
 #include <stdio.h>
 #include <stdlib.h>
@@ -402,6 +405,7 @@ static bool opening(slice line, tbr_options *options) {
     bool is_last = false;
     slice word;
     *options = tbr_options_default(0);
+    options->raw = true;
     if (!next_word(&line, &is_last, &word) || !is_word(word, "new") || !next_word(&line, &is_last, &word)
         || !size(word, &options->width) || !next_word(&line, &is_last, &word) || !set_decorator(options, word)) {
         return false;
@@ -529,11 +533,42 @@ static void check_pieces(tbr_renderer *r, const tbr_line *line) {
     check(tbr_get_piece(r, line->pieces, &piece) == TBR_NO_PIECE, "a piece too many");
 }
 
-/* That the lines one by one are a text. */
+/* The lines in a format, which come whole or not at all. */
+static buffer lines_as(tbr_renderer *r, tbr_format format) {
+    buffer lines;
+    tbr_status status = tbr_text_as(r, format, NULL, 0, &lines.length);
+    check(status == (lines.length ? TBR_BUFFER_TOO_SMALL : TBR_OK), "the length of lines in a format");
+    lines.at = memory(lines.length);
+    check(tbr_text_as(r, format, lines.at, lines.length, &lines.length) == TBR_OK, "lines in a format");
+    return lines;
+}
+
+/* How many formats there are. */
+enum { FORMATS = TBR_FORMAT_JSON + 1 };
+
+/* That the line that was taken last is at this place of all lines in each format, and moves the places behind it. */
+static void check_shown(tbr_renderer *r, const buffer shown[FORMATS], size_t at[FORMATS]) {
+    for (int format = TBR_FORMAT_TEXT; format < FORMATS; format++) {
+        size_t length, room = shown[format].length - at[format];
+        char *line = memory(room);
+        check(tbr_line_as(r, (tbr_format)format, line, room, &length) == TBR_OK && length < room, "a line in a format");
+        check(!memcmp(shown[format].at + at[format], line, length), "what a line is in a format");
+        at[format] += length + 1;
+        check(shown[format].at[at[format] - 1] == '\n', "a newline in a format");
+        free(line);
+    }
+}
+
+/* That the lines one by one are a text, and are what all are in each format. */
 static void check_lines(tbr_renderer *r, buffer text) {
     tbr_line line;
     size_t at = 0, length;
+    size_t places[FORMATS] = {0};
+    buffer shown[FORMATS];
     tbr_status status;
+    for (int format = TBR_FORMAT_TEXT; format < FORMATS; format++) {
+        shown[format] = lines_as(r, (tbr_format)format);
+    }
     while ((status = tbr_next_line(r, &line)) == TBR_OK) {
         char *bytes = memory(line.bytes);
         check(tbr_line_text(r, bytes, line.bytes, &length) == TBR_OK && length == line.bytes, "a line");
@@ -543,8 +578,13 @@ static void check_lines(tbr_renderer *r, buffer text) {
         at += line.bytes + 1;
         free(bytes);
         check_pieces(r, &line);
+        check_shown(r, shown, places);
     }
     check(status == TBR_NO_LINE && at == text.length, "the last line");
+    for (int format = TBR_FORMAT_TEXT; format < FORMATS; format++) {
+        check(places[format] == shown[format].length, "the last line in a format");
+        free(shown[format].at);
+    }
 }
 
 /* That a renderer that is finished for its text alone has the same, and no line. */
@@ -554,6 +594,7 @@ static void check_text_alone(tbr_renderer *r, size_t length, buffer text) {
     check(length == text.length, "the length of the text alone");
     check(tbr_text(r, out, length, &length) == TBR_OK && !memcmp(out, text.at, length), "the text alone");
     check(tbr_next_line(r, &line) == TBR_NO_LINE, "a line of the text alone");
+    check(tbr_text_as(r, TBR_FORMAT_HTML, NULL, 0, &length) == TBR_NO_LINE, "lines of the text alone in a format");
     check(tbr_text(r, out, length, &length) == TBR_OK && length == text.length, "the text alone once more");
     free(out);
 }
@@ -576,7 +617,7 @@ static void check_alone(slice script, outcome ended, buffer text) {
 /* That the script as a whole ends in the same way. */
 static void check_whole(slice script, outcome ended, buffer text) {
     char *out = memory(text.length);
-    tbr_answer answer = tbr_render(script.at, script.length, out, text.length);
+    tbr_answer answer = tbr_render_raw(script.at, script.length, out, text.length);
     check(answer.status == (uint32_t)ended.status && answer.line == ended.line, "the status as a whole");
     check(answer.length == text.length && !memcmp(out, text.at, text.length), "the text as a whole");
     free(out);
@@ -611,24 +652,39 @@ static int tell(outcome ended) {
     return ended.line ? 2 : 1;
 }
 
-int main(void) {
+/* The format of a name of blockview's. */
+static tbr_format format_named(const char *name) {
+    static const char *const NAMES[] = {"text", "ansi", "html", "json"};
+    for (int format = 0; format < FORMATS; format++) {
+        if (!strcmp(NAMES[format], name)) {
+            return (tbr_format)format;
+        }
+    }
+    fail("no such format");
+    return TBR_FORMAT_TEXT;
+}
+
+int main(int count, char **words) {
     buffer script = read_all(stdin);
     slice all = {script.at, script.length};
     tbr_renderer *r = NULL;
     size_t end;
     outcome ended = fill(all, &r, &end);
-    buffer text = {memory(0), 0};
+    buffer text = {memory(0), 0}, shown = {memory(0), 0};
     if (ended.status == TBR_OK) {
         ended = at_line(tbr_finish(r), end);
     }
     if (ended.status == TBR_OK) {
         free(text.at);
         text = whole_text(r);
+        free(shown.at);
+        shown = lines_as(r, count > 1 ? format_named(words[1]) : TBR_FORMAT_TEXT);
         check_lines(r, text);
     }
     check_alone(all, ended, text);
     check_whole(all, ended, text);
-    fwrite(text.at, 1, text.length, stdout);
+    fwrite(shown.at, 1, shown.length, stdout);
+    free(shown.at);
     free(text.at);
     tbr_free(r);
     free(script.at);

@@ -217,7 +217,7 @@ def opened(line: str) -> Renderer:
             options: dict[str, Any] = {}
             for word in words:
                 options |= option(word)
-            return Renderer(size(width), named(DECORATORS, decorator), **options)
+            return Renderer(size(width), named(DECORATORS, decorator), raw=True, **options)
     raise NotACommand
 
 

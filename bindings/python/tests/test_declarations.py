@@ -8,6 +8,7 @@ from pathlib import Path
 from text_block_renderer import (
     CellAlign,
     Decorator,
+    Format,
     ImageRenderMode,
     Kind,
     WhiteSpace,
@@ -22,6 +23,7 @@ PROJECT = Path(__file__).resolve().parents[1] / "pyproject.toml"
 C_TYPES = {
     "size_t": ctypes.c_size_t,
     "uint32_t": ctypes.c_uint32,
+    "uint16_t": ctypes.c_uint16,
     "uint8_t": ctypes.c_uint8,
     "int64_t": ctypes.c_int64,
     "bool": ctypes.c_bool,
@@ -29,6 +31,7 @@ C_TYPES = {
     "char *": ctypes.c_char_p,
     "tbr_white_space": ctypes.c_uint32,
     "tbr_alignment": ctypes.c_uint32,
+    "tbr_format": ctypes.c_uint32,
     "tbr_renderer *": ctypes.c_void_p,
     "size_t *": ctypes.POINTER(ctypes.c_size_t),
     "bool *": ctypes.POINTER(ctypes.c_bool),
@@ -46,6 +49,7 @@ STRUCTS = {
 ENUMS = {
     "tbr_decorator": Decorator,
     "tbr_images": ImageRenderMode,
+    "tbr_format": Format,
     "tbr_white_space": WhiteSpace,
     "tbr_alignment": CellAlign,
     "tbr_annotation_kind": Kind,
@@ -73,7 +77,7 @@ class Declarations(unittest.TestCase):
         self.assertEqual({name: taken[name] for name in taken if name not in without_length}, library.CALLS)
 
     def test_calls_without_a_renderer_are_declared(self) -> None:
-        for name in ("render", "text_width_n"):
+        for name in ("render", "render_raw", "text_width_n"):
             parameters = re.search(rf"^\w+ tbr_{name}\((.*?)\);", self.header, re.M | re.S)
             assert parameters
             function = getattr(library.LIBRARY, f"tbr_{name}")

@@ -9,12 +9,14 @@ from text_block_renderer import (
     CellAlign,
     Colour,
     Decorator,
+    Format,
     FragmentStart,
     ImageRenderMode,
     Kind,
     Renderer,
     TaggedLine,
     WhiteSpace,
+    render_script,
     text_width,
 )
 
@@ -54,6 +56,56 @@ class Text(unittest.TestCase):
         marker, text = lines(calls, 20)[0]
         self.assertEqual(marker, FragmentStart("a\0b"))
         self.assertEqual(text.text, "bell")
+
+    def test_no_control_character_comes_out(self) -> None:
+        def calls(r: Renderer) -> None:
+            r.start_subrender(9)
+            with r.link("\x1b]0;x\x07"):
+                r.add_inline_text("here")
+            r.append_subrender("\x9b\n", "")
+
+        settings: dict[str, Any] = {"decorator": Decorator.RICH, "include_link_footnotes": True}
+        self.assertEqual(rendered(calls, 20, **settings), "%C2%9B%0Ahere[1]\n\n[1]: %1B]0;x%07\n")
+        self.assertEqual(rendered(calls, 20, raw=True, **settings), "\x9b\nhere[1]\n\n[1]: \x1b]0;x\x07\n")
+        link = list(lines(calls, 20, **settings)[0].tagged_strings())[1]
+        self.assertEqual(link.annotations, (Annotation(Kind.LINK, "\x1b]0;x\x07"),))
+
+    def test_no_control_character_of_a_script_comes_out(self) -> None:
+        script = "new 20 plain\nsub 9\ntext a\nappend \\u{1b}\\n | \n"
+        self.assertEqual(render_script(script), "%1B%0Aa\n")
+        self.assertEqual(render_script(script, raw=True), "\x1b\na\n")
+
+    def test_lines_are_shown_in_formats(self) -> None:
+        def calls(r: Renderer) -> None:
+            with r.link("https://example.org/\x1b"):
+                r.add_inline_text("a < b")
+            r.new_line()
+            with r.link("javascript:x()"), r.strong():
+                r.add_inline_text("\u6f22")
+
+        def shown(format: Format, *args: Any) -> str:
+            with Renderer(20, *args) as renderer:
+                calls(renderer)
+                return renderer.into_string(format)
+
+        ansi = "\x1b[4m\x1b]8;;https://example.org/%1B\x1b\\a < b\x1b]8;;\x1b\\\x1b[24m\n"
+        ansi += "\x1b[4m\x1b]8;;\x1b\\\x1b[1m\u6f22\x1b]8;;\x1b\\\x1b[24m\x1b[22m\n"
+        html = '<a href="https://example.org/%1B">a &lt; b</a>\n'
+        html += '<a><strong><span class="wide">\u6f22</span></strong></a>\n'
+        json = '{"border":false,"columns":5,"pieces":[{"text":"a < b","columns":5,"annotations":'
+        json += '[{"kind":"link","target":"https://example.org/\\u001b"}]}]}\n'
+        self.assertEqual(shown(Format.TEXT, Decorator.RICH), "a < b\n\u6f22\n")
+        self.assertEqual(shown(Format.ANSI, Decorator.RICH), ansi)
+        self.assertEqual(shown(Format.HTML, Decorator.RICH), html)
+        self.assertEqual(shown(Format.JSON, Decorator.RICH).splitlines(keepends=True)[0], json)
+        self.assertEqual(shown(Format.HTML), '[a &lt; b]\n[<span class="wide">\u6f22</span>]\n')
+        self.assertEqual(
+            shown(Format.JSON).splitlines()[0],
+            '{"border":false,"columns":7,"pieces":[{"text":"[a < b]","columns":7,"annotations":[]}]}',
+        )
+        with Renderer(20, Decorator.RICH) as renderer:
+            calls(renderer)
+            self.assertEqual(list(renderer.into_strings(Format.ANSI)), ansi.splitlines())
 
     def test_white_space_is_kept_where_a_mode_says_so(self) -> None:
         def calls(r: Renderer) -> None:

@@ -20,13 +20,13 @@ from .errors import (
     TooNarrowError,
 )
 from .lines import Annotation, FragmentStart, Kind, TaggedLine, TaggedString
-from .options import CellAlign, Colour, Decorator, ImageRenderMode, WhiteSpace
+from .options import CellAlign, Colour, Decorator, Format, ImageRenderMode, WhiteSpace
 from .renderer import Renderer
 from .script import render_script
 from .versions import library_version
 from .widths import text_width
 
-__version__ = "0.2.0"
+__version__ = "0.3.0"
 
 __all__ = [
     "Annotation",
@@ -37,6 +37,7 @@ __all__ = [
     "Colour",
     "Decorator",
     "FinishedError",
+    "Format",
     "FragmentStart",
     "ImageRenderMode",
     "Kind",

@@ -1,7 +1,7 @@
 """The library, and what it exports, as `include/text_block_renderer.h` declares it."""
 
 import ctypes
-from ctypes import POINTER, Structure, c_bool, c_char_p, c_int64, c_size_t, c_uint8, c_uint32, c_void_p
+from ctypes import POINTER, Structure, c_bool, c_char_p, c_int64, c_size_t, c_uint8, c_uint16, c_uint32, c_void_p
 from typing import Any
 
 from ._search import FILE, FOLDER, HOW_TO_GET_IT, folders, library_file
@@ -20,6 +20,8 @@ class Options(Structure):
         ("wrap_links", c_bool),
         ("strikeout_strokes", c_bool),
         ("draw_borders", c_bool),
+        ("unused", c_uint16),
+        ("raw", c_bool),
     ]
 
 
@@ -119,8 +121,10 @@ CALLS: dict[str, tuple[type[Any], ...]] = {
     "ordered_item_prefix": (c_int64,) + _BUFFER,
     "header_prefix": (c_size_t,) + _BUFFER,
     "text": _BUFFER,
+    "text_as": (c_uint32,) + _BUFFER,
     "next_line": (POINTER(Line),),
     "line_text": _BUFFER,
+    "line_as": (c_uint32,) + _BUFFER,
     "get_piece": (c_size_t, POINTER(Piece)),
     "marker_name": (c_size_t,) + _BUFFER,
     "get_annotation": (c_size_t, c_size_t, POINTER(Annotation)),
@@ -159,8 +163,9 @@ def _declare(library: ctypes.CDLL) -> None:
     library.tbr_new.restype = c_uint32
     library.tbr_free.argtypes = (c_void_p,)
     library.tbr_free.restype = None
-    library.tbr_render.argtypes = (*_TEXT, c_char_p, c_size_t)
-    library.tbr_render.restype = Answer
+    for render in (library.tbr_render, library.tbr_render_raw):
+        render.argtypes = (*_TEXT, c_char_p, c_size_t)
+        render.restype = Answer
     library.tbr_text_width_n.argtypes = (*_TEXT, *_SIZE)
     library.tbr_text_width_n.restype = c_uint32
     library.tbr_version.argtypes = ()

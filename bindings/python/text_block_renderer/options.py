@@ -46,6 +46,26 @@ class CellAlign(Enum):
     """In the middle, with the odd column on the right."""
 
 
+class Format(Enum):
+    """How lines are shown.
+
+    None of these lets a control character of a text, a target or a name out, but the text of a renderer that is raw.
+    Links of `ANSI` and `HTML` lead to `http`, `https`, `mailto`, `ftp` and where there is no scheme, and to nothing else.
+    """
+
+    TEXT = 0
+    """The text alone."""
+    ANSI = 1
+    """For a terminal: emphasis, strong and struck out text, code and colours by control sequences, and hyperlinks."""
+    HTML = 2
+    """What is in a `<pre>`: links, emphasis and colours as elements, and markers as places to link to.
+
+    A character of two columns is in a `<span class="wide">`, to be shown as two characters wide.
+    """
+    JSON = 3
+    """An object of JSON for each line: columns, whether it is a border, and its pieces and markers."""
+
+
 @dataclass(frozen=True)
 class Colour:
     """A colour, by its red, green and blue parts, each from 0 to 255."""

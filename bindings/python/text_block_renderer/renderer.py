@@ -13,7 +13,7 @@ from ._handle import OwnedRenderer
 from ._nested import nested
 from .errors import NoLineError, RendererError, refusal
 from .lines import Annotation, FragmentStart, Kind, TaggedLine, TaggedString
-from .options import CellAlign, Colour, Decorator, ImageRenderMode, WhiteSpace
+from .options import CellAlign, Colour, Decorator, Format, ImageRenderMode, WhiteSpace
 
 # The bytes that most prefixes have at most.
 _PREFIX_ROOM = 24
@@ -56,6 +56,7 @@ class Renderer:
         include_link_footnotes: bool = False,
         use_unicode_strikeout: bool = True,
         img_mode: ImageRenderMode = ImageRenderMode.IGNORE_EMPTY,
+        raw: bool = False,
     ) -> None:
         """A renderer of so many columns. `BadWidthError` at 0.
 
@@ -67,6 +68,8 @@ class Renderer:
         include_link_footnotes: links show numbers, and their targets come after the text under these.
         use_unicode_strikeout: struck out text has strokes.
         img_mode: what an image without a title shows.
+        raw: control characters of prefixes, and of the targets that footnotes list, come out as they went in. Else they
+            are shown as a browser shows them, so that an escape is `%1B`.
         """
         self._owned = OwnedRenderer(
             library.Options(
@@ -81,6 +84,7 @@ class Renderer:
                 wrap_links=wrap_links,
                 strikeout_strokes=use_unicode_strikeout,
                 draw_borders=draw_borders,
+                raw=raw,
             )
         )
 
@@ -112,18 +116,32 @@ class Renderer:
         self._owned.call("finish")
         return self._lines()
 
-    def into_string(self) -> str:
-        """The text of its lines, each with a newline. It can't be filled any more, and refuses as `into_lines` does."""
-        length = self._owned.number("finish_text")
-        return self._owned.text(length, "text")
+    def into_string(self, format: Format = Format.TEXT) -> str:
+        """Its lines in a format, each with a newline. It can't be filled any more, and refuses as `into_lines` does."""
+        shown = member(format, "format", Format)
+        if format is Format.TEXT:
+            length = self._owned.number("finish_text")
+            return self._owned.text(length, "text")
+        self._owned.call("finish")
+        return self._owned.text(0, "text_as", shown)
 
-    def _lines(self) -> Iterator[TaggedLine]:
+    def into_strings(self, format: Format = Format.TEXT) -> Iterator[str]:
+        """Its lines in a format one by one, without newlines. It can't be filled any more, and refuses as `into_lines`
+        does.
+        """
+        shown = member(format, "format", Format)
+        self._owned.call("finish")
+        return (self._owned.text(0, "line_as", shown) for _ in self._taken())
+
+    def _taken(self) -> Iterator[library.Line]:
         while True:
             try:
-                line = self._owned.fill(library.Line(), "next_line")
+                yield self._owned.fill(library.Line(), "next_line")
             except NoLineError:
                 return
-            yield self._line(line)
+
+    def _lines(self) -> Iterator[TaggedLine]:
+        return map(self._line, self._taken())
 
     def _line(self, line: library.Line) -> TaggedLine:
         text = self._owned.text(line.bytes, "line_text").encode()

@@ -3,7 +3,7 @@
 from ctypes import Array, c_char, create_string_buffer
 from typing import TYPE_CHECKING
 
-from ._arguments import raw
+from ._arguments import raw as as_bytes
 from ._library import LIBRARY
 from .errors import ScriptError, refusal
 
@@ -11,23 +11,27 @@ if TYPE_CHECKING:
     from _typeshed import ReadableBuffer
 
 
-def render_script(script: "str | ReadableBuffer") -> str:
+def render_script(script: "str | ReadableBuffer", *, raw: bool = False) -> str:
     """The text of a script, which comes as a text or as its bytes.
+
+    No control character comes out but the newlines that end lines. With `raw`, those of prefixes, and of the targets
+    that footnotes list, come out as they went in, as those of the program `blockrender`.
 
     Any bytes may come; `ScriptError` where a line is at fault, or refuses. `TypeError` for what has no bytes.
     """
-    encoded = raw(script, "script")
+    encoded = as_bytes(script, "script")
     text = create_string_buffer(max(len(encoded), 1))
-    length = _render_into(encoded, text)
+    length = _render_into(encoded, text, raw)
     if length > len(text):
         text = create_string_buffer(length)
-        _render_into(encoded, text)
+        _render_into(encoded, text, raw)
     return text.raw[:length].decode()
 
 
-def _render_into(script: bytes, text: Array[c_char]) -> int:
+def _render_into(script: bytes, text: Array[c_char], raw: bool) -> int:
     """Writes as much of the text of a script as there is room for, and answers its length."""
-    answer = LIBRARY.tbr_render(script, len(script), text, len(text))
+    render = LIBRARY.tbr_render_raw if raw else LIBRARY.tbr_render
+    answer = render(script, len(script), text, len(text))
     if reason := refusal(answer.status):
         raise ScriptError(reason, answer.line or None)
     return int(answer.length)

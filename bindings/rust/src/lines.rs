@@ -1,6 +1,6 @@
 use crate::handle::Handle;
 use crate::sys;
-use crate::{Colour, Error, RichAnnotation, TaggedLine, TaggedLineElement, TaggedString};
+use crate::{Colour, Error, Format, RichAnnotation, TaggedLine, TaggedLineElement, TaggedString};
 use std::fmt;
 use std::iter::FusedIterator;
 
@@ -42,7 +42,41 @@ impl Lines {
         self.text_of(0)
     }
 
-    /// The same, where so many bytes are expected.
+    /// The same lines in a format, each with a newline. It takes none.
+    ///
+    /// ```
+    /// use text_block_renderer::{Format, Options, Renderer};
+    ///
+    /// let mut renderer = Renderer::new(&Options::rich(20))?;
+    /// renderer.link("javascript:x()", |link| link.add_inline_text("a < b"))?;
+    /// let lines = renderer.into_lines()?;
+    /// assert_eq!(lines.text_as(Format::Html)?, "<a>a &lt; b</a>\n");
+    /// # Ok::<(), text_block_renderer::Error>(())
+    /// ```
+    pub fn text_as(&self, format: Format) -> Result<String, Error> {
+        // SAFETY: the renderer is live, and so is the room.
+        self.handle.text(0, |it, out, room, length| unsafe { sys::tbr_text_as(it, format as u32, out, room, length) })
+    }
+
+    /// The line that was taken last in a format, without a newline. `NoLine` where none was.
+    ///
+    /// ```
+    /// use text_block_renderer::{Format, Options, Renderer};
+    ///
+    /// let mut renderer = Renderer::new(&Options::rich(20))?;
+    /// renderer.strong(|text| text.add_inline_text("warm"))?;
+    /// let mut lines = renderer.into_lines()?;
+    /// let line = lines.next().unwrap()?;
+    /// assert_eq!(line.to_string(), "warm");
+    /// assert_eq!(lines.line_as(Format::Ansi)?, "\u{1b}[1mwarm\u{1b}[22m");
+    /// # Ok::<(), text_block_renderer::Error>(())
+    /// ```
+    pub fn line_as(&self, format: Format) -> Result<String, Error> {
+        // SAFETY: as above.
+        self.handle.text(0, |it, out, room, length| unsafe { sys::tbr_line_as(it, format as u32, out, room, length) })
+    }
+
+    /// The same as `text`, where so many bytes are expected.
     pub(crate) fn text_of(&self, bytes: usize) -> Result<String, Error> {
         // SAFETY: the renderer is live, and so is the room.
         self.handle.text(bytes, |it, out, room, length| unsafe { sys::tbr_text(it, out, room, length) })

@@ -28,6 +28,7 @@ pub struct Options {
     include_link_footnotes: bool,
     use_unicode_strikeout: bool,
     img_mode: ImageRenderMode,
+    raw: bool,
 }
 
 /// How decorated text is shown.
@@ -78,6 +79,7 @@ impl Options {
             include_link_footnotes: false,
             use_unicode_strikeout: true,
             img_mode: ImageRenderMode::default(),
+            raw: false,
         }
     }
 
@@ -122,6 +124,12 @@ impl Options {
         Options { img_mode, ..self }
     }
 
+    /// Whether control characters of prefixes, and of the targets that footnotes list, come out as they went in. At
+    /// first they are shown as a browser shows them, so that an escape is `%1B`.
+    pub fn raw(self, raw: bool) -> Options {
+        Options { raw, ..self }
+    }
+
     pub(crate) fn to_sys(self) -> sys::Options {
         sys::Options {
             size: mem::size_of::<sys::Options>(),
@@ -135,8 +143,27 @@ impl Options {
             wrap_links: self.wrap_links,
             strikeout_strokes: self.use_unicode_strikeout,
             draw_borders: self.draw_borders,
+            unused: 0,
+            raw: self.raw,
         }
     }
+}
+
+/// How lines are shown. None of these lets a control character of a text, a target or a name out, but the text of a
+/// renderer that is raw. Links of `Ansi` and `Html` lead to `http`, `https`, `mailto`, `ftp` and where there is no scheme,
+/// and to nothing else.
+#[derive(Clone, Copy, Debug, Default, PartialEq, Eq, Hash)]
+pub enum Format {
+    /// The text alone.
+    #[default]
+    Text = 0,
+    /// For a terminal: emphasis, strong and struck out text, code and colours by control sequences, and hyperlinks.
+    Ansi = 1,
+    /// What is in a `<pre>`: links, emphasis and colours as elements, and markers as places to link to. A character of
+    /// two columns is in a `<span class="wide">`, to be shown as two characters wide.
+    Html = 2,
+    /// An object of JSON for each line: columns, whether it is a border, and its pieces and markers.
+    Json = 3,
 }
 
 /// What becomes of white space.

@@ -1,6 +1,6 @@
 use crate::handle::Handle;
 use crate::sys;
-use crate::{Cell, Colour, Error, Lines, Options, WhiteSpace};
+use crate::{Cell, Colour, Error, Format, Lines, Options, WhiteSpace};
 use std::fmt;
 
 /// Writes blocks of text, one below another, into lines of a width in columns.
@@ -42,6 +42,14 @@ impl Renderer {
         // SAFETY: the renderer is live, and so is the answer.
         let bytes = self.handle.ask(|it, bytes| unsafe { sys::tbr_finish_text(it, bytes) })?;
         Lines::new(self.handle).text_of(bytes)
+    }
+
+    /// Its lines in a format, each with a newline. It refuses as [`into_lines`](Renderer::into_lines) does.
+    pub fn into_string_as(self, format: Format) -> Result<String, Error> {
+        match format {
+            Format::Text => self.into_string(),
+            _ => self.into_lines()?.text_as(format),
+        }
     }
 }
 

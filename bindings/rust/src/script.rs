@@ -2,6 +2,7 @@ use crate::handle::buffer;
 use crate::sys;
 use crate::Error;
 use std::error;
+use std::ffi::c_char;
 use std::fmt;
 
 /// Why a script isn't rendered.
@@ -34,7 +35,8 @@ impl From<Error> for ScriptError {
     }
 }
 
-/// The text of a script, whose language `docs/SCRIPT.md` teaches. Any bytes may come.
+/// The text of a script, whose language `docs/SCRIPT.md` teaches. Any bytes may come. No control character comes out but
+/// the newlines that end lines.
 ///
 /// ```
 /// let text = text_block_renderer::render_script(b"new 8 plain\ntext Hello, world.\n")?;
@@ -44,20 +46,40 @@ impl From<Error> for ScriptError {
 /// # Ok::<(), text_block_renderer::ScriptError>(())
 /// ```
 pub fn render_script(script: &[u8]) -> Result<String, ScriptError> {
+    rendered(sys::tbr_render, script)
+}
+
+/// The same, where control characters of prefixes, and of the targets that footnotes list, come out as they went in. It
+/// is the text of the program `blockrender`.
+///
+/// ```
+/// let text = text_block_renderer::render_script_raw(b"new 8 plain\nsub 3\ntext a\nappend \\u{1b} | \n")?;
+/// assert_eq!(text, "\u{1b}a\n");
+/// # Ok::<(), text_block_renderer::ScriptError>(())
+/// ```
+pub fn render_script_raw(script: &[u8]) -> Result<String, ScriptError> {
+    rendered(sys::tbr_render_raw, script)
+}
+
+/// A call that writes as much of the text of a script as there is room for.
+type Render = unsafe extern "C" fn(*const c_char, usize, *mut c_char, usize) -> sys::Answer;
+
+/// The text that a call writes.
+fn rendered(render: Render, script: &[u8]) -> Result<String, ScriptError> {
     let mut text = buffer(script.len())?;
-    let mut length = render_into(script, &mut text)?;
+    let mut length = render_into(render, script, &mut text)?;
     if length > text.len() {
         text = buffer(length)?;
-        length = render_into(script, &mut text)?;
+        length = render_into(render, script, &mut text)?;
     }
     text.truncate(length);
     Ok(String::from_utf8(text).map_err(|_| Error::NotUtf8)?)
 }
 
 /// Writes as much of the text of a script as there is room for, and answers its length.
-fn render_into(script: &[u8], out: &mut [u8]) -> Result<usize, ScriptError> {
+fn render_into(render: Render, script: &[u8], out: &mut [u8]) -> Result<usize, ScriptError> {
     // SAFETY: both slices have as many bytes as are told.
-    let answer = unsafe { sys::tbr_render(script.as_ptr().cast(), script.len(), out.as_mut_ptr().cast(), out.len()) };
+    let answer = unsafe { render(script.as_ptr().cast(), script.len(), out.as_mut_ptr().cast(), out.len()) };
     let line = Some(answer.line).filter(|&line| line > 0);
     Error::check(answer.status).map_err(|error| ScriptError { line, error })?;
     Ok(answer.length)

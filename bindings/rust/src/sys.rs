@@ -22,6 +22,8 @@ pub struct Options {
     pub wrap_links: bool,
     pub strikeout_strokes: bool,
     pub draw_borders: bool,
+    pub unused: u16,
+    pub raw: bool,
 }
 
 #[repr(C)]
@@ -75,6 +77,7 @@ pub struct Annotation {
 
 extern "C" {
     pub fn tbr_render(script: *const c_char, length: usize, out: *mut c_char, room: usize) -> Answer;
+    pub fn tbr_render_raw(script: *const c_char, length: usize, out: *mut c_char, room: usize) -> Answer;
     pub fn tbr_text_width_n(text: *const c_char, length: usize, columns: &mut usize) -> u32;
     #[cfg(test)]
     pub fn tbr_options_init(options: &mut Options, size: usize, width: usize);
@@ -167,6 +170,20 @@ extern "C" {
     ) -> u32;
 
     pub fn tbr_text(renderer: *mut Renderer, out: *mut c_char, room: usize, length: &mut usize) -> u32;
+    pub fn tbr_text_as(
+        renderer: *mut Renderer,
+        format: u32,
+        out: *mut c_char,
+        room: usize,
+        length: &mut usize,
+    ) -> u32;
+    pub fn tbr_line_as(
+        renderer: *mut Renderer,
+        format: u32,
+        out: *mut c_char,
+        room: usize,
+        length: &mut usize,
+    ) -> u32;
     pub fn tbr_next_line(renderer: *mut Renderer, line: &mut Line) -> u32;
     pub fn tbr_line_text(renderer: *mut Renderer, out: *mut c_char, room: usize, length: &mut usize) -> u32;
     pub fn tbr_get_piece(renderer: *mut Renderer, place: usize, piece: &mut Piece) -> u32;

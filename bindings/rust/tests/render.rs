@@ -1,8 +1,8 @@
 //! What comes out of the renderer. The texts are those of docs/SCRIPT.md, where the same calls are lines of a script.
 
 use text_block_renderer::{
-    text_width, Cell, CellAlign, Colour, Error, ImageRenderMode, Options, Renderer, RichAnnotation, TaggedLine,
-    TaggedLineElement, WhiteSpace,
+    render_script, render_script_raw, text_width, Cell, CellAlign, Colour, Error, Format, ImageRenderMode, Options,
+    Renderer, RichAnnotation, ScriptError, TaggedLine, TaggedLineElement, WhiteSpace,
 };
 
 type Tested = Result<(), Error>;
@@ -51,6 +51,70 @@ fn a_nul_is_a_character_like_others() -> Tested {
     })?;
     assert_eq!(lines[0].to_string(), "bell");
     assert_eq!(lines[0].iter().next(), Some(&TaggedLineElement::FragmentStart("a\0b".to_owned())));
+    Ok(())
+}
+
+/// A document with control characters in the prefixes of a block and in the target of a link.
+fn with_controls(r: &mut Renderer) -> Tested {
+    r.start_subrender(9)?;
+    r.start_link("\u{1b}]0;x\u{7}")?;
+    r.add_inline_text("here")?;
+    r.end_link()?;
+    r.append_subrender("\u{9b}\n", "")
+}
+
+#[test]
+fn no_control_character_comes_out() -> Tested {
+    let options = Options::rich(20).include_link_footnotes(true);
+    assert_eq!(rendered(options, with_controls)?, "%C2%9B%0Ahere[1]\n\n[1]: %1B]0;x%07\n");
+    assert_eq!(rendered(options.raw(true), with_controls)?, "\u{9b}\nhere[1]\n\n[1]: \u{1b}]0;x\u{7}\n");
+    let lines = lines(options, with_controls)?;
+    let piece = lines[0].tagged_strings().nth(1).unwrap();
+    assert_eq!(piece.tag, [RichAnnotation::Link("\u{1b}]0;x\u{7}".to_owned())]);
+    Ok(())
+}
+
+#[test]
+fn no_control_character_of_a_script_comes_out() -> Result<(), ScriptError> {
+    let script = b"new 20 plain\nsub 9\ntext a\nappend \\u{1b}\\n | \n";
+    assert_eq!(render_script(script)?, "%1B%0Aa\n");
+    assert_eq!(render_script_raw(script)?, "\u{1b}\na\n");
+    Ok(())
+}
+
+#[test]
+fn lines_are_shown_in_formats() -> Tested {
+    let shown = |options: Options, format| {
+        let mut renderer = Renderer::new(&options)?;
+        renderer.link("https://example.org/\u{1b}", |link| link.add_inline_text("a < b"))?;
+        renderer.into_string_as(format)
+    };
+    let ansi = "\u{1b}[4m\u{1b}]8;;https://example.org/%1B\u{1b}\\a < b\u{1b}]8;;\u{1b}\\\u{1b}[24m\n";
+    let json = concat!(
+        r#"{"border":false,"columns":5,"pieces":[{"text":"a < b","columns":5,"annotations":"#,
+        r#"[{"kind":"link","target":"https://example.org/\u001b"}]}]}"#,
+        "\n"
+    );
+    assert_eq!(shown(Options::rich(20), Format::Text)?, "a < b\n");
+    assert_eq!(shown(Options::rich(20), Format::Ansi)?, ansi);
+    assert_eq!(shown(Options::rich(20), Format::Html)?, "<a href=\"https://example.org/%1B\">a &lt; b</a>\n");
+    assert_eq!(shown(Options::rich(20), Format::Json)?, json);
+    assert_eq!(shown(Options::plain(20), Format::Html)?, "[a &lt; b]\n");
+    Ok(())
+}
+
+#[test]
+fn lines_are_shown_one_by_one() -> Tested {
+    let mut renderer = Renderer::new(&Options::rich(20))?;
+    renderer.emphasis(|text| text.add_inline_text("a"))?;
+    renderer.new_line()?;
+    renderer.add_inline_text("b")?;
+    let mut lines = renderer.into_lines()?;
+    assert_eq!(lines.line_as(Format::Html), Err(Error::NoLine));
+    assert_eq!(lines.text_as(Format::Html)?, "<em>a</em>\nb\n");
+    assert_eq!(lines.next().unwrap()?.to_string(), "a");
+    assert_eq!(lines.line_as(Format::Html)?, "<em>a</em>");
+    assert_eq!(lines.text_as(Format::Html)?, "b\n");
     Ok(())
 }
 

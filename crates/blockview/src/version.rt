@@ -1,4 +1,4 @@
 //! The version.
 
 /// The version of the program.
-pub const VERSION: &str = "0.2.0";
+pub const VERSION: &str = "0.3.0";

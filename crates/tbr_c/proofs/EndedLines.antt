@@ -1,5 +1,5 @@
 -- Lines at the end of a program.
-use Rattle.std.proofs.Common.{◌≡◌, ℕ, Option, List, [], ◌∷◌, ◌++◌, map, flat_map, Ok, Err, encode_utf8_all, refl, ap, ◌∙◌}
+use Rattle.std.proofs.Common.{◌≡◌, ℕ, Bool, true, false, Option, List, [], ◌∷◌, ◌++◌, map, flat_map, Ok, Err, encode_utf8_all, refl, ap, ◌∙◌}
 use Rattle.tbr_model.specs.Codes.{newline_character}
 use Rattle.tbr_border.specs.Border.{shown}
 use Rattle.tbr_border.specs.declared.RenderLine.{RenderLine}
@@ -19,6 +19,7 @@ use Rattle.tbr_renderer.proofs.LineTexts.{lines_same}
 use Rattle.tbr_script.specs.declared.error.RunError.TheVariants.{TooNarrow}
 use Rattle.tbr_program.specs.Progress.{Progress, progress_meant}
 use Rattle.tbr_program.specs.Closing.{closed}
+use Rattle.tbr_program.specs.Safe.{shown_links}
 use Rattle.tbr_program.specs.Commands.{ended, answered}
 use Rattle.tbr_program.proofs.MadeCommands.{text_given}
 use Rattle.tbr_c_lines.specs.Lines.{line_text}
@@ -44,3 +45,17 @@ module _ {D A M : Type 0} (columns : ℕ → Option ℕ) (decoration : Decoratio
 
   pub narrow_end : Closes (refused block.TooNarrow) → ended columns decoration 0 (progress_meant meaning p) ≡ Err TooNarrow
   narrow_end h = ends (refused block.TooNarrow) h
+
+-- the same where targets are shown raw or not
+module _ {D A M : Type 0} (columns : ℕ → Option ℕ) (decoration : Decoration D M) (meaning : A → M) (p : Progress D A (List A)) (no_level : p.opened ≡ []) (no_cell : p.pending.cells ≡ []) where
+  abbrev Gives : Bool → Outcome (List (Line (List M))) → Type 0
+  Gives raw given = OfTop (λ r. closed columns decoration (let q = shown_links raw p in let s = q.stack in s.links) (meant meaning r) ≡ given) p.stack
+
+  pub shown_lines_end : (raw : Bool) (lines : List (RenderLine (List A))) → Gives raw (done (map (map_line (tag_meant meaning)) (map line_seen lines))) →
+      ended columns decoration 0 (shown_links raw (progress_meant meaning p)) ≡ Ok (encode_utf8_all (flat_map line_text lines))
+  shown_lines_end true lines h = lines_end columns decoration meaning p no_level no_cell lines h
+  shown_lines_end false lines h = lines_end columns decoration meaning (shown_links false p) no_level no_cell lines h
+
+  pub shown_narrow_end : (raw : Bool) → Gives raw (refused block.TooNarrow) → ended columns decoration 0 (shown_links raw (progress_meant meaning p)) ≡ Err TooNarrow
+  shown_narrow_end true h = narrow_end columns decoration meaning p no_level no_cell h
+  shown_narrow_end false h = narrow_end columns decoration meaning (shown_links false p) no_level no_cell h

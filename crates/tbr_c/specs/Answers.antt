@@ -1,15 +1,17 @@
 -- What is answered to C.
-use Rattle.std.specs.Prelude.{◌≡◌, ◌≢◌, ℕ, Option, Some, Result, Ok, Err, OnOk, IfOk, IfErr, MatchResult, List, length}
+use Rattle.std.specs.Prelude.{◌≡◌, ◌≢◌, ℕ, Bool, Option, Some, Result, Ok, Err, OnOk, IfOk, IfErr, MatchResult, List, length}
 use Rattle.tbr_commands.specs.Command.{Command}
 use Rattle.tbr_commands.specs.declared.opening.Opening.{Opening}
-use Rattle.tbr_c_lines.specs.Copied.{CopiesMade}
+use Rattle.tbr_c_lines.specs.Copied.{Copies, CopiesMade}
+use Rattle.tbr_c_lines.specs.Formats.{CopiesShown}
+use Rattle.tbr_c_lines.specs.declared.formats.Format.{Format}
 use Rattle.tbr_c_lines.specs.Status.{status_of}
 use Rattle.tbr_c_lines.specs.declared.fault.Fault.{Fault}
 use Rattle.tbr_c_lines.specs.declared.fault.Fault.TheVariants as fault
 use Rattle.tbr_c_lines.specs.declared.line.LineSize.{LineSize}
 use Rattle.tbr_c.specs.declared.state.State.{State}
 use Rattle.tbr_c.specs.State.{Begins, HasEnded, after_refusal, Does, Refuses, refused_as, EndsAs, EndsIn, RefusesEnd, HasText, TakesLine, HasNoNext}
-use Rattle.tbr_c.specs.Questions.{Puts, rest_of}
+use Rattle.tbr_c.specs.Questions.{Puts, rest_of, rest_to_show, line_as}
 
 -- It does what arguments ask for, as a script does.
 abbrev pub DoesAsked : State → Result Command Fault → State → Type 0
@@ -59,16 +61,16 @@ GivesText before back old new status =
     (done : Result ℕ Fault) × (after : State) × IfOk done (HasLength before after) × IsEnd before done after
     × (back ≡ Some after) × Puts done old new status
 
--- A new renderer, or why there is none.
-abbrev pub IsMade : Result Opening Fault → Result State Fault → Type 0
-IsMade asked made =
-    MatchResult made (λ state. (opening : Opening) × (asked ≡ Ok opening) × Begins opening state)
+-- A new renderer, which is raw or not, or why there is none.
+abbrev pub IsMade : Result Opening Fault → (raw : Bool) → Result State Fault → Type 0
+IsMade asked raw made =
+    MatchResult made (λ state. (opening : Opening) × (asked ≡ Ok opening) × Begins opening raw state)
     (λ f. f ≢ fault.OutOfMemory → asked ≡ Err f)
 
 -- C is given a new renderer where one is made, and the status of that.
-abbrev pub GivesNew : Result Opening Fault → Option State → Option State → ℕ → Type 0
-GivesNew asked before back status =
-    (made : Result State Fault) × IsMade asked made × MatchResult made (λ state. back ≡ Some state) (λ _. back ≡ before)
+abbrev pub GivesNew : Result Opening Fault → (raw : Bool) → Option State → Option State → ℕ → Type 0
+GivesNew asked raw before back status =
+    (made : Result State Fault) × IsMade asked raw made × MatchResult made (λ state. back ≡ Some state) (λ _. back ≡ before)
     × (status ≡ status_of made)
 
 -- The text of all lines that weren't taken is copied, or it is refused, and C is given back what the renderer holds then.
@@ -78,6 +80,31 @@ GivesRest state back before after old needed status =
     (done : Result (Unit {0}) Fault) × CopiesMade (rest_of state) before after old needed (status_of done)
     × IfErr (rest_of state) (λ f. done ≡ Err f)
     × MatchResult done (λ _. back ≡ Some state) (λ f. back ≡ Some (after_refusal f state)) × (status ≡ status_of done)
+
+-- What C is given back after a copy that may have been refused.
+abbrev pub IsLeft : State → Option State → Result (Unit {0}) Fault → Type 0
+IsLeft state back done = MatchResult done (λ _. back ≡ Some state) (λ f. back ≡ Some (after_refusal f state))
+
+-- The lines that weren't taken are copied in the format of a number, or it is refused. Memory is refused only where there
+-- are such lines. A number that names none is refused, and nothing else happens.
+abbrev pub GivesShown :
+    Result Format Fault → State → Option State → List ℕ → List ℕ → ℕ → ℕ → ℕ → Type 0
+GivesShown (Ok format) state back before after old needed status =
+    (done : Result (Unit {0}) Fault)
+    × CopiesShown format (rest_to_show state) before after old needed (status_of done)
+    × IfErr (rest_to_show state) (λ f. done ≡ Err f) × IsLeft state back done × (status ≡ status_of done)
+GivesShown (Err f) state back before after old needed status =
+    Copies (Err f) before after old needed status × (back ≡ Some state)
+
+-- the same of the line that was taken last
+abbrev pub GivesLine :
+    Result Format Fault → State → Option State → List ℕ → List ℕ → ℕ → ℕ → ℕ → Type 0
+GivesLine (Ok format) state back before after old needed status =
+    (done : Result (Unit {0}) Fault)
+    × CopiesMade (line_as format state) before after old needed (status_of done)
+    × IfErr (line_as format state) (λ f. done ≡ Err f) × IsLeft state back done × (status ≡ status_of done)
+GivesLine (Err f) state back before after old needed status =
+    Copies (Err f) before after old needed status × (back ≡ Some state)
 
 -- The first line that wasn't taken is taken, or it is refused why there is none.
 pub record IsNext (before : State) (done : Result LineSize Fault) (after : State) : Type 0 where

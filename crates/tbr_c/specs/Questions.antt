@@ -14,6 +14,9 @@ use Rattle.tbr_program.specs.Progress.{Progress}
 use Rattle.tbr_program.specs.Decorations.{plain_decoration, trivial_decoration, rich_decoration}
 use Rattle.tbr_c_lines.specs.Status.{code_of, fault_of}
 use Rattle.tbr_c_lines.specs.Lines.{text_of}
+use Rattle.tbr_c_lines.specs.Formats.{lines_to_show, current_as}
+use Rattle.tbr_c_lines.specs.declared.formats.Format.{Format}
+use Rattle.tbr_c_lines.specs.declared.lines.Rest.{Rest}
 use Rattle.tbr_c_lines.specs.Line.{Line, placed, marked, annotated, target_of, kind_of}
 use Rattle.tbr_c_lines.specs.declared.fault.Fault.{Fault}
 use Rattle.tbr_c_lines.specs.declared.fault.Fault.TheVariants as fault
@@ -51,9 +54,9 @@ facts_in meaning p = record {
 
 -- What a renderer answers. What is finished, or keeps a refusal, answers that.
 abbrev pub facts_of : State → Result Facts Fault
-facts_of (Plain p) = Ok (facts_in (λ a. a) p)
-facts_of (Trivial p) = Ok (facts_in (λ a. a) p)
-facts_of (Rich p) = Ok (facts_in style_of p)
+facts_of (Plain f) = Ok (facts_in (λ a. a) f.program)
+facts_of (Trivial f) = Ok (facts_in (λ a. a) f.program)
+facts_of (Rich f) = Ok (facts_in style_of f.program)
 facts_of (Finished lines) = Err fault.Finished
 facts_of (Refused e) = Err (fault_of e)
 
@@ -69,19 +72,25 @@ columns_left prefix least r =
     else Ok (max least (r.width - prefix))
 
 abbrev pub width_left : ℕ → ℕ → State → Result ℕ Fault
-width_left prefix least (Plain p) = on_top (Err fault.TooNarrow) (columns_left prefix least) p.stack
-width_left prefix least (Trivial p) = on_top (Err fault.TooNarrow) (columns_left prefix least) p.stack
-width_left prefix least (Rich p) = on_top (Err fault.TooNarrow) (columns_left prefix least) p.stack
+width_left prefix least (Plain f) =
+    let p = f.program in on_top (Err fault.TooNarrow) (columns_left prefix least) p.stack
+width_left prefix least (Trivial f) =
+    let p = f.program in on_top (Err fault.TooNarrow) (columns_left prefix least) p.stack
+width_left prefix least (Rich f) =
+    let p = f.program in on_top (Err fault.TooNarrow) (columns_left prefix least) p.stack
 width_left prefix least (Finished lines) = Err fault.Finished
 width_left prefix least (Refused e) = Err (fault_of e)
 
 -- the bytes of a prefix of the decorator
 abbrev pub prefix_of : Prefix → State → Result (List ℕ) Fault
-prefix_of asked (Plain p) =
+prefix_of asked (Plain f) =
+    let p = f.program in
     Ok (encode_utf8_all (on_top [] (λ r. plain_decoration.prefix_text r.decorator asked) p.stack))
-prefix_of asked (Trivial p) =
+prefix_of asked (Trivial f) =
+    let p = f.program in
     Ok (encode_utf8_all (on_top [] (λ r. trivial_decoration.prefix_text r.decorator asked) p.stack))
-prefix_of asked (Rich p) =
+prefix_of asked (Rich f) =
+    let p = f.program in
     Ok (encode_utf8_all (on_top [] (λ r. rich_decoration.prefix_text r.decorator asked) p.stack))
 prefix_of asked (Finished lines) = Err fault.Finished
 prefix_of asked (Refused e) = Err (fault_of e)
@@ -100,6 +109,14 @@ refusal_of other = Ok tt
 -- the text of all lines that weren't taken, each with a newline
 abbrev pub rest_of : State → Result (List ℕ) Fault
 rest_of state = and_then (lines_in state) (λ lines. Ok (encode_utf8_all (text_of lines.rest)))
+
+-- the lines that weren't taken, where there are such and not only their text
+abbrev pub rest_to_show : State → Result Rest Fault
+rest_to_show state = and_then (lines_in state) (λ lines. lines_to_show lines.rest)
+
+-- the line that was taken last in a format
+abbrev pub line_as : Format → State → Result (List ℕ) Fault
+line_as format state = and_then (lines_in state) (current_as format)
 
 -- ---- of the line that was taken last
 

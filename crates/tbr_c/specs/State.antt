@@ -1,5 +1,5 @@
 -- How far a renderer is that C holds.
-use Rattle.std.specs.Prelude.{◌≡◌, ℕ, Option, None, Some, unwrap_or, Result, Ok, Err, MatchResult, List, [], chars, encode_utf8_all}
+use Rattle.std.specs.Prelude.{◌≡◌, ℕ, Bool, Option, None, Some, unwrap_or, Result, Ok, Err, MatchResult, List, [], chars, encode_utf8_all}
 use Rattle.std.specs.Option.{option_map}
 use Rattle.tbr_tagged.specs.declared.Error.{Error}
 use Rattle.tbr_tagged.specs.declared.Error.TheVariants as block
@@ -12,6 +12,7 @@ use Rattle.tbr_commands.specs.declared.opening.Opening.{Opening}
 use Rattle.tbr_program.specs.Progress.{GoesOn, progress_meant}
 use Rattle.tbr_program.specs.Decorations.{plain_decoration, trivial_decoration, rich_decoration}
 use Rattle.tbr_program.specs.Commands.{after_command, ended, started}
+use Rattle.tbr_program.specs.Safe.{shown_command, shown_links}
 use Rattle.tbr_c_lines.specs.Status.{fault_of, fault_of_command}
 use Rattle.tbr_c_lines.specs.Line.{Line, size_of}
 use Rattle.tbr_c_lines.specs.Lines.{Lines, NoneLeft, TakesFirst, text_of}
@@ -24,24 +25,27 @@ use Rattle.tbr_c.specs.declared.state.State.TheVariants.{Plain, Trivial, Rich, F
 
 -- a program goes on, if calls go into one
 abbrev pub CanGoOn : State → Type 0
-CanGoOn (Plain program) = GoesOn program
-CanGoOn (Trivial program) = GoesOn program
-CanGoOn (Rich program) = GoesOn program
+CanGoOn (Plain filled) = GoesOn filled.program
+CanGoOn (Trivial filled) = GoesOn filled.program
+CanGoOn (Rich filled) = GoesOn filled.program
 CanGoOn (Finished lines) = Unit {0}
 CanGoOn (Refused e) = Unit {0}
 
--- Nothing was called yet after this first command of a script.
-abbrev pub Begins : Opening → State → Type 0
-Begins opening (Plain program) = (opening.decorator ≡ decorator.Plain) × (program ≡ started opening (record {}))
-Begins opening (Trivial program) = (opening.decorator ≡ decorator.Trivial) × (program ≡ started opening (record {}))
-Begins opening (Rich program) = (opening.decorator ≡ decorator.Rich) × (program ≡ started opening (record {}))
-Begins opening other = ⊥
+-- Nothing was called yet after this first command of a script, and the renderer is raw or not.
+abbrev pub Begins : Opening → (raw : Bool) → State → Type 0
+Begins opening raw (Plain filled) =
+    (opening.decorator ≡ decorator.Plain) × (filled.program ≡ started opening (record {})) × (filled.raw ≡ raw)
+Begins opening raw (Trivial filled) =
+    (opening.decorator ≡ decorator.Trivial) × (filled.program ≡ started opening (record {})) × (filled.raw ≡ raw)
+Begins opening raw (Rich filled) =
+    (opening.decorator ≡ decorator.Rich) × (filled.program ≡ started opening (record {})) × (filled.raw ≡ raw)
+Begins opening raw other = ⊥
 
 -- calls go in, no level is open, and no cell waits
 abbrev pub MayFinish : State → Type 0
-MayFinish (Plain program) = (program.opened ≡ []) × (program.pending.cells ≡ [])
-MayFinish (Trivial program) = (program.opened ≡ []) × (program.pending.cells ≡ [])
-MayFinish (Rich program) = (program.opened ≡ []) × (program.pending.cells ≡ [])
+MayFinish (Plain filled) = let p = filled.program in (p.opened ≡ []) × (p.pending.cells ≡ [])
+MayFinish (Trivial filled) = let p = filled.program in (p.opened ≡ []) × (p.pending.cells ≡ [])
+MayFinish (Rich filled) = let p = filled.program in (p.opened ≡ []) × (p.pending.cells ≡ [])
 MayFinish (Finished lines) = ⊥
 MayFinish (Refused e) = ⊥
 
@@ -65,30 +69,40 @@ HasEnded (Rich program) result = Unit {0}
 
 -- ---- a command
 
--- It leads from one state to another under the same decorator, as it does in a script.
+-- It leads from one state to another under the same decorator, as it does in a script. Where the renderer isn't raw, it
+-- has no control characters in prefixes.
 abbrev pub Does : State → Command → State → Type 0
-Does (Plain p) command (Plain q) =
-    after_command unicode_columns plain_decoration 0 command (progress_meant (λ a. a) p) ≡ Ok (progress_meant (λ a. a) q)
-Does (Trivial p) command (Trivial q) =
-    after_command unicode_columns trivial_decoration 0 command (progress_meant (λ a. a) p) ≡ Ok (progress_meant (λ a. a) q)
-Does (Rich p) command (Rich q) =
-    after_command unicode_columns rich_decoration 0 command (progress_meant style_of p) ≡ Ok (progress_meant style_of q)
-Does (Plain p) command other = ⊥
-Does (Trivial p) command other = ⊥
-Does (Rich p) command other = ⊥
+Does (Plain f) command (Plain g) =
+    (after_command unicode_columns plain_decoration 0 (shown_command f.raw command) (progress_meant (λ a. a) f.program)
+    ≡ Ok (progress_meant (λ a. a) g.program)) × (g.raw ≡ f.raw)
+Does (Trivial f) command (Trivial g) =
+    (after_command unicode_columns trivial_decoration 0 (shown_command f.raw command) (progress_meant (λ a. a) f.program)
+    ≡ Ok (progress_meant (λ a. a) g.program)) × (g.raw ≡ f.raw)
+Does (Rich f) command (Rich g) =
+    (after_command unicode_columns rich_decoration 0 (shown_command f.raw command) (progress_meant style_of f.program)
+    ≡ Ok (progress_meant style_of g.program)) × (g.raw ≡ f.raw)
+Does (Plain f) command other = ⊥
+Does (Trivial f) command other = ⊥
+Does (Rich f) command other = ⊥
 Does (Finished lines) command other = ⊥
 Does (Refused e) command other = ⊥
 
 -- With what it is refused, but where memory is refused: as in a script, whose lines don't count here.
 abbrev pub Refuses : State → Command → Fault → Type 0
-Refuses (Plain p) command f =
-    (e : RunError) × (after_command unicode_columns plain_decoration 0 command (progress_meant (λ a. a) p) ≡ Err e)
+Refuses (Plain filled) command f =
+    let make = after_command unicode_columns plain_decoration 0 in
+    (e : RunError)
+    × (make (shown_command filled.raw command) (progress_meant (λ a. a) filled.program) ≡ Err e)
     × (f ≡ fault_of_command e)
-Refuses (Trivial p) command f =
-    (e : RunError) × (after_command unicode_columns trivial_decoration 0 command (progress_meant (λ a. a) p) ≡ Err e)
+Refuses (Trivial filled) command f =
+    let make = after_command unicode_columns trivial_decoration 0 in
+    (e : RunError)
+    × (make (shown_command filled.raw command) (progress_meant (λ a. a) filled.program) ≡ Err e)
     × (f ≡ fault_of_command e)
-Refuses (Rich p) command f =
-    (e : RunError) × (after_command unicode_columns rich_decoration 0 command (progress_meant style_of p) ≡ Err e)
+Refuses (Rich filled) command f =
+    let make = after_command unicode_columns rich_decoration 0 in
+    (e : RunError)
+    × (make (shown_command filled.raw command) (progress_meant style_of filled.program) ≡ Err e)
     × (f ≡ fault_of_command e)
 Refuses (Finished lines) command f = f ≡ fault.Finished
 Refuses (Refused e) command f = f ≡ fault_of e
@@ -103,11 +117,15 @@ refused_as (Rich program) why = why
 
 -- ---- the end
 
--- What the end gives, as that of a script: its text, with the footnotes of its links, or a refusal.
+-- What the end gives, as that of a script: its text, with the footnotes of its links, or a refusal. Where the renderer
+-- isn't raw, targets are listed there without control characters.
 abbrev pub EndsAs : State → Result (List ℕ) RunError → Type 0
-EndsAs (Plain p) outcome = ended unicode_columns plain_decoration 0 (progress_meant (λ a. a) p) ≡ outcome
-EndsAs (Trivial p) outcome = ended unicode_columns trivial_decoration 0 (progress_meant (λ a. a) p) ≡ outcome
-EndsAs (Rich p) outcome = ended unicode_columns rich_decoration 0 (progress_meant style_of p) ≡ outcome
+EndsAs (Plain f) outcome =
+    ended unicode_columns plain_decoration 0 (shown_links f.raw (progress_meant (λ a. a) f.program)) ≡ outcome
+EndsAs (Trivial f) outcome =
+    ended unicode_columns trivial_decoration 0 (shown_links f.raw (progress_meant (λ a. a) f.program)) ≡ outcome
+EndsAs (Rich f) outcome =
+    ended unicode_columns rich_decoration 0 (shown_links f.raw (progress_meant style_of f.program)) ≡ outcome
 EndsAs (Finished lines) outcome = ⊥
 EndsAs (Refused e) outcome = ⊥
 

@@ -28,10 +28,10 @@ use tbr_decor::Colour;
 /// A renderer, or why none can be made.
 fn made(alloc: Global, options: &Options) -> Result<Box<Held>, Fault>
     ensures made { IfOk result (λ held. (opening : Opening) × (opening_asked options.now ≡ Ok opening)
-        × Begins opening held.value) }
+        × Begins opening options.now.raw held.value) }
     ensures refused { IfErr result (λ fault. fault ≢ F.OutOfMemory → opening_asked options.now ≡ Err fault) }
 {
-    let held = Held::new(alloc, options.opening()?)?;
+    let held = Held::new(alloc, options.opening()?, options.raw)?;
     match Box::new(alloc, held) {
         Ok(held) => Ok(held),
         Err(_) => Err(Fault::OutOfMemory),
@@ -41,7 +41,7 @@ fn made(alloc: Global, options: &Options) -> Result<Box<Held>, Fault>
 /// Makes a renderer.
 #[unsafe(no_mangle)]
 pub extern "C" fn tbr1_new(alloc: Global, options: &Options, back: &mut Returned) -> u32
-    ensures { GivesNew (opening_asked options.now) back.old.value back.new.value result }
+    ensures { GivesNew (opening_asked options.now) options.now.raw back.old.value back.new.value result }
 {
     match made(alloc, options) {
         Ok(held) => {

@@ -3,10 +3,11 @@ ghost use Rattle.std.specs.Prelude.{◌≡◌, ◌≢◌, ◌<◌, ℕ, List, No
 ghost use Rattle.tbr_c.specs.Answers.{IsAnswer, IsEnd, HasLength, IsNext};
 ghost use Rattle.tbr_c.specs.Arguments.{Reads};
 ghost use Rattle.tbr_c.specs.State.{CanGoOn, Begins, MayFinish, EndsIn, after_refusal};
-ghost use Rattle.tbr_c.specs.Questions.{facts_of, width_left, prefix_of, Needs, refusal_of, line_taken, rest_of};
+ghost use Rattle.tbr_c.specs.Questions.{facts_of, width_left, prefix_of, Needs, refusal_of, line_taken, rest_of, rest_to_show, line_as};
 ghost use Rattle.tbr_c.specs.declared.state.State.TheVariants as S;
 ghost use Rattle.tbr_decor.specs.Prefix.{asked_prefix};
 ghost use Rattle.tbr_c_lines.specs.Copied.{CopiesMade};
+ghost use Rattle.tbr_c_lines.specs.Formats.{CopiesShown};
 ghost use Rattle.tbr_c_lines.specs.Status.{fault_of, status_of};
 ghost use Rattle.tbr_c_lines.specs.declared.fault.Fault.{Fault as Refusal};
 ghost use Rattle.tbr_c_lines.specs.declared.fault.Fault.TheVariants as F;
@@ -16,7 +17,7 @@ use crate::state::{Facts, State};
 use std::alloc::Global;
 use std::marker::Model;
 use std::mem;
-use tbr_c_lines::{Fault, Line, LineSize, Lines, Rest};
+use tbr_c_lines::{Fault, Format, Line, LineSize, Lines, Rest};
 use tbr_commands::{Command, Opening};
 use tbr_decor::DecoratorPrefix;
 use tbr_lines::Error;
@@ -41,14 +42,14 @@ impl Model for Held {
 }
 
 impl Held {
-    /// A renderer without text. It refuses only where memory is refused.
-    pub fn new(alloc: Global, opening: Opening) -> Result<Held, Fault>
+    /// A renderer without text, which is `raw` or not. It refuses only where memory is refused.
+    pub fn new(alloc: Global, opening: Opening, raw: bool) -> Result<Held, Fault>
         requires width { 0 < opening.width }
         requires wrap_width { opening.options.wrap_width ≢ Some 0 }
-        ensures begins { IfOk result (λ held. Begins opening held) }
+        ensures begins { IfOk result (λ held. Begins opening raw held) }
         ensures memory { IfErr result (λ fault. fault ≡ F.OutOfMemory) }
     {
-        let state = State::new(alloc, opening)?;
+        let state = State::new(alloc, opening, raw)?;
         Ok(Held { alloc, state })
     }
 
@@ -189,6 +190,40 @@ impl Held {
         ensures left { MatchResult result (λ _. self.new ≡ self.old) (λ f. self.new ≡ after_refusal f self.old) }
     {
         let done = self.state.copy_text(self.alloc, out, needed);
+        self.state.keep(done)
+    }
+
+    /// Copies all lines that weren't taken in a format, each with a newline, as `copy_out` does. `NotFinished` where the
+    /// renderer isn't finished, `NoLine` where there is only its text. `OutOfMemory` is kept.
+    pub fn copy_shown(
+        &mut self,
+        format: Format,
+        out: &mut [u8],
+        needed: &mut usize,
+    ) -> Result<(), Fault>
+        ensures shown { CopiesShown format (rest_to_show self.old)
+            out.old out.new needed.old needed.new (status_of result) }
+        ensures none { IfErr (rest_to_show self.old) (λ f. result ≡ Err f) }
+        ensures left { MatchResult result (λ _. self.new ≡ self.old) (λ f. self.new ≡ after_refusal f self.old) }
+    {
+        let done = self.state.copy_shown(self.alloc, format, out, needed);
+        self.state.keep(done)
+    }
+
+    /// Copies the line that was taken last in a format, without a newline, as `copy_out` does. `NotFinished` where the
+    /// renderer isn't finished, `NoLine` where none was taken. `OutOfMemory` is kept.
+    pub fn copy_current(
+        &mut self,
+        format: Format,
+        out: &mut [u8],
+        needed: &mut usize,
+    ) -> Result<(), Fault>
+        ensures shown { CopiesMade (line_as format self.old)
+            out.old out.new needed.old needed.new (status_of result) }
+        ensures none { IfErr (line_as format self.old) (λ f. result ≡ Err f) }
+        ensures left { MatchResult result (λ _. self.new ≡ self.old) (λ f. self.new ≡ after_refusal f self.old) }
+    {
+        let done = self.state.copy_current(self.alloc, format, out, needed);
         self.state.keep(done)
     }
 }

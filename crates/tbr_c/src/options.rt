@@ -20,6 +20,7 @@ pub struct Options {
     pub wrap_links: bool,
     pub strikeout_strokes: bool,
     pub draw_borders: bool,
+    pub raw: bool,
 }
 
 impl Options {

@@ -9,18 +9,20 @@ ghost use Rattle.tbr_script.specs.declared.error.RunError.TheVariants as script;
 ghost use Rattle.tbr_commands.specs.Command.{command_of, IsSized};
 ghost use Rattle.tbr_program.specs.Progress.{GoesOn, progress_meant};
 ghost use Rattle.tbr_program.specs.Commands.{after_command, ended, started as begun};
+ghost use Rattle.tbr_program.specs.Safe.{shown_command, shown_links};
 ghost use Rattle.tbr_c_lines.specs.Copied.{CopiesMade};
+ghost use Rattle.tbr_c_lines.specs.Formats.{CopiesShown};
 ghost use Rattle.tbr_c_lines.specs.Status.{fault_of_command, status_of};
 ghost use Rattle.tbr_c_lines.specs.Lines.{line_text};
 ghost use Rattle.tbr_c.specs.State.{CanGoOn, Begins, MayFinish, kept, after_refusal, HasEnded, Does, Refuses, refused_as, EndsAs, EndsIn, RefusesEnd, lines_in, TakesLine, HasNoNext};
-ghost use Rattle.tbr_c.specs.Questions.{on_top, facts_in, facts_of, width_left, prefix_of, Needs, rest_of};
+ghost use Rattle.tbr_c.specs.Questions.{on_top, facts_in, facts_of, width_left, prefix_of, Needs, rest_of, rest_to_show, line_as};
 ghost use Rattle.tbr_c.specs.declared.state.State.TheVariants as S;
 ghost use Rattle.tbr_c_lines.specs.declared.fault.Fault.TheVariants as F;
 
 use std::alloc::Global;
 use std::collections::VecDeque;
 use tbr_annotations::Annotations;
-use tbr_c_lines::{Fault, LineSize, Lines, Rest, of_command};
+use tbr_c_lines::{Fault, Format, LineSize, Lines, Rest, of_command};
 use tbr_commands::{Command, Decorator, Opening};
 use tbr_decor::{DecoratorPrefix, PlainDecorator, RichDecorator, TextDecorator, TrivialDecorator};
 use tbr_headings::{Headings, heading_length};
@@ -33,15 +35,24 @@ use tbr_script::RunError;
 #[derive(Drop)]
 pub enum State {
     /// Calls go in, under the plain decorator.
-    Plain(Program<PlainDecorator, UnicodeColumns>),
+    Plain(Filled<PlainDecorator>),
     /// The same under the trivial one.
-    Trivial(Program<TrivialDecorator, UnicodeColumns>),
+    Trivial(Filled<TrivialDecorator>),
     /// The same under the rich one.
-    Rich(Program<RichDecorator, UnicodeColumns>),
+    Rich(Filled<RichDecorator>),
     /// Lines come out.
     Finished(Lines),
     /// Neither, since a call has refused.
     Refused(Error),
+}
+
+/// A program into which calls go.
+#[derive(Drop)]
+pub struct Filled<D: TextDecorator> {
+    pub program: Program<D, UnicodeColumns>,
+    /// Whether prefixes and the targets that footnotes list are shown as they came. Else they are shown without
+    /// control characters.
+    pub raw: bool,
 }
 
 /// What a renderer answers of itself and of its innermost level, while it is filled.
@@ -62,22 +73,27 @@ pub struct Facts {
 }
 
 impl State {
-    /// A renderer without text. It refuses only where memory is refused.
-    pub fn new(alloc: Global, opening: Opening) -> Result<State, Fault>
+    /// A renderer without text, which is `raw` or not. It refuses only where memory is refused.
+    pub fn new(alloc: Global, opening: Opening, raw: bool) -> Result<State, Fault>
         requires width { 0 < opening.width }
         requires wrap_width { opening.options.wrap_width ≢ Some 0 }
         ensures goes_on { IfOk result (λ state. CanGoOn state) }
-        ensures begins { IfOk result (λ state. Begins opening state) }
+        ensures begins { IfOk result (λ state. Begins opening raw state) }
         ensures memory { IfErr result (λ fault. fault ≡ F.OutOfMemory) }
     {
         Ok(match opening.decorator {
-            Decorator::Plain => State::Plain(started(alloc, &opening, PlainDecorator::new())?),
-            Decorator::Trivial => State::Trivial(started(
-                alloc,
-                &opening,
-                TrivialDecorator::new(),
-            )?),
-            Decorator::Rich => State::Rich(started(alloc, &opening, RichDecorator::new())?),
+            Decorator::Plain => {
+                let program = started(alloc, &opening, PlainDecorator::new())?;
+                State::Plain(Filled { program, raw })
+            }
+            Decorator::Trivial => {
+                let program = started(alloc, &opening, TrivialDecorator::new())?;
+                State::Trivial(Filled { program, raw })
+            }
+            Decorator::Rich => {
+                let program = started(alloc, &opening, RichDecorator::new())?;
+                State::Rich(Filled { program, raw })
+            }
         })
     }
 
@@ -94,9 +110,9 @@ impl State {
         ensures ended { HasEnded self.old result }
     {
         match self {
-            State::Plain(program) => run_on(program, alloc, command),
-            State::Trivial(program) => run_on(program, alloc, command),
-            State::Rich(program) => run_on(program, alloc, command),
+            State::Plain(filled) => run_on(filled, alloc, command),
+            State::Trivial(filled) => run_on(filled, alloc, command),
+            State::Rich(filled) => run_on(filled, alloc, command),
             State::Finished(_) => Err(Fault::Finished),
             State::Refused(e) => Err(Fault::from(*e)),
         }
@@ -125,9 +141,9 @@ impl State {
         ensures left { IfErr result (λ fault. self.now ≡ after_refusal fault self.now) }
     {
         match self {
-            State::Plain(program) => Ok(facts_of(program)),
-            State::Trivial(program) => Ok(facts_of(program)),
-            State::Rich(program) => Ok(facts_of(program)),
+            State::Plain(filled) => Ok(facts_of(&filled.program)),
+            State::Trivial(filled) => Ok(facts_of(&filled.program)),
+            State::Rich(filled) => Ok(facts_of(&filled.program)),
             State::Finished(_) => Err(Fault::Finished),
             State::Refused(e) => Err(Fault::from(*e)),
         }
@@ -139,9 +155,9 @@ impl State {
         ensures { result ≡ width_left prefix least self.now }
     {
         Ok(match self {
-            State::Plain(program) => program.top().width_minus(prefix, least)?,
-            State::Trivial(program) => program.top().width_minus(prefix, least)?,
-            State::Rich(program) => program.top().width_minus(prefix, least)?,
+            State::Plain(filled) => filled.program.top().width_minus(prefix, least)?,
+            State::Trivial(filled) => filled.program.top().width_minus(prefix, least)?,
+            State::Rich(filled) => filled.program.top().width_minus(prefix, least)?,
             State::Finished(_) => return Err(Fault::Finished),
             State::Refused(e) => return Err(Fault::from(*e)),
         })
@@ -155,9 +171,9 @@ impl State {
         ensures left { self.new ≡ self.old }
     {
         match self {
-            State::Plain(program) => prefix_in(program, prefix),
-            State::Trivial(program) => prefix_in(program, prefix),
-            State::Rich(program) => prefix_in(program, prefix),
+            State::Plain(filled) => prefix_in(&mut filled.program, prefix),
+            State::Trivial(filled) => prefix_in(&mut filled.program, prefix),
+            State::Rich(filled) => prefix_in(&mut filled.program, prefix),
             State::Finished(_) => Err(Fault::Finished),
             State::Refused(e) => Err(Fault::from(*e)),
         }
@@ -173,9 +189,9 @@ impl State {
             return None;
         };
         match self {
-            State::Plain(program) => heading_length_in(program, level),
-            State::Trivial(program) => heading_length_in(program, level),
-            State::Rich(program) => heading_length_in(program, level),
+            State::Plain(filled) => heading_length_in(&filled.program, level),
+            State::Trivial(filled) => heading_length_in(&filled.program, level),
+            State::Rich(filled) => heading_length_in(&filled.program, level),
             State::Finished(_) | State::Refused(_) => None,
         }
     }
@@ -188,15 +204,18 @@ impl State {
         ensures too_narrow { result ≡ Err Refusal.TooNarrow → RefusesEnd self F.TooNarrow }
     {
         match self {
-            State::Plain(program) => Ok(Lines::new(Rest::Bare(VecDeque::from_vec(lines_of(
-                program,
-            )?)))),
-            State::Trivial(program) => Ok(Lines::new(Rest::Bare(VecDeque::from_vec(lines_of(
-                program,
-            )?)))),
-            State::Rich(program) => Ok(Lines::new(Rest::Rich(VecDeque::from_vec(lines_of(
-                program,
-            )?)))),
+            State::Plain(filled) => {
+                let lines = lines_of(filled)?;
+                Ok(Lines::new(Rest::Bare(VecDeque::from_vec(lines))))
+            }
+            State::Trivial(filled) => {
+                let lines = lines_of(filled)?;
+                Ok(Lines::new(Rest::Bare(VecDeque::from_vec(lines))))
+            }
+            State::Rich(filled) => {
+                let lines = lines_of(filled)?;
+                Ok(Lines::new(Rest::Rich(VecDeque::from_vec(lines))))
+            }
             State::Finished(_) | State::Refused(_) => unreachable!(),
         }
     }
@@ -209,9 +228,9 @@ impl State {
         ensures too_narrow { result ≡ Err Refusal.TooNarrow → RefusesEnd self F.TooNarrow }
     {
         match self {
-            State::Plain(program) => text_of(program),
-            State::Trivial(program) => text_of(program),
-            State::Rich(program) => text_of(program),
+            State::Plain(filled) => text_of(filled),
+            State::Trivial(filled) => text_of(filled),
+            State::Rich(filled) => text_of(filled),
             State::Finished(_) | State::Refused(_) => unreachable!(),
         }
     }
@@ -242,6 +261,48 @@ impl State {
     {
         match self {
             State::Finished(lines) => lines.copy_text(alloc, out, needed),
+            State::Refused(e) => Err(Fault::from(*e)),
+            _ => Err(Fault::NotFinished),
+        }
+    }
+
+    /// Copies all lines that weren't taken in a format, each with a newline, as `copy_out` does. `NotFinished` where the
+    /// renderer isn't finished, `NoLine` where there is only its text. It refuses where memory is refused too.
+    pub fn copy_shown(
+        &mut self,
+        alloc: Global,
+        format: Format,
+        out: &mut [u8],
+        needed: &mut usize,
+    ) -> Result<(), Fault>
+        requires { CanGoOn self.old }
+        ensures shown { CopiesShown format (rest_to_show self.old)
+            out.old out.new needed.old needed.new (status_of result) }
+        ensures none { IfErr (rest_to_show self.old) (λ f. result ≡ Err f) }
+        ensures left { self.new ≡ self.old }
+    {
+        match self {
+            State::Finished(lines) => lines.copy_shown(alloc, format, out, needed),
+            State::Refused(e) => Err(Fault::from(*e)),
+            _ => Err(Fault::NotFinished),
+        }
+    }
+
+    /// Copies the line that was taken last in a format, without a newline, as `copy_out` does. `NotFinished` where the
+    /// renderer isn't finished, `NoLine` where none was taken. It refuses where memory is refused too.
+    pub fn copy_current(
+        &self,
+        alloc: Global,
+        format: Format,
+        out: &mut [u8],
+        needed: &mut usize,
+    ) -> Result<(), Fault>
+        ensures shown { CopiesMade (line_as format self.now)
+            out.old out.new needed.old needed.new (status_of result) }
+        ensures none { IfErr (line_as format self.now) (λ f. result ≡ Err f) }
+    {
+        match self {
+            State::Finished(lines) => lines.copy_current(alloc, format, out, needed),
             State::Refused(e) => Err(Fault::from(*e)),
             _ => Err(Fault::NotFinished),
         }
@@ -300,23 +361,24 @@ fn started<D: TextDecorator>(
 /// Does what a command asks a program for. After `OutOfMemory` and `TooNarrow` it isn't to be used any more, and each
 /// other refusal leaves it as it was.
 fn run_on<D: TextDecorator>(
-    program: &mut Program<D, UnicodeColumns>,
+    filled: &mut Filled<D>,
     alloc: Global,
     command: &Command,
 ) -> Result<(), Fault>
-    requires goes_on { GoesOn program.old }
+    requires goes_on { GoesOn filled.old.program }
     requires sized { IsSized (command_of command.now) }
-    ensures goes_on { OnOk result (GoesOn program.new) }
+    ensures goes_on { OnOk result (GoesOn filled.new.program) }
     ensures done { let make = after_command unicode_columns (decoration_of D.TextDecorator) 0 in OnOk result
-        (make (command_of command.now) (progress_meant D.meaning program.old)
-        ≡ Ok (progress_meant D.meaning program.new)) }
+        (make (shown_command filled.old.raw (command_of command.now)) (progress_meant D.meaning filled.old.program)
+        ≡ Ok (progress_meant D.meaning filled.new.program)) }
+    ensures same { filled.new.raw ≡ filled.old.raw }
     ensures refused { let make = after_command unicode_columns (decoration_of D.TextDecorator) 0 in
-        IfErr result (λ fault. fault ≢ F.OutOfMemory → (e : Unrun)
-        × (make (command_of command.now) (progress_meant D.meaning program.old) ≡ Err e)
+        IfErr result (λ fault. fault ≢ F.OutOfMemory → (e : Unrun) × (make
+        (shown_command filled.old.raw (command_of command.now)) (progress_meant D.meaning filled.old.program) ≡ Err e)
         × (fault ≡ fault_of_command e)) }
-    ensures left { IfErr result (λ fault. kept fault ≡ None → program.new ≡ program.old) }
+    ensures left { IfErr result (λ fault. kept fault ≡ None → filled.new ≡ filled.old) }
 {
-    match program.run(alloc, 0, command) {
+    match filled.program.run_shown(alloc, 0, command, filled.raw) {
         Ok(()) => Ok(()),
         Err(e) => Err(of_command(e)),
     }
@@ -349,14 +411,14 @@ fn heading_length_in<D: Headings>(
 }
 
 /// The text of a program. It refuses with `NotACommand` only where a level is open or cells wait.
-fn text_of<D: TextDecorator>(program: Program<D, UnicodeColumns>) -> Result<String, Error>
-    requires { GoesOn program }
+fn text_of<D: TextDecorator>(filled: Filled<D>) -> Result<String, Error>
+    requires { GoesOn filled.program }
     ensures text { IfOk result (λ text. ended unicode_columns (decoration_of D.TextDecorator) 0
-        (progress_meant D.meaning program) ≡ Ok (string_bytes text)) }
+        (shown_links filled.raw (progress_meant D.meaning filled.program)) ≡ Ok (string_bytes text)) }
     ensures too_narrow { result ≡ Err Refusal.TooNarrow → ended unicode_columns (decoration_of D.TextDecorator) 0
-        (progress_meant D.meaning program) ≡ Err script.TooNarrow }
+        (shown_links filled.raw (progress_meant D.meaning filled.program)) ≡ Err script.TooNarrow }
 {
-    match program.finish(0) {
+    match filled.program.finish_shown(0, filled.raw) {
         Ok(text) => Ok(text),
         Err(RunError::TooNarrow) => Err(Error::TooNarrow),
         Err(_) => Err(Error::OutOfMemory),
@@ -365,17 +427,18 @@ fn text_of<D: TextDecorator>(program: Program<D, UnicodeColumns>) -> Result<Stri
 
 /// The same as lines, where no level is open and no cell waits.
 fn lines_of<D: TextDecorator>(
-    program: Program<D, UnicodeColumns>,
+    filled: Filled<D>,
 ) -> Result<Vec<RenderLine<Annotations<D::Annotation>>>, Error>
-    requires goes_on { GoesOn program }
-    requires opened { program.opened ≡ [] }
-    requires cells { program.pending.cells ≡ [] }
+    requires goes_on { GoesOn filled.program }
+    requires opened { let p = filled.program in p.opened ≡ [] }
+    requires cells { let p = filled.program in p.pending.cells ≡ [] }
     ensures lines { IfOk result (λ lines. ended unicode_columns (decoration_of D.TextDecorator) 0
-        (progress_meant D.meaning program) ≡ Ok (encode_utf8_all (flat_map line_text lines.items))) }
+        (shown_links filled.raw (progress_meant D.meaning filled.program))
+        ≡ Ok (encode_utf8_all (flat_map line_text lines.items))) }
     ensures too_narrow { result ≡ Err Refusal.TooNarrow → ended unicode_columns (decoration_of D.TextDecorator) 0
-        (progress_meant D.meaning program) ≡ Err script.TooNarrow }
+        (shown_links filled.raw (progress_meant D.meaning filled.program)) ≡ Err script.TooNarrow }
 {
-    program.finish_lines()
+    filled.program.finish_shown_lines(filled.raw)
 }
 
 /// What a program answers of its innermost level.

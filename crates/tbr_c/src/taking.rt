@@ -1,13 +1,14 @@
 //! Lines of a renderer that is finished.
 ghost use Rattle.std.specs.Prelude.{◌≡◌, ◌≢◌, Some, Ok, Err, MatchResult};
-ghost use Rattle.tbr_c.specs.Answers.{GivesRest, GivesNext};
+ghost use Rattle.tbr_c.specs.Answers.{GivesRest, GivesShown, GivesLine, GivesNext};
+ghost use Rattle.tbr_c_lines.specs.Formats.{format_named};
 ghost use Rattle.tbr_c_lines.specs.Copied.{Copies};
 ghost use Rattle.tbr_c.specs.Questions.{Puts, text_taken, piece_taken, name_taken, annotation_taken, kind_taken, target_taken};
 
 use crate::answers::{copy, put};
 use crate::handle::{Handle, Returned, hand_back};
 use crate::held::Held;
-use tbr_c_lines::{AnnotationKind, Fault, LineSize, PiecePlace, kind, status, target};
+use tbr_c_lines::{AnnotationKind, Fault, Format, LineSize, PiecePlace, kind, status, target};
 use tbr_decor::RichAnnotation;
 
 #[unsafe(no_mangle)]
@@ -23,6 +24,58 @@ pub extern "C" fn tbr1_text(
     let done = held.copy_text(out, needed);
     hand_back(held, back);
     status(done)
+}
+
+/// Copies the lines that weren't taken in the format of a number.
+#[unsafe(no_mangle)]
+pub extern "C" fn tbr1_text_as(
+    renderer: Handle,
+    number: u32,
+    out: &mut [u8],
+    needed: &mut usize,
+    back: &mut Returned,
+) -> u32
+    ensures { GivesShown (format_named number) renderer.value back.new.value
+        out.old out.new needed.old needed.new result }
+{
+    let mut held = renderer.open();
+    match Format::named(number) {
+        Ok(format) => {
+            let done = held.copy_shown(format, out, needed);
+            hand_back(held, back);
+            status(done)
+        }
+        Err(fault) => {
+            hand_back(held, back);
+            fault.code()
+        }
+    }
+}
+
+/// Copies the line that was taken last in the format of a number.
+#[unsafe(no_mangle)]
+pub extern "C" fn tbr1_line_as(
+    renderer: Handle,
+    number: u32,
+    out: &mut [u8],
+    needed: &mut usize,
+    back: &mut Returned,
+) -> u32
+    ensures { GivesLine (format_named number) renderer.value back.new.value
+        out.old out.new needed.old needed.new result }
+{
+    let mut held = renderer.open();
+    match Format::named(number) {
+        Ok(format) => {
+            let done = held.copy_current(format, out, needed);
+            hand_back(held, back);
+            status(done)
+        }
+        Err(fault) => {
+            hand_back(held, back);
+            fault.code()
+        }
+    }
 }
 
 #[unsafe(no_mangle)]

@@ -22,7 +22,7 @@ bytes-append cs ds = ap length (encodes-append cs ds) ∙ length-append (encode_
 
 module _ {A : Type 0} (shown : A → RichAnnotation) where
   pub text_piece : {Z : Type 0} (at end : ℕ) (s : String Z) (tag : Vec A) (annotations : List RichAnnotation) → end ≡ at + length (string_bytes s) → annotations ≡ map shown tag.items →
-      record { begin = at; end = end; what = under annotations } ≡ piece_at shown at (piece (chars_of s) tag)
+      record { begin = at; end = end; what = under (string_bytes s) annotations } ≡ piece_at shown at (piece (chars_of s) tag)
   text_piece at end s tag annotations ends are = search (rules, ℕ, encodes_back)
 
   pub end_at : (at : ℕ) (e : Element (Vec A)) → (let p = piece_at shown at e in p.end) ≡ at + bytes_of (element_characters e)

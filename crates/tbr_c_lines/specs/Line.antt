@@ -18,9 +18,9 @@ use Rattle.tbr_c_lines.specs.declared.line.LineSize.{LineSize}
 use Rattle.tbr_c_lines.specs.declared.line.PiecePlace.{PiecePlace}
 use Rattle.tbr_c_lines.specs.declared.line.AnnotationKind.{AnnotationKind}
 
--- What a piece is: text under annotations, the outermost first, or a marker by its name.
+-- What a piece is: text by its bytes under annotations, the outermost first, or a marker by its name.
 pub data What : Type 0 where
-  under : List RichAnnotation → What
+  under : (text : List ℕ) → List RichAnnotation → What
   named : List ℕ → What
 
 -- A piece, by where its bytes begin and end in the line's.
@@ -38,7 +38,7 @@ pub record Line : Type 0 where
 
 -- what the code holds of a piece
 abbrev pub what_of : Held → What
-what_of (held.Text annotations) = under annotations.items
+what_of (held.Text text annotations) = under (string_bytes text) annotations.items
 what_of (held.Marker name) = named (string_bytes name)
 
 -- ---- from the lines of a renderer
@@ -49,7 +49,7 @@ module _ {A : Type 0} (shown : A → RichAnnotation) where
   piece_at at (piece cs tag) = record {
     begin = at;
     end = at + length (encode_utf8_all cs);
-    what = under (map shown tag.items);
+    what = under (encode_utf8_all cs) (map shown tag.items);
   }
   piece_at at (marker_element name) = record { begin = at; end = at; what = named name }
 
@@ -90,18 +90,18 @@ size_of line = record {
 
 -- how many annotations a piece is under, the bytes of its name, and its kind
 abbrev pub annotations_of : What → List RichAnnotation
-annotations_of (under annotations) = annotations
+annotations_of (under text annotations) = annotations
 annotations_of (named name) = []
 
 abbrev pub name_of : What → Option (List ℕ)
-name_of (under annotations) = None
+name_of (under text annotations) = None
 name_of (named name) = Some name
 
 abbrev pub place_of : Piece → PiecePlace
 place_of p = go p.what
   where
     go : What → PiecePlace
-    go (under annotations) = record {
+    go (under text annotations) = record {
       begin = p.begin;
       end = p.end;
       annotations = length annotations;

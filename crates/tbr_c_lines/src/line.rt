@@ -1,6 +1,7 @@
 //! A line as C sees it.
 ghost use Rattle.std.specs.Prelude.{◌≡◌, ◌+◌, None, Some, IfOk, MatchResult, length, slice_get, string_bytes};
 ghost use Rattle.tbr_tagged.specs.View.{element_of, elements_of};
+ghost use Rattle.tbr_c_lines.specs.Line.{what_of};
 ghost use Rattle.tbr_c_lines.specs.Line as seen;
 ghost use Rattle.tbr_c_lines.specs.declared.fault.Fault.TheVariants as F;
 
@@ -58,7 +59,10 @@ impl Model for Piece {
 #[derive(Drop)]
 pub enum What {
     /// Text under annotations, the outermost first.
-    Text(Vec<RichAnnotation>),
+    Text {
+        text: String,
+        annotations: Vec<RichAnnotation>,
+    },
     /// A marker, by its name.
     Marker(String),
 }
@@ -129,13 +133,20 @@ impl Line {
         }
     }
 
+    /// Its pieces.
+    pub(crate) fn pieces(&self) -> &[Piece]
+        ensures { result.now ≡ self.now.pieces }
+    {
+        self.pieces.as_slice()
+    }
+
     /// The piece at a place, from 0. `NoPiece` where there is none.
     pub fn piece(&self, place: usize) -> Result<PiecePlace, Fault>
         ensures { result ≡ seen.placed (slice_get self.now.pieces place) }
     {
         let piece = self.pieces.get(place).ok_or(Fault::NoPiece)?;
         let (annotations, name_bytes, kind) = match &piece.what {
-            What::Text(annotations) => (annotations.len(), 0, 0),
+            What::Text { annotations, .. } => (annotations.len(), 0, 0),
             What::Marker(name) => (0, name.len(), 1),
         };
         Ok(PiecePlace {
@@ -154,7 +165,7 @@ impl Line {
     {
         match &self.pieces.get(place).ok_or(Fault::NoPiece)?.what {
             What::Marker(name) => Ok(name.as_str()),
-            What::Text(_) => Err(Fault::NoPiece),
+            What::Text { .. } => Err(Fault::NoPiece),
         }
     }
 
@@ -164,7 +175,7 @@ impl Line {
             MatchResult result (λ found. annotation ≡ Some found.now) (λ e. (e ≡ F.NoPiece) × (annotation ≡ None)) }
     {
         match &self.pieces.get(piece).ok_or(Fault::NoPiece)?.what {
-            What::Text(annotations) => annotations.get(place).ok_or(Fault::NoPiece),
+            What::Text { annotations, .. } => annotations.get(place).ok_or(Fault::NoPiece),
             What::Marker(_) => Err(Fault::NoPiece),
         }
     }
@@ -192,6 +203,13 @@ fn placed<A: Annotation>(alloc: Global, line: TaggedLine<Vec<A>>) -> Result<Vec<
 }
 
 impl Piece {
+    /// What it is.
+    pub(crate) fn what(&self) -> &What
+        ensures { what_of result.now ≡ self.now.what }
+    {
+        &self.what
+    }
+
     /// An element of a line whose text begins at a place.
     fn new<A: Annotation>(
         alloc: Global,
@@ -201,13 +219,13 @@ impl Piece {
         ensures { IfOk result (λ p. p ≡ seen.piece_at A.shown begin (element_of element)) }
     {
         match element {
-            TaggedLineElement::Str(TaggedString { s, tag }) => {
-                let end = end_after(begin, s.as_str())?;
+            TaggedLineElement::Str(TaggedString { s: text, tag }) => {
+                let end = end_after(begin, text.as_str())?;
                 let annotations = A::show(alloc, tag)?;
                 Ok(Piece {
                     begin,
                     end,
-                    what: What::Text(annotations),
+                    what: What::Text { text, annotations },
                 })
             }
             TaggedLineElement::FragmentStart(name) => Ok(Piece {

@@ -1,7 +1,9 @@
 //! The lines of a renderer that is finished.
-ghost use Rattle.std.specs.Prelude.{◌≡◌, ◌≢◌, ◌++◌, [], None, Some, Ok, Err, encode_utf8_all, flat_map, IfOk, IfErr, IfSome, OnOk, MatchResult};
+ghost use Rattle.std.specs.Prelude.{◌≡◌, ◌≢◌, ◌++◌, ◌∷◌, ℕ, List, [], None, Some, Ok, Err, encode_utf8_all, flat_map, string_bytes, IfOk, IfErr, IfSome, OnOk, MatchResult};
+ghost use Rattle.tbr_model.specs.Codes.{newline_character};
 ghost use Rattle.tbr_tagged.specs.View.{chars_of};
-ghost use Rattle.tbr_c_lines.specs.Copied.{CopiesMade};
+ghost use Rattle.tbr_c_lines.specs.Copied.{CopiesMade, IsCopied};
+ghost use Rattle.tbr_c_lines.specs.Formats.{ShowsLine, AreShown, lines_to_show, CopiesShown, is_bare, current_as};
 ghost use Rattle.tbr_c_lines.specs.Status.{status_of};
 ghost use Rattle.tbr_c_lines.specs.Line as seen;
 ghost use Rattle.tbr_c_lines.specs.Lines as left;
@@ -9,6 +11,7 @@ ghost use Rattle.tbr_c_lines.specs.declared.fault.Fault.TheVariants as F;
 
 use crate::annotation::Annotation;
 use crate::fault::Fault;
+use crate::formats::{Format, push_line};
 use crate::line::{Line, LineSize};
 use crate::out::copy_out;
 use std::alloc::Global;
@@ -25,6 +28,15 @@ pub struct Lines {
     current: Option<Line>,
     /// The text of the rest, if it was asked for and did not fit.
     text: Option<String>,
+    /// The same of the rest in a format.
+    shown: Option<Shown>,
+}
+
+/// The lines that weren't taken, in a format.
+#[derive(Drop)]
+struct Shown {
+    format: Format,
+    text: String,
 }
 
 impl Model for Lines {
@@ -36,8 +48,10 @@ impl Model for Lines {
 
     ghost use Rattle.std.specs.Prelude.{◌≡◌, IfSome};
     ghost use Rattle.tbr_tagged.specs.View.{chars_of};
+    ghost use Rattle.tbr_c_lines.specs.Formats.{ShowsRest};
 
-    ghost invariant = { λ l. IfSome l.text (λ text. chars_of text ≡ text_of l.rest) };
+    ghost invariant = { λ l. IfSome l.text (λ text. chars_of text ≡ text_of l.rest)
+        × IfSome l.shown (λ s. ShowsRest s.format l.rest (chars_of s.text)) };
 }
 
 /// Lines, by what decorators annotate them with, or their text alone. They share annotations; a line is under its own
@@ -61,6 +75,7 @@ impl Lines {
             rest,
             current: None,
             text: None,
+            shown: None,
         }
     }
 
@@ -74,6 +89,7 @@ impl Lines {
             (fault ≡ F.NoLine) × left.NoneLeft self.old.rest × (self.new ≡ self.old)) }
     {
         self.text = None;
+        self.shown = None;
         let Some(line) = self.rest.next(alloc)? else {
             return Err(Fault::NoLine);
         };
@@ -110,9 +126,62 @@ impl Lines {
             Rest::Text(text) => copy_out(text.as_bytes(), out, needed),
         }
     }
+
+    /// Copies all lines that weren't taken in a format, each with a newline, as `copy_text` does. `NoLine` where there is
+    /// only their text.
+    pub fn copy_shown(
+        &mut self,
+        alloc: Global,
+        format: Format,
+        out: &mut [u8],
+        needed: &mut usize,
+    ) -> Result<(), Fault>
+        ensures shown { CopiesShown format (lines_to_show self.old.rest)
+            out.old out.new needed.old needed.new (status_of result) }
+        ensures none { IfErr (lines_to_show self.old.rest) (λ f. result ≡ Err f) }
+        ensures left { self.new ≡ self.old }
+    {
+        match &self.rest {
+            Rest::Bare(lines) => {
+                let text = shown_in(alloc, lines, &mut self.shown, format, true)?;
+                copy_or_keep(&mut self.shown, text, format, out, needed)
+            }
+            Rest::Rich(lines) => {
+                let text = shown_in(alloc, lines, &mut self.shown, format, false)?;
+                copy_or_keep(&mut self.shown, text, format, out, needed)
+            }
+            Rest::Text(_) => Err(Fault::NoLine),
+        }
+    }
+
+    /// Copies the line that was taken last in a format, without a newline, as `copy_out` does. `NoLine` where none was.
+    /// It refuses also where memory is refused.
+    pub fn copy_current(
+        &self,
+        alloc: Global,
+        format: Format,
+        out: &mut [u8],
+        needed: &mut usize,
+    ) -> Result<(), Fault>
+        ensures shown { CopiesMade (current_as format self.now)
+            out.old out.new needed.old needed.new (status_of result) }
+        ensures none { IfErr (current_as format self.now) (λ f. result ≡ Err f) }
+    {
+        let line = self.current()?;
+        let mut text = String::new(alloc);
+        push_line(&mut text, line, format, self.rest.is_bare())?;
+        copy_out(text.as_bytes(), out, needed)
+    }
 }
 
 impl Rest {
+    /// Whether its lines have no annotations.
+    fn is_bare(&self) -> bool
+        ensures { result ≡ is_bare self.now }
+    {
+        matches!(self, Rest::Bare(_))
+    }
+
     /// Takes the first line, if there is one. Where memory is refused it is lost.
     fn next(&mut self, alloc: Global) -> Result<Option<Line>, OutOfMemory>
         ensures taken { IfOk result (λ found. IfSome found (λ line. left.TakesFirst self.old line self.new)) }
@@ -169,6 +238,76 @@ fn copy_kept<T>(
     done
 }
 
+/// These lines in a format, each with a newline: what was kept of them, if that is it.
+fn shown_in<A: Annotation>(
+    alloc: Global,
+    lines: &VecDeque<RenderLine<Annotations<A>>>,
+    kept: &mut Option<Shown>,
+    format: Format,
+    is_bare: bool,
+) -> Result<String, OutOfMemory>
+    requires { IfSome kept.old (λ s. AreShown (ShowsLine A.eq A.shown is_bare s.format) lines.now.items (chars_of s.text)) }
+    ensures kept { kept.new ≡ None }
+    ensures shown { IfOk result (λ text. AreShown (ShowsLine A.eq A.shown is_bare format) lines.now.items (chars_of text)) }
+{
+    match kept.take() {
+        Some(shown) if shown.format == format => Ok(shown.text),
+        _ => shown_anew(alloc, lines, format, is_bare),
+    }
+}
+
+/// Copies lines in a format, as `copy_out` does. What doesn't fit is `kept`.
+fn copy_or_keep(
+    kept: &mut Option<Shown>,
+    text: String,
+    format: Format,
+    out: &mut [u8],
+    needed: &mut usize,
+) -> Result<(), Fault>
+    requires { kept.old ≡ None }
+    ensures kept { IfSome kept.new (λ s. (s.format ≡ format) × (s.text ≡ text)) }
+    ensures copied { IsCopied (string_bytes text) out.old out.new needed.new (status_of result) }
+{
+    let done = copy_out(text.as_bytes(), out, needed);
+    if done.is_err() {
+        *kept = Some(Shown { format, text });
+    }
+    done
+}
+
+/// These lines in a format, each with a newline.
+fn shown_anew<A: Annotation>(
+    alloc: Global,
+    lines: &VecDeque<RenderLine<Annotations<A>>>,
+    format: Format,
+    is_bare: bool,
+) -> Result<String, OutOfMemory>
+    ensures { IfOk result (λ text. AreShown (ShowsLine A.eq A.shown is_bare format) lines.now.items (chars_of text)) }
+{
+    let mut text = String::new(alloc);
+    for line in lines {
+        append_shown(alloc, &mut text, line, format, is_bare)?;
+    }
+    Ok(text)
+}
+
+/// Appends a line in a format and a newline.
+fn append_shown<A: Annotation>(
+    alloc: Global,
+    text: &mut String,
+    line: &RenderLine<Annotations<A>>,
+    format: Format,
+    is_bare: bool,
+) -> Result<(), OutOfMemory>
+    ensures { OnOk result ((cs : List ℕ) × ShowsLine A.eq A.shown is_bare format line.now cs
+        × (chars_of text.new ≡ chars_of text.old ++ cs)) }
+{
+    let out = written_out(alloc, line.clone()?)?;
+    let seen = Line::new(alloc, out)?;
+    push_line(text, &seen, format, is_bare)?;
+    end_line(text)
+}
+
 /// The text of these lines, each with a newline.
 fn text_of<T>(alloc: Global, lines: &VecDeque<RenderLine<T>>) -> Result<String, OutOfMemory>
     ensures { IfOk result (λ text. chars_of text ≡ flat_map left.line_text lines.now.items) }
@@ -185,6 +324,13 @@ fn append_line<T>(text: &mut String, line: &RenderLine<T>) -> Result<(), OutOfMe
     ensures { OnOk result (chars_of text.new ≡ chars_of text.old ++ left.line_text line.now) }
 {
     line.append_to(text)?;
+    end_line(text)
+}
+
+/// Appends a newline.
+fn end_line(text: &mut String) -> Result<(), OutOfMemory>
+    ensures { OnOk result (chars_of text.new ≡ chars_of text.old ++ newline_character ∷ []) }
+{
     text.push('\n')?;
     Ok(())
 }

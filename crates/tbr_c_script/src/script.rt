@@ -1,12 +1,12 @@
 //! A script as a whole.
 ghost use Rattle.std.specs.Prelude.{◌≡◌, ◌≢◌, ℕ, List, length, take, Ok};
 ghost use Rattle.tbr_tagged.specs.UnicodeColumns.{unicode_columns};
-ghost use Rattle.tbr_runner.specs.Scripts.{rendered};
+ghost use Rattle.tbr_runner.specs.Safe.{shown};
 
 use std::alloc::Global;
 use tbr_c_lines::Fault;
 use tbr_lines::UnicodeColumns;
-use tbr_runner::render;
+use tbr_runner::render_shown;
 use tbr_script::RunError;
 
 /// `tbr_answer`.
@@ -20,12 +20,12 @@ pub struct Answer {
 
 /// The text of a script, as much of it as the buffer has room for. The length is that of the whole text.
 #[unsafe(no_mangle)]
-pub extern "C" fn tbr1_render(alloc: Global, script: &[u8], out: &mut [u8]) -> Answer
+pub extern "C" fn tbr1_render(alloc: Global, script: &[u8], raw: bool, out: &mut [u8]) -> Answer
     ensures room { length out.new ≡ length out.old }
-    ensures text { result.status ≡ 0 → (text : List ℕ) × (rendered unicode_columns script.now ≡ Ok text)
+    ensures text { result.status ≡ 0 → (text : List ℕ) × (shown raw unicode_columns script.now ≡ Ok text)
         × (result.length ≡ length text) × (take (length text) out.new ≡ take (length out.old) text) }
 {
-    match render::<UnicodeColumns, _>(alloc, script) {
+    match render_shown::<UnicodeColumns, _>(alloc, script, raw) {
         Ok(text) => {
             let text = text.as_bytes();
             let count = text.len().min(out.len());

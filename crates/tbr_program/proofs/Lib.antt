@@ -9,3 +9,4 @@ pub mod LiveLinks
 pub mod Notes
 pub mod Results
 pub mod CommandLines
+pub mod Safe

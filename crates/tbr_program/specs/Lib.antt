@@ -3,3 +3,4 @@ pub mod Progress
 pub mod Decorations
 pub mod Closing
 pub mod Commands
+pub mod Safe

@@ -1,5 +1,5 @@
 //! A script's commands, one after another.
-ghost use Rattle.std.specs.Prelude.{◌≡◌, ℕ, [], ◌≢◌, ◌<◌, None, Some, Ok, Err, IfOk, IfErr, OnOk, length, map, string_bytes};
+ghost use Rattle.std.specs.Prelude.{◌≡◌, ℕ, false, [], ◌≢◌, ◌<◌, None, Some, Ok, Err, IfOk, IfErr, OnOk, length, map, string_bytes};
 ghost use Rattle.tbr_tagged.specs.View.{chars_of};
 ghost use Rattle.tbr_tagged.specs.Outcome.{done, refused};
 ghost use Rattle.tbr_tagged.specs.declared.Error.TheVariants as Refusal;
@@ -9,6 +9,7 @@ ghost use Rattle.text_block_renderer.specs.Renderer.{new_renderer};
 ghost use Rattle.text_block_renderer.specs.Tags.{tag_meant};
 ghost use Rattle.text_block_renderer.specs.Meant.{map_line, meant};
 ghost use Rattle.text_block_renderer.specs.Line.{line_seen};
+ghost use Rattle.tbr_safe.specs.Escaped.{escaped_bytes};
 ghost use Rattle.tbr_script.specs.declared.error.RunError.TheVariants as E;
 ghost use Rattle.tbr_stack.specs.Stack.{new_stack, top_of};
 ghost use Rattle.tbr_stack.specs.Top.{OfTop};
@@ -20,6 +21,7 @@ ghost use Rattle.tbr_commands.specs.Command as asked;
 ghost use Rattle.tbr_program.specs.Progress.{progress_meant, nothing_pending, opener, Closes, IsSpanned, GoesOn};
 ghost use Rattle.tbr_program.specs.Closing.{closed};
 ghost use Rattle.tbr_program.specs.Commands.{Runs, level_opened, after_command, after_line, ended};
+ghost use Rattle.tbr_program.specs.Safe.{safe_command, shown_command, shown_links, after_shown_line};
 
 use crate::closing::{close, close_lines};
 use crate::opened::{OpenLevels, Opener};
@@ -30,7 +32,8 @@ use std::marker::Model;
 use std::mem;
 use tbr_commands::{Command, NewCell, Request};
 use tbr_decor::{DecoratorPrefix, TextDecorator};
-use tbr_lines::{CharWidth, Error, RenderLine};
+use tbr_lines::{CharWidth, Error, OutOfMemory, RenderLine};
+use tbr_safe::{escape, escape_all};
 use tbr_script::{RunError, TextPair};
 use tbr_stack::TextRenderer;
 use text_block_renderer::{Annotations, RenderOptions, Renderer, SubRenderer};
@@ -102,6 +105,32 @@ impl<D: TextDecorator, W: CharWidth> Program<D, W> {
         }
     }
 
+    /// Does what the line of this number asks for, as `run_line` does. A prefix is shown without control characters,
+    /// unless it is to be `raw`.
+    pub fn run_shown_line(
+        &mut self,
+        alloc: Global,
+        number: usize,
+        line: &[u8],
+        raw: bool,
+    ) -> Result<(), RunError>
+        requires { GoesOn self.old }
+        ensures runs { let make = after_shown_line W.columns (decoration_of D.TextDecorator) raw number line.now in
+            Runs D.meaning make self.old result self.new }
+    {
+        if line.is_empty() {
+            return Ok(());
+        }
+        // A text without escapes needs no copy.
+        if let Some(text) = Command::plain_text(line) {
+            return self.add_text(text);
+        }
+        match Command::parse(alloc, line)? {
+            Some(command) => self.run_shown(alloc, number, &command, raw),
+            None => Err(RunError::NotACommand(number)),
+        }
+    }
+
     /// Does what a command asks for, on the line of this number.
     ///
     /// After `OutOfMemory` and `TooNarrow` the program isn't to be used any more. Each other refusal leaves it as it
@@ -125,6 +154,47 @@ impl<D: TextDecorator, W: CharWidth> Program<D, W> {
             Command::EndCell => self.end_cell(number),
             Command::Row { collapse } => self.add_row(alloc, number, *collapse),
             Command::VerticalRow => self.add_vertical_row(alloc),
+        }
+    }
+
+    /// Does what a command asks for, as `run` does. A prefix is shown without control characters, unless it is to be
+    /// `raw`.
+    pub fn run_shown(
+        &mut self,
+        alloc: Global,
+        number: usize,
+        command: &Command,
+        raw: bool,
+    ) -> Result<(), RunError>
+        requires goes_on { GoesOn self.old }
+        requires sized { IsSized (command_of command.now) }
+        ensures runs { let make = after_command W.columns (decoration_of D.TextDecorator) number in
+            Runs D.meaning (make (shown_command raw (command_of command.now))) self.old result self.new }
+    {
+        if raw {
+            return self.run(alloc, number, command);
+        }
+        self.run_safely(alloc, number, command)
+    }
+
+    /// Does what a command asks for, its prefixes without control characters.
+    fn run_safely(
+        &mut self,
+        alloc: Global,
+        number: usize,
+        command: &Command,
+    ) -> Result<(), RunError>
+        requires goes_on { GoesOn self.old }
+        requires sized { IsSized (command_of command.now) }
+        ensures runs { let make = after_command W.columns (decoration_of D.TextDecorator) number in
+            Runs D.meaning (make (safe_command (command_of command.now))) self.old result self.new }
+    {
+        match command {
+            Command::Append(prefixes) => {
+                let safe = safe_pair(alloc, prefixes)?;
+                self.append(number, &safe)
+            }
+            _ => self.run(alloc, number, command),
         }
     }
 
@@ -282,6 +352,39 @@ impl<D: TextDecorator, W: CharWidth> Program<D, W> {
         Ok(close(renderer, targets)?)
     }
 
+    /// The text of the script, as `finish` gives it. The targets of links are listed without control characters, unless
+    /// they are to be `raw`.
+    pub fn finish_shown(self, number: usize, raw: bool) -> Result<String, RunError>
+        requires { GoesOn self }
+        ensures text { IfOk result (λ text. ended W.columns (decoration_of D.TextDecorator) number
+            (shown_links raw (progress_meant D.meaning self)) ≡ Ok (string_bytes text)) }
+        ensures refused { IfErr result (λ e. e ≢ RunError.OutOfMemory →
+            ended W.columns (decoration_of D.TextDecorator) number
+            (shown_links raw (progress_meant D.meaning self)) ≡ Err e) }
+    {
+        if raw {
+            return self.finish(number);
+        }
+        self.finish_safely(number)
+    }
+
+    /// The text of the script, the targets of links listed without control characters.
+    fn finish_safely(self, number: usize) -> Result<String, RunError>
+        requires { GoesOn self }
+        ensures text { IfOk result (λ text. ended W.columns (decoration_of D.TextDecorator) number
+            (shown_links false (progress_meant D.meaning self)) ≡ Ok (string_bytes text)) }
+        ensures refused { IfErr result (λ e. e ≢ RunError.OutOfMemory →
+            ended W.columns (decoration_of D.TextDecorator) number
+            (shown_links false (progress_meant D.meaning self)) ≡ Err e) }
+    {
+        if !self.opened.is_empty() || self.pending.has_cells() {
+            return Err(RunError::NotACommand(number));
+        }
+        let (renderer, targets) = self.renderers.into_inner();
+        let safe = escape_all(targets)?;
+        Ok(close(renderer, safe)?)
+    }
+
     /// The lines of the text, where no level is open and no cell waits. Their lists of annotations share what they have
     /// in common. It refuses as `finish` does then.
     pub fn finish_lines(self) -> Result<Vec<RenderLine<Annotations<D::Annotation>>>, Error>
@@ -297,6 +400,30 @@ impl<D: TextDecorator, W: CharWidth> Program<D, W> {
     {
         let (renderer, targets) = self.renderers.into_inner();
         close_lines(renderer, targets)
+    }
+
+    /// The lines of the text, as `finish_lines` gives them. The targets of links are listed without control characters,
+    /// unless they are to be `raw`.
+    pub fn finish_shown_lines(
+        self,
+        raw: bool,
+    ) -> Result<Vec<RenderLine<Annotations<D::Annotation>>>, Error>
+        requires goes_on { GoesOn self }
+        requires opened { self.opened ≡ [] }
+        requires cells { self.pending.cells ≡ [] }
+        ensures lines { let shown = shown_links raw self in IfOk result (λ lines. OfTop (λ r.
+            closed W.columns (decoration_of D.TextDecorator) shown.stack.links (meant D.meaning r)
+            ≡ done (map (map_line (tag_meant D.meaning)) (map line_seen lines.items))) self.stack) }
+        ensures too_narrow { let shown = shown_links raw self in result ≡ Err Refusal.TooNarrow → OfTop (λ r.
+            closed W.columns (decoration_of D.TextDecorator) shown.stack.links (meant D.meaning r)
+            ≡ refused Refusal.TooNarrow) self.stack }
+    {
+        if raw {
+            return self.finish_lines();
+        }
+        let (renderer, targets) = self.renderers.into_inner();
+        let safe = escape_all(targets)?;
+        close_lines(renderer, safe)
     }
 
     /// The renderer of the innermost level.
@@ -341,4 +468,15 @@ impl<D: TextDecorator, W: CharWidth> Program<D, W> {
     {
         self.pending.cells().len()
     }
+}
+
+/// Two texts without control characters. It refuses only where memory is refused.
+fn safe_pair(alloc: Global, texts: &TextPair) -> Result<TextPair, OutOfMemory>
+    ensures first { IfOk result (λ safe. string_bytes safe.first ≡ escaped_bytes (string_bytes texts.now.first)) }
+    ensures second { IfOk result (λ safe. string_bytes safe.second ≡ escaped_bytes (string_bytes texts.now.second)) }
+{
+    Ok(TextPair {
+        first: escape(alloc, texts.first.as_str())?,
+        second: escape(alloc, texts.second.as_str())?,
+    })
 }

@@ -1,5 +1,6 @@
 pub mod Common
 pub mod RenderedLines
+pub mod ShownLines
 pub mod ScriptRefusals
 pub mod StackCalls
 pub mod LedRenderers

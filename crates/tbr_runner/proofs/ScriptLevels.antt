@@ -1,9 +1,9 @@
 -- The levels of a script: what a line keeps of their renderers, of what opened them, and of cells that wait.
-use Rattle.tbr_runner.proofs.Common.{◌≡◌, ◌<◌, ◌+◌, ℕ, Option, Some, Ok, List, [], ◌∷◌, length, sym, ◌∙◌, subst, arith, Each, length-map, done, CellAlign, Decoration, Renderer, sub_renderer, Call, append_subrender, after, Act, call, after_act, Level, first_renderer, top_of, Command, sub, cell, IsCommand, Opener, prefixes, Opened, Progress, after_line, EndsOne, AllAre, CellsAre}
+use Rattle.tbr_runner.proofs.Common.{◌≡◌, ◌<◌, ◌+◌, ℕ, Option, Some, Ok, List, [], ◌∷◌, length, sym, ◌∙◌, subst, arith, Each, length-map, done, CellAlign, Decoration, Renderer, sub_renderer, Call, append_subrender, after, Act, call, after_act, Level, first_renderer, top_of, Command, sub, cell, IsCommand, Opener, prefixes, Opened, Progress, after_command, after_line, EndsOne, AllAre, CellsAre}
 use Rattle.tbr_model.proofs.lists.Each.{each_append, each_map, each_unmap}
 use Rattle.tbr_rows.proofs.Among.{each_gives}
 use Rattle.tbr_program.specs.declared.opened.Opener.TheVariants.{Cell}
-use Rattle.tbr_runner.proofs.Walks.{Meets, Cells, Levels, Holds, At, Asks, IsReady, TakesCells, Walk, line_meets, line_makes}
+use Rattle.tbr_runner.proofs.Walks.{Meets, Cells, Levels, Holds, At, Asks, IsReady, TakesCells, Walk, command_meets, line_meets, line_makes}
 
 pub each_any : {X : Type 0} (P : X → Type 0) → ((x : X) → P x) → (xs : List X) → Each P xs
 each_any P any [] = tt
@@ -81,6 +81,15 @@ module _ {D M : Type 0} (columns : ℕ → Option ℕ) (decoration : Decoration 
   line_waits Ends p number line ends waiting below =
       let walk = fits_walk (Unit {0}) Sized Ends (λ r. Unit {0}) Any (λ c. Ends c.0) (λ r is. any_ready r) (λ c is. any_ready c.0) (λ c r s does is. tt) (λ act r s cells into wait does is. tt) (λ by width r wide is. (tt, tt)) (λ span align r of is by. of) in
       line_meets columns decoration (Unit {0}) Sized Ends (Wait Ends) (Wait Ends) walk number p line (λ command is. (sized line command is, ends command is)) (record { on_stack = each_any _ (λ r. tt) _; waiting = waiting; opened = each_any _ (λ o. tt) p.opened; below = below })
+
+  -- and of a command, however its line was read
+  pub command_waits : (p : Progress D M (List M)) (number : ℕ) (command : Command) → Asks columns decoration Sized command →
+      Meets (Unit {0}) (At columns decoration (Wait (λ r. Unit {0}))) (after_command columns decoration number command p)
+  command_waits p number command asks =
+      let Ends = λ (r : Top). Unit {0} in
+      let walk = fits_walk (Unit {0}) Sized Ends (λ r. Unit {0}) Any (λ c. Ends c.0) (λ r is. any_ready r) (λ c is. any_ready c.0) (λ c r s does is. tt) (λ act r s cells into wait does is. tt) (λ by width r wide is. (tt, tt)) (λ span align r of is by. of) in
+      command_meets columns decoration (Unit {0}) Sized Ends (Wait Ends) (Wait Ends) walk number p command asks (λ ends r top. tt)
+      (record { on_stack = each_any _ (λ r. tt) _; waiting = each_any _ (λ c. tt) _; opened = each_any _ (λ o. tt) p.opened; below = each_any _ (λ o. each_any _ (λ c. tt) _) p.opened })
 
   -- ---- one renderer for each level, and one below them
 

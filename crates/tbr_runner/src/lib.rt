@@ -6,7 +6,7 @@ pub use laws::{
     links_of_scripts_end_with_their_own_numbers, no_visible_character_of_a_script_is_lost,
     the_renderers_of_a_script_are_led_to,
 };
-pub use runner::{render, run};
+pub use runner::{render, render_shown, run};
 
 mod laws;
 mod runner;

@@ -1,5 +1,5 @@
 //! From a script to its text.
-ghost use Rattle.std.specs.Prelude.{◌≡◌, ◌≢◌, ◌<◌, ◌≤◌, ◌+◌, ◌^◌, ◌↔◌, ℕ, List, length, Option, Some, Result, true, false, Ok, Err, OnOk, IfOk, IfErr, IfSome, IsErrOf, string_bytes};
+ghost use Rattle.std.specs.Prelude.{◌≡◌, ◌≢◌, ◌<◌, ◌≤◌, ◌+◌, ◌^◌, ◌↔◌, ℕ, Bool, List, length, Option, Some, Result, true, false, Ok, Err, OnOk, IfOk, IfErr, IfSome, IsErrOf, string_bytes};
 ghost use Rattle.std.specs.Io.KnownBytes.{Appends, Keeps};
 ghost use Rattle.tbr_tagged.specs.UnicodeColumns.{unicode_columns};
 ghost use Rattle.tbr_script.specs.Streams.{AppendsBeginning};
@@ -7,7 +7,9 @@ ghost use Rattle.tbr_decor.specs.Decoration.{decoration_of};
 ghost use Rattle.tbr_script.specs.Script.{lines_of};
 ghost use Rattle.tbr_program.specs.Progress.{progress_meant, GoesOn};
 ghost use Rattle.tbr_program.specs.Commands.{ended, started};
-ghost use Rattle.tbr_runner.specs.Scripts.{rendered_on, rendered_under, rendered};
+ghost use Rattle.tbr_program.specs.Safe.{shown_links};
+ghost use Rattle.tbr_runner.specs.Safe.{shown_on, shown_under, shown};
+ghost use Rattle.tbr_runner.specs.Scripts.{rendered};
 ghost use Rattle.tbr_script.specs.Refusal.{IsOfScript};
 
 use std::alloc::Global;
@@ -91,22 +93,36 @@ pub fn render<W: CharWidth, B: AsSlice<u8> + Drop>(
     ensures refusal { IfErr result (λ e. e ≢ RunError.OutOfMemory → rendered W.columns (B.items script) ≡ Err e) }
     ensures of_script { IfErr result (λ e. e ≢ RunError.OutOfMemory → IsOfScript e) }
 {
+    render_shown::<W, B>(alloc, script, true)
+}
+
+/// The same, where prefixes and the targets that footnotes list are shown without control characters, unless they are
+/// to be `raw`.
+pub fn render_shown<W: CharWidth, B: AsSlice<u8> + Drop>(
+    alloc: Global,
+    script: B,
+    raw: bool,
+) -> Result<String, RunError>
+    ensures text { IfOk result (λ text. shown raw W.columns (B.items script) ≡ Ok (string_bytes text)) }
+    ensures refusal { IfErr result (λ e. e ≢ RunError.OutOfMemory → shown raw W.columns (B.items script) ≡ Err e) }
+    ensures of_script { IfErr result (λ e. e ≢ RunError.OutOfMemory → IsOfScript e) }
+{
     let (opening, number, rest) = first_command(script.as_slice())?;
     match opening.decorator {
         Decorator::Plain => {
             let decorator = PlainDecorator::new();
-            let (program, end) = run_under::<_, W>(alloc, opening, decorator, number, rest)?;
-            finish(program, end, script)
+            let (program, end) = run_under::<_, W>(alloc, opening, decorator, number, rest, raw)?;
+            finish(program, end, script, raw)
         }
         Decorator::Trivial => {
             let decorator = TrivialDecorator::new();
-            let (program, end) = run_under::<_, W>(alloc, opening, decorator, number, rest)?;
-            finish(program, end, script)
+            let (program, end) = run_under::<_, W>(alloc, opening, decorator, number, rest, raw)?;
+            finish(program, end, script, raw)
         }
         Decorator::Rich => {
             let decorator = RichDecorator::new();
-            let (program, end) = run_under::<_, W>(alloc, opening, decorator, number, rest)?;
-            finish(program, end, script)
+            let (program, end) = run_under::<_, W>(alloc, opening, decorator, number, rest, raw)?;
+            finish(program, end, script, raw)
         }
     }
 }
@@ -119,21 +135,22 @@ fn run_under<D: TextDecorator, W: CharWidth>(
     decorator: D,
     number: usize,
     script: &[u8],
+    raw: bool,
 ) -> Result<(Program<D, W>, usize), RunError>
     requires width { 0 < opening.width }
     requires wrap_width { opening.options.wrap_width ≢ Some 0 }
     requires number { number + length script.now < 2 ^ 64 }
-    ensures told { IfOk result (λ told. rendered_on W.columns (decoration_of D.TextDecorator)
+    ensures told { IfOk result (λ told. shown_on raw W.columns (decoration_of D.TextDecorator)
         number (lines_of script.now) (started opening decorator)
-        ≡ ended W.columns (decoration_of D.TextDecorator) told.1 (progress_meant D.meaning told.0)) }
+        ≡ ended W.columns (decoration_of D.TextDecorator) told.1 (shown_links raw (progress_meant D.meaning told.0))) }
     ensures goes_on { IfOk result (λ told. GoesOn told.0) }
     ensures refusal { IfErr result (λ e. e ≢ RunError.OutOfMemory →
-        rendered_on W.columns (decoration_of D.TextDecorator)
+        shown_on raw W.columns (decoration_of D.TextDecorator)
         number (lines_of script.now) (started opening decorator) ≡ Err e) }
     ensures of_script { IfErr result (λ e. e ≢ RunError.OutOfMemory → IsOfScript e) }
 {
     let program = Program::<D, W>::new(alloc, opening.width, opening.options, decorator)?;
-    run_lines(alloc, program, number, script)
+    run_lines(alloc, program, number, script, raw)
 }
 
 /// The text of a program that has run a whole script. The script isn't needed any more.
@@ -141,26 +158,29 @@ fn finish<D: TextDecorator, W: CharWidth, B: Drop>(
     program: Program<D, W>,
     number: usize,
     script: B,
+    raw: bool,
 ) -> Result<String, RunError>
     requires { GoesOn program }
     ensures text { IfOk result (λ text. ended W.columns (decoration_of D.TextDecorator) number
-        (progress_meant D.meaning program) ≡ Ok (string_bytes text)) }
+        (shown_links raw (progress_meant D.meaning program)) ≡ Ok (string_bytes text)) }
     ensures refused { IfErr result (λ e. e ≢ RunError.OutOfMemory →
-        ended W.columns (decoration_of D.TextDecorator) number (progress_meant D.meaning program) ≡ Err e) }
+        ended W.columns (decoration_of D.TextDecorator) number
+        (shown_links raw (progress_meant D.meaning program)) ≡ Err e) }
     ensures of_script { IfErr result (λ e. e ≢ RunError.OutOfMemory → IsOfScript e) }
 {
     drop(script);
-    program.finish(number)
+    program.finish_shown(number, raw)
 }
 
 /// The first command of a script, the number of the line after it, and what follows it.
 fn first_command(script: &[u8]) -> Result<(Opening, usize, &[u8]), RunError>
-    ensures found { IfOk result (λ r. (columns : ℕ → Option ℕ) →
-        rendered columns script.now ≡ rendered_under columns r.0.decorator r.0 r.1 (lines_of r.2.now)) }
+    ensures found { IfOk result (λ r. (raw : Bool) (columns : ℕ → Option ℕ) →
+        shown raw columns script.now ≡ shown_under raw columns r.0.decorator r.0 r.1 (lines_of r.2.now)) }
     ensures bound { IfOk result (λ r. r.1 + length r.2.now ≤ length script.now + 1) }
     ensures width { IfOk result (λ r. 0 < r.0.width) }
     ensures wrap_width { IfOk result (λ r. r.0.options.wrap_width ≢ Some 0) }
-    ensures refused { IfErr result (λ e. (columns : ℕ → Option ℕ) → rendered columns script.now ≡ Err e) }
+    ensures refused { IfErr result (λ e. (raw : Bool) (columns : ℕ → Option ℕ) →
+        shown raw columns script.now ≡ Err e) }
     ensures of_script { IfErr result (λ e. IsOfScript e) }
 {
     let mut rest = script;
@@ -185,15 +205,16 @@ fn run_lines<D: TextDecorator, W: CharWidth>(
     program: Program<D, W>,
     number: usize,
     script: &[u8],
+    raw: bool,
 ) -> Result<(Program<D, W>, usize), RunError>
     requires goes_on { GoesOn program }
     requires number { number + length script.now < 2 ^ 64 }
-    ensures told { IfOk result (λ told. rendered_on W.columns (decoration_of D.TextDecorator)
+    ensures told { IfOk result (λ told. shown_on raw W.columns (decoration_of D.TextDecorator)
         number (lines_of script.now) (progress_meant D.meaning program)
-        ≡ ended W.columns (decoration_of D.TextDecorator) told.1 (progress_meant D.meaning told.0)) }
+        ≡ ended W.columns (decoration_of D.TextDecorator) told.1 (shown_links raw (progress_meant D.meaning told.0))) }
     ensures goes_on { IfOk result (λ told. GoesOn told.0) }
     ensures refusal { IfErr result (λ e. e ≢ RunError.OutOfMemory →
-        rendered_on W.columns (decoration_of D.TextDecorator)
+        shown_on raw W.columns (decoration_of D.TextDecorator)
         number (lines_of script.now) (progress_meant D.meaning program) ≡ Err e) }
     ensures of_script { IfErr result (λ e. e ≢ RunError.OutOfMemory → IsOfScript e) }
 {
@@ -202,7 +223,7 @@ fn run_lines<D: TextDecorator, W: CharWidth>(
     let mut number = number;
     while !rest.is_empty() {
         let (line, after) = split_line(rest);
-        program.run_line(alloc, number, line)?;
+        program.run_shown_line(alloc, number, line, raw)?;
         rest = after;
         number += 1;
     }

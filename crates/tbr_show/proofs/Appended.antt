@@ -115,6 +115,16 @@ module _ (columns : ℕ → Option ℕ) (start cs : List ℕ) (text : List ℕ) 
 
 -- ---- an object of JSON
 
+-- three tokens, more, and two tokens, one after another
+module _ {X : Type 0} (t u1 u2 u3 u4 u5 u6 : List X) (x y z k o : X) (columns : List X)
+    (e1 : u1 ≡ t ++ x ∷ []) (e2 : u2 ≡ u1 ++ y ∷ []) (e3 : u3 ≡ u2 ++ z ∷ []) (e4 : u4 ≡ u3 ++ columns) (e5 : u5 ≡ u4 ++ k ∷ [])
+    (e6 : u6 ≡ u5 ++ o ∷ []) where
+  pub beginning_written : u6 ≡ t ++ (((x ∷ y ∷ z ∷ []) ++ columns) ++ k ∷ o ∷ [])
+  beginning_written =
+      let head = one_after t (x ∷ y ∷ []) (z ∷ []) u2 u3 (one_after t (x ∷ []) (y ∷ []) u1 u2 e1 e2) e3 in
+      let first = one_after t (x ∷ y ∷ z ∷ []) columns u3 u4 head e4 in
+      one_after t ((x ∷ y ∷ z ∷ []) ++ columns) (k ∷ o ∷ []) u4 u6 first (one_after u4 (k ∷ []) (o ∷ []) u5 u6 e5 e6)
+
 -- three tokens, more, two tokens, more, and two tokens, one after another
 module _ {X : Type 0} (t u1 u2 u3 u4 u5 u6 u7 u8 u9 : List X) (x y z k o p q : X) (columns parts : List X)
     (e1 : u1 ≡ t ++ x ∷ []) (e2 : u2 ≡ u1 ++ y ∷ []) (e3 : u3 ≡ u2 ++ z ∷ []) (e4 : u4 ≡ u3 ++ columns) (e5 : u5 ≡ u4 ++ k ∷ [])

@@ -50,10 +50,13 @@ ends (rich.Preformat continued) = []
 ends (rich.Colour colour) = selects (codes "39")
 ends (rich.BgColour colour) = selects (codes "49")
 
--- A piece is between what begins its annotations and what ends them, without its control characters. A marker isn't
--- shown.
+-- A piece is between what begins its annotations and what ends them, without its control characters.
+abbrev pub piece_shown : List ℕ → List RichAnnotation → List ℕ
+piece_shown cs annotations = flat_map begins annotations ++ printable cs ++ flat_map ends annotations
+
+-- a marker isn't shown
 abbrev pub element : Element (Vec RichAnnotation Global) → List ℕ
-element (piece cs tag) = flat_map begins tag.items ++ printable cs ++ flat_map ends tag.items
+element (piece cs tag) = piece_shown cs tag.items
 element (marker_element name) = []
 
 -- a line with its newline

@@ -59,6 +59,10 @@ ends (rich.Preformat continued) = []
 ends (rich.Colour colour) = codes "</span>"
 ends (rich.BgColour colour) = codes "</span>"
 
+-- a marker is a place of its name
+abbrev pub marker_shown : List ℕ → List ℕ
+marker_shown name = codes "<a id=\"" ++ flat_map escaped (printable (chars name)) ++ codes "\"></a>"
+
 -- ---- characters in their columns
 
 -- What is before a character of so many columns. An element for one of two columns may be open: it is closed before one
@@ -85,11 +89,14 @@ module _ (columns : ℕ → Option ℕ) where
   abbrev pub shown : List ℕ → List ℕ
   shown = shown_from false
 
-  -- a piece is in the elements of its annotations, and a marker is a place of its name
+  -- a piece is in the elements of its annotations
+  abbrev pub piece_shown : List ℕ → List RichAnnotation → List ℕ
+  piece_shown cs annotations =
+      flat_map begins annotations ++ shown (printable cs) ++ flat_map ends (reverse annotations)
+
   abbrev pub element : Element (Vec RichAnnotation Global) → List ℕ
-  element (piece cs tag) =
-      flat_map begins tag.items ++ shown (printable cs) ++ flat_map ends (reverse tag.items)
-  element (marker_element name) = codes "<a id=\"" ++ flat_map escaped (printable (chars name)) ++ codes "\"></a>"
+  element (piece cs tag) = piece_shown cs tag.items
+  element (marker_element name) = marker_shown name
 
   -- a line with its newline
   abbrev pub line : List (Element (Vec RichAnnotation Global)) → List ℕ

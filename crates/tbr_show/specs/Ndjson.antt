@@ -58,21 +58,31 @@ columns_tokens n = key (codes "columns") ∷ number (decimal n) ∷ []
 abbrev pub marker_tokens : List ℕ → List Token
 marker_tokens name = begin_object ∷ key (codes "marker") ∷ string name ∷ end_object ∷ []
 
+-- what is before the pieces of a line of so many columns, and what is after them
+abbrev pub begin_tokens : (is_border : Bool) → ℕ → List Token
+begin_tokens is_border n =
+    begin_object ∷ key (codes "border") ∷ boolean is_border ∷ columns_tokens n
+    ++ (key (codes "pieces") ∷ begin_array ∷ [])
+
+abbrev pub end_tokens : List Token
+end_tokens = end_array ∷ end_object ∷ []
+
+-- a piece, by the bytes of its text and its columns
+abbrev pub piece_tokens : List ℕ → ℕ → List RichAnnotation → List Token
+piece_tokens text n annotations =
+    begin_object ∷ text_tokens (codes "text") text ++ columns_tokens n
+    ++ (key (codes "annotations") ∷ begin_array ∷ flat_map annotation_tokens annotations)
+    ++ end_array ∷ end_object ∷ []
+
 module _ (columns : ℕ → Option ℕ) where
   abbrev pub element_tokens : Element (Vec RichAnnotation Global) → List Token
   element_tokens (piece cs tag) =
-      begin_object ∷ text_tokens (codes "text") (encode_utf8_all cs)
-      ++ columns_tokens (element_width columns (piece cs tag))
-      ++ (key (codes "annotations") ∷ begin_array ∷ flat_map annotation_tokens tag.items)
-      ++ end_array ∷ end_object ∷ []
+      piece_tokens (encode_utf8_all cs) (element_width columns (piece cs tag)) tag.items
   element_tokens (marker_element name) = marker_tokens name
 
   -- a line, and whether it is a border
   abbrev pub line_tokens : Bool → List (Element (Vec RichAnnotation Global)) → List Token
-  line_tokens is_border es =
-      begin_object ∷ key (codes "border") ∷ boolean is_border ∷ columns_tokens (line_width columns es)
-      ++ (key (codes "pieces") ∷ begin_array ∷ flat_map element_tokens es)
-      ++ end_array ∷ end_object ∷ []
+  line_tokens is_border es = begin_tokens is_border (line_width columns es) ++ flat_map element_tokens es ++ end_tokens
 
 -- ---- characters
 
@@ -81,7 +91,10 @@ abbrev pub escaped : ℕ → List ℕ
 escaped c =
     if is_in_range 0x7F 0x9F c then codes "\\u00" ++ digit_char (c / 16) ∷ digit_char (c % 16) ∷ [] else c ∷ []
 
+-- what is written of tokens
+abbrev pub written : List Token → List ℕ
+written tokens = flat_map escaped (chars (print tokens))
+
 -- a line with its newline
 abbrev pub line : (ℕ → Option ℕ) → Bool → List (Element (Vec RichAnnotation Global)) → List ℕ
-line columns is_border es =
-    flat_map escaped (chars (print (line_tokens columns is_border es))) ++ newline_character ∷ []
+line columns is_border es = written (line_tokens columns is_border es) ++ newline_character ∷ []

@@ -1,5 +1,5 @@
 //! Lines for a terminal, by the control sequences of ECMA-48 and the hyperlinks that most terminals know.
-ghost use Rattle.std.specs.Prelude.{◌≡◌, ◌++◌, flat_map, OnOk};
+ghost use Rattle.std.specs.Prelude.{◌≡◌, ◌++◌, chars, flat_map, OnOk};
 ghost use Rattle.tbr_tagged.specs.View.{chars_of, element_of};
 ghost use Rattle.tbr_show.specs.Ansi as model;
 
@@ -41,12 +41,25 @@ fn push_element(
 ) -> Result<(), OutOfMemory>
     ensures { OnOk result (chars_of text.new ≡ chars_of text.old ++ model.element (element_of element.now)) }
 {
-    let TaggedLineElement::Str(piece) = element else {
-        return Ok(());
-    };
-    push_begins(text, piece.tag.as_slice())?;
-    push_printable(text, piece.s.as_str())?;
-    push_ends(text, piece.tag.as_slice())
+    match element {
+        TaggedLineElement::Str(piece) => push_piece(text, piece.s.as_str(), piece.tag.as_slice()),
+        TaggedLineElement::FragmentStart(_) => Ok(()),
+    }
+}
+
+/// Appends a piece under annotations, as `push_line` shows it. Where memory is refused, part of it may have been
+/// appended.
+pub fn push_piece(
+    text: &mut String,
+    piece: &str,
+    annotations: &[RichAnnotation],
+) -> Result<(), OutOfMemory>
+    ensures { OnOk result
+        (chars_of text.new ≡ chars_of text.old ++ model.piece_shown (chars piece.now) annotations.now) }
+{
+    push_begins(text, annotations)?;
+    push_printable(text, piece)?;
+    push_ends(text, annotations)
 }
 
 /// Begins annotations.

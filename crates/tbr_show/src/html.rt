@@ -48,16 +48,34 @@ fn push_element<W: CharWidth>(
 {
     match element {
         TaggedLineElement::Str(piece) => {
-            push_begins(text, piece.tag.as_slice())?;
-            push_shown::<W>(text, piece.s.as_str())?;
-            push_ends(text, piece.tag.as_slice())
+            push_piece::<W>(text, piece.s.as_str(), piece.tag.as_slice())
         }
-        TaggedLineElement::FragmentStart(name) => {
-            push_ascii(text, "<a id=\"")?;
-            push_escaped(text, name.as_str())?;
-            push_ascii(text, "\"></a>")
-        }
+        TaggedLineElement::FragmentStart(name) => push_marker(text, name.as_str()),
     }
+}
+
+/// Appends a piece under annotations, as `push_line` shows it. Where memory is refused, part of it may have been
+/// appended.
+pub fn push_piece<W: CharWidth>(
+    text: &mut String,
+    piece: &str,
+    annotations: &[RichAnnotation],
+) -> Result<(), OutOfMemory>
+    ensures { OnOk result
+        (chars_of text.new ≡ chars_of text.old ++ model.piece_shown W.columns (chars piece.now) annotations.now) }
+{
+    push_begins(text, annotations)?;
+    push_shown::<W>(text, piece)?;
+    push_ends(text, annotations)
+}
+
+/// Appends a marker, as `push_line` shows it. Where memory is refused, part of it may have been appended.
+pub fn push_marker(text: &mut String, name: &str) -> Result<(), OutOfMemory>
+    ensures { OnOk result (chars_of text.new ≡ chars_of text.old ++ model.marker_shown name.now) }
+{
+    push_ascii(text, "<a id=\"")?;
+    push_escaped(text, name)?;
+    push_ascii(text, "\"></a>")
 }
 
 /// Begins the elements of annotations, one inside the other.

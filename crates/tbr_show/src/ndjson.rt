@@ -1,5 +1,5 @@
 //! Lines as JSON, an object a line.
-ghost use Rattle.std.specs.Prelude.{◌≡◌, ◌++◌, ◌<◌, chars, flat_map, OnOk};
+ghost use Rattle.std.specs.Prelude.{◌≡◌, ◌++◌, ◌<◌, [], chars, flat_map, OnOk};
 ghost use Rattle.std.specs.Char.{digit_char};
 ghost use Rattle.tbr_tagged.specs.View.{chars_of, element_of};
 ghost use Rattle.tbr_tagged.specs.Walks.{piece_of};
@@ -24,9 +24,17 @@ pub fn push_line<W: CharWidth>(
 {
     let mut writer = Writer::new(Vec::new(*text.allocator()));
     write_line::<W>(&mut writer, line, is_border)?;
-    let bytes = writer.into_inner();
-    push_escaped(text, str::from_utf8(bytes.as_slice()).unwrap())?;
+    push_written(text, writer)?;
     push_ascii(text, "\n")
+}
+
+/// Appends what was written, U+007F to U+009F as escapes. Where memory is refused, part of it may have been appended.
+pub fn push_written(text: &mut String, writer: Writer) -> Result<(), OutOfMemory>
+    requires { writer.before ≡ [] }
+    ensures { OnOk result (chars_of text.new ≡ chars_of text.old ++ model.written writer.tokens) }
+{
+    let bytes = writer.into_inner();
+    push_escaped(text, str::from_utf8(bytes.as_slice()).unwrap())
 }
 
 /// Writes a line.
@@ -39,13 +47,31 @@ fn write_line<W: CharWidth>(
         (writer.new.tokens ≡ writer.old.tokens ++ model.line_tokens W.columns is_border line.now) }
     ensures before { OnOk result (writer.new.before ≡ writer.old.before) }
 {
+    begin_line(writer, is_border, line.width::<W>()?)?;
+    write_elements::<W>(writer, line)?;
+    end_line(writer)
+}
+
+/// Writes what is before the pieces of a line of so many columns, which may be a border.
+pub fn begin_line(writer: &mut Writer, is_border: bool, columns: usize) -> Result<(), OutOfMemory>
+    ensures tokens { OnOk result
+        (writer.new.tokens ≡ writer.old.tokens ++ model.begin_tokens is_border columns) }
+    ensures before { OnOk result (writer.new.before ≡ writer.old.before) }
+{
     writer.begin_object()?;
     writer.key("border")?;
     writer.boolean(is_border)?;
-    write_columns(writer, line.width::<W>()?)?;
+    write_columns(writer, columns)?;
     writer.key("pieces")?;
     writer.begin_array()?;
-    write_elements::<W>(writer, line)?;
+    Ok(())
+}
+
+/// Writes what is after the pieces of a line.
+pub fn end_line(writer: &mut Writer) -> Result<(), OutOfMemory>
+    ensures tokens { OnOk result (writer.new.tokens ≡ writer.old.tokens ++ model.end_tokens) }
+    ensures before { OnOk result (writer.new.before ≡ writer.old.before) }
+{
     writer.end_array()?;
     writer.end_object()?;
     Ok(())
@@ -86,13 +112,13 @@ fn write_element<W: CharWidth>(
     ensures before { OnOk result (writer.new.before ≡ writer.old.before) }
 {
     match element {
-        TaggedLineElement::Str(piece) => write_piece::<W>(writer, piece),
+        TaggedLineElement::Str(piece) => write_tagged::<W>(writer, piece),
         TaggedLineElement::FragmentStart(name) => write_marker(writer, name.as_str()),
     }
 }
 
 /// Writes a piece of a line.
-fn write_piece<W: CharWidth>(
+fn write_tagged<W: CharWidth>(
     writer: &mut Writer,
     piece: &TaggedString<Vec<RichAnnotation>>,
 ) -> Result<(), OutOfMemory>
@@ -100,13 +126,28 @@ fn write_piece<W: CharWidth>(
         (writer.new.tokens ≡ writer.old.tokens ++ model.element_tokens W.columns (piece_of piece.now)) }
     ensures before { OnOk result (writer.new.before ≡ writer.old.before) }
 {
+    let columns = piece.width::<W>()?;
+    write_piece(writer, piece.s.as_str(), columns, piece.tag.as_slice())
+}
+
+/// Writes a piece of so many columns under annotations.
+pub fn write_piece(
+    writer: &mut Writer,
+    piece: &str,
+    columns: usize,
+    annotations: &[RichAnnotation],
+) -> Result<(), OutOfMemory>
+    ensures tokens { OnOk result
+        (writer.new.tokens ≡ writer.old.tokens ++ model.piece_tokens piece.now columns annotations.now) }
+    ensures before { OnOk result (writer.new.before ≡ writer.old.before) }
+{
     writer.begin_object()?;
     writer.key("text")?;
-    writer.string(piece.s.as_str())?;
-    write_columns(writer, piece.width::<W>()?)?;
+    writer.string(piece)?;
+    write_columns(writer, columns)?;
     writer.key("annotations")?;
     writer.begin_array()?;
-    write_annotations(writer, piece.tag.as_slice())?;
+    write_annotations(writer, annotations)?;
     writer.end_array()?;
     writer.end_object()?;
     Ok(())
@@ -125,7 +166,7 @@ fn write_annotations(writer: &mut Writer, annotations: &[RichAnnotation]) -> Res
 }
 
 /// Writes a marker.
-fn write_marker(writer: &mut Writer, name: &str) -> Result<(), OutOfMemory>
+pub fn write_marker(writer: &mut Writer, name: &str) -> Result<(), OutOfMemory>
     ensures tokens { OnOk result (writer.new.tokens ≡ writer.old.tokens ++ model.marker_tokens name.now) }
     ensures before { OnOk result (writer.new.before ≡ writer.old.before) }
 {

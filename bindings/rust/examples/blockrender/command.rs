@@ -137,7 +137,7 @@ pub fn opening(line: &str) -> Option<Options> {
         "rich" => Options::rich(width),
         _ => return None,
     };
-    words.try_fold(options, option)
+    words.try_fold(options.raw(true), option)
 }
 
 /// The options with one more set.

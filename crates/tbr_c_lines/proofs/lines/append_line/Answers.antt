@@ -1,7 +1,13 @@
-use Rattle.std.proofs.Common.{rules, append_assoc}
-use Rattle.std.proofs.lemmas.Str.{IsUtf8-string_bytes}
-use Rattle.tbr_tagged.proofs.TextAfter.{chars_push}
+use Rattle.std.proofs.Common.{[], ◌∷◌, ◌++◌, chars, ap, ◌∙◌, append_assoc}
+use Rattle.std.specs.String.{string_bytes}
+use Rattle.std.proofs.lemmas.Result.{on_ok_weaker}
+use Rattle.tbr_model.specs.Codes.{newline_character}
+use Rattle.tbr_border.specs.RenderLine.{line_items}
+use Rattle.tbr_tagged.specs.Walks.{item_characters}
 use Rattle.tbr_c_lines.proofs.lines.append_line.Goals as goal
 
 pub returns : goal.returns
-returns g c = search (rules, chars_push, IsUtf8-string_bytes, append_assoc, c.in_ok-push.ensures.bytes, c.in_ok-append_to.ensures)
+returns g c =
+    let old = chars (string_bytes c.args.text.now) in
+    on_ok_weaker c.end_line.result (λ h. h ∙ ap (λ cs. cs ++ newline_character ∷ []) c.in_ok-append_to.ensures
+    ∙ append_assoc old (item_characters (line_items c.args.line.now)) (newline_character ∷ [])) c.end_line.ensures

@@ -1,10 +1,11 @@
-use Rattle.tbr_runner.proofs.Common.{◌≡◌, ℕ, ◌+◌, ◌≤◌, Option, length, lines_of, rendered_from, rendered}
+use Rattle.tbr_runner.proofs.Common.{◌≡◌, ℕ, ◌+◌, ◌≤◌, Bool, Option, length, lines_of}
+use Rattle.tbr_runner.specs.Safe.{shown, shown_from}
 use Rattle.tbr_runner.proofs.runner.first_command.Given as goal
 
 abbrev pub invariant-loop-rest : goal.invariant-loop-rest
 invariant-loop-rest l = record {
   -- the script gives what the rest gives from here
-  so_far : (columns : ℕ → Option ℕ) → rendered columns l.fn.script ≡ rendered_from columns l.number (lines_of l.rest);
+  so_far : (raw : Bool) (columns : ℕ → Option ℕ) → shown raw columns l.fn.script ≡ shown_from raw columns l.number (lines_of l.rest);
   bound : l.number + length l.rest ≤ length l.fn.script + 1;
 }
 

@@ -1,55 +1,14 @@
-use Rattle.tbr_runner.proofs.Common.{◌≡◌, Ok, Err, string_bytes, Plain, Trivial, Rich, lines_of}
-use Rattle.tbr_runner.proofs.RenderedLines.{opened_under}
+use Rattle.tbr_runner.proofs.Common.{string_bytes, sym, ◌∙◌}
 use Rattle.tbr_program.proofs.Results.{if_ok_then, if_err_then}
+use Rattle.tbr_runner.proofs.ShownLines.{raw_script}
 use Rattle.tbr_runner.proofs.runner.render.Goals as goal
 
-pub returns-in_ok-program-in-Plain-clause-text : goal.returns-in_ok-program-in-Plain-clause-text
-returns-in_ok-program-in-Plain-clause-text g c =
-    let columns = g.W.CharWidth.columns in let o = c.in_ok-opening in let p = c.in_ok-program-in-Plain in
-    let script = g.B.AsSlice.items c.args.script in let same : c.as_slice.result.now ≡ script = c.as_slice.ensures in
-    if_ok_then c.finish.result (λ text ends.
-    let outcome = Ok (string_bytes text) in
-    opened_under columns Plain o.opening o.number (lines_of o.rest.now) _ outcome c.as_slice.result.now script same c.in-Plain.is
-    (o.ensures.found columns) p.ensures.told ends) c.finish.ensures.text
+pub returns-clause-text : goal.returns-clause-text
+returns-clause-text g c =
+    let same = sym (raw_script g.W.CharWidth.columns (g.B.AsSlice.items c.args.script)) in
+    if_ok_then c.render_shown.result (λ text shows. same ∙ shows) c.render_shown.ensures.text
 
-pub returns-in_ok-program-in-Plain-clause-refusal : goal.returns-in_ok-program-in-Plain-clause-refusal
-returns-in_ok-program-in-Plain-clause-refusal g c =
-    let columns = g.W.CharWidth.columns in let o = c.in_ok-opening in let p = c.in_ok-program-in-Plain in
-    let script = g.B.AsSlice.items c.args.script in let same : c.as_slice.result.now ≡ script = c.as_slice.ensures in
-    if_err_then c.finish.result (λ e ends found.
-    opened_under columns Plain o.opening o.number (lines_of o.rest.now) _ (Err e) c.as_slice.result.now script same c.in-Plain.is
-    (o.ensures.found columns) p.ensures.told (ends found)) c.finish.ensures.refused
-
-pub returns-in_ok-program-in-Trivial-clause-text : goal.returns-in_ok-program-in-Trivial-clause-text
-returns-in_ok-program-in-Trivial-clause-text g c =
-    let columns = g.W.CharWidth.columns in let o = c.in_ok-opening in let p = c.in_ok-program-in-Trivial in
-    let script = g.B.AsSlice.items c.args.script in let same : c.as_slice.result.now ≡ script = c.as_slice.ensures in
-    if_ok_then c.finish-in-Trivial.result (λ text ends.
-    let outcome = Ok (string_bytes text) in
-    opened_under columns Trivial o.opening o.number (lines_of o.rest.now) _ outcome c.as_slice.result.now script same c.in-Trivial.is
-    (o.ensures.found columns) p.ensures.told ends) c.finish-in-Trivial.ensures.text
-
-pub returns-in_ok-program-in-Trivial-clause-refusal : goal.returns-in_ok-program-in-Trivial-clause-refusal
-returns-in_ok-program-in-Trivial-clause-refusal g c =
-    let columns = g.W.CharWidth.columns in let o = c.in_ok-opening in let p = c.in_ok-program-in-Trivial in
-    let script = g.B.AsSlice.items c.args.script in let same : c.as_slice.result.now ≡ script = c.as_slice.ensures in
-    if_err_then c.finish-in-Trivial.result (λ e ends found.
-    opened_under columns Trivial o.opening o.number (lines_of o.rest.now) _ (Err e) c.as_slice.result.now script same c.in-Trivial.is
-    (o.ensures.found columns) p.ensures.told (ends found)) c.finish-in-Trivial.ensures.refused
-
-pub returns-in_ok-program-in-Rich-clause-text : goal.returns-in_ok-program-in-Rich-clause-text
-returns-in_ok-program-in-Rich-clause-text g c =
-    let columns = g.W.CharWidth.columns in let o = c.in_ok-opening in let p = c.in_ok-program-in-Rich in
-    let script = g.B.AsSlice.items c.args.script in let same : c.as_slice.result.now ≡ script = c.as_slice.ensures in
-    if_ok_then c.finish-in-Rich.result (λ text ends.
-    let outcome = Ok (string_bytes text) in
-    opened_under columns Rich o.opening o.number (lines_of o.rest.now) _ outcome c.as_slice.result.now script same c.in-Rich.is
-    (o.ensures.found columns) p.ensures.told ends) c.finish-in-Rich.ensures.text
-
-pub returns-in_ok-program-in-Rich-clause-refusal : goal.returns-in_ok-program-in-Rich-clause-refusal
-returns-in_ok-program-in-Rich-clause-refusal g c =
-    let columns = g.W.CharWidth.columns in let o = c.in_ok-opening in let p = c.in_ok-program-in-Rich in
-    let script = g.B.AsSlice.items c.args.script in let same : c.as_slice.result.now ≡ script = c.as_slice.ensures in
-    if_err_then c.finish-in-Rich.result (λ e ends found.
-    opened_under columns Rich o.opening o.number (lines_of o.rest.now) _ (Err e) c.as_slice.result.now script same c.in-Rich.is
-    (o.ensures.found columns) p.ensures.told (ends found)) c.finish-in-Rich.ensures.refused
+pub returns-clause-refusal : goal.returns-clause-refusal
+returns-clause-refusal g c =
+    let same = sym (raw_script g.W.CharWidth.columns (g.B.AsSlice.items c.args.script)) in
+    if_err_then c.render_shown.result (λ e refuses other. same ∙ refuses other) c.render_shown.ensures.refusal

@@ -1,17 +1,19 @@
-use Rattle.std.proofs.Common.{ap, ◌∙◌, ◌++◌}
-use Rattle.std.specs.Prelude.{codes, flat_map}
-use Rattle.json.specs.Token.{begin_object, end_object, begin_array, end_array, key, boolean}
+use Rattle.std.proofs.Common.{ap, ◌∙◌, ◌++◌, append_assoc}
+use Rattle.std.specs.Prelude.{flat_map}
 use Rattle.tbr_tagged.specs.Elements.{line_width}
-use Rattle.tbr_show.specs.Ndjson.{element_tokens, columns_tokens}
-use Rattle.tbr_show.proofs.Appended.{object_written}
+use Rattle.tbr_show.specs.Ndjson.{element_tokens, begin_tokens, end_tokens}
+use Rattle.tbr_show.proofs.Appended.{one_after, on_ok_then}
 use Rattle.tbr_show.proofs.ndjson.write_line.Goals as goal
 
 pub returns-clause-tokens : goal.returns-clause-tokens
 returns-clause-tokens g c =
     let columns = g.W.CharWidth.columns in
-    let takes = c.in_ok-write_columns.ensures.tokens ∙ ap (λ n. c.boolean.new.self.tokens ++ columns_tokens n) c.in_ok-width.ensures in
-    object_written c.args.writer.now.tokens c.begin_object.new.self.tokens c.key.new.self.tokens c.boolean.new.self.tokens c.write_columns.new.writer.tokens
-    c.key-2.new.self.tokens c.begin_array.new.self.tokens c.write_elements.new.writer.tokens c.end_array.new.self.tokens c.end_object.new.self.tokens
-    begin_object (key (codes "border")) (boolean c.args.is_border) (key (codes "pieces")) begin_array end_array end_object
-    (columns_tokens (line_width columns c.args.line.now)) (flat_map (element_tokens columns) c.args.line.now)
-    c.in_ok-begin_object.ensures.ok c.in_ok-key.ensures.ok c.in_ok-boolean.ensures.ok takes c.in_ok-key-2.ensures.ok c.in_ok-begin_array.ensures.ok c.in_ok-write_elements.ensures.tokens c.in_ok-end_array.ensures.ok c.in_ok-end_object.ensures.ok
+    let old = c.args.writer.now.tokens in
+    let begins = begin_tokens c.args.is_border (line_width columns c.args.line.now) in
+    let pieces = flat_map (element_tokens columns) c.args.line.now in
+    let begun = c.in_ok-begin_line.ensures.tokens ∙ ap (λ n. old ++ begin_tokens c.args.is_border n) c.in_ok-width.ensures in
+    let most = one_after old begins pieces c.begin_line.new.writer.tokens c.write_elements.new.writer.tokens begun c.in_ok-write_elements.ensures.tokens in
+    on_ok_then c.end_line.result
+    (λ h. one_after old (begins ++ pieces) end_tokens c.write_elements.new.writer.tokens c.end_line.new.writer.tokens most h
+    ∙ ap (λ ts. old ++ ts) (append_assoc begins pieces end_tokens))
+    c.end_line.ensures.tokens

@@ -1,0 +1,37 @@
+use Rattle.std.proofs.Common.{◌≡◌, refl, true, List, [], ◌∷◌, ◌++◌, sym, ap, subst, ◌∙◌, append_assoc}
+use Rattle.std.proofs.lemmas.Result.{on_ok_weaker}
+use Rattle.std.specs.Cmp.Lexicographic.{lists_equiv}
+use Rattle.tbr_model.specs.Codes.{newline_character}
+use Rattle.tbr_tagged.specs.View.{chars_of}
+use Rattle.tbr_annotations.specs.Annotations.{equal_annotations}
+use Rattle.tbr_c_lines.specs.Formats.{line_as}
+use Rattle.tbr_c_lines.proofs.lines.append_shown.Goals as goal
+
+pub clone-requires : goal.clone-requires
+clone-requires g c = λ v w copy.
+    let own = (lists_equiv g.met.A.Eq.laws).refl v in
+    subst (λ u. equal_annotations g.A.PartialEq.eq v u ≡ true) (sym copy) own
+
+pub written_out-requires : goal.written_out-requires
+written_out-requires g c = g.met.A.Annotation.copies_equal
+
+pub returns : goal.returns
+returns g c =
+    let old = chars_of c.args.text.now in
+    let seen = c.in_ok-seen.seen in
+    let shown = line_as c.args.is_bare c.args.format seen in
+    on_ok_weaker c.end_line.result
+    (λ h. (
+      shown ++ newline_character ∷ [],
+      (
+        c.in_ok-clone.field-0,
+        c.in_ok-out.out,
+        seen,
+        c.in_ok-clone.ensures,
+        (c.in_ok-out.ensures.written, c.in_ok-out.ensures.merged),
+        c.in_ok-seen.ensures,
+        refl,
+      ),
+      h ∙ ap (λ cs. cs ++ newline_character ∷ []) c.in_ok-push_line.ensures ∙ append_assoc old shown (newline_character ∷ []),
+    ))
+    c.end_line.ensures

@@ -1,0 +1,7 @@
+use Rattle.std.proofs.Common.{chars, ap, ◌∙◌, string_bytes}
+use Rattle.std.proofs.lemmas.Str.{IsUtf8-string_bytes}
+use Rattle.tbr_tagged.proofs.TextAfter.{chars_push}
+use Rattle.tbr_safe.proofs.escapes.push_char.Goals as goal
+
+pub returns : goal.returns
+returns c = ap chars c.in_ok-push.ensures.bytes ∙ chars_push (string_bytes c.args.safe.now) c.args.c (IsUtf8-string_bytes c.args.safe.now) c.ranges.c.0
