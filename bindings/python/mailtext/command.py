@@ -17,6 +17,7 @@ status: 0 all was shown; 1 memory is refused, or a mail of an archive wasn't rea
 """
 # Statuses, as blockview has them.
 REFUSED, UNREADABLE = 1, 3
+HELP_COLUMNS = 100
 
 
 def main() -> NoReturn:
@@ -39,9 +40,7 @@ def run(words: list[str]) -> int:
 
 def parser() -> argparse.ArgumentParser:
     """What the words of the command mean."""
-    made = argparse.ArgumentParser(
-        "mailtext", description=ABOUT, epilog=STATUSES, formatter_class=argparse.RawDescriptionHelpFormatter
-    )
+    made = argparse.ArgumentParser("mailtext", description=ABOUT, epilog=STATUSES, formatter_class=Help)
     made.add_argument("files", nargs="*", metavar="FILE", help="mails or HTML; standard input for `-` or for none")
     made.add_argument("--html", action="store_true", help="they are HTML, whatever is in them")
     made.add_argument("--charset", metavar="NAME", help="that of HTML alone, as a mail reader knows it")
@@ -55,6 +54,13 @@ def parser() -> argparse.ArgumentParser:
     archive.add_argument("--workers", type=workers, metavar="N", help="how many processes read mails (one a core)")
     archive.add_argument("--cluster", metavar="ADDRESS", help="the scheduler of Dask whose workers read them")
     return made
+
+
+class Help(argparse.RawDescriptionHelpFormatter):
+    """Help in lines of a width that needn't be looked for."""
+
+    def __init__(self, prog: str) -> None:
+        super().__init__(prog, width=HELP_COLUMNS)
 
 
 def columns(text: str) -> int:
@@ -115,12 +121,18 @@ def why_unread(error: OSError) -> str:
 
 def shown_bytes(data: bytes, given: argparse.Namespace, options: Options) -> str:
     """What is shown of a mail, or of HTML alone."""
-    from .kinds import is_mail
     from .show import html_shown, mail_shown
 
     if given.html or not is_mail(data):
         return html_shown(data, options, given.charset)
     return mail_shown(data, options)
+
+
+def is_mail(data: bytes) -> bool:
+    """Whether the bytes are a mail, and not HTML alone."""
+    from .kinds import is_mail as begins_as_mail
+
+    return begins_as_mail(data)
 
 
 def archived(given: argparse.Namespace, options: Options) -> int:

@@ -1,18 +1,26 @@
-"""The headers of a mail or of a part of it. Python's `email` is asked, and loaded, for those that have to be decoded."""
+"""The headers of a mail or of a part of it.
+
+Python's `email` is asked for parameters that are in pieces or in charsets of their own. It isn't for the rest: loading it
+takes longer than showing most mails, and it doesn't join a character that is in two encoded words.
+"""
 
 from __future__ import annotations
 
 import re
+from itertools import groupby
 
 from .characters import guessed, known, one_line
 
-# Headers of more bytes aren't read, and longer ones are decoded without regard to what they are.
+# Headers of more bytes aren't read, and parameters of more characters.
 MOST_BYTES = 1 << 18
-LONG = 2000
+MOST_PARAMETERS = 2000
 NAME = re.compile(r"([!-9;-~]+)[ \t]*:")
 # A parameter that needs no decoding.
 PARAMETER = re.compile(r""";\s*([^\s=;*"]+)\s*=\s*(?:"((?:[^"\\]|\\.)*)"|([^\s;"]*))""")
 WORD = re.compile(r"=\?([^?\s]+)\?([bBqQ])\?([^?]*)\?=")
+ENCODED = re.compile(r"(?:=\?[^?\s]+\?[bBqQ]\?[^?]*\?=)+")
+# White space between encoded words isn't shown.
+BETWEEN = re.compile(r"(\?=)\s+(?==\?)")
 
 
 class Headers:
@@ -37,11 +45,11 @@ class Headers:
 
     def all(self, name: str) -> list[str]:
         """The headers of a name as people read them, each in one line."""
-        return [readable(name, value) for found, value in self._fields if found.lower() == name.lower()]
+        return [words(value) for found, value in self._fields if found.lower() == name.lower()]
 
     def parameters(self, name: str) -> dict[str, str]:
         """The parameters of a header by their names in small letters. Encoded words are as they came."""
-        value = self.raw(name)[:LONG]
+        value = self.raw(name)[:MOST_PARAMETERS]
         begin = value.find(";")
         if begin < 0:
             return {}
@@ -51,39 +59,32 @@ class Headers:
         return {it.lower(): re.sub(r"\\(.)", r"\1", text) or bare for it, text, bare in reversed(found)}
 
 
-def readable(name: str, value: str) -> str:
-    """A header as people read it, in one line."""
-    if "=?" not in value:
-        return one_line(value)
-    if len(value) > LONG:
-        return words(value)
-    from email import policy
-
-    try:
-        return one_line(str(policy.default.header_factory(name, value.strip())))
-    except Exception:  # `email` fails in many ways with what no standard allows
-        return words(value)
-
-
 def words(value: str) -> str:
-    """A text with its encoded words decoded, whatever they are in."""
+    """A header as people read it, in one line: with its encoded words decoded, whatever they are in."""
     if "=?" not in value:
         return one_line(value)
-    joined = re.sub(r"(\?=)\s+(?==\?)", r"\1", value)
-    return one_line(WORD.sub(lambda found: word(found[1], found[2], found[3]), joined))
+    joined = BETWEEN.sub(r"\1", value)
+    return one_line(ENCODED.sub(lambda found: run_of_words(str(found[0])), joined))
 
 
-def word(charset: str, kind: str, text: str) -> str:
-    """An encoded word."""
+def run_of_words(text: str) -> str:
+    """Encoded words that follow one another. A character may be in two of them."""
+    shown = ""
+    for charset, run in groupby(WORD.findall(text), lambda word: word[0].partition("*")[0].lower()):
+        data = b"".join(word_data(kind, encoded) for _, kind, encoded in run)
+        shown += data.decode(known(charset) or "utf-8", "replace")
+    return shown
+
+
+def word_data(kind: str, encoded: str) -> bytes:
+    """The bytes of an encoded word. One that isn't encoded as it says stays as it is."""
     import binascii
-    import quopri
 
-    data = text.encode("utf-8", "replace")
+    data = encoded.encode("utf-8", "replace")
     try:
-        data = quopri.decodestring(data, header=True) if kind in "qQ" else binascii.a2b_base64(data + b"==")
+        return binascii.a2b_qp(data, header=True) if kind in "qQ" else binascii.a2b_base64(data + b"==")
     except binascii.Error:
-        return text
-    return data.decode(known(charset.partition("*")[0]) or "utf-8", "replace")
+        return data
 
 
 def decoded_parameters(value: str) -> dict[str, str]:

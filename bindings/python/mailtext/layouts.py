@@ -24,7 +24,7 @@ BARE_TABLE = frozenset("id title lang dir rules summary role".split())
 BARE_CELL = frozenset("id title lang dir colspan rowspan headers scope abbr align nowrap".split())
 LONGEST_NUMBER = 24
 MOST_SPACES = 200
-NUMBER = re.compile(r"(?:[A-Z]{3}|[^\w\s])?\s?[-+−]?\s?\d[\d.,:/'’\s-]*(?:[^\w\s]|[A-Za-z]{1,3})?")
+NUMBER = r"(?:[A-Z]{3}|[^\w\s])?\s?[-+−]?\s?\d[\d.,:/'’\s-]*(?:[^\w\s]|[A-Za-z]{1,3})?"
 
 
 def is_layout(table: Table) -> bool:
@@ -81,7 +81,7 @@ def is_number(cell: Cell) -> bool | None:
         text = (text + part[:MOST_SPACES]).lstrip()
         if len(text) > MOST_SPACES:
             return False
-    return NUMBER.fullmatch(text.rstrip()[:LONGEST_NUMBER]) is not None
+    return len(text.rstrip()) <= LONGEST_NUMBER and re.fullmatch(NUMBER, text.rstrip()) is not None
 
 
 def texts(element: Element) -> Iterator[str]:

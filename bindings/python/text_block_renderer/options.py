@@ -1,7 +1,7 @@
 """What a renderer and its calls are told."""
 
-from dataclasses import dataclass
 from enum import Enum
+from typing import NamedTuple
 
 
 class Decorator(Enum):
@@ -46,8 +46,7 @@ class CellAlign(Enum):
     """In the middle, with the odd column on the right."""
 
 
-@dataclass(frozen=True)
-class Colour:
+class Colour(NamedTuple):
     """A colour, by its red, green and blue parts, each from 0 to 255."""
 
     r: int
