@@ -12,13 +12,7 @@ from .page import Page
 
 # Where links may lead, as blockview has them; others are shown by their text alone.
 SCHEMES = frozenset(("http", "https", "mailto", "ftp"))
-SELECTIONS = {
-    Kind.EMPHASIS: ("\x1b[3m", "\x1b[23m"),
-    Kind.STRONG: ("\x1b[1m", "\x1b[22m"),
-    Kind.STRIKEOUT: ("\x1b[9m", "\x1b[29m"),
-    Kind.CODE: ("\x1b[36m", "\x1b[39m"),
-    Kind.IMAGE: ("\x1b[2m", "\x1b[22m"),
-}
+SELECTIONS = {Kind.EMPHASIS: 3, Kind.STRONG: 1, Kind.STRIKEOUT: 9, Kind.CODE: 36, Kind.IMAGE: 2}
 ELEMENTS = {Kind.EMPHASIS: "em", Kind.STRONG: "strong", Kind.STRIKEOUT: "s", Kind.CODE: "code"}
 
 
@@ -50,10 +44,10 @@ def in_ansi(lines: Iterator[TaggedLine]) -> Iterator[str]:
 
 
 def ansi(text: str, annotations: tuple[Annotation, ...]) -> str:
-    """A piece of text for a terminal."""
-    for kind in {it.kind: None for it in reversed(annotations)}:
-        before, after = SELECTIONS.get(kind, ("", ""))
-        text = f"{before}{text}{after}"
+    """A piece of text for a terminal. All selections end with it, since some readers know no end of a single one."""
+    numbers = dict.fromkeys(SELECTIONS[it.kind] for it in annotations if it.kind in SELECTIONS)
+    if numbers:
+        text = f"\x1b[{';'.join(map(str, numbers))}m{text}\x1b[0m"
     target = target_of(annotations)
     return f"\x1b]8;;{target}\x1b\\{text}\x1b]8;;\x1b\\" if target else text
 

@@ -64,13 +64,13 @@ def words(value: str) -> str:
     if "=?" not in value:
         return one_line(value)
     joined = BETWEEN.sub(r"\1", value)
-    return one_line(ENCODED.sub(lambda found: run_of_words(str(found[0])), joined))
+    return one_line(ENCODED.sub(run_of_words, joined))
 
 
-def run_of_words(text: str) -> str:
+def run_of_words(found: re.Match[str]) -> str:
     """Encoded words that follow one another. A character may be in two of them."""
     shown = ""
-    for charset, run in groupby(WORD.findall(text), lambda word: word[0].partition("*")[0].lower()):
+    for charset, run in groupby(WORD.findall(found[0]), lambda word: word[0].partition("*")[0].lower()):
         data = b"".join(word_data(kind, encoded) for _, kind, encoded in run)
         shown += data.decode(known(charset) or "utf-8", "replace")
     return shown

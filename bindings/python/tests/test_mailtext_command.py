@@ -51,7 +51,7 @@ class Command(unittest.TestCase):
         html = b"<a href=https://example.org/abc>one</a> <b>two</b>"
         self.assertEqual(run("--width", "10", data=html)[1], "[one][1]\n**two**\n\n[1]: https\n://example\n.org/abc\n")
         self.assertEqual(run("--links", "inline", data=html)[1], "one <https://example.org/abc> **two**\n")
-        self.assertEqual(run("--links", "none", "--format", "ansi", data=b"<b>a</b>")[1], "\x1b[1ma\x1b[22m\n")
+        self.assertEqual(run("--links", "none", "--format", "ansi", data=b"<b>a</b>")[1], "\x1b[1ma\x1b[0m\n")
         self.assertIn("<strong>two</strong>", run("--format", "html", data=html)[1])
 
     def test_what_cannot_be_read(self) -> None:

@@ -100,7 +100,7 @@ class Elements(unittest.TestCase):
     def test_ansi(self) -> None:
         shown = html_text("<b>b</b> <i>c</i> <a href='https://e.org'>d</a> <a href='javascript:1'>e</a>", format="ansi", links="none")
         link = "\x1b]8;;https://e.org\x1b\\d\x1b]8;;\x1b\\"
-        self.assertEqual(shown, f"\x1b[1mb\x1b[22m \x1b[3mc\x1b[23m {link} e\n")
+        self.assertEqual(shown, f"\x1b[1mb\x1b[0m \x1b[3mc\x1b[0m {link} e\n")
 
     def test_html(self) -> None:
         shown = html_text("<b>a&lt;</b> <a href='https://e.org/?a&amp;b'>d</a>", format="html", links="none")
