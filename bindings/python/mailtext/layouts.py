@@ -24,6 +24,8 @@ BARE_TABLE = frozenset("id title lang dir rules summary role".split())
 BARE_CELL = frozenset("id title lang dir colspan rowspan headers scope abbr align nowrap".split())
 LONGEST_NUMBER = 24
 MOST_SPACES = 200
+# A table of more rows times columns isn't laid out.
+MOST_PLACES = 1_000_000
 NUMBER = r"(?:[A-Z]{3}|[^\w\s])?\s?[-+−]?\s?\d[\d.,:/'’\s-]*(?:[^\w\s]|[A-Za-z]{1,3})?"
 
 
@@ -32,7 +34,14 @@ def is_layout(table: Table) -> bool:
     if table.attributes.get("role") in ("presentation", "none"):
         return True
     rows = table.cells()
+    if len(rows) * max(map(columns, rows), default=0) > MOST_PLACES:
+        return True
     return not (is_said(table, rows) or has_borders(rows) or is_bare(table, rows) or has_numbers(rows))
+
+
+def columns(row: list[Cell]) -> int:
+    """How many columns the cells of a row span."""
+    return sum(cell.number("colspan", 1, 1, MOST_PLACES) for cell in row)
 
 
 def is_said(table: Table, rows: list[list[Cell]]) -> bool:

@@ -8,7 +8,7 @@ from typing import NamedTuple
 from .characters import clean, decoded
 from .headers import Headers, words
 
-# Parts that are deeper are shown as attachments.
+# Parts that are deeper are shown as they came.
 DEEPEST_PART = 30
 # What comes after so many parts belongs to the last of them.
 MOST_PARTS = 1000

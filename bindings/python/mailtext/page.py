@@ -108,12 +108,13 @@ class Page:
 
     def _after_word(self, text: str) -> None:
         """Adds text after the last word, in front of the white space that came after it."""
-        all_texts = "".join(self._texts)
-        words = all_texts.rstrip() if not self._modes else all_texts
-        if words or not all_texts:
-            self._texts = [words, text, all_texts[len(words) :]]
-        else:
-            self._texts = [text, all_texts]
+        space = words = ""
+        while self._texts and not self._modes and not (words := self._texts[-1].rstrip()):
+            space = self._texts.pop() + space
+        if words:
+            space = self._texts[-1][len(words) :] + space
+            self._texts[-1] = words
+        self._texts += [text, space]
 
     def _flush(self) -> None:
         """Hands the text that came to the renderer."""

@@ -5,10 +5,16 @@ from html import unescape
 
 from .characters import clean
 
+# A tag whose quotes have neither `<` nor `>`, as nearly all.
+USUAL = re.compile(r'''<(/?[a-zA-Z][^\s/<>"']*)([^<>"']*(?:"[^"<>]*"[^<>"']*){0,40})>''')
 # The name of a tag, or what else may follow a `<`.
 NAME = re.compile(r"/?[a-zA-Z][^\s/>]*|!--|[!?]|/[^>]")
 ATTRIBUTE = re.compile(r"""([^\s/>=][^\s/>=]*)(?:\s*=\s*("[^"]*"|'[^']*'|[^\s>]*))?""")
 BETWEEN = re.compile(r"[\s/]*")
+# Of more tags than people write only the text around them is read, of longer attributes only the beginning.
+MOST_TAGS = 500_000
+MOST_ATTRIBUTES = 1 << 16
+TAG = re.compile("<[^<>]*>")
 # More digits than a reference to a character has.
 LONG_REFERENCE = re.compile("&#[0-9]{9,};?")
 
@@ -26,6 +32,7 @@ class Tokens:
         self._at = 0
         # What was looked for up to the end, and isn't there.
         self._missing: set[str] = set()
+        self._tags = 0
 
     def start(self, tag: str, attributes: str) -> None:
         """A start tag, with the text of its attributes, which `attributes_of` reads."""
@@ -39,27 +46,44 @@ class Tokens:
     def read(self) -> None:
         """Reads it all."""
         html = self._html
-        while self._find(">") >= 0:
-            begin = html.find("<", self._at)
-            if begin < 0:
-                break
+        while self._tags < MOST_TAGS and (begin := html.find("<", self._at)) >= 0:
             if begin > self._at:
                 self._text(html[self._at : begin])
-            self._at = begin + 1
-            self._markup(NAME.match(html, self._at))
+            if found := USUAL.match(html, begin):
+                self._at = found.end()
+                self._tag(found[1].lower(), found[2])
+            elif self._find(">", begin) >= 0:
+                self._at = begin + 1
+                self._markup(NAME.match(html, self._at))
+            else:
+                self._at = begin
+                break
         if self._at < len(html):
-            self._text(html[self._at :])
+            rest = html[self._at :]
+            self._text(TAG.sub(" ", rest) if self._tags == MOST_TAGS else rest)
+
+    def _tag(self, name: str, attributes: str) -> None:
+        """Takes a tag."""
+        self._tags += 1
+        if name[0] == "/":
+            self.end(name[1:])
+            return
+        self.start(name, attributes)
+        if name in RAW:
+            self._raw(name)
 
     def _markup(self, found: re.Match[str] | None) -> None:
-        """Reads what follows a `<`."""
+        """Reads what follows a `<`, other than a usual tag."""
         if found is None:
             self.text("<")
             return
         name = found[0]
-        if name.lstrip("/")[:1].isalpha():
-            self._tag(name.lower(), found.end())
-        else:
+        if not name.lstrip("/")[:1].isalpha():
             self._declaration(name)
+            return
+        end = self._end_of_tag(found.end())
+        self._at = end + 1
+        self._tag(name.lower(), self._html[found.end() : min(end, found.end() + MOST_ATTRIBUTES)])
 
     def _text(self, text: str) -> None:
         self.text(unescaped(text) if "&" in text else text)
@@ -75,29 +99,14 @@ class Tokens:
         else:
             self._at = end + length
 
-    def _tag(self, name: str, begin: int) -> None:
-        """Reads a tag whose attributes begin there. One that has no end is text."""
-        end = self._end_of_tag(begin)
-        if end < 0:
-            self.text("<")
-            return
-        attributes = self._html[begin:end]
-        self._at = end + 1
-        if name[0] == "/":
-            self.end(name[1:])
-            return
-        self.start(name, attributes)
-        if name in RAW:
-            self._raw(name)
-
     def _end_of_tag(self, begin: int) -> int:
-        """Where the `>` of a tag is, of which one between quotes isn't, or -1."""
+        """Where the `>` of a tag is, of which one between quotes isn't."""
         html = self._html
-        end = self._find(">", begin)
-        if end < 0 or (html.count('"', begin, end) | html.count("'", begin, end)) & 1 == 0:
+        end = html.find(">", begin)
+        if (html.count('"', begin, end) | html.count("'", begin, end)) & 1 == 0:
             return end
         at = self._after_space(begin)
-        while found := ATTRIBUTE.match(html, at):
+        while at < begin + MOST_ATTRIBUTES and (found := ATTRIBUTE.match(html, at)):
             at = self._after_space(found.end())
         return at if html[at : at + 1] == ">" else end
 

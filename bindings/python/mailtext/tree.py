@@ -105,11 +105,12 @@ def parse(text: str, targets: Targets) -> Element:
 class Open:
     """A tag that is open: its element, or the one around it where it is no element of its own."""
 
-    __slots__ = ("element", "is_sized", "tag")
+    __slots__ = ("element", "is_inline", "is_sized", "tag")
 
     def __init__(self, tag: str, element: Element, is_sized: bool) -> None:
         self.tag = tag
         self.element = element
+        self.is_inline = isinstance(element, INLINE)
         self.is_sized = is_sized
 
 
@@ -127,23 +128,24 @@ class TreeBuilder(Tokens):
     def start(self, tag: str, attributes: str) -> None:
         if tag in ENDED_BY:
             self._end(*ENDED_BY[tag], is_outermost=True)
-        if tag not in OUTSIDE_CELLS:
-            self._open_cell()
-        elif tag in CELLS and tag != "caption" and self._open[-1].tag != "tr":
+        if self._open[-1].tag in ABOVE_CELLS:
+            self._open_cell_for(tag)
+        elif tag in CELLS and tag != "caption":
             self._add("tr", {})
         self._add(tag, self._read(tag, attributes) if attributes else {})
 
     def end(self, tag: str) -> None:
         if self._open[-1].tag == tag and len(self._open) > 1:
             self._open.pop()
-            return
-        bounds = frozenset({"table"}) if tag in TABLE_PARTS else TABLE_PARTS
-        self._end(frozenset({tag}), bounds - {tag}, is_outermost=False)
+        elif any(it.tag == tag for it in self._open):
+            bounds = frozenset({"table"}) if tag in TABLE_PARTS else TABLE_PARTS
+            self._end(frozenset({tag}), bounds - {tag}, is_outermost=False)
 
     def text(self, text: str) -> None:
-        if self._open[-1].tag in ABOVE_CELLS and not text.isspace():
-            self._open_cell()
         inner = self._open[-1]
+        if inner.tag in ABOVE_CELLS and not text.isspace():
+            self._open_cell_for("")
+            inner = self._open[-1]
         parent = inner.element
         if isinstance(parent, Unseen):
             if inner.tag == "style":
@@ -153,36 +155,37 @@ class TreeBuilder(Tokens):
             text = text.removeprefix("\n")
         parent.add_text(text if inner.is_sized else " ")
 
-    def _open_cell(self) -> None:
-        """Opens a cell for what comes where a table has none."""
-        if self._open[-1].tag in ABOVE_CELLS:
+    def _open_cell_for(self, tag: str) -> None:
+        """Opens what comes where a table has none: a row for a cell, and a cell for all but parts of tables."""
+        if tag not in OUTSIDE_CELLS:
             self.start("td", "")
+        elif tag in CELLS and tag != "caption" and self._open[-1].tag != "tr":
+            self._add("tr", {})
 
     def _read(self, tag: str, attributes: str) -> dict[str, str]:
         """The attributes of a tag, if anything is asked of them."""
-        small = attributes.lower()
-        if tag in WITH_ATTRIBUTES or "style" in small or "hidden" in small:
+        if tag in WITH_ATTRIBUTES:
             return attributes_of(attributes)
-        if self._sheets and ("class" in small or "id" in small):
+        small = attributes.lower()
+        if "style" in small or "hidden" in small or (self._sheets and ("class" in small or "id" in small)):
             return attributes_of(attributes)
         return {}
 
     def _add(self, tag: str, attributes: dict[str, str]) -> None:
         outer = self._open[-1]
-        parent = outer.element
-        element = self._element(tag, attributes)
-        if element is not parent:
-            parent.children.append(element)
+        element = self._element(tag, attributes, outer.element)
+        if element is not outer.element:
+            outer.element.children.append(element)
             self._tell(element)
-        is_empty = tag in VOID or (tag == "form" and outer.tag in ABOVE_CELLS)
-        if not is_empty and (len(self._open) < DEEPEST or outer.tag in ABOVE_CELLS):
+        if tag in VOID or (tag == "form" and outer.tag in ABOVE_CELLS):
+            return
+        if len(self._open) < DEEPEST or outer.tag in ABOVE_CELLS:
             size = font_size(attributes["style"]) if "style" in attributes else None
             self._open.append(Open(tag, element, outer.is_sized if size is None else size == "some"))
 
-    def _element(self, tag: str, attributes: dict[str, str]) -> Element:
+    def _element(self, tag: str, attributes: dict[str, str], outer: Element) -> Element:
         """The element of a tag, of the kind that it is with these attributes, or else the one around it."""
-        outer = self._open[-1].element
-        if isinstance(outer, Unseen) or (attributes and self._is_hidden(tag, attributes)):
+        if (attributes and self._is_hidden(tag, attributes)) or isinstance(outer, Unseen):
             return Unseen(tag, attributes)
         if tag == "a" and "href" in attributes:
             link = Link(attributes)
@@ -201,12 +204,12 @@ class TreeBuilder(Tokens):
 
     def _tell(self, element: Element) -> None:
         """Tells elements around a new one what they have in them."""
-        if isinstance(element, List):
-            element.is_nested = any(isinstance(outer.element, Item) for outer in self._open)
         if isinstance(element, INLINE):
             return
+        if isinstance(element, List):
+            element.is_nested = any(isinstance(outer.element, Item) for outer in self._open)
         for outer in reversed(self._open):
-            if isinstance(outer.element, INLINE):
+            if outer.is_inline:
                 outer.element.has_blocks = True
             elif outer.element.tag == outer.tag:
                 return
