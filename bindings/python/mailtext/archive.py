@@ -118,7 +118,12 @@ class Progress:
             self._shown = time.monotonic()
             full = BAR * self.done // max(self._total, 1)
             bar = "#" * full + "." * (BAR - full)
-            print(f"\r[{bar}] {self.done} of {self._total}, {self._speed():.0f} a second", end="", file=sys.stderr, flush=True)
+            print(
+                f"\r[{bar}] {self.done} of {self._total}, {self._speed():.0f} a second",
+                end="",
+                file=sys.stderr,
+                flush=True,
+            )
 
     def end(self) -> int:
         """Tells what was done, and answers the command's status."""

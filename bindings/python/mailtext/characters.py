@@ -3,9 +3,11 @@
 import codecs
 import re
 
+# Patterns that aren't compiled here are used by few mails: compiling them takes longer than showing some.
+
 # What a terminal obeys, but for tabs and newlines; halves of characters, which no file has. Then other ends of lines.
 CONTROLS = re.compile("[\x00-\x08\x0e-\x1f\x7f-\x9f\ud800-\udfff]")
-ENDS = re.compile("\r\n?|\x0b|\x0c")
+ENDS = ("\r\n", "\r", "\x0b", "\x0c")
 
 # What senders call by another name than Python does, as browsers read it.
 NAMES = {
@@ -32,14 +34,16 @@ NAMES = {
 # Encodings of Python's that no mail is in.
 NOT_OF_MAIL = frozenset("idna punycode unicode-escape raw-unicode-escape undefined mbcs oem".split())
 MARKS = {codecs.BOM_UTF8: "utf-8-sig", codecs.BOM_UTF16_LE: "utf-16", codecs.BOM_UTF16_BE: "utf-16"}
-DECLARATION = re.compile(rb"""<(?:meta\s[^>]{0,300}?charset\s*=\s*["']?|\?xml\s[^>]{0,80}?encoding\s*=\s*["'])([\w.:-]+)""", re.I)
+DECLARATION = rb"""(?i)<(?:meta\s[^>]{0,300}?charset\s*=\s*["']?|\?xml\s[^>]{0,80}?encoding\s*=\s*["'])([\w.:-]+)"""
 # Where a document may say in which charset it is.
 BEGINNING = 4096
 
 
 def clean(text: str) -> str:
     """A text without control characters but tabs and newlines, which end its lines."""
-    return CONTROLS.sub("", ENDS.sub("\n", text))
+    for end in ENDS:
+        text = text.replace(end, "\n")
+    return CONTROLS.sub("", text)
 
 
 def one_line(text: str) -> str:
@@ -75,7 +79,8 @@ def known(charset: str | None) -> str | None:
 
 def declared(html: bytes) -> str | None:
     """The charset that an HTML document names at its beginning. None that has no ASCII can be named there."""
-    found = DECLARATION.search(html, 0, BEGINNING)
+    begin = html[:BEGINNING].lower()
+    found = re.search(DECLARATION, begin) if b"charset" in begin or b"encoding" in begin else None
     name = found[1].decode().lower() if found else ""
     return "utf-8" if name.startswith("utf-16") else name or None
 

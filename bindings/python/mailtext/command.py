@@ -50,7 +50,9 @@ def parser() -> argparse.ArgumentParser:
     made.add_argument("--headers", action=argparse.BooleanOptionalAction, help="all headers of a mail, or none")
     made.add_argument("--version", action="version", version=f"mailtext {__version__}")
     archive = made.add_argument_group("archives")
-    archive.add_argument("--archive", nargs=2, metavar=("MAILBOX", "OUT"), help="each mail of an mbox or a maildir as a text")
+    archive.add_argument(
+        "--archive", nargs=2, metavar=("MAILBOX", "OUT"), help="each mail of an mbox or a maildir as a text"
+    )
     archive.add_argument("--workers", type=workers, metavar="N", help="how many processes read mails (one a core)")
     archive.add_argument("--cluster", metavar="ADDRESS", help="the scheduler of Dask whose workers read them")
     return made

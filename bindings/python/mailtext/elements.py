@@ -254,7 +254,10 @@ class Image(Element):
 
     def is_too_small(self) -> bool:
         """Whether it isn't there to be seen."""
-        sides = (whole(self.attributes.get(name, "").removesuffix("px"), LEAST_PIXELS, 0, 9999) for name in ("width", "height"))
+        sides = (
+            whole(self.attributes.get(name, "").removesuffix("px"), LEAST_PIXELS, 0, 9999)
+            for name in ("width", "height")
+        )
         return all(side < LEAST_PIXELS for side in sides)
 
     def is_blank(self) -> bool:

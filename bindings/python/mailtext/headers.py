@@ -1,7 +1,7 @@
 """The headers of a mail or of a part of it.
 
-Python's `email` is asked for parameters that are in pieces or in charsets of their own. It isn't for the rest: loading it
-takes longer than showing most mails, and it doesn't join a character that is in two encoded words.
+Python's `email` is asked for parameters that are in pieces or in charsets of their own. It isn't for the rest: loading
+it takes longer than showing most mails, and it doesn't join a character that is in two encoded words.
 """
 
 from __future__ import annotations
@@ -17,10 +17,10 @@ MOST_PARAMETERS = 2000
 NAME = re.compile(r"([!-9;-~]+)[ \t]*:")
 # A parameter that needs no decoding.
 PARAMETER = re.compile(r""";\s*([^\s=;*"]+)\s*=\s*(?:"((?:[^"\\]|\\.)*)"|([^\s;"]*))""")
-WORD = re.compile(r"=\?([^?\s]+)\?([bBqQ])\?([^?]*)\?=")
-ENCODED = re.compile(r"(?:=\?[^?\s]+\?[bBqQ]\?[^?]*\?=)+")
+WORD = r"=\?([^?\s]+)\?([bBqQ])\?([^?]*)\?="
+ENCODED = r"(?:=\?[^?\s]+\?[bBqQ]\?[^?]*\?=)+"
 # White space between encoded words isn't shown.
-BETWEEN = re.compile(r"(\?=)\s+(?==\?)")
+BETWEEN = r"(\?=)\s+(?==\?)"
 
 
 class Headers:
@@ -63,17 +63,22 @@ def words(value: str) -> str:
     """A header as people read it, in one line: with its encoded words decoded, whatever they are in."""
     if "=?" not in value:
         return one_line(value)
-    joined = BETWEEN.sub(r"\1", value)
-    return one_line(ENCODED.sub(run_of_words, joined))
+    joined = re.sub(BETWEEN, r"\1", value)
+    return one_line(re.sub(ENCODED, run_of_words, joined))
 
 
 def run_of_words(found: re.Match[str]) -> str:
     """Encoded words that follow one another. A character may be in two of them."""
     shown = ""
-    for charset, run in groupby(WORD.findall(found[0]), lambda word: word[0].partition("*")[0].lower()):
+    for charset, run in groupby(re.findall(WORD, found[0]), charset_of):
         data = b"".join(word_data(kind, encoded) for _, kind, encoded in run)
         shown += data.decode(known(charset) or "utf-8", "replace")
     return shown
+
+
+def charset_of(word: tuple[str, str, str]) -> str:
+    """The charset of an encoded word, without the language that may come after it."""
+    return word[0].partition("*")[0].lower()
 
 
 def word_data(kind: str, encoded: str) -> bytes:

@@ -7,8 +7,8 @@ from .elements import Link
 from .options import Options
 
 # What no address has as it is, but for what browsers take out of it.
-ODD = re.compile("[\x00-\x20\x7f-\xa0\u2028\u2029\ud800-\udfff]+")
-TAKEN_OUT = re.compile("[\t\n\r]+")
+ODD = "[\x00-\x20\x7f-\xa0\u2028\u2029\ud800-\udfff]+"
+TAKEN_OUT = ("\t", "\n", "\r")
 PICTURES = (".png", ".jpg", ".jpeg", ".gif", ".webp", ".svg", ".bmp", ".avif")
 LONGEST_NAME = 60
 
@@ -61,7 +61,10 @@ class Targets:
 
 def shown(address: str) -> str:
     """An address as a browser shows it: without white space, and with other odd characters as escapes."""
-    return ODD.sub(escaped, TAKEN_OUT.sub("", address).strip("\x00 "))
+    for odd in TAKEN_OUT:
+        address = address.replace(odd, "")
+    address = address.strip("\x00 ")
+    return address if address.isprintable() and " " not in address else re.sub(ODD, escaped, address)
 
 
 def escaped(found: re.Match[str]) -> str:

@@ -68,7 +68,11 @@ def mails_of_maildir(path: str) -> Iterator[Mail]:
     if not any(map(os.path.isdir, folders)):
         raise NoMailbox(f"{path} is no maildir, since it has neither cur nor new")
     found = sorted(
-        (file.name, file.path) for folder in folders if os.path.isdir(folder) for file in os.scandir(folder) if file.is_file()
+        (file.name, file.path)
+        for folder in folders
+        if os.path.isdir(folder)
+        for file in os.scandir(folder)
+        if file.is_file()
     )
     taken: dict[str, int] = {}
     for name, file in found:

@@ -6,9 +6,9 @@ from functools import lru_cache
 # What a mail has more of is beyond what anybody wrote.
 MOST_RULES = 2000
 # A brace, or what begins a rule that has rules inside.
-BRACE = re.compile(r"(@[^{};]*\{|[{}])")
-SELECTOR = re.compile(r"([a-zA-Z][a-zA-Z0-9]*)?([.#][\w-]+)")
-ZERO = re.compile(r"(?:0*\.?0+)(?:px|pt|em|rem|%|in|cm|mm)?")
+BRACE = r"(@[^{};]*\{|[{}])"
+SELECTOR = r"([a-zA-Z][a-zA-Z0-9]*)?([.#][\w-]+)"
+UNITS = ("px", "pt", "em", "rem", "%", "in", "cm", "mm")
 
 
 @lru_cache(1024)
@@ -20,7 +20,8 @@ def properties(style: str) -> dict[str, str]:
 
 def is_zero(length: str) -> bool:
     """Whether a length is none."""
-    return bool(ZERO.fullmatch(length))
+    number = next((length.removesuffix(unit) for unit in UNITS if length.endswith(unit)), length)
+    return "0" in number and not number.strip("0.")
 
 
 @lru_cache(1024)
@@ -56,7 +57,7 @@ class StyleSheets:
         for rule in outside_media(without_comments(sheet)).split("}")[:MOST_RULES]:
             selectors, _, body = rule.partition("{")
             if "display" in body.lower() and properties(body).get("display") == "none":
-                found = map(SELECTOR.fullmatch, map(str.strip, selectors.split(",")))
+                found = map(re.compile(SELECTOR).fullmatch, map(str.strip, selectors.split(",")))
                 self._hiding.update(((it[1] or "").lower(), it[2]) for it in found if it)
 
     def hide(self, tag: str, attributes: dict[str, str]) -> bool:
@@ -77,7 +78,7 @@ def outside_media(sheet: str) -> str:
     """A sheet without what is inside of rules as `@media`."""
     kept: list[str] = []
     depth = 0
-    for part in BRACE.split(sheet):
+    for part in re.split(BRACE, sheet):
         if depth:
             depth += part.endswith("{") - (part == "}")
         elif part.startswith("@") and part.endswith("{"):

@@ -6,17 +6,17 @@ from html import unescape
 from .characters import clean
 
 # A tag whose quotes have neither `<` nor `>`, as nearly all.
-USUAL = re.compile(r'''<(/?[a-zA-Z][^\s/<>"']*)([^<>"']*(?:"[^"<>]*"[^<>"']*){0,40})>''')
+USUAL = re.compile(r"""<(/?[a-zA-Z][^\s/<>"']*)([^<>"']*(?:"[^"<>]*"[^<>"']*){0,40})>""")
 # The name of a tag, or what else may follow a `<`.
-NAME = re.compile(r"/?[a-zA-Z][^\s/>]*|!--|[!?]|/[^>]")
+NAME = r"/?[a-zA-Z][^\s/>]*|!--|[!?]|/[^>]"
 ATTRIBUTE = re.compile(r"""([^\s/>=][^\s/>=]*)(?:\s*=\s*("[^"]*"|'[^']*'|[^\s>]*))?""")
-BETWEEN = re.compile(r"[\s/]*")
+BETWEEN = r"[\s/]*"
 # Of more tags than people write only the text around them is read, of longer attributes only the beginning.
 MOST_TAGS = 500_000
 MOST_ATTRIBUTES = 1 << 16
-TAG = re.compile("<[^<>]*>")
+TAG = "<[^<>]*>"
 # More digits than a reference to a character has.
-LONG_REFERENCE = re.compile("&#[0-9]{9,};?")
+LONG_REFERENCE = "&#[0-9]{9,};?"
 
 # Elements whose content is no HTML.
 RAW = frozenset("script style title textarea xmp iframe noembed noframes".split())
@@ -54,13 +54,13 @@ class Tokens:
                 self._tag(found[1].lower(), found[2])
             elif self._find(">", begin) >= 0:
                 self._at = begin + 1
-                self._markup(NAME.match(html, self._at))
+                self._markup()
             else:
                 self._at = begin
                 break
         if self._at < len(html):
             rest = html[self._at :]
-            self._text(TAG.sub(" ", rest) if self._tags == MOST_TAGS else rest)
+            self._text(re.sub(TAG, " ", rest) if self._tags == MOST_TAGS else rest)
 
     def _tag(self, name: str, attributes: str) -> None:
         """Takes a tag."""
@@ -72,8 +72,9 @@ class Tokens:
         if name in RAW:
             self._raw(name)
 
-    def _markup(self, found: re.Match[str] | None) -> None:
+    def _markup(self) -> None:
         """Reads what follows a `<`, other than a usual tag."""
+        found = re.compile(NAME).match(self._html, self._at)
         if found is None:
             self.text("<")
             return
@@ -112,7 +113,7 @@ class Tokens:
 
     def _after_space(self, begin: int) -> int:
         """Where the white space and the slashes end that begin there."""
-        found = BETWEEN.match(self._html, begin)
+        found = re.compile(BETWEEN).match(self._html, begin)
         return found.end() if found else begin
 
     def _raw(self, name: str) -> None:
@@ -157,4 +158,4 @@ def unescaped(text: str) -> str:
     try:
         return clean(unescape(text))
     except ValueError:
-        return clean(unescape(LONG_REFERENCE.sub("\ufffd", text)))
+        return clean(unescape(re.sub(LONG_REFERENCE, "\ufffd", text)))

@@ -22,7 +22,9 @@ class Cluster(unittest.TestCase):
         self.addCleanup(folder.cleanup)
         self.folder = Path(folder.name)
         body = b"<p>bread and " + b"<b>cake</b> " * 400
-        parts = (b"From a@b\nSubject: %d\nContent-Type: text/html\n\n%s%d</p>\n\n" % (it, body, it) for it in range(MAILS))
+        parts = (
+            b"From a@b\nSubject: %d\nContent-Type: text/html\n\n%s%d</p>\n\n" % (it, body, it) for it in range(MAILS)
+        )
         (self.folder / "mbox").write_bytes(b"".join(parts))
         self.address = self.scheduler()
 
@@ -30,7 +32,9 @@ class Cluster(unittest.TestCase):
         """A process that is ended after the test."""
         environment = {**os.environ, "PYTHONPATH": str(PYTHON)}
         where = {"cwd": self.folder, "env": environment}
-        process = subprocess.Popen([sys.executable, *words], stderr=subprocess.PIPE, stdout=subprocess.DEVNULL, text=True, **where)
+        process = subprocess.Popen(
+            [sys.executable, *words], stderr=subprocess.PIPE, stdout=subprocess.DEVNULL, text=True, **where
+        )
         self.addCleanup(process.wait)
         self.addCleanup(process.kill)
         assert process.stderr

@@ -15,7 +15,12 @@ def run(*words: str, data: bytes = b"") -> tuple[int, str, str]:
     """How the command ends, and what it writes."""
     environment = {**os.environ, "PYTHONPATH": str(PYTHON)}
     ran = subprocess.run(
-        [sys.executable, "-m", "mailtext", *words], input=data, capture_output=True, env=environment, check=False, timeout=60
+        [sys.executable, "-m", "mailtext", *words],
+        input=data,
+        capture_output=True,
+        env=environment,
+        check=False,
+        timeout=60,
     )
     return ran.returncode, ran.stdout.decode(), ran.stderr.decode()
 
@@ -44,7 +49,9 @@ class Command(unittest.TestCase):
         self.assertEqual(run("--html", "--charset", "iso-8859-5", data=b"\xb1"), (0, "Б\n", ""))
 
     def test_headers(self) -> None:
-        self.assertTrue(run("--headers", data=MAIL)[1].startswith("From: a\nSubject: b\nX-Odd: c\nContent-Type: text/html;"))
+        self.assertTrue(
+            run("--headers", data=MAIL)[1].startswith("From: a\nSubject: b\nX-Odd: c\nContent-Type: text/html;")
+        )
         self.assertEqual(run("--no-headers", data=MAIL)[1], "café\n")
 
     def test_what_is_written(self) -> None:
@@ -59,7 +66,9 @@ class Command(unittest.TestCase):
         os.chmod(locked, 0)
         missing = str(self.folder / "missing\x1b[1m")
         self.assertEqual(run(missing), (3, "", f"mailtext: {self.folder}/missing\\x1b[1m isn't there\n"))
-        self.assertEqual(run(str(self.folder))[0::2], (3, f"mailtext: {self.folder} is a folder; --archive reads one of mails\n"))
+        self.assertEqual(
+            run(str(self.folder))[0::2], (3, f"mailtext: {self.folder} is a folder; --archive reads one of mails\n")
+        )
         if os.geteuid():
             self.assertEqual(run(locked), (3, "", f"mailtext: {locked} may not be read: permission is denied\n"))
         status, shown, _ = run(missing, self.file("a", b"<p>d"))
@@ -111,7 +120,9 @@ class Archive(unittest.TestCase):
         return status, said
 
     def test_a_maildir(self) -> None:
-        mailbox = maildir(self.folder, {"cur/1.a:2,S": b"Subject: a\n\none", "new/2.a": b"Subject: b\n\ntwo", "tmp/3": b"x"})
+        mailbox = maildir(
+            self.folder, {"cur/1.a:2,S": b"Subject: a\n\none", "new/2.a": b"Subject: b\n\ntwo", "tmp/3": b"x"}
+        )
         status, said = self.archive(mailbox, "--workers", "2")
         self.assertEqual(status, 0)
         self.assertEqual(self.texts(), {"1.a.txt": "one\n", "2.a.txt": "two\n"})
@@ -172,7 +183,9 @@ class Archive(unittest.TestCase):
         other.write_bytes(b"Subject: a")
         self.assertEqual(self.archive(str(other))[0], 3)
         self.assertEqual(self.archive(str(self.folder))[0], 3)
-        self.assertEqual(self.archive(str(self.folder / "missing"))[1], f"mailtext: {self.folder}/missing isn't there\n")
+        self.assertEqual(
+            self.archive(str(self.folder / "missing"))[1], f"mailtext: {self.folder}/missing isn't there\n"
+        )
 
 
 def deadly(batch: list[tuple[str, bytes]], options: object) -> object:

@@ -43,7 +43,13 @@ class Tables(unittest.TestCase):
         self.assertFalse(self.has_lines(self.table("width=9", f"<tr>{cell.replace('1px', '0')}{cell}</tr>")))
 
     def test_a_table_is_layout_where_a_browser_draws_nothing(self) -> None:
-        for said in ("border=0", "cellpadding=0 cellspacing=0", "width='100%'", "role=presentation border=1", "class=row"):
+        for said in (
+            "border=0",
+            "cellpadding=0 cellspacing=0",
+            "width='100%'",
+            "role=presentation border=1",
+            "class=row",
+        ):
             self.assertEqual(lines(self.table(said)), ["tea", "milk"], said)
         heads = "<tr><th class=columns><p>tea</p></th><th class=expander></th></tr>"
         self.assertEqual(lines(self.table("class=row", heads)), ["tea"])
@@ -74,7 +80,9 @@ class Links(unittest.TestCase):
         self.assertEqual(shown, "[logo new.png][1]\n\n[1]: https://example.org/a?b=c\n")
         shown = html_text('<a href="https://example.org/a?b=c"><img src="https://example.org/i/9f3"></a>')
         self.assertEqual(shown, "[https://example.org/a][1]\n\n[1]: https://example.org/a?b=c\n")
-        self.assertEqual(html_text('<a href="x"><img src="logo.png" alt="The Mill"></a>'), "[[The Mill]][1]\n\n[1]: x\n")
+        self.assertEqual(
+            html_text('<a href="x"><img src="logo.png" alt="The Mill"></a>'), "[[The Mill]][1]\n\n[1]: x\n"
+        )
         self.assertEqual(html_text('<p>a<a href="x"><img src="pixel.gif" width="1" height="1"></a>'), "a\n")
         self.assertEqual(html_text('<p>a<img src="logo.png">'), "a\n")
 
@@ -98,7 +106,9 @@ class Elements(unittest.TestCase):
         self.assertEqual(lines("a<b> </b>b"), ["a b"])
 
     def test_ansi(self) -> None:
-        shown = html_text("<b>b</b> <i>c</i> <a href='https://e.org'>d</a> <a href='javascript:1'>e</a>", format="ansi", links="none")
+        shown = html_text(
+            "<b>b</b> <i>c</i> <a href='https://e.org'>d</a> <a href='javascript:1'>e</a>", format="ansi", links="none"
+        )
         link = "\x1b]8;;https://e.org\x1b\\d\x1b]8;;\x1b\\"
         self.assertEqual(shown, f"\x1b[1mb\x1b[0m \x1b[3mc\x1b[0m {link} e\n")
 
@@ -121,7 +131,9 @@ class Elements(unittest.TestCase):
         self.assertEqual(lines("a<br>b<wbr>c"), ["a", "bc"])
 
     def test_no_line_ends_in_a_space(self) -> None:
-        shown = html_text("<blockquote>a<p>b</blockquote><table border=1><tr><td>abc</td><td>d<br>efg</td></table><pre>a  \n b </pre>")
+        shown = html_text(
+            "<blockquote>a<p>b</blockquote><table border=1><tr><td>abc</td><td>d<br>efg</td></table><pre>a  \n b </pre>"
+        )
         self.assertEqual([line for line in shown.split("\n") if line.endswith(" ")], [])
 
 
@@ -144,7 +156,13 @@ class Hidden(unittest.TestCase):
     def test_what_they_show(self) -> None:
         html = "<div style='font-size:0'><span style='font-size:14px'>a</span> b</div>"
         self.assertEqual(lines(html), ["a"])
-        for style in ("display:block", "max-height:0.5em;overflow:hidden", "height:0", "opacity:0.5", "font-size:0.9em"):
+        for style in (
+            "display:block",
+            "max-height:0.5em;overflow:hidden",
+            "height:0",
+            "opacity:0.5",
+            "font-size:0.9em",
+        ):
             self.assertEqual(lines(f"<div style='{style}'>a</div>"), ["a"], style)
 
     def test_style_sheets(self) -> None:

@@ -44,7 +44,9 @@ class Headers(unittest.TestCase):
         self.assertEqual(headers("From: <<>,;:a", "no header", "Subject: b")[-1], "Subject: b")
 
     def test_control_characters_are_left_out(self) -> None:
-        self.assertEqual(headers(b"Subject: a\x1b]0;b\x07\x9b1m"), ["Subject: a]0;b\N{SINGLE RIGHT-POINTING ANGLE QUOTATION MARK}1m"])
+        self.assertEqual(
+            headers(b"Subject: a\x1b]0;b\x07\x9b1m"), ["Subject: a]0;b\N{SINGLE RIGHT-POINTING ANGLE QUOTATION MARK}1m"]
+        )
         self.assertEqual(headers("Subject: =?utf-8?q?a=1B[1m=0Ab?="), ["Subject: a[1m b"])
 
     def test_long_ones_are_wrapped(self) -> None:
@@ -67,7 +69,10 @@ class Parts(unittest.TestCase):
     def test_mixed_parts_in_order(self) -> None:
         one, two = "Content-Type: text/plain\n\none", "\ntwo"
         file = "Content-Type: application/pdf; name=a.pdf\nContent-Disposition: attachment\n\n12345"
-        self.assertEqual(self.parts("mixed", one, file, two), ["one", "", "two", "", "[attached: a.pdf, application/pdf, 5", "bytes]"])
+        self.assertEqual(
+            self.parts("mixed", one, file, two),
+            ["one", "", "two", "", "[attached: a.pdf, application/pdf, 5", "bytes]"],
+        )
 
     def test_names_of_attachments(self) -> None:
         for told, name in (
@@ -144,7 +149,9 @@ class Plain(unittest.TestCase):
         self.assertEqual(shown("word " * 5, width=12), ["word word", "word word", "word"])
 
     def test_quotes_by_their_depth(self) -> None:
-        self.assertEqual(shown("a\n> b\n>> c\n> > d\n>e\nf"), ["a", "", "> b", ">", "> > c", "> > d", ">", "> e", "", "f"])
+        self.assertEqual(
+            shown("a\n> b\n>> c\n> > d\n>e\nf"), ["a", "", "> b", ">", "> > c", "> > d", ">", "> e", "", "f"]
+        )
         self.assertEqual(shown("> " + "word " * 3, width=8), ["> word", "> word", "> word"])
         self.assertEqual(shown("a > b"), ["a > b"])
 
