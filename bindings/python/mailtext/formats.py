@@ -12,6 +12,8 @@ from .page import Page
 
 # Where links may lead, as blockview has them; others are shown by their text alone.
 SCHEMES = frozenset(("http", "https", "mailto", "ftp"))
+# Terminals follow none that is longer, and each line of a link has its target.
+MOST_TARGET = 2000
 SELECTIONS = {Kind.EMPHASIS: 3, Kind.STRONG: 1, Kind.STRIKEOUT: 9, Kind.CODE: 36, Kind.IMAGE: 2}
 ELEMENTS = {Kind.EMPHASIS: "em", Kind.STRONG: "strong", Kind.STRIKEOUT: "s", Kind.CODE: "code"}
 
@@ -72,7 +74,8 @@ def target_of(annotations: tuple[Annotation, ...]) -> str:
     """Where a piece leads, if it may lead there."""
     target = next((it.target for it in annotations if it.kind is Kind.LINK), None) or ""
     scheme, colon, _ = target.partition(":")
-    return CONTROLS.sub("", target) if not colon or scheme.lower() in SCHEMES else ""
+    may_lead = (not colon or scheme.lower() in SCHEMES) and len(target) <= MOST_TARGET
+    return CONTROLS.sub("", target) if may_lead else ""
 
 
 def document(body: str) -> str:

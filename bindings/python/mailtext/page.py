@@ -23,6 +23,7 @@ class Page:
         self._texts: list[str] = []
         self._mark = ""
         self._modes = 0
+        self._begun: dict[str, int] = {}
 
     def __enter__(self) -> "Page":
         return self
@@ -65,16 +66,23 @@ class Page:
         self._renderer.pop_ws()
 
     def begin(self, kind: str, mark: str) -> None:
-        """Begins a stretch of text of a kind, which has a mark at its ends where the format has no other means."""
+        """Begins a stretch of text of a kind, which has a mark at its ends where the format has no other means.
+
+        One inside of another of the same kind changes nothing.
+        """
         if self._has_marks and kind != "strikeout":
             self._mark += mark
-        else:
+            return
+        self._begun[kind] = self._begun.get(kind, 0) + 1
+        if self._begun[kind] == 1:
             self._call(f"start_{kind}")
 
     def end(self, kind: str, mark: str) -> None:
         """Ends a stretch of text that was begun so. Its mark goes after its last word."""
         if not self._has_marks or kind == "strikeout":
-            self._call(f"end_{kind}")
+            self._begun[kind] -= 1
+            if not self._begun[kind]:
+                self._call(f"end_{kind}")
         elif mark and self._mark.endswith(mark):
             self._mark = self._mark.removesuffix(mark)
         elif mark:

@@ -58,10 +58,10 @@ def footnotes(notes: list[tuple[int, str]], options: Options) -> str:
         page.begin_preformatted()
         for number, target in notes:
             page.add_text(f"[{number}]: ")
-            page.begin_link(target, "")
-            page.add_text(target)
+            is_link = len(target) < options.width
+            page.begin_link(target if is_link else "", "")
+            page.add_text(f"{target}\n")
             page.end_link("")
-            page.add_text("\n")
         page.end_preformatted()
 
     return "\n" + drawn(draw, options)
