@@ -34,7 +34,8 @@ def sections(mail: Part, options: Options) -> Iterator[str]:
     yield headers(mail.headers, options)
     attached: list[Part] = []
     yield from shown(mail, options, attached)
-    yield drawn(lambda page: draw_attached(page, attached), options)
+    if attached:
+        yield drawn(lambda page: draw_attached(page, attached), options)
 
 
 def headers(found: Headers, options: Options) -> str:

@@ -7,6 +7,8 @@ import tempfile
 import unittest
 from pathlib import Path
 
+import text_block_renderer
+
 PYTHON = Path(__file__).resolve().parent.parent
 MAIL = b"From: a\nSubject: b\nX-Odd: c\nContent-Type: text/html; charset=utf-8\n\n<p>caf\xc3\xa9"
 
@@ -85,7 +87,7 @@ class Command(unittest.TestCase):
             status, shown, said = run(*words)
             self.assertEqual((status, shown), (2, ""))
             self.assertIn("mailtext: error: ", said)
-        self.assertEqual(run("--version")[0], 0)
+        self.assertEqual(run("--version"), (0, f"mailtext {text_block_renderer.__version__}\n", ""))
 
     def test_a_stream_that_is_full(self) -> None:
         with open("/dev/full", "wb") as full:
