@@ -3,6 +3,7 @@
 The folder that it fills has the form of a prefix: bin, include, lib and share. The same sources give the same bytes in
 any folder.
 """
+import compileall
 import os
 import re
 import shutil
@@ -62,6 +63,13 @@ def lay_out(prefix, built):
     describe(prefix, "lib", built.suffix)
     manuals.lay_out(prefix / "share", prefix / "bin" / "blockview", version() + built.suffix)
     link(built.objects, built.suffix, prefix / "lib")
+    compile_python()
+
+
+def compile_python():
+    """Compiles the packages for Python where they are, so that they start sooner even if Python keeps no bytecode."""
+    for name in (NAME, "mailtext"):
+        compileall.compile_dir(Path(kit.TOP, "bindings", "python", name), quiet=2)
 
 
 def link(objects, suffix, lib):

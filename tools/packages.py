@@ -25,9 +25,16 @@ PAGES += [f"crates/{crate}/README.md" for crate in ("blockview", "tbr_view", "tb
 OTHERS = ["LICENSE", "examples", "bindings", "install", "uninstall"]
 LINK = re.compile(r"(!?)\[([^\]]*)\]\(([^)#\s]*)(#[^)\s]*)?\)")
 PYTHON = Path(kit.TOP, "bindings", "python")
+PYTHON_PACKAGES = [library.NAME, "mailtext"]
 RUST = Path(kit.TOP, "bindings", "rust")
 MULTIARCH = "lib/x86_64-linux-gnu"
 PACKAGE = "text-block-renderer"
+MAILTEXT = "#!/usr/bin/python3 -I\nfrom mailtext.command import main\n\nmain()\n"
+# What Debian compiles when the package comes, and takes away when it goes.
+SCRIPTS = {
+    "postinst": "if [ \"$1\" = configure ] && command -v py3compile >/dev/null; then py3compile -p %s; fi",
+    "prerm": "if command -v py3clean >/dev/null; then py3clean -p %s; fi",
+}
 # There is no address, and Debian asks for one.
 MAINTAINER = "The founders of text_block_renderer <founders@text-block-renderer.invalid>"
 
@@ -99,9 +106,10 @@ def wheel(release, tree, room):
     code = (tree / "lib" / f"lib{library.NAME}.so").read_bytes()
     tag = f"py3-none-manylinux_{'_'.join(map(str, glibc(code)))}_x86_64"
     info = f"{library.NAME}-{release.version}.dist-info"
-    files = {str(it.relative_to(PYTHON)): it.read_bytes() for it in sorted((PYTHON / library.NAME).iterdir()) if it.is_file()}
+    files = {str(it.relative_to(PYTHON)): it.read_bytes() for it in python_files()}
     files[f"{library.NAME}/lib{library.NAME}.so"] = code
     files[f"{info}/licenses/LICENSE"] = Path(kit.TOP, "LICENSE").read_bytes()
+    files[f"{info}/entry_points.txt"] = entry_points(project).encode()
     files[f"{info}/METADATA"] = metadata(release, project).encode()
     files[f"{info}/WHEEL"] = f"Wheel-Version: 1.0\nGenerator: {library.NAME}\nRoot-Is-Purelib: false\nTag: {tag}\n".encode()
     rows = [f"{name},sha256={digest(data)},{len(data)}" for name, data in files.items()]
@@ -113,6 +121,17 @@ def wheel(release, tree, room):
             entry.external_attr = 0o644 << 16
             zipped.writestr(entry, data, zipfile.ZIP_DEFLATED)
     return made
+
+
+def python_files():
+    """The files of the packages for Python."""
+    folders = [PYTHON / name for name in PYTHON_PACKAGES]
+    return [it for folder in folders for it in sorted(folder.iterdir()) if it.suffix in (".py", ".typed")]
+
+
+def entry_points(project):
+    """What pip makes commands of."""
+    return "".join(["[console_scripts]\n", *(f"{name} = {called}\n" for name, called in project["scripts"].items())])
 
 
 def glibc(code):
@@ -150,7 +169,7 @@ def crate(release, tree, room):
 
 
 def debian(release, tree, room):
-    """A Debian package with the programs, the library and the header."""
+    """A Debian package with the programs, the library, the header, and the packages for Python."""
     top = room / "top"
     usr = top / "usr"
     shutil.copytree(tree, usr, symlinks=True, ignore=shutil.ignore_patterns("pkgconfig", "cmake"))
@@ -160,17 +179,28 @@ def debian(release, tree, room):
     (usr / "multiarch").rename(usr / MULTIARCH)
     library.describe(usr, MULTIARCH, release.version.removeprefix(library.version()))
     (usr / "share" / "zsh" / "site-functions").rename(usr / "share" / "zsh" / "vendor-completions")
+    python_packages(usr)
     documents(release, usr / "share" / "doc" / PACKAGE)
     for page in sorted((usr / "share" / "man").rglob("*.1")):
         zip_file(page)
     control(release, top)
     for path in [top, *top.rglob("*")]:
         if not path.is_symlink():
-            path.chmod(0o755 if path.is_dir() or path.parent == usr / "bin" else 0o644)
+            runs = path.is_dir() or path.parent == usr / "bin" or path.name in SCRIPTS
+            path.chmod(0o755 if runs else 0o644)
     made = room / f"{PACKAGE}_{release.version}_amd64.deb"
     words = ["dpkg-deb", "--root-owner-group", "--uniform-compression", "-Zxz", "--build", top, made]
     library.run(words, env={**os.environ, "SOURCE_DATE_EPOCH": str(release.seconds)})
     return made
+
+
+def python_packages(usr):
+    """The packages for Python where Debian has them, and the command."""
+    for file in python_files():
+        folder = usr / "lib" / "python3" / "dist-packages" / file.parent.name
+        folder.mkdir(parents=True, exist_ok=True)
+        shutil.copy(file, folder)
+    (usr / "bin" / "mailtext").write_text(MAILTEXT, encoding="ascii")
 
 
 def documents(release, folder):
@@ -198,7 +228,7 @@ def control(release, top):
     """What dpkg reads of a package."""
     folder = top / "DEBIAN"
     size = sum(it.stat().st_size for it in top.rglob("*") if it.is_file() and not it.is_symlink()) // 1024
-    code = [*(top / "usr" / "bin").iterdir(), top / "usr" / MULTIARCH / f"lib{library.NAME}.so"]
+    code = [*(top / "usr" / "bin" / name for name in library.PROGRAMS), top / "usr" / MULTIARCH / f"lib{library.NAME}.so"]
     libc = ".".join(map(str, max(glibc(it.read_bytes()) for it in code)))
     fields = {
         "Package": PACKAGE,
@@ -206,16 +236,24 @@ def control(release, top):
         "Architecture": "amd64",
         "Maintainer": MAINTAINER,
         "Installed-Size": size,
-        "Depends": f"libc6 (>= {libc})",
+        "Depends": f"libc6 (>= {libc}), python3 (>= 3.10)",
         "Section": "text",
         "Priority": "optional",
         "Description": "text, tables and links as lines of a width, by a proved renderer\n"
         " The programs blockrender and blockview lay out text, quotes, lists, links\n"
         " and tables in lines of a width. The library does the same for programs in C,\n"
-        " call by call. PROVED.md says what is proved of them.",
+        " call by call. PROVED.md says what is proved of them. The command mailtext shows\n"
+        " mails by it.",
     }
     folder.mkdir()
     (folder / "control").write_text("".join(f"{name}: {value}\n" for name, value in fields.items()), encoding="utf-8")
+    scripts(folder)
+
+
+def scripts(folder):
+    """What dpkg does when the package comes and goes."""
     (folder / "triggers").write_text("activate-noawait ldconfig\n", encoding="ascii")
+    for name, script in SCRIPTS.items():
+        (folder / name).write_text(f"#!/bin/sh\nset -e\n{script % PACKAGE}\n", encoding="ascii")
     of_calls = library.version().split(".")[0]
     (folder / "shlibs").write_text(f"lib{library.NAME} {of_calls} {PACKAGE} (>= {library.version()})\n", encoding="ascii")

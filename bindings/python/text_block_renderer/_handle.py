@@ -6,10 +6,11 @@ from threading import RLock
 from typing import Any, TypeVar
 
 from ._arguments import utf8
-from ._library import LIBRARY, Options
+from ._library import CALLS, LIBRARY, Options
 from .errors import BufferTooSmallError, check
 
 _Answer = TypeVar("_Answer", bound=Structure)
+_FUNCTIONS: dict[str, Callable[..., int]] = {name: getattr(LIBRARY, f"tbr_{name}") for name in CALLS}
 
 
 class OwnedRenderer:
@@ -33,6 +34,11 @@ class OwnedRenderer:
     def call(self, name: str, *arguments: Any) -> None:
         """Makes a call with the renderer."""
         check(self._status(name, *arguments))
+
+    def with_text(self, call: str, text: str) -> None:
+        """Makes a call with a text, as its bytes and their number."""
+        encoded = utf8(text, "text")
+        check(self._status(call, encoded, len(encoded)))
 
     def with_texts(self, call: str, **texts: str) -> None:
         """Makes a call with texts, each as its bytes and their number."""
@@ -73,6 +79,6 @@ class OwnedRenderer:
         return self._status("refusal")
 
     def _status(self, name: str, *arguments: Any) -> int:
-        function: Callable[..., int] = getattr(LIBRARY, f"tbr_{name}")
+        function = _FUNCTIONS[name]
         with self._lock:
             return function(self._at, *arguments)

@@ -150,7 +150,7 @@ def _why(file: str, error: OSError) -> str:
     """Why a file isn't loaded."""
     if file != FILE:
         return f"{file} isn't loaded: {error}"
-    tried = ", ".join(map(str, folders()))
+    tried = ", ".join(folders())
     return f"{FILE} isn't found: {FOLDER} isn't set, none of {tried} has it, and the system's loader says: {error}"
 
 

@@ -138,5 +138,5 @@ def refusal(status: int) -> RendererError | None:
 
 def check(status: int) -> None:
     """Raises the exception of a status, if it has one."""
-    if refused := refusal(status):
+    if status and (refused := refusal(status)):
         raise refused

@@ -1,8 +1,8 @@
 """The lines that come out of a renderer."""
 
 from collections.abc import Iterator
-from dataclasses import dataclass
 from enum import Enum
+from typing import NamedTuple
 
 from .options import Colour
 
@@ -25,8 +25,7 @@ class Kind(Enum):
     BACKGROUND = 10
 
 
-@dataclass(frozen=True)
-class Annotation:
+class Annotation(NamedTuple):
     """What a stretch is, with the target of a link or the source of an image, or a colour."""
 
     kind: Kind
@@ -34,30 +33,59 @@ class Annotation:
     colour: Colour | None = None
 
 
-@dataclass(frozen=True)
-class TaggedString:
+class TaggedString(NamedTuple):
     """A piece of text, as long as its annotations are the same; the outermost stretch comes first."""
 
     text: str
     annotations: tuple[Annotation, ...]
 
 
-@dataclass(frozen=True)
-class FragmentStart:
+class FragmentStart(NamedTuple):
     """A marker: the place where a fragment of this name begins."""
 
     name: str
 
 
-@dataclass(frozen=True)
-class TaggedLine:
-    """A line: pieces of text, and markers between them. `str` of it is its text."""
-
+class _Line(NamedTuple):
     elements: tuple[TaggedString | FragmentStart, ...]
     width: int
-    """The columns that it takes."""
     is_border: bool
-    """Whether it is a border, which may hold texts of cells that span it."""
+
+
+class TaggedLine:
+    """A line: pieces of text, and markers between them. `str` of it is its text.
+
+    width: the columns that it takes.
+    is_border: whether it is a border, which may hold texts of cells that span it.
+    """
+
+    __slots__ = ("_line",)
+
+    def __init__(self, elements: tuple[TaggedString | FragmentStart, ...], width: int, is_border: bool) -> None:
+        self._line = _Line(elements, width, is_border)
+
+    @property
+    def elements(self) -> tuple[TaggedString | FragmentStart, ...]:
+        return self._line.elements
+
+    @property
+    def width(self) -> int:
+        return self._line.width
+
+    @property
+    def is_border(self) -> bool:
+        return self._line.is_border
+
+    def __eq__(self, other: object) -> bool:
+        if not isinstance(other, TaggedLine):
+            return NotImplemented
+        return self._line == other._line
+
+    def __hash__(self) -> int:
+        return hash(self._line)
+
+    def __repr__(self) -> str:
+        return f"Tagged{self._line!r}".replace("_", "", 1)
 
     def __iter__(self) -> Iterator[TaggedString | FragmentStart]:
         return iter(self.elements)

@@ -1,7 +1,7 @@
 """What a renderer and its calls are told."""
 
-from dataclasses import dataclass
 from enum import Enum
+from typing import NamedTuple
 
 
 class Decorator(Enum):
@@ -66,8 +66,7 @@ class Format(Enum):
     """An object of JSON for each line: columns, whether it is a border, and its pieces and markers."""
 
 
-@dataclass(frozen=True)
-class Colour:
+class Colour(NamedTuple):
     """A colour, by its red, green and blue parts, each from 0 to 255."""
 
     r: int

@@ -172,7 +172,7 @@ class Renderer:
         A text ends no word: two texts without white space between them make one. `NotUtf8Error` where it has a
         surrogate.
         """
-        self._owned.with_texts("add_text_n", text=text)
+        self._owned.with_text("add_text_n", text)
 
     def start_block(self) -> None:
         """Begins a block: ends the open line, and adds an empty one if any line has content."""

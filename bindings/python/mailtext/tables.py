@@ -2,14 +2,16 @@
 
 from bisect import bisect_left
 from collections.abc import Iterable, Iterator
-from dataclasses import dataclass, replace
 from functools import cached_property
 from itertools import accumulate, groupby, pairwise
-from typing import TypeVar
+from typing import NamedTuple, TypeVar
 
-from elements import Block, Division, Element, Unseen
-from ruler import Ruler, Size
-from text_block_renderer import CellAlign, Renderer
+from text_block_renderer import CellAlign
+
+from .elements import Block, Division, Element, Unseen
+from .layouts import is_layout
+from .page import Page
+from .ruler import Ruler, Size
 
 # As many columns and rows as browsers let a cell span.
 MOST_COLUMNS = 1000
@@ -28,7 +30,7 @@ class Cell(Division):
         by_style = next((name for name in ALIGNMENTS if f"text-align:{name}" in style), "")
         return ALIGNMENTS.get(self.attributes.get("align", "").lower() or by_style, CellAlign.LEFT)
 
-    def size(self, page: Renderer) -> Size:
+    def size(self, page: Page) -> Size:
         """The columns that its content takes."""
         if self._size is None:
             ruler = Ruler(page)
@@ -52,8 +54,7 @@ class Caption(Block):
 Part = TypeVar("Part", Row, Caption)
 
 
-@dataclass(frozen=True)
-class Place:
+class Place(NamedTuple):
     """Where a cell is, by its first row and column, and how many of them it spans."""
 
     cell: Cell
@@ -114,7 +115,7 @@ class Grid:
         """Each cell once."""
         return (place for number in range(len(self.rows)) for place in self.row(number) if place.row == number)
 
-    def sizes(self, page: Renderer) -> list[Size]:
+    def sizes(self, page: Page) -> list[Size]:
         """Those of the columns, at least 1 each. What a cell takes beyond the columns it spans is shared by these."""
         sizes = [Size(1, 1)] * len(self.rows[0])
         for place in sorted(self.places(), key=lambda place: place.columns):
@@ -126,8 +127,7 @@ class Grid:
 def moved(place: Place, rows: list[int], columns: list[int]) -> Place:
     """The place where only these rows and columns are left."""
     row, column = bisect_left(rows, place.row), bisect_left(columns, place.column)
-    return replace(
-        place,
+    return place._replace(
         row=row,
         column=column,
         rows=bisect_left(rows, place.row + place.rows) - row,
@@ -163,71 +163,80 @@ def widths(width: int, sizes: list[Size]) -> list[int] | None:
 
 
 class Table(Element):
-    """A table. Where its columns don't fit beside one another, the cells of each row come one below another."""
+    """A table. Where its columns don't fit beside one another, the cells of each row come one below another.
+
+    One that is there for the layout alone has no lines, and each cell is on lines of its own.
+    """
+
+    has_head = False
 
     def parts(self, kind: type[Part]) -> list[Part]:
         """Its rows or captions, in order."""
         return [element for element in within(self) if isinstance(element, kind)]
+
+    def cells(self) -> list[list[Cell]]:
+        """The cells of its rows."""
+        return [row.cells() for row in self.parts(Row)]
 
     @cached_property
     def grid(self) -> Grid:
         """Its cells."""
         return Grid(self.parts(Row))
 
-    def draw(self, page: Renderer) -> None:
+    @cached_property
+    def is_layout(self) -> bool:
+        """Whether it is there for the layout alone."""
+        return not self.parts(Caption) and is_layout(self)
+
+    def draw(self, page: Page) -> None:
         for caption in self.parts(Caption):
             caption.draw(page)
-        if not self.grid.rows:
-            return
-        page.start_table()
-        columns = widths(page.width(), self.grid.sizes(page))
-        if columns:
-            self._draw_beside(page, columns)
-        else:
-            self._draw_below(page)
-        page.end_block()
+        if self.is_layout:
+            self._draw_cells(page)
+        elif self.grid.rows:
+            page.start_table()
+            columns = widths(page.width(), self.grid.sizes(page))
+            if columns:
+                self._draw_beside(page, columns)
+            else:
+                self._draw_below(page)
+            page.end_block()
 
-    def _draw_beside(self, page: Renderer, columns: list[int]) -> None:
+    def _draw_cells(self, page: Page) -> None:
+        for row in self.parts(Row):
+            row.draw(page)
+
+    def _draw_beside(self, page: Page, columns: list[int]) -> None:
         page.add_horizontal_border_width(sum(columns) + len(columns) - 1)
         for number in range(len(self.grid.rows)):
             for place in self.grid.row(number):
                 width = sum(columns[place.column : place.column + place.columns]) + place.columns - 1
                 begins = place.row == number
-                with page.cell(width, place.rows if begins else 1, place.cell.align):
-                    if begins:
-                        place.cell.draw(page)
+                page.start_cell(width, place.rows if begins else 1, place.cell.align)
+                if begins:
+                    place.cell.draw(page)
+                page.end_cell()
             page.append_columns_with_borders(collapse=True)
 
-    def _draw_below(self, page: Renderer) -> None:
+    def _draw_below(self, page: Page) -> None:
         page.add_horizontal_border()
         for number in range(len(self.grid.rows)):
             for place in self.grid.row(number):
                 if place.row == number and not place.cell.is_blank():
-                    with page.cell(page.width()):
-                        place.cell.draw(page)
+                    page.start_cell(page.width())
+                    place.cell.draw(page)
+                    page.end_cell()
             page.append_vert_row()
 
     def measure(self, ruler: Ruler) -> None:
-        for caption in self.parts(Caption):
-            caption.measure(ruler)
+        for part in [*self.parts(Caption), *(self.parts(Row) if self.is_layout else [])]:
+            part.measure(ruler)
         ruler.end_line()
-        if not self.grid.rows:
+        if self.is_layout or not self.grid.rows:
             return
         sizes = self.grid.sizes(ruler.page)
         whole = Size(sum(size.most for size in sizes), sum(size.least for size in sizes))
         ruler.add_lines(whole.beside(len(sizes) - 1))
-
-
-class Layout(Table):
-    """A table that the sender says is none: it has no borders, and each cell is on lines of its own."""
-
-    def draw(self, page: Renderer) -> None:
-        for part in [*self.parts(Caption), *self.parts(Row)]:
-            part.draw(page)
-
-    def measure(self, ruler: Ruler) -> None:
-        for part in [*self.parts(Caption), *self.parts(Row)]:
-            part.measure(ruler)
 
 
 def within(table: Element) -> Iterator[Element]:

@@ -3,9 +3,12 @@
 import re
 from collections.abc import Iterator
 from contextlib import contextmanager
-from dataclasses import dataclass
+from typing import NamedTuple, TYPE_CHECKING
 
-from text_block_renderer import Renderer, text_width
+from text_block_renderer import text_width
+
+if TYPE_CHECKING:
+    from .page import Page
 
 # Words of more columns may be cut, so that a long address doesn't take a whole table apart.
 LONGEST_WORD = 24
@@ -13,8 +16,7 @@ LONGEST_WORD = 24
 BREAKS = re.compile("[^\\S\u00a0]+|\u200b")
 
 
-@dataclass(frozen=True)
-class Size:
+class Size(NamedTuple):
     """The columns that a content takes: `most` where no line is wrapped, `least` where no word is cut."""
 
     most: int = 0
@@ -29,31 +31,42 @@ class Size:
         return Size(self.most + columns, self.least + columns)
 
 
+def columns(text: str) -> int:
+    """The columns of a text without control characters."""
+    return len(text) if text.isascii() else text_width(text)
+
+
 class Ruler:
     """Takes texts and the ends of lines, as a renderer takes them, and has their size."""
 
-    def __init__(self, page: Renderer) -> None:
+    def __init__(self, page: "Page") -> None:
         self.page = page
         self.size = Size()
-        self._line = ""
+        self._texts: list[str] = []
         self._is_preformatted = False
 
     def add_text(self, text: str) -> None:
         """Adds text to the open line. In preformatted text a newline ends it."""
         if not self._is_preformatted:
-            self._line += text
+            self._texts.append(text)
             return
         first, *others = text.split("\n")
-        self._line += first
+        self._texts.append(first)
         for line in others:
             self.end_line()
-            self._line = line
+            self._texts.append(line)
 
     def end_line(self) -> None:
-        """Ends the open line, if there is one."""
-        words = [self._line.expandtabs()] if self._is_preformatted else BREAKS.split(self._line.strip())
-        self._line = ""
-        self.add_lines(Size(text_width(" ".join(words)), min(max(map(text_width, words)), LONGEST_WORD)))
+        """Ends the open line, if there is one. White space at its end takes a column, as in html2text."""
+        line = "".join(self._texts)
+        self._texts = []
+        if self._is_preformatted:
+            self.add_lines(Size(columns(line.expandtabs()), min(columns(line.expandtabs()), LONGEST_WORD)))
+            return
+        words = BREAKS.split(line.strip())
+        ends = bool(words[-1]) and line[-1] in " \t\n"
+        most = sum(map(columns, words)) + len(words) - 1 + ends
+        self.add_lines(Size(most, min(max(map(columns, words)), LONGEST_WORD)))
 
     def add_lines(self, size: Size) -> None:
         """Adds lines of this size below the others."""

@@ -1,0 +1,5 @@
+"""`python -m mailtext` is the command `mailtext`."""
+
+from .command import main
+
+main()
