@@ -421,6 +421,21 @@ impl<D: TextDecorator, W: CharWidth> Program<D, W> {
         if raw {
             return self.finish_lines();
         }
+        self.finish_lines_safely()
+    }
+
+    /// The lines of the text, the targets of links listed without control characters.
+    fn finish_lines_safely(self) -> Result<Vec<RenderLine<Annotations<D::Annotation>>>, Error>
+        requires goes_on { GoesOn self }
+        requires opened { self.opened ≡ [] }
+        requires cells { self.pending.cells ≡ [] }
+        ensures lines { let shown = shown_links false self in IfOk result (λ lines. OfTop (λ r.
+            closed W.columns (decoration_of D.TextDecorator) shown.stack.links (meant D.meaning r)
+            ≡ done (map (map_line (tag_meant D.meaning)) (map line_seen lines.items))) self.stack) }
+        ensures too_narrow { let shown = shown_links false self in result ≡ Err Refusal.TooNarrow → OfTop (λ r.
+            closed W.columns (decoration_of D.TextDecorator) shown.stack.links (meant D.meaning r)
+            ≡ refused Refusal.TooNarrow) self.stack }
+    {
         let (renderer, targets) = self.renderers.into_inner();
         let safe = escape_all(targets)?;
         close_lines(renderer, safe)
