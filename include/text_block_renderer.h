@@ -290,7 +290,8 @@ tbr_status tbr_text_width(const char *text, size_t *columns);
 
 /* Sets options to those of a plain renderer of so many columns. Lines are as wide as it, neither padded nor wider. There
    are no footnotes; where they are turned on, their lines are cut. Struck out text has strokes, borders are drawn, an
-   image without a title shows nothing, and no control character comes out. `size` is the number of bytes that `options` has. */
+   image without a title shows nothing, and no control character comes out. `size` is the number of bytes that `options`
+   has. */
 void tbr_options_init(tbr_options *options, size_t size, size_t width);
 
 /* The same options as a value. This is the one call that a program has in itself, so that their size is the one that it

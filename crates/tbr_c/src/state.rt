@@ -204,16 +204,16 @@ impl State {
         ensures too_narrow { result ≡ Err Refusal.TooNarrow → RefusesEnd self F.TooNarrow }
     {
         match self {
-            State::Plain(filled) => {
-                let lines = lines_of(filled)?;
+            State::Plain(Filled { program, raw }) => {
+                let lines = lines_of(program, raw)?;
                 Ok(Lines::new(Rest::Bare(VecDeque::from_vec(lines))))
             }
-            State::Trivial(filled) => {
-                let lines = lines_of(filled)?;
+            State::Trivial(Filled { program, raw }) => {
+                let lines = lines_of(program, raw)?;
                 Ok(Lines::new(Rest::Bare(VecDeque::from_vec(lines))))
             }
-            State::Rich(filled) => {
-                let lines = lines_of(filled)?;
+            State::Rich(Filled { program, raw }) => {
+                let lines = lines_of(program, raw)?;
                 Ok(Lines::new(Rest::Rich(VecDeque::from_vec(lines))))
             }
             State::Finished(_) | State::Refused(_) => unreachable!(),
@@ -228,9 +228,9 @@ impl State {
         ensures too_narrow { result ≡ Err Refusal.TooNarrow → RefusesEnd self F.TooNarrow }
     {
         match self {
-            State::Plain(filled) => text_of(filled),
-            State::Trivial(filled) => text_of(filled),
-            State::Rich(filled) => text_of(filled),
+            State::Plain(Filled { program, raw }) => text_of(program, raw),
+            State::Trivial(Filled { program, raw }) => text_of(program, raw),
+            State::Rich(Filled { program, raw }) => text_of(program, raw),
             State::Finished(_) | State::Refused(_) => unreachable!(),
         }
     }
@@ -411,14 +411,17 @@ fn heading_length_in<D: Headings>(
 }
 
 /// The text of a program. It refuses with `NotACommand` only where a level is open or cells wait.
-fn text_of<D: TextDecorator>(filled: Filled<D>) -> Result<String, Error>
-    requires { GoesOn filled.program }
+fn text_of<D: TextDecorator>(
+    program: Program<D, UnicodeColumns>,
+    raw: bool,
+) -> Result<String, Error>
+    requires { GoesOn program }
     ensures text { IfOk result (λ text. ended unicode_columns (decoration_of D.TextDecorator) 0
-        (shown_links filled.raw (progress_meant D.meaning filled.program)) ≡ Ok (string_bytes text)) }
+        (shown_links raw (progress_meant D.meaning program)) ≡ Ok (string_bytes text)) }
     ensures too_narrow { result ≡ Err Refusal.TooNarrow → ended unicode_columns (decoration_of D.TextDecorator) 0
-        (shown_links filled.raw (progress_meant D.meaning filled.program)) ≡ Err script.TooNarrow }
+        (shown_links raw (progress_meant D.meaning program)) ≡ Err script.TooNarrow }
 {
-    match filled.program.finish_shown(0, filled.raw) {
+    match program.finish_shown(0, raw) {
         Ok(text) => Ok(text),
         Err(RunError::TooNarrow) => Err(Error::TooNarrow),
         Err(_) => Err(Error::OutOfMemory),
@@ -427,18 +430,19 @@ fn text_of<D: TextDecorator>(filled: Filled<D>) -> Result<String, Error>
 
 /// The same as lines, where no level is open and no cell waits.
 fn lines_of<D: TextDecorator>(
-    filled: Filled<D>,
+    program: Program<D, UnicodeColumns>,
+    raw: bool,
 ) -> Result<Vec<RenderLine<Annotations<D::Annotation>>>, Error>
-    requires goes_on { GoesOn filled.program }
-    requires opened { let p = filled.program in p.opened ≡ [] }
-    requires cells { let p = filled.program in p.pending.cells ≡ [] }
+    requires goes_on { GoesOn program }
+    requires opened { program.opened ≡ [] }
+    requires cells { program.pending.cells ≡ [] }
     ensures lines { IfOk result (λ lines. ended unicode_columns (decoration_of D.TextDecorator) 0
-        (shown_links filled.raw (progress_meant D.meaning filled.program))
+        (shown_links raw (progress_meant D.meaning program))
         ≡ Ok (encode_utf8_all (flat_map line_text lines.items))) }
     ensures too_narrow { result ≡ Err Refusal.TooNarrow → ended unicode_columns (decoration_of D.TextDecorator) 0
-        (shown_links filled.raw (progress_meant D.meaning filled.program)) ≡ Err script.TooNarrow }
+        (shown_links raw (progress_meant D.meaning program)) ≡ Err script.TooNarrow }
 {
-    filled.program.finish_shown_lines(filled.raw)
+    program.finish_shown_lines(raw)
 }
 
 /// What a program answers of its innermost level.
