@@ -1,20 +1,16 @@
--- Commands and programs as they are shown.
-use Rattle.tbr_program.proofs.Common.{◌≡◌, ◌≢◌, ℕ, Option, Some, None, List, [], ◌∷◌, refl, ap, false, Command, command_of, Decoration, Progress, after_command, Place, Made, GoesOn}
+-- Commands as they are shown.
+use Rattle.tbr_program.proofs.Common.{◌≡◌, ℕ, ◌==◌, true, false, Option, Some, List, [], ◌∷◌, length, refl, sym, ap, false≢true, Decoration, Command, ask, Request, Place, after_command}
 use Rattle.std.specs.Prelude.{Bool}
-use Rattle.tbr_commands.specs.declared.command.Command as declared
-use Rattle.tbr_commands.specs.declared.command.Command.TheVariants as variant
-use Rattle.tbr_script.specs.declared.text_pair.TextPair.{TextPair}
 use Rattle.tbr_commands.specs.Read.{command_read}
-use Rattle.tbr_program.specs.Safe.{safe_command, shown_command, after_shown_line, after_shown_read}
+use Rattle.tbr_program.specs.Safe.{shown_command, after_shown_line, after_shown_read}
 
--- another command than `append` stays as it is
-pub others_stay : (command : declared.Command) → ((prefixes : TextPair) → command ≢ variant.Append prefixes) → safe_command (command_of command) ≡ command_of command
-others_stay (variant.Ask request) other = refl
-others_stay (variant.Link target) other = refl
-others_stay variant.EndLink other = refl
-others_stay (variant.Sub width) other = refl
-others_stay (variant.Append prefixes) other = absurd (other prefixes refl)
-others_stay (variant.Cell new) other = refl
-others_stay variant.EndCell other = refl
-others_stay (variant.Row collapse) other = refl
-others_stay variant.VerticalRow other = refl
+-- a request is shown as it is
+pub requested : (raw : Bool) (request : Request) → ask request ≡ shown_command raw (ask request)
+requested true request = refl
+requested false request = refl
+
+-- what a line makes that asks for a command
+pub shown_commanded : {D M : Type 0} (columns : ℕ → Option ℕ) (decoration : Decoration D M) (raw : Bool) (number : ℕ) (p : Place columns decoration) (line : List ℕ) (command : Command) →
+    false ≡ (length line == 0) → command_read line ≡ Some command → after_command columns decoration number (shown_command raw command) p ≡ after_shown_line columns decoration raw number line p
+shown_commanded columns decoration raw number p [] command some is = absurd (false≢true some)
+shown_commanded columns decoration raw number p (b ∷ bs) command some is = ap (λ o. after_shown_read columns decoration raw number o p) (sym is)

@@ -2,7 +2,7 @@ use Rattle.tbr_program.proofs.Common.{◌≡◌, Some, map, sym, ap, ◌∙◌, 
 use Rattle.tbr_tagged.specs.declared.Error.TheVariants.{TooNarrow}
 use Rattle.tbr_safe.specs.Escaped.{escaped}
 use Rattle.tbr_program.specs.Closing.{closed}
-use Rattle.tbr_program.proofs.Levels.{only_level}
+use Rattle.tbr_program.proofs.Levels.{only_level, top_live}
 use Rattle.tbr_program.proofs.Results.{if_ok_then}
 use Rattle.tbr_program.proofs.program.Program.finish_lines_safely.Goals as goal
 
@@ -26,3 +26,7 @@ returns-clause-too_narrow g c = λ narrow.
     let top = subst (λ s. top_of s ≡ Some r) stack c.into_inner-renderer.ensures.renderer in
     let links = c.in_ok-safe.ensures ∙ ap (map escaped) (c.into_inner-renderer.ensures.links ∙ ap (λ s. s.links) stack) in
     (r, top, subst (λ targets. closed g.W.CharWidth.columns (decoration_of g.D.TextDecorator) targets (meant g.D.TextDecorator.meaning r) ≡ refused TooNarrow) links (c.close_lines.ensures.too_narrow narrow))
+
+pub close_lines-requires : goal.close_lines-requires
+close_lines-requires g c =
+    (top_live c.self.inside.renderers c.self.inside.pending c.self.inside.opened (subst GoesOn (sym c.self.view_is) c.requires.goes_on) c.into_inner-renderer.result.0 c.into_inner-renderer.ensures.renderer).0
