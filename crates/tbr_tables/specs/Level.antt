@@ -5,7 +5,7 @@ use Rattle.tbr_tables.specs.declared.level.Level.{Level}
 use Rattle.tbr_tables.specs.Numbers.{held}
 use Rattle.tbr_tables.specs.Ruler.{no_text, with_lines}
 
--- a level without lines, which are so wide at most, those of text so wide, where so many modes of white space have begun
+-- a level without lines, which are so wide at most, those of text so wide; so many modes of white space have begun
 abbrev pub new_level : ℕ → ℕ → ℕ → Level
 new_level limit wrap modes = record { ruler = no_text limit wrap; modes = modes; row = 0; widest = 0 }
 

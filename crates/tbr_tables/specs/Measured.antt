@@ -63,7 +63,8 @@ table_row_ended t = record t { shape = record t.shape { rows = held (t.shape.row
 -- ---- all tables
 
 -- The tables that began, in order, each as known at its end; the innermost table that is open, and the others, the
--- innermost first; the levels likewise; the modes of white space that have begun; and the most columns of a line of text.
+-- innermost first; the levels likewise; the modes of white space that have begun; and the most columns of a line of
+-- text.
 pub record Measured : Type 0 where
   pub shapes : List Shape
   pub table : MeasuredTable

@@ -30,7 +30,7 @@ pub enum Call {
     Cell(DrawnCell),
     /// It closes, and waits.
     EndCell,
-    /// The cells that wait come side by side, and the borders at their tops and bottoms become one with those of the row.
+    /// The cells that wait come side by side. Borders at their tops and bottoms become one with those of the row.
     Row,
     /// The cells that wait come one below another.
     VerticalRow,
