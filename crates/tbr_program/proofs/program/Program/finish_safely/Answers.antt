@@ -33,6 +33,6 @@ returns-in_err-close-clause-refused g c =
     let columns = g.W.CharWidth.columns in
     let decoration = decoration_of g.D.TextDecorator in
     let links = c.in_ok-safe.ensures ∙ ap (map escaped) c.into_inner-renderer.ensures.links in
-    refused_by (λ e. ended columns decoration c.args.number (shown_links false (progress_meant meaning c.args.self)) ≡ Err e) c.from_residual.result c.in_err-close.field-0.0 c.from_residual.ensures.1 (λ e.
+    refused_by (λ e. ended columns decoration c.args.number (shown_links false (progress_meant meaning c.args.self)) ≡ Err e) c.from_residual-in_err-close.result c.in_err-close.field-0.0 c.from_residual-in_err-close.ensures.1 (λ e.
     text_given meaning columns decoration c.args.number _ (shown_links false c.args.self) (ap (shown_links false) c.self.view_is) _ links c.into_inner-renderer.result.0 c.into_inner-renderer.ensures.renderer (c.is_empty.ensures.0 (cc)) (c.has_cells.ensures.0 (cc))
     (refused TooNarrow) (c.close.ensures.too_narrow (c.in_err-close.was ∙ ap Err e)))
