@@ -42,14 +42,15 @@ module _ {D M : Type 0} (columns : ℕ → Option ℕ) (decoration : Decoration 
       go None = refl
       go (Some command) = refl
 
+  then_same : (before after : Place columns decoration → Result (List ℕ) RunError) → ((p : Place columns decoration) → before p ≡ after p) → (made : Made columns decoration) → unless_refused before made ≡ unless_refused after made
+  then_same before after same (Ok p) = same p
+  then_same before after same (Err e) = refl
+
   raw_on : (number : ℕ) (lines : List (List ℕ)) (p : Place columns decoration) → shown_on true columns decoration number lines p ≡ rendered_on columns decoration number lines p
   raw_on number [] p = refl
   raw_on number (line ∷ lines) p =
-      ap (unless_refused (shown_on true columns decoration (number + 1) lines)) (raw_line number line p) ∙ go (after_line columns decoration number line p)
-    where
-      go : (made : Made columns decoration) → unless_refused (shown_on true columns decoration (number + 1) lines) made ≡ unless_refused (rendered_on columns decoration (number + 1) lines) made
-      go (Ok next) = raw_on (number + 1) lines next
-      go (Err e) = refl
+      ap (unless_refused (shown_on true columns decoration (number + 1) lines)) (raw_line number line p)
+      ∙ then_same (shown_on true columns decoration (number + 1) lines) (rendered_on columns decoration (number + 1) lines) (raw_on (number + 1) lines) (after_line columns decoration number line p)
 
 raw_under : (columns : ℕ → Option ℕ) (decorator : Decorator) (opening : Opening) (number : ℕ) (lines : List (List ℕ)) → shown_under true columns decorator opening number lines ≡ rendered_under columns decorator opening number lines
 raw_under columns Plain opening number lines = raw_on columns plain_decoration number lines (started opening (record {}))
@@ -67,3 +68,6 @@ raw_from columns number ((b ∷ bs) ∷ lines) = raw_by columns (opening_read (b
 
 pub raw_script : (columns : ℕ → Option ℕ) (script : List ℕ) → shown true columns script ≡ rendered columns script
 raw_script columns script = raw_from columns 1 (lines_of script)
+
+pub raw_gives : (columns : ℕ → Option ℕ) (script : List ℕ) (given : Result (List ℕ) RunError) → shown true columns script ≡ given → rendered columns script ≡ given
+raw_gives columns script given is = sym (raw_script columns script) ∙ is
