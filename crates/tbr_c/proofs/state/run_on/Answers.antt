@@ -1,4 +1,4 @@
-use Rattle.std.proofs.Common.{ap, sym, ◌∙◌}
+use Rattle.std.proofs.Common.{◌≡◌, ap, refl, sym, ◌∙◌}
 use Rattle.tbr_c_lines.specs.Status.{fault_of_command}
 use Rattle.tbr_c.specs.State.{kept}
 use Rattle.tbr_c.proofs.Kept.{not_kept}
@@ -12,4 +12,5 @@ returns-in-Err-clause-refused g c = λ other.
 pub returns-in-Err-clause-left : goal.returns-in-Err-clause-left
 returns-in-Err-clause-left g c = λ none.
     let not = not_kept c.in-Err.e (sym (ap kept c.of_command.ensures) ∙ none) in
-    c.in-Err.ensures.runs.left not.0 not.1
+    let same : c.run_shown.new.self ≡ c.args.filled.now.program = c.in-Err.ensures.runs.left not.0 not.1 in
+    rw same refl
