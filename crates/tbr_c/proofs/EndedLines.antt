@@ -1,5 +1,5 @@
 -- Lines at the end of a program.
-use Rattle.std.proofs.Common.{◌≡◌, ℕ, Bool, true, false, Option, List, [], ◌∷◌, ◌++◌, map, flat_map, Ok, Err, encode_utf8_all, refl, ap, ◌∙◌}
+use Rattle.std.proofs.Common.{◌≡◌, ◌≢◌, ◌⊎◌, ℕ, Bool, true, false, Option, List, [], ◌∷◌, ◌++◌, map, flat_map, Ok, Err, encode_utf8_all, refl, ap, ◌∙◌}
 use Rattle.tbr_model.specs.Codes.{newline_character}
 use Rattle.tbr_border.specs.Border.{shown}
 use Rattle.tbr_border.specs.declared.RenderLine.{RenderLine}
@@ -16,12 +16,12 @@ use Rattle.text_block_renderer.specs.Tags.{tag_meant}
 use Rattle.text_block_renderer.specs.Text.{lines_text}
 use Rattle.text_block_renderer.specs.Top.{OfTop}
 use Rattle.tbr_renderer.proofs.LineTexts.{lines_same}
-use Rattle.tbr_script.specs.declared.error.RunError.TheVariants.{TooNarrow}
+use Rattle.tbr_script.specs.declared.error.RunError.TheVariants.{NotACommand, TooNarrow}
 use Rattle.tbr_program.specs.Progress.{Progress, progress_meant}
 use Rattle.tbr_program.specs.Closing.{closed}
 use Rattle.tbr_program.specs.Safe.{shown_links}
 use Rattle.tbr_program.specs.Commands.{ended, answered}
-use Rattle.tbr_program.proofs.MadeCommands.{text_given}
+use Rattle.tbr_program.proofs.MadeCommands.{still_open, text_given}
 use Rattle.tbr_c_lines.specs.Lines.{line_text}
 
 seen_text : {T : Type 0} (lines : List (RenderLine T)) → lines_text (map line_seen lines) ≡ flat_map line_text lines
@@ -59,3 +59,9 @@ module _ {D A M : Type 0} (columns : ℕ → Option ℕ) (decoration : Decoratio
   pub shown_narrow_end : (raw : Bool) → Gives raw (refused block.TooNarrow) → ended columns decoration 0 (shown_links raw (progress_meant meaning p)) ≡ Err TooNarrow
   shown_narrow_end true h = narrow_end columns decoration meaning p no_level no_cell h
   shown_narrow_end false h = narrow_end columns decoration meaning (shown_links false p) no_level no_cell h
+
+-- where a level is open or a cell waits
+pub shown_still_open : {D A M : Type 0} (columns : ℕ → Option ℕ) (decoration : Decoration D M) (meaning : A → M) (p : Progress D A (List A)) → (p.opened ≢ []) ⊎ (p.pending.cells ≢ []) →
+    (raw : Bool) → ended columns decoration 0 (shown_links raw (progress_meant meaning p)) ≡ Err (NotACommand 0)
+shown_still_open columns decoration meaning p some true = still_open meaning columns decoration 0 p p refl some
+shown_still_open columns decoration meaning p some false = still_open meaning columns decoration 0 (shown_links false p) (shown_links false p) refl some

@@ -1,5 +1,5 @@
 //! How far a renderer is that C holds: filled, finished or refused.
-ghost use Rattle.std.specs.Prelude.{◌≡◌, ◌≢◌, ◌<◌, ◌⊎◌, [], Some, Ok, Err, IfOk, IfErr, IfSome, OnOk, MatchResult, length, flat_map, string_bytes, encode_utf8_all};
+ghost use Rattle.std.specs.Prelude.{◌≡◌, ◌≢◌, ◌<◌, ◌⊎◌, Bool, [], Some, Ok, Err, IfOk, IfErr, IfSome, OnOk, MatchResult, length, flat_map, string_bytes, encode_utf8_all};
 ghost use Rattle.tbr_tagged.specs.declared.Error.TheVariants as Refusal;
 ghost use Rattle.tbr_tagged.specs.UnicodeColumns.{unicode_columns};
 ghost use Rattle.tbr_decor.specs.Decoration.{decoration_of};
@@ -451,8 +451,9 @@ fn facts_of<D: TextDecorator>(program: &Program<D, UnicodeColumns>) -> Facts
     ensures facts { result ≡ facts_in D.meaning program.now }
     ensures closed { result.open_levels ≡ 0 → program.now.opened ≡ [] }
     ensures cells { result.waiting_cells ≡ 0 → program.now.pending.cells ≡ [] }
-    ensures open { (0 < result.open_levels) ⊎ (0 < result.waiting_cells) → ended unicode_columns
-        (decoration_of D.TextDecorator) 0 (progress_meant D.meaning program.now) ≡ Err (script.NotACommand 0) }
+    ensures open { (0 < result.open_levels) ⊎ (0 < result.waiting_cells) → (raw : Bool) →
+        ended unicode_columns (decoration_of D.TextDecorator) 0
+        (shown_links raw (progress_meant D.meaning program.now)) ≡ Err (script.NotACommand 0) }
 {
     let top = program.top();
     Facts {
