@@ -246,9 +246,11 @@ fn shown_in<A: Annotation>(
     format: Format,
     is_bare: bool,
 ) -> Result<String, OutOfMemory>
-    requires { IfSome kept.old (λ s. AreShown (ShowsLine A.eq A.shown is_bare s.format) lines.now.items (chars_of s.text)) }
+    requires { IfSome kept.old (λ s.
+        AreShown (ShowsLine A.eq A.shown is_bare s.format) lines.now.items (chars_of s.text)) }
     ensures kept { kept.new ≡ None }
-    ensures shown { IfOk result (λ text. AreShown (ShowsLine A.eq A.shown is_bare format) lines.now.items (chars_of text)) }
+    ensures shown { IfOk result (λ text.
+        AreShown (ShowsLine A.eq A.shown is_bare format) lines.now.items (chars_of text)) }
 {
     match kept.take() {
         Some(shown) if shown.format == format => Ok(shown.text),
