@@ -1,6 +1,6 @@
 -- The laws of the widths, by the cases that the widths have.
 use Rattle.std.proofs.Common.{◌≡◌, ◌↔◌, ℕ, ◌+◌, ◌-◌, ◌<◌, ◌≤◌, List, length, map, get_or, Some, None, Option, refl, sym, subst, ◌∙◌, ⊎_elim, arith}
-use Rattle.std.specs.List.{sum, sum_by, AllZip, All}
+use Rattle.std.specs.List.{sum, sum_by, AllZip, All, AllByRecursion as Each}
 use Rattle.std.proofs.lemmas.List.{get_or-map}
 use Rattle.std.proofs.lemmas.List.Sums.{sum-map}
 use Rattle.std.proofs.lemmas.Bool.{cases_lt, lt-ltb, le-ltb}
@@ -12,7 +12,7 @@ use Rattle.column_widths.specs.Laws.{room_of, need_at, IsWithinNeed, HasRoom}
 use Rattle.column_widths.proofs.Cases.{widths_of_narrow, widths_of_roomy, widths_between}
 use Rattle.column_widths.proofs.LeftOver.{shared_sum}
 use Rattle.column_widths.proofs.Ordered.{needs_ordered}
-use Rattle.column_widths.proofs.Rooms.{zip_length, needs_length, widths_met, within_enough, greatest_enough, IsEnough}
+use Rattle.column_widths.proofs.Rooms.{zip_length, needs_length, needs_grow, each_seen, widths_met, within_enough, greatest_enough, IsEnough}
 use Rattle.column_widths.proofs.Shares.{greatest_within}
 use Rattle.column_widths.proofs.Within.{shared_within, greatest_within_need, shared_no_less}
 
@@ -126,3 +126,8 @@ no_less t room ws i j e h g least greatest =
     of_widths t room ws (λ xs. get_or xs i 0 ≤ get_or xs j 0) e
     (λ a b. omega (arith, greatest))
     (λ extra a b l. shared_no_less extra ns i j unspanned l i_in j_in (omega arith) (omega arith))
+
+-- no column is narrower than 1
+pub columns_seen : (t : Table) (room : ℕ) (ws : List ℕ) → widths t room ≡ Some ws → Each (λ w. 1 ≤ w) ws
+columns_seen t room ws h =
+    each_seen t.columns (needs_of t) ws (needs_grow t) (within_enough (needs_of t) ws (all_within t room ws h))

@@ -1,7 +1,7 @@
 -- Cells have room for their longest words.
 use Rattle.std.proofs.Common.{◌≡◌, ℕ, ◌+◌, ◌-◌, ◌*◌, ◌/◌, ◌%◌, ◌<◌, ◌≤◌, min, Bool, true, false, cond, not, eqb, List, [], ◌∷◌, ◌++◌, length, get_or, take, drop, map, zero, suc, inl, inr, refl, sym, ap, subst, ◌∙◌, ⊎_elim, arith, length-drop}
 use Rattle.std.specs.Prelude.{replicate}
-use Rattle.std.specs.List.{sum, sum_by, fold, filter, AllZip, All}
+use Rattle.std.specs.List.{sum, sum_by, fold, filter, AllZip, All, AllByRecursion as Each}
 use Rattle.std.proofs.lemmas.List.{take_at, drop_at, take-append-drop, length-take-le, length-replicate}
 use Rattle.std.proofs.lemmas.List.Sums.{sum_by-cons}
 use Rattle.std.proofs.lemmas.Bool.{eqb-true}
@@ -236,6 +236,14 @@ needs_length t =
     ∙ sym (zip_length (IsNoLess Least) start first (cells_grow Least t.line (filter (is_of true) t.cells) start))
     ∙ length-replicate t.columns unspanned
 
+-- no column needs less than one that no cell spans
+pub needs_grow : (t : Table) → Grows Least (replicate t.columns unspanned) (needs_of t)
+needs_grow t =
+    let start = replicate t.columns unspanned in
+    let first = fold (after_cell t.line) start (filter (is_of true) t.cells) in
+    grows_trans Least start first (needs_of t) (cells_grow Least t.line (filter (is_of true) t.cells) start)
+    (cells_grow Least t.line (filter (is_of false) t.cells) first)
+
 -- no width is below what its column needs at least, or at most
 abbrev pub IsEnough : Bound → Need → ℕ → Type 0
 IsEnough by n width = width_of by n ≤ width
@@ -270,3 +278,13 @@ within_enough (n ∷ ns) (w ∷ ws) h = (h.0.0, within_enough ns ws h.1)
 pub greatest_enough : (ns : List Need) → AllZip (IsEnough Greatest) ns (map (width_of Greatest) ns)
 greatest_enough [] = tt
 greatest_enough (n ∷ ns) = (omega arith, greatest_enough ns)
+
+-- widths that are enough for columns which need one at least are at least one
+pub each_seen : (k : ℕ) (ns : List Need) (ws : List ℕ) → Grows Least (replicate k unspanned) ns →
+    AllZip (IsEnough Least) ns ws → Each (λ w. 1 ≤ w) ws
+each_seen k [] [] g h = tt
+each_seen k [] (w ∷ ws) g h = absurd h
+each_seen k (n ∷ ns) [] g h = absurd h
+each_seen zero (n ∷ ns) (w ∷ ws) g h = absurd g
+each_seen (suc k) (n ∷ ns) (w ∷ ws) g h =
+    let a = g.0 in let b = h.0 in (omega arith, each_seen k ns ws g.1 h.1)

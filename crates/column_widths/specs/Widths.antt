@@ -1,7 +1,8 @@
 -- The widths of a table's columns.
-use Rattle.std.specs.Prelude.{ℕ, ◌+◌, ◌-◌, ◌*◌, ◌/◌, ◌==◌, nat_lt, nat_le, Bool, ◌&&◌, ◌||◌, if◌then◌else◌, Option, Some, None, List, map, count_by, sum_by}
+use Rattle.std.specs.Prelude.{ℕ, ◌+◌, ◌-◌, ◌*◌, ◌/◌, ◌^◌, ◌==◌, nat_lt, nat_le, Bool, ◌&&◌, ◌||◌, if◌then◌else◌, Option, Some, None, List, map, count_by, sum_by}
 use Rattle.std.specs.List.{enumerate_from}
 use Rattle.column_widths.specs.declared.need.Need.{Need}
+use Rattle.column_widths.specs.declared.room.Room.{Room}
 use Rattle.column_widths.specs.declared.need.Bound.TheVariants.{Least, Greatest}
 use Rattle.column_widths.specs.Table.{Table}
 use Rattle.column_widths.specs.Needs.{width_of, needs_of}
@@ -61,3 +62,23 @@ lines_of t = t.line * (t.columns - 1)
 -- the widths of the columns in so much room, or nothing where the least widths and the lines don't fit
 abbrev pub widths : Table → ℕ → Option (List ℕ)
 widths t room = if nat_lt room (lines_of t) then None else widths_beside_lines (room - lines_of t) (needs_of t)
+
+-- ---- the room that columns need
+
+-- what lines and columns take together, or nothing where that passes `usize`
+abbrev pub held : ℕ → ℕ → Option ℕ
+held lines total = if nat_lt (lines + total) (2 ^ 64) then Some (lines + total) else None
+
+-- the least and the greatest of two sums, where both are held
+abbrev pub room_by : Option ℕ → Option ℕ → Option Room
+room_by None greatest = None
+room_by (Some least) None = None
+room_by (Some least) (Some greatest) = Some record { least = least; greatest = greatest }
+
+-- the room that columns with these needs take beside lines, or nothing where it passes `usize`
+abbrev pub room_beside : ℕ → List Need → Option Room
+room_beside lines ns = room_by (held lines (sum_by (width_of Least) ns)) (held lines (sum_by (width_of Greatest) ns))
+
+-- the room that a table needs, lines included, or nothing where it passes `usize`
+abbrev pub needed_room : Table → Option Room
+needed_room t = room_beside (lines_of t) (needs_of t)

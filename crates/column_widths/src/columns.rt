@@ -1,11 +1,12 @@
 //! The columns of a table, and what its cells ask of them.
-ghost use Rattle.std.specs.Prelude.{◌≡◌, ◌≤◌, ◌-◌, ◌*◌, [], ◌∷◌, ◌++◌, ◌↔◌, List, All, length, option_map, IfOk, OnOk, OnErr, IsTrue, SomeIff};
+ghost use Rattle.std.specs.Prelude.{◌≡◌, ◌≤◌, ◌<◌, ◌^◌, ◌-◌, ◌*◌, max, [], ◌∷◌, ◌++◌, ◌↔◌, List, All, length, option_map, IfOk, OnOk, OnErr, IsTrue, SomeIff};
 ghost use Rattle.column_widths.specs.Table.{Table, IsWithin};
 ghost use Rattle.column_widths.specs.Needs.{needs_of, after_cells, after_cell, is_of};
-ghost use Rattle.column_widths.specs.Widths.{widths, lines_of};
+ghost use Rattle.column_widths.specs.Widths.{widths, lines_of, needed_room};
 
 use crate::fill::fill;
 use crate::need::{Bound, Need};
+use crate::room::{Room, room_of};
 use crate::share::widths_beside_lines;
 use std::alloc::{AllocError, Global};
 use std::marker::Model;
@@ -63,6 +64,13 @@ impl Columns {
         }
     }
 
+    /// How many columns there are.
+    pub fn count(&self) -> usize
+        ensures { result ≡ self.now.columns }
+    {
+        self.count
+    }
+
     /// Whether a cell spans at least one column, and only columns that there are.
     pub fn can_hold(&self, cell: CellNeed) -> bool
         ensures { IsTrue result ↔ IsWithin self.now.columns cell }
@@ -78,6 +86,28 @@ impl Columns {
     {
         self.cells.push(cell)?;
         Ok(())
+    }
+
+    /// There are so many columns, if these are more than before. No cell spans the new ones yet.
+    pub fn widen(&mut self, count: usize)
+        ensures { self.new ≡ record self.old { columns = max self.old.columns count } }
+    {
+        self.count = self.count.max(count);
+    }
+
+    /// The room that the columns need at least, and the most that they can use, lines between columns included. `None`
+    /// where that passes `usize`.
+    ///
+    /// It refuses only where memory runs out.
+    pub fn needed_room(&self) -> Result<Option<Room>, AllocError>
+        ensures { IfOk result (λ answer. answer ≡ needed_room self.now) }
+    {
+        let Some(lines) = self.lines() else {
+            return Ok(None);
+        };
+        let alloc = *self.cells.allocator();
+        let needs = self.needs(alloc)?;
+        Ok(room_of(lines, &needs))
     }
 
     /// A width for each column in so much room, lines between columns included, or `None` where the least widths don't
@@ -110,8 +140,15 @@ impl Columns {
     fn room_beside_lines(&self, room: usize) -> Option<usize>
         ensures { SomeIff result (lines_of self.now ≤ room) (room - lines_of self.now) }
     {
-        let lines = self.line.checked_mul(self.count.saturating_sub(1))?;
+        let lines = self.lines()?;
         room.checked_sub(lines)
+    }
+
+    /// The columns of text that the lines between the columns take, or `None` where these pass `usize`.
+    fn lines(&self) -> Option<usize>
+        ensures { SomeIff result (lines_of self.now < 2 ^ 64) (lines_of self.now) }
+    {
+        self.line.checked_mul(self.count.saturating_sub(1))
     }
 }
 

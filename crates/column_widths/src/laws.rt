@@ -1,6 +1,6 @@
 //! The laws of the widths, each as the contract of a function that does nothing.
 ghost use Rattle.std.specs.Prelude.{◌≡◌, ◌↔◌, ℕ, ◌+◌, ◌<◌, ◌≤◌, [], ◌∷◌, max, Some, None, List, All, length, sum, slice_index};
-ghost use Rattle.std.specs.List.{AllZip};
+ghost use Rattle.std.specs.List.{AllZip, AllByRecursion as Each};
 ghost use Rattle.column_widths.specs.declared.need.Need.{Need};
 ghost use Rattle.column_widths.specs.declared.need.Bound.TheVariants.{Least, Greatest};
 ghost use Rattle.column_widths.specs.Table.{Table, IsWithin};
@@ -56,4 +56,9 @@ pub fn widest_cell_decides()
         ≡ record { least = max n.least asked; greatest = max n.greatest (max n.least asked) } ∷ [] }
     ensures greatest { (line asked : ℕ) (n : Need) →
         filled Greatest line asked (n ∷ []) ≡ record { least = n.least; greatest = max n.greatest asked } ∷ [] }
+{}
+
+/// No column is narrower than 1.
+pub fn columns_are_seen()
+    ensures { (t : Table) (room : ℕ) (ws : List ℕ) → widths t room ≡ Some ws → Each (λ w. 1 ≤ w) ws }
 {}

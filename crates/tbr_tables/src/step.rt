@@ -1,0 +1,54 @@
+//! What is recorded of a table.
+
+use tbr_model::WhiteSpace;
+use tbr_tagged::CellAlign;
+
+/// A cell of a table that finds its widths.
+#[derive(Clone, Copy, Debug, PartialEq, Eq)]
+pub struct TableCell {
+    /// The columns of the table that it spans, if no cell from above is in the way. 0 counts as 1.
+    pub columns: usize,
+    /// The rows that it spans, if so many come. 0 counts as 1.
+    pub rows: usize,
+    /// Where its lines are in its columns.
+    pub align: CellAlign,
+}
+
+/// A step of what is recorded from the beginning of a table to its end. Tables may be in cells of other tables.
+#[derive(Clone, Copy, Debug, PartialEq, Eq)]
+pub enum Step {
+    /// A text, a link, or anything else that changes no line but by its text.
+    Text,
+    /// A mode of white space begins.
+    BeginMode(WhiteSpace),
+    /// The mode that began last ends.
+    EndMode,
+    /// The open line ends.
+    EndLine,
+    /// A border of so many columns.
+    Border(usize),
+    /// A block opens inside, as wide as a prefix of so many columns leaves.
+    Inside(usize),
+    /// A block of so many columns opens inside.
+    Sub(usize),
+    /// The block that is open closes. Its lines come after prefixes of so many columns.
+    Append(usize),
+    /// A cell of so many columns opens, which isn't of a table that finds its widths.
+    GivenCell(usize, CellAlign),
+    /// It closes, and waits.
+    EndGivenCell,
+    /// The cells that wait come side by side.
+    GivenRow,
+    /// The cells that wait come one below another.
+    VerticalRow,
+    /// A table begins.
+    Table,
+    /// A cell of the table opens.
+    Cell(TableCell),
+    /// It closes.
+    EndCell,
+    /// The row of the cells that came ends.
+    Row,
+    /// The table ends.
+    EndTable,
+}
