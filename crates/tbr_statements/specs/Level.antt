@@ -11,24 +11,30 @@ use Rattle.tbr_statements.specs.declared.level.Levels.{Levels}
 use Rattle.tbr_statements.specs.declared.level.Notes.{Notes}
 use Rattle.tbr_statements.specs.declared.level.TooWide.{TooWide}
 use Rattle.tbr_statements.specs.declared.level.Opener.{Opener}
-use Rattle.tbr_statements.specs.declared.level.Opener.TheVariants.{Sub, Cell, Block}
+use Rattle.tbr_statements.specs.declared.level.Opener.TheVariants.{Sub, Cell, Table, TableCell, Block}
 
 -- the command that closes what was opened so
 abbrev pub closing : Opener → List ℕ
 closing Sub = codes "append >  | > "
 closing Cell = codes "endcell"
+closing TableCell = codes "endcell"
+closing Table = codes "endtable"
 closing (Block b prefixes) = end_of b
 
 -- what an error calls it
 abbrev pub called : Opener → List ℕ
 called Sub = codes "a block"
 called Cell = codes "a cell"
+called TableCell = codes "a cell"
+called Table = codes "a table"
 called (Block b prefixes) = name_of b
 
 -- the remark at the line where it was opened
 abbrev pub note_of : Opener → List ℕ
 note_of Sub = codes "the block was opened here"
 note_of Cell = codes "the cell was opened here"
+note_of TableCell = codes "the cell was opened here"
+note_of Table = codes "the table was opened here"
 note_of (Block Quote prefixes) = codes "the quote was opened here"
 note_of (Block Item prefixes) = codes "the item was opened here"
 note_of (Block (Ordered number) prefixes) = codes "the item was opened here"
@@ -42,6 +48,8 @@ innermost levels = slice_get levels (length levels - 1)
 abbrev pub is_of_a_block : Opener → Bool
 is_of_a_block Sub = false
 is_of_a_block Cell = false
+is_of_a_block TableCell = false
+is_of_a_block Table = false
 is_of_a_block (Block b prefixes) = true
 
 -- what opened a level, if there is one
@@ -51,6 +59,24 @@ opener_of level = option_map (λ l. l.by) level
 abbrev pub is_in_a_block : Option Opener → Bool
 is_in_a_block None = false
 is_in_a_block (Some by) = is_of_a_block by
+
+-- whether a level is a table, or a cell of one
+abbrev pub opens_a_table : Opener → Bool
+opens_a_table Table = true
+opens_a_table other = false
+
+abbrev pub opens_a_table_cell : Opener → Bool
+opens_a_table_cell TableCell = true
+opens_a_table_cell other = false
+
+-- the line where a level was opened, if it is a table
+abbrev pub table_line : Option Level → Option ℕ
+table_line None = None
+table_line (Some level) = if opens_a_table level.by then Some level.line else None
+
+abbrev pub is_a_table_cell : Option Level → Bool
+is_a_table_cell None = false
+is_a_table_cell (Some level) = opens_a_table_cell level.by
 
 -- whether a command closes a level
 abbrev pub is_closed_by : List ℕ → Option Level → Bool

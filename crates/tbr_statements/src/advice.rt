@@ -117,6 +117,34 @@ fn inside(alloc: Global, word: &str, level: &Level) -> Result<(String, String), 
     ))
 }
 
+/// What is in a table is in no cell. The other line is that of the table.
+pub fn in_no_cell(alloc: Global, line: usize, table: usize) -> Refusal
+    ensures { Tells result kind_is.NotACommand line (Some table) }
+{
+    let related = Some(Related {
+        line: table,
+        note: "the table was opened here",
+    });
+    let texts = both(
+        alloc,
+        "in a table all is in cells",
+        "open a cell with `cell auto` before it",
+    );
+    refusal(Kind::NotACommand, line, FIRST, related, texts)
+}
+
+/// A cell of a table is in none.
+pub fn in_no_table(alloc: Global, line: usize) -> Refusal
+    ensures { Tells result kind_is.NotACommand line None }
+{
+    let texts = both(
+        alloc,
+        "`cell auto` isn't directly inside a table",
+        "write `table` before it, or give the cell its columns, as `cell 12 1`",
+    );
+    refusal(Kind::NotACommand, line, FIRST, None, texts)
+}
+
 /// A level is still open at the end of the script.
 pub fn still_open(alloc: Global, line: usize, level: &Level) -> Refusal
     ensures { Tells result kind_is.StillOpen line (Some level.now.line) }

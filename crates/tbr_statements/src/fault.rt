@@ -17,6 +17,11 @@ const TEXT_BELOW: [&str; 9] = [
     "heading", "quote", "item", "ordered", "block", "line", "em", "strong", "code",
 ];
 
+/// How a cell begins that finds its width, and how it is written.
+const AUTO: &str = "cell auto";
+
+const AUTO_FORM: &str = "cell auto [ROWS [COLUMNS]] [left|right|centre]";
+
 /// What is before the number of an option.
 const WRAP: &str = "wrap=";
 
@@ -127,6 +132,9 @@ fn fault_of_word(alloc: Global, word: &str, line: &str) -> Result<Fault, AllocEr
     let Some(form) = form_of(word) else {
         return unknown_word(alloc, word);
     };
+    if line.starts_with(AUTO) {
+        return written_otherwise(alloc, AUTO, AUTO_FORM);
+    }
     if takes_text(word) {
         return fault_of_text(alloc, word, form, line);
     }

@@ -1,5 +1,6 @@
 //! What is open in a script, and the lines where it was opened.
 ghost use Rattle.std.specs.Prelude.{◌≡◌, [], OnOk, IfSome, IfNone};
+ghost use Rattle.std.specs.List.{list_any};
 ghost use Rattle.std.specs.Option.{option_copied, option_or};
 ghost use Rattle.tbr_statements.specs.Level as model;
 
@@ -15,6 +16,10 @@ pub enum Opener {
     Sub,
     /// `cell`.
     Cell,
+    /// `table`, where cells find their widths.
+    Table,
+    /// `cell auto`.
+    TableCell,
     /// A block with these prefixes.
     Block(Block, TextPair),
 }
@@ -62,7 +67,8 @@ impl Opener {
     {
         match self {
             Opener::Sub => "a block",
-            Opener::Cell => "a cell",
+            Opener::Cell | Opener::TableCell => "a cell",
+            Opener::Table => "a table",
             Opener::Block(block, _) => block.name(),
         }
     }
@@ -73,7 +79,8 @@ impl Opener {
     {
         match self {
             Opener::Sub => "append >  | > ",
-            Opener::Cell => "endcell",
+            Opener::Cell | Opener::TableCell => "endcell",
+            Opener::Table => "endtable",
             Opener::Block(block, _) => block.end(),
         }
     }
@@ -84,7 +91,8 @@ impl Opener {
     {
         match self {
             Opener::Sub => "the block was opened here",
-            Opener::Cell => "the cell was opened here",
+            Opener::Cell | Opener::TableCell => "the cell was opened here",
+            Opener::Table => "the table was opened here",
             Opener::Block(Block::Quote, _) => "the quote was opened here",
             Opener::Block(Block::Heading(_), _) => "the heading was opened here",
             Opener::Block(_, _) => "the item was opened here",
@@ -175,6 +183,35 @@ impl Levels {
     {
         match self.innermost() {
             Some(level) => matches!(level.by, Opener::Block(_, _)),
+            None => false,
+        }
+    }
+
+    /// The line where the innermost level was opened, if that is a table.
+    pub fn table(&self) -> Option<usize>
+        ensures { result ≡ model.table_line (model.innermost self.now.inside.items) }
+    {
+        match self.innermost() {
+            Some(level) if matches!(level.by, Opener::Table) => Some(level.line),
+            _ => None,
+        }
+    }
+
+    /// Whether a table is open.
+    pub fn has_table(&self) -> bool
+        ensures { result ≡ list_any (λ level. model.opens_a_table level.by) self.now.inside.items }
+    {
+        self.inside
+            .iter()
+            .any(|level| matches!(level.by, Opener::Table))
+    }
+
+    /// Whether the innermost level is a cell of a table.
+    pub fn is_in_a_table_cell(&self) -> bool
+        ensures { result ≡ model.is_a_table_cell (model.innermost self.now.inside.items) }
+    {
+        match self.innermost() {
+            Some(level) => matches!(level.by, Opener::TableCell),
             None => false,
         }
     }

@@ -3,12 +3,15 @@ ghost use Rattle.std.specs.Prelude.{◌≡◌, IfOk, IfSome};
 ghost use Rattle.std.specs.Option.{option_map};
 ghost use Rattle.tbr_statements.specs.Statement as model;
 ghost use Rattle.tbr_statements.specs.Statement.{IsSized, statement_of};
-ghost use Rattle.tbr_statements.specs.Read.{item_number_read, numbered_read, block_read, statement_read};
+ghost use Rattle.tbr_statements.specs.Read.{item_number_read, names, argument_read, block_read, statement_read};
+ghost use Rattle.tbr_commands.specs.Read.{looked_up};
 
 use crate::block::Block;
+use crate::table_cell::table_cell;
 use std::alloc::{AllocError, Global};
 use tbr_commands::{Command, split_at_space};
 use tbr_script::{parse_number, parse_size};
+use tbr_tables::TableCell;
 
 /// What a line after the first command asks for.
 #[derive(Debug, Drop)]
@@ -19,6 +22,10 @@ pub enum Statement {
     Open(Block),
     /// The block closes that this command ends.
     Close(&'static str),
+    /// A cell of a table opens that finds its widths.
+    Cell(TableCell),
+    /// Such a table ends.
+    EndTable,
 }
 
 impl Statement {
@@ -45,24 +52,35 @@ pub fn is_skipped(line: &[u8]) -> bool
     line.is_empty() || line.starts_with(b"#")
 }
 
-/// What a line asks for that opens or closes a block with a prefix.
+/// What a line asks for that is no command of `blockrender`.
 fn of_blocks(line: &str) -> Option<Statement>
     ensures { option_map statement_of result ≡ block_read line.now }
 {
-    match line {
+    match with_argument(line) {
+        Some(statement) => Some(statement),
+        None => named(line),
+    }
+}
+
+/// What a name alone asks for.
+fn named(name: &str) -> Option<Statement>
+    ensures { option_map statement_of result ≡ looked_up names name.now }
+{
+    match name {
         "quote" => Some(Statement::Open(Block::Quote)),
         "item" => Some(Statement::Open(Block::Item)),
         "endquote" => Some(Statement::Close("endquote")),
         "enditem" => Some(Statement::Close("enditem")),
         "endordered" => Some(Statement::Close("endordered")),
         "endheading" => Some(Statement::Close("endheading")),
-        _ => numbered(line),
+        "endtable" => Some(Statement::EndTable),
+        _ => None,
     }
 }
 
-/// The same of one with a number.
-fn numbered(line: &str) -> Option<Statement>
-    ensures { option_map statement_of result ≡ numbered_read line.now }
+/// The same of a word and what is after it.
+fn with_argument(line: &str) -> Option<Statement>
+    ensures { option_map statement_of result ≡ argument_read line.now }
 {
     let (word, digits) = split_at_space(line)?;
     match word {
@@ -73,6 +91,10 @@ fn numbered(line: &str) -> Option<Statement>
         "heading" => {
             let level = parse_size(digits)?;
             Some(Statement::Open(Block::Heading(level)))
+        }
+        "cell" => {
+            let cell = table_cell(digits)?;
+            Some(Statement::Cell(cell))
         }
         _ => None,
     }

@@ -7,7 +7,7 @@ use std::alloc::{AllocError, Global};
 use strsim::levenshtein;
 
 /// The commands, each as it is written.
-pub const FORMS: [&str; 45] = [
+pub const FORMS: [&str; 47] = [
     "text T",
     "block",
     "endblock",
@@ -27,7 +27,9 @@ pub const FORMS: [&str; 45] = [
     "sub N",
     "append P | Q",
     "cell N SPAN [left|right|centre]",
+    "cell auto [ROWS [COLUMNS]] [left|right|centre]",
     "endcell",
+    "endtable",
     "row [collapse]",
     "vrow",
     "ws MODE",

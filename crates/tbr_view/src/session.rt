@@ -17,11 +17,13 @@ use tbr_commands::{Command, Layout, Opening, Request};
 use tbr_headings::{Headings, heading_columns};
 use tbr_lines::{CharWidth, RenderLine, text_width};
 use tbr_program::Program;
+use tbr_recorded::{TableScript, Texts};
 use tbr_script::{RunError, TextPair};
 use tbr_statements::{
     Block, Levels, Opener, Problem, Refusal, Statement, Stretch, Stretches, TooWide, advice,
     is_skipped,
 };
+use tbr_tables::{Step, TableCell};
 use text_block_renderer::{Annotations, Renderer};
 
 /// A script of which some lines were done.
@@ -37,6 +39,14 @@ pub struct Session<D: Headings, W: CharWidth> {
     lost: Vec<Problem>,
     /// What else isn't shown as the script says.
     warnings: Vec<Problem>,
+    /// What writes the texts of tables.
+    decorator: D,
+    /// How many links have begun.
+    links: usize,
+    /// The line of a `table` that came last: what comes next says whether its cells find their widths.
+    table_line: Option<usize>,
+    /// What is recorded of the outermost table that is open.
+    table: Option<TableScript<D>>,
 }
 
 impl<D: Headings, W: CharWidth> Session<D, W> {
@@ -55,6 +65,7 @@ impl<D: Headings, W: CharWidth> Session<D, W> {
         ensures live { IfOk result (λ session. GoesOn session.program) }
     {
         let Opening { width, options, .. } = opening;
+        let own = decorator.make_subblock_decorator(alloc)?;
         let Ok(program) = Program::new(alloc, width, options, decorator) else {
             return Err(Refusal::OutOfMemory);
         };
@@ -66,6 +77,10 @@ impl<D: Headings, W: CharWidth> Session<D, W> {
             set_width,
             lost: Vec::new(alloc),
             warnings: Vec::new(alloc),
+            decorator: own,
+            links: 0,
+            table_line: None,
+            table: None,
         })
     }
 
@@ -95,10 +110,231 @@ impl<D: Headings, W: CharWidth> Session<D, W> {
             (model.state_of D.meaning self.new.program self.new.levels.inside.items)) }
         ensures live { OnOk result (GoesOn self.new.program) }
     {
+        self.tell_table(&statement)?;
+        if is_start_of_table(&statement) {
+            self.table_line = Some(number);
+            return Ok(());
+        }
+        if self.table.is_some() {
+            return self.record(number, statement);
+        }
         match statement {
             Statement::Command(command) => self.run(number, &command),
             Statement::Open(block) => self.open(number, block),
             Statement::Close(by) => self.close(number, by),
+            Statement::Cell(_) => Err(advice::in_no_table(self.alloc, number)),
+            Statement::EndTable => Err(self.not_open("endtable", number)),
+        }
+    }
+
+    /// Begins the table of the line before, where this statement comes after it.
+    fn tell_table(&mut self, statement: &Statement) -> Result<(), Refusal> {
+        let Some(line) = self.table_line.take() else {
+            return Ok(());
+        };
+        if matches!(statement, Statement::Cell(_) | Statement::EndTable) {
+            return self.begin_table(line);
+        }
+        let start = Command::Ask(Request::Layout(Layout::StartTable));
+        if self.table.is_some() {
+            self.record_command(line, start)
+        } else {
+            self.run(line, &start)
+        }
+    }
+
+    /// A table begins on a line whose cells find their widths.
+    fn begin_table(&mut self, line: usize) -> Result<(), Refusal> {
+        if self.table.is_none() {
+            let texts = Texts {
+                decorator: self.decorator.make_subblock_decorator(self.alloc)?,
+                options: *self.program.top().options(),
+            };
+            self.table = Some(TableScript::begun(self.alloc, texts, self.links));
+        }
+        self.check_cell(line)?;
+        self.levels.enter(Opener::Table, line)?;
+        self.add_step(line, Step::Table)
+    }
+
+    /// Records a step of a line.
+    fn add_step(&mut self, line: usize, step: Step) -> Result<(), Refusal> {
+        if let Some(table) = &mut self.table {
+            table.add_step::<W>(line, step)?;
+        }
+        Ok(())
+    }
+
+    /// Records a command of a line.
+    fn add_command(&mut self, line: usize, command: Command) -> Result<(), Refusal> {
+        if let Some(table) = &mut self.table {
+            table.add_command::<W>(line, command)?;
+        }
+        Ok(())
+    }
+
+    /// Refuses a line that is in a table, and in no cell of it.
+    fn check_cell(&self, line: usize) -> Result<(), Refusal> {
+        match self.levels.table() {
+            Some(table) => Err(advice::in_no_cell(self.alloc, line, table)),
+            None => Ok(()),
+        }
+    }
+
+    /// Records a line.
+    fn record(&mut self, number: usize, statement: Statement) -> Result<(), Refusal> {
+        match statement {
+            Statement::Cell(cell) => self.record_cell(number, cell),
+            Statement::EndTable => self.record_end(number),
+            Statement::Command(Command::Row { collapse: false })
+                if self.levels.table().is_some() =>
+            {
+                self.levels.notes.take_cells();
+                self.add_step(number, Step::Row)
+            }
+            Statement::Command(command) => self.record_command(number, command),
+            Statement::Open(block) => self.record_block(number, block),
+            Statement::Close(by) => self.record_close(number, by),
+        }
+    }
+
+    /// A cell of a table opens.
+    fn record_cell(&mut self, number: usize, cell: TableCell) -> Result<(), Refusal> {
+        if self.levels.table().is_none() {
+            return Err(advice::in_no_table(self.alloc, number));
+        }
+        self.levels.notes.add_cell(number, 1, 1);
+        self.levels.enter(Opener::TableCell, number)?;
+        self.add_step(number, Step::Cell(cell))
+    }
+
+    /// A table ends. The outermost is drawn.
+    fn record_end(&mut self, number: usize) -> Result<(), Refusal> {
+        if self.levels.table().is_none() {
+            return Err(self.not_open("endtable", number));
+        }
+        self.check_no_cell(number)?;
+        let _ = self.levels.leave();
+        self.add_step(number, Step::EndTable)?;
+        if self.levels.has_table() {
+            return Ok(());
+        }
+        match self.table.take() {
+            Some(table) => self.draw(&table),
+            None => Ok(()),
+        }
+    }
+
+    /// Refuses where cells wait in the innermost level.
+    fn check_no_cell(&self, number: usize) -> Result<(), Refusal> {
+        match self.levels.notes.first_cell {
+            Some(_) => Err(self.cells_wait(number)),
+            None => Ok(()),
+        }
+    }
+
+    /// A command comes in a cell.
+    fn record_command(&mut self, number: usize, command: Command) -> Result<(), Refusal> {
+        self.check_cell(number)?;
+        if matches!(command, Command::Ask(Request::Text(_))) {
+            return self.add_command(number, command);
+        }
+        if self.levels.is_in_a_table_cell() && matches!(command, Command::EndCell) {
+            let _ = self.leave_recorded(number)?;
+            return self.add_step(number, Step::EndCell);
+        }
+        self.check_ends(number, &command)?;
+        if let Some(stretch) = Stretch::begun_by(&command) {
+            self.stretches.begin(stretch, number, self.levels.inside.len())?;
+        }
+        if let Some(stretch) = Stretch::ended_by(&command) {
+            self.stretches.end(stretch);
+        }
+        match command {
+            Command::Append(_) | Command::EndCell => {
+                let _ = self.leave_recorded(number)?;
+            }
+            _ => self.note_levels(number, &command)?,
+        }
+        self.add_command(number, command)
+    }
+
+    /// Refuses a command that ends what isn't open in the innermost level.
+    fn check_ends(&self, number: usize, command: &Command) -> Result<(), Refusal> {
+        let is_open = match (command, self.levels.innermost()) {
+            (Command::Append(_), Some(level)) => matches!(level.by, Opener::Sub),
+            (Command::EndCell, Some(level)) => matches!(level.by, Opener::Cell),
+            _ => match Stretch::ended_by(command) {
+                Some(stretch) => self.stretches.is_open_in(stretch, self.levels.inside.len()),
+                None => true,
+            },
+        };
+        if is_open {
+            Ok(())
+        } else {
+            Err(self.not_open(advice::word(command), number))
+        }
+    }
+
+    /// The innermost level closes, in which no cell may wait.
+    fn leave_recorded(&mut self, number: usize) -> Result<Option<Opener>, Refusal> {
+        self.check_no_cell(number)?;
+        let first = self.stretches.first_in(self.levels.inside.len());
+        self.stretches.end_from(first);
+        Ok(self.levels.leave())
+    }
+
+    /// A block with a prefix of the decorator opens in a cell.
+    fn record_block(&mut self, number: usize, block: Block) -> Result<(), Refusal> {
+        self.check_cell(number)?;
+        let Ok(prefix) = self.program.prefix(block.prefix()) else {
+            return Err(Refusal::OutOfMemory);
+        };
+        let columns = text_width::<W>(prefix.as_str())?;
+        let prefixes = block.prefixes::<W>(self.alloc, prefix)?;
+        if block.stands_apart() {
+            let start = Command::Ask(Request::Layout(Layout::StartBlock));
+            self.add_command(number, start)?;
+        }
+        self.levels.enter(Opener::Block(block, prefixes), number)?;
+        self.add_step(number, Step::Inside(columns))
+    }
+
+    /// It closes.
+    fn record_close(&mut self, number: usize, by: &'static str) -> Result<(), Refusal> {
+        if !self.levels.is_closed_by(by) {
+            return Err(self.not_open(by, number));
+        }
+        let Some(Opener::Block(block, prefixes)) = self.leave_recorded(number)? else {
+            return Err(self.not_open(by, number));
+        };
+        self.add_command(number, Command::Append(prefixes))?;
+        if block.stands_apart() {
+            let end = Command::Ask(Request::Layout(Layout::EndBlock));
+            self.add_command(number, end)?;
+        }
+        Ok(())
+    }
+
+    /// Draws a table that was recorded.
+    fn draw(&mut self, table: &TableScript<D>) -> Result<(), Refusal> {
+        let room = self.program.top().width();
+        let calls = table.draw(room)?;
+        for drawn in &calls {
+            let line = table.line(drawn.step);
+            match table.command_of(drawn.call) {
+                Some(command) => self.run(line, &command)?,
+                None => self.run_given(table, line, drawn.step)?,
+            }
+        }
+        Ok(())
+    }
+
+    /// Does what the command of a step asks for.
+    fn run_given(&mut self, table: &TableScript<D>, line: usize, step: usize) -> Result<(), Refusal> {
+        match table.given(step) {
+            Some(command) => self.run(line, command),
+            None => Ok(()),
         }
     }
 
@@ -115,6 +351,9 @@ impl<D: Headings, W: CharWidth> Session<D, W> {
             return Err(self.not_open("append", number));
         }
         self.note_texts(number, command);
+        if matches!(command, Command::Link(_)) {
+            self.links = self.links.saturating_add(1);
+        }
         self.note_losses_of(number, command)?;
         self.note_ends_of(command)?;
         self.command(number, command)?;
@@ -441,6 +680,19 @@ impl<D: Headings, W: CharWidth> Session<D, W> {
         Ok(())
     }
 
+    /// Ends the script, and a `table` at its end.
+    fn end_of_script(&mut self, number: usize) -> Result<(), Refusal> {
+        if let Some(line) = self.table_line.take() {
+            let start = Command::Ask(Request::Layout(Layout::StartTable));
+            if self.table.is_some() {
+                self.record_command(line, start)?;
+            } else {
+                self.run(line, &start)?;
+            }
+        }
+        self.end(number)
+    }
+
     /// The lines of the script, what was lost of it, and what else isn't shown as it says. The number is that of the
     /// line after the last.
     pub fn finish(
@@ -461,7 +713,7 @@ impl<D: Headings, W: CharWidth> Session<D, W> {
         ensures lost { IfOk result (λ r. model.TellsLoss (model.loses self.program) number
             self.levels.notes.spanning self.lost.items r.1.items) }
     {
-        self.end(number)?;
+        self.end_of_script(number)?;
         let Session {
             program,
             levels,
@@ -501,6 +753,14 @@ impl<D: Headings, W: CharWidth> Session<D, W> {
     fn too_narrow(&self, number: usize) -> Refusal {
         advice::too_narrow(self.alloc, number, self.levels.too_wide())
     }
+}
+
+/// Whether a statement is a `table`.
+fn is_start_of_table(statement: &Statement) -> bool {
+    matches!(
+        statement,
+        Statement::Command(Command::Ask(Request::Layout(Layout::StartTable)))
+    )
 }
 
 /// The columns of the prefix of a block, where they are known before it is made. `None` also where they pass `usize`.
