@@ -1,10 +1,16 @@
-"""Man pages and shell completions of both programs, from what blockview says of itself and from the text here.
+"""Man pages and shell completions of both programs, from what blockview says of itself and from the text here; and the
+man page of the command mailtext, from the parser of its command line.
 
 blockrender takes no arguments, so its page is written here, and nothing completes it.
 """
+import importlib
 import re
 import subprocess
+import sys
 from dataclasses import dataclass
+from pathlib import Path
+
+import kit
 
 OPTION = re.compile(r"^ +(?:-\w, )?--([\w-]+)(?: <(\w+)>)?(?: {2,}(.*))?$")
 VALUES = re.compile(r"\[possible values: ([^\]]+)\]")
@@ -73,10 +79,36 @@ def lay_out(share, program, version):
         write(share, shell, "blockrender", completion("blockrender", [], files=False))
 
 
+def mailtext(version):
+    """The man page of mailtext."""
+    sys.path.insert(0, str(Path(kit.TOP, "bindings", "python")))
+    parser = importlib.import_module("mailtext.command").parser()
+    usage = " ".join(parser.format_usage().removeprefix("usage: ").split())
+    # argparse has no other list of its options.
+    options = [option_of(it) for it in parser._actions if it.option_strings]  # pylint: disable=protected-access
+    told = Help(parser.description.removesuffix("."), usage, options, parser.epilog.removeprefix("status: ").strip())
+    return page("mailtext", version, f"{described(told)}.SH EXIT STATUS\n{roff(told.rest)}\n")
+
+
+def option_of(action):
+    """An option as argparse has it."""
+    names = [name.removeprefix("--") for name in action.option_strings if name.startswith("--")]
+    words = list(action.choices or [])
+    after = action.metavar or "|".join(words)
+    meaning = action.help[0].upper() + action.help[1:]
+    return Option(", --".join(names), after if isinstance(after, str) else " ".join(after), words, meaning)
+
+
 def write(share, kind, name, text):
+    path = share / path_of(kind, name)
+    path.parent.mkdir(parents=True, exist_ok=True)
+    path.write_text(text, encoding="utf-8")
+
+
+def path_of(kind, name):
+    """Where a page or a completion is, below the folder of both."""
     folder, form = FOLDERS[kind]
-    (share / folder).mkdir(parents=True, exist_ok=True)
-    (share / folder / form.format(name)).write_text(text, encoding="utf-8")
+    return Path(folder, form.format(name))
 
 
 def said(program, *words):
@@ -112,14 +144,19 @@ def page(name, version, body):
 
 
 def viewed(told):
-    """The page of a program as it says it itself."""
+    """The page of blockview."""
+    return f"{described(told)}.SH SCRIPTS\n.nf\n{roff(told.rest)}\n.fi\n.SH SEE ALSO\n.BR blockrender (1)\n"
+
+
+def described(told):
+    """The name of a program, how it is called, and its options."""
     name, _, usage = told.usage.partition(" ")
     body = f"\n.SH NAME\n{name} \\- {roff(told.about[0].lower() + told.about[1:])}\n"
     body += f".SH SYNOPSIS\n.B {name}\n{roff(usage)}\n.SH OPTIONS\n"
     for option in told.options:
         value = f" \\fI{option.value}\\fR" if option.value else ""
         body += f".TP\n\\fB\\-\\-{roff(option.name)}\\fR{value}\n{roff(option.meaning)}.\n"
-    return body + f".SH SCRIPTS\n.nf\n{roff(told.rest)}\n.fi\n.SH SEE ALSO\n.BR blockrender (1)\n"
+    return body
 
 
 def roff(text):

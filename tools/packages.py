@@ -18,6 +18,7 @@ from pathlib import Path
 
 import kit
 import library
+import manuals
 
 # What an archive has of the repository, and a Debian package of that.
 PAGES = ["README.md", "CHANGELOG.md", "SECURITY.md", "docs", "bench/README.md"]
@@ -108,6 +109,8 @@ def wheel(release, tree, room):
     info = f"{library.NAME}-{release.version}.dist-info"
     files = {str(it.relative_to(PYTHON)): it.read_bytes() for it in python_files()}
     files[f"{library.NAME}/lib{library.NAME}.so"] = code
+    manual = Path("share", manuals.path_of("man", "mailtext"))
+    files[f"{info.removesuffix('.dist-info')}.data/data/{manual}"] = manuals.mailtext(release.version).encode()
     files[f"{info}/licenses/LICENSE"] = Path(kit.TOP, "LICENSE").read_bytes()
     files[f"{info}/entry_points.txt"] = entry_points(project).encode()
     files[f"{info}/METADATA"] = metadata(release, project).encode()
@@ -180,6 +183,7 @@ def debian(release, tree, room):
     library.describe(usr, MULTIARCH, release.version.removeprefix(library.version()))
     (usr / "share" / "zsh" / "site-functions").rename(usr / "share" / "zsh" / "vendor-completions")
     python_packages(usr)
+    manuals.write(usr / "share", "man", "mailtext", manuals.mailtext(release.version))
     documents(release, usr / "share" / "doc" / PACKAGE)
     for page in sorted((usr / "share" / "man").rglob("*.1")):
         zip_file(page)

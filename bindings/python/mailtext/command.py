@@ -10,10 +10,10 @@ from typing import NoReturn
 from . import __version__
 from .options import FORMATS, LINKS, MOST_COLUMNS, Options
 
-ABOUT = "Shows mails, HTML alone too, as text: headings, lists, quotes, tables, and the targets of links."
+ABOUT = "Shows mails or HTML as text: headings, lists, quotes, tables, and the targets of links."
 STATUSES = """\
 status: 0 all was shown; 1 memory is refused, or a mail of an archive wasn't read; 2 the command line is wrong;
-3 a file can't be read, or standard output can't be written. Of several files it is the greatest.
+3 a file can't be read, or standard output can't be written. Of several files the greatest status counts.
 """
 # Statuses, as blockview has them.
 REFUSED, UNREADABLE = 1, 3
@@ -41,20 +41,20 @@ def run(words: list[str]) -> int:
 def parser() -> argparse.ArgumentParser:
     """What the words of the command mean."""
     made = argparse.ArgumentParser("mailtext", description=ABOUT, epilog=STATUSES, formatter_class=Help)
-    made.add_argument("files", nargs="*", metavar="FILE", help="mails or HTML; standard input for `-` or for none")
-    made.add_argument("--html", action="store_true", help="they are HTML, whatever is in them")
-    made.add_argument("--charset", metavar="NAME", help="that of HTML alone, as a mail reader knows it")
+    made.add_argument("files", nargs="*", metavar="FILE", help="mails or HTML; `-`, or no FILE, is standard input")
+    made.add_argument("--html", action="store_true", help="read each FILE as HTML, whatever it begins with")
+    made.add_argument("--charset", metavar="NAME", help="the charset of HTML, where a mail reader knows it")
     made.add_argument("--width", type=columns, default=72, metavar="N", help="the columns of a line (72)")
-    made.add_argument("--format", choices=FORMATS, default="text", help="of what is written (text)")
-    made.add_argument("--links", choices=LINKS, default="cut", help="how their targets are told (cut)")
-    made.add_argument("--headers", action=argparse.BooleanOptionalAction, help="all headers of a mail, or none")
+    made.add_argument("--format", choices=FORMATS, default="text", help="how the text is written (text)")
+    made.add_argument("--links", choices=LINKS, default="cut", help="how the targets of links are shown (cut)")
+    made.add_argument("--headers", action=argparse.BooleanOptionalAction, help="show all headers of a mail, or none")
     made.add_argument("--version", action="version", version=f"mailtext {__version__}")
     archive = made.add_argument_group("archives")
     archive.add_argument(
-        "--archive", nargs=2, metavar=("MAILBOX", "OUT"), help="each mail of an mbox or a maildir as a text"
+        "--archive", nargs=2, metavar=("MAILBOX", "OUT"), help="write each mail of an mbox or a maildir as a text"
     )
-    archive.add_argument("--workers", type=workers, metavar="N", help="how many processes read mails (one a core)")
-    archive.add_argument("--cluster", metavar="ADDRESS", help="the scheduler of Dask whose workers read them")
+    archive.add_argument("--workers", type=workers, metavar="N", help="how many processes read mails (one per core)")
+    archive.add_argument("--cluster", metavar="ADDRESS", help="the scheduler of Dask whose workers read the mails")
     return made
 
 
