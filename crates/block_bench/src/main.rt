@@ -22,7 +22,7 @@ enum Kind {
     Tags,
     /// Each character by itself, after a marker.
     Markers,
-    /// At once, preformatted under the tag 1, and 2 where a line goes on.
+    /// All at once, preformatted under the tag 1, and under 2 after a full line.
     Pre,
     /// Each character by itself, with its white space kept, in one column that may overflow. An `m` is a marker.
     Narrow,

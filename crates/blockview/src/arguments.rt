@@ -73,7 +73,7 @@ Exit status: 0 all was shown; 1 a text is too narrow, or memory is refused; 2 a
 script or the command line is wrong; 3 a file isn't read, or the output isn't
 written. Of several files it is the greatest.";
 
-/// The command line, but for its words.
+/// The command line, except for its words.
 pub fn command<'a>(alloc: Global) -> Result<Command<'a>, Error> {
     let files = Arg::new(alloc, "FILE")
         .help("Scripts, each shown by itself; standard input for `-` or for none")

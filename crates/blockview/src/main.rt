@@ -110,14 +110,14 @@ fn tell_unread(rt: &HostRuntime, file: &str, e: &io::Error) -> u8 {
     FAILED
 }
 
-/// Says what isn't shown of a file as it says.
+/// Reports what isn't shown of a file as its script says.
 fn tell_warnings(rt: &HostRuntime, file: &str, script: &[u8], shown: &Shown) {
     for problem in shown.lost.iter().chain(shown.warnings.iter()) {
         tell(rt, file, script, problem);
     }
 }
 
-/// The status after something was written, or wasn't, which it says.
+/// The status after something was written. If it couldn't be written, that is reported.
 fn status_written(rt: &HostRuntime, written: io::Result<()>) -> u8 {
     match written {
         Ok(()) => 0,

@@ -38,7 +38,7 @@ impl Output {
         write(rt, self.after())
     }
 
-    /// What is before the next text: the beginning of a document, if it is the first and there is one.
+    /// What comes before the next text: the beginning of a document, if this text is its first.
     fn before(&self) -> &'static str
         ensures { result.now ≡ model.before self.now }
     {
@@ -48,7 +48,7 @@ impl Output {
         }
     }
 
-    /// What is after all texts: the end of the document that was begun, and nothing where no text was written.
+    /// What comes after all texts: the end of the document, or nothing if no text was written.
     fn after(&self) -> &'static str
         ensures { result.now ≡ model.after self.now }
     {

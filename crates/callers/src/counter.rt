@@ -18,7 +18,7 @@ use text_block_renderer::{CellAlign, Colour, Error, Renderer, WhiteSpace, text};
 /// Counts the characters of what comes to it: of texts, of titles of images, and of the lines of other counters. So the
 /// code that fills a renderer tells how long a document is before anything is laid out.
 ///
-/// It refuses with `OutOfMemory` alone, where a count passes `usize`.
+/// Its only refusal is `OutOfMemory`, where a count passes `usize`.
 #[derive(Drop)]
 pub struct Counter {
     alloc: Global,
@@ -42,7 +42,7 @@ impl Model for Counter {
 }
 
 impl Counter {
-    /// A counter of so many columns that has counted nothing. It takes no memory.
+    /// A counter of this many columns that has counted nothing. It takes no memory.
     pub fn new(alloc: Global, width: usize) -> Counter
         ensures { result ≡ nothing_counted width }
     {
@@ -82,7 +82,7 @@ impl Counter {
         Err(Error::OutOfMemory)
     }
 
-    /// Counts so many characters.
+    /// Counts this many characters.
     fn count(&mut self, more: usize) -> Result<(), Error>
         ensures ok { OnOk result ((self.old.failed ≡ false) × (self.new ≡ with_more more self.old)) }
         ensures err { IfErr result (λ e. (e ≡ OutOfMemory) × (self.new ≡ record self.old { failed = true })) }
@@ -104,7 +104,7 @@ impl Counter {
         self.count(text.chars().count())
     }
 
-    /// Counts what another one has counted, whose refusal is passed on.
+    /// Counts what another counter has counted, and passes on its refusal.
     fn take(&mut self, other: Counter) -> Result<(), Error>
         ensures ok { OnOk result ((self.old.failed ≡ false) × (other.failed ≡ false)
             × (self.new ≡ with_more other.characters self.old)) }

@@ -1,4 +1,4 @@
-//! Markers that wait after the lines of one block go on into another.
+//! Markers that wait after the lines of one block are handed on to another.
 ghost use Rattle.std.specs.Prelude.{◌≡◌, OnOk, map};
 ghost use Rattle.tbr_model.specs.Run.{marker_entry};
 ghost use Rattle.tbr_model.specs.Rule.{entry};

@@ -9,8 +9,8 @@ ghost use Rattle.tbr_wrap.specs.Wrapped.{ShowsText};
 use std::alloc::Global;
 use tbr_lines::{CharWidth, Error, TaggedLine, WrappedBlock};
 
-/// All lines of a block: those that have ended, taken one by one, and then those that the end of its run adds. They are
-/// what `into_lines` alone gives.
+/// All lines of a block: those that have ended, taken one by one, and then those that the end of its run adds. These
+/// are the lines that `into_lines` gives.
 pub fn line_by_line<T: Eq + Clone + Drop, W: CharWidth>(
     alloc: Global,
     mut block: WrappedBlock<T, W>,

@@ -11,7 +11,7 @@ use std::alloc::Global;
 use tbr_decor::{Colour, TextDecorator, text, usual};
 use tbr_lines::{OutOfMemory, TaggedLine};
 
-/// Annotates a link with its number, and all else with 0.
+/// Annotates a link with its number, and everything else with 0.
 #[derive(Clone, Drop)]
 pub struct NumberDecorator {
     /// How many links have begun.

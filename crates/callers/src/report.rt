@@ -32,7 +32,7 @@ fn add_row(alloc: Global, report: &mut SubRenderer<TrivialDecorator>) -> Result<
     report.append_columns_aligned(row, &[CellAlign::Left, CellAlign::Right], false)
 }
 
-/// A cell of so many columns with a text.
+/// A cell of this many columns with a text.
 fn cell(
     report: &SubRenderer<TrivialDecorator>,
     width: usize,

@@ -1,4 +1,4 @@
-//! Stars round emphasised text, and nothing else of its own.
+//! Stars around emphasised text, and no other text of its own.
 ghost use Rattle.std.specs.Prelude.{None, true, false, [], codes, refl};
 ghost use Rattle.std.proofs.Common.{rules};
 ghost use Rattle.tbr_decor.specs.Start as start;

@@ -1,4 +1,4 @@
-//! Two texts under tags of their own.
+//! Two texts, each under a tag of its own.
 use std::alloc::Global;
 use tbr_lines::{Error, WhiteSpace, WrappedBlock};
 

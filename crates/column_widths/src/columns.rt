@@ -52,7 +52,7 @@ impl Model for Columns {
 }
 
 impl Columns {
-    /// So many columns without cells, with a line of `line` columns of text between two of them: 1, or 0 where there
+    /// This many columns without cells, with a line of `line` columns of text between two of them: 1, or 0 where there
     /// are no lines. It takes no memory.
     pub fn new(alloc: Global, count: usize, line: usize) -> Columns
         ensures { result ≡ record { columns = count; line = line; cells = [] } }
@@ -71,14 +71,14 @@ impl Columns {
         self.count
     }
 
-    /// Whether a cell spans at least one column, and only columns that there are.
+    /// Whether a cell spans at least one column, and only columns that exist.
     pub fn can_hold(&self, cell: CellNeed) -> bool
         ensures { IsTrue result ↔ IsWithin self.now.columns cell }
     {
         cell.span >= 1 && cell.span <= self.count && cell.column <= self.count - cell.span
     }
 
-    /// Adds a cell. `can_hold` tells whether it may be added. Where memory runs out, nothing changes.
+    /// Adds a cell. `can_hold` tells whether it may be added. If memory runs out, nothing changes.
     pub fn need(&mut self, cell: CellNeed) -> Result<(), AllocError>
         requires { IsWithin self.old.columns cell }
         ensures ok { OnOk result (self.new ≡ record self.old { cells = self.old.cells ++ cell ∷ [] }) }
@@ -88,7 +88,7 @@ impl Columns {
         Ok(())
     }
 
-    /// There are so many columns, if these are more than before. No cell spans the new ones yet.
+    /// Adds columns until there are this many. No cell spans the new ones yet.
     pub fn widen(&mut self, count: usize)
         ensures { self.new ≡ record self.old { columns = max self.old.columns count } }
     {
@@ -110,8 +110,8 @@ impl Columns {
         Ok(room_of(lines, &needs))
     }
 
-    /// A width for each column in so much room, lines between columns included, or `None` where the least widths don't
-    /// fit. The time grows with the cells, with the columns that they span, and with the square of the columns.
+    /// A width for each column in this much room, lines between columns included, or `None` where the least widths
+    /// don't fit. The time grows with the cells, with the columns that they span, and with the square of the columns.
     ///
     /// It refuses only where memory runs out.
     pub fn widths(&self, room: usize) -> Result<Option<Vec<usize>>, AllocError>
@@ -136,7 +136,7 @@ impl Columns {
         Ok(needs)
     }
 
-    /// What is left of so much room beside the lines, or `None` where they don't fit.
+    /// What is left of this much room beside the lines, or `None` where they don't fit.
     fn room_beside_lines(&self, room: usize) -> Option<usize>
         ensures { SomeIff result (lines_of self.now ≤ room) (room - lines_of self.now) }
     {
@@ -152,7 +152,7 @@ impl Columns {
     }
 }
 
-/// Whether a cell is of those that span one column, or else of the others.
+/// Whether a cell spans one column, if those are asked for, or several, if the others are.
 fn is_of(alone: bool, cell: CellNeed) -> bool
     ensures { result ≡ is_of alone cell }
 {

@@ -13,8 +13,8 @@ pub fn least_widths_decide()
     ensures { (t : Table) (room : ℕ) → (widths t room ≡ None) ↔ (room < room_of Least t) }
 {}
 
-/// The widths and the lines take the room to its last column of text, or, in more room than the columns can use, just
-/// that.
+/// The widths and the lines take the whole room, or, if there is more room than the columns can use, just what they can
+/// use.
 pub fn widths_take_the_room()
     ensures all { (t : Table) (room : ℕ) (ws : List ℕ) →
         widths t room ≡ Some ws → room ≤ room_of Greatest t → sum ws + lines_of t ≡ room }
@@ -41,7 +41,7 @@ pub fn widest_lines_fit()
         widths t room ≡ Some ws → room_of Greatest t ≤ room → All (HasRoom Greatest t.line ws) t.cells }
 {}
 
-/// A column that needs more at most, and no less at least, is at least as wide.
+/// If a column needs more at most than another, and no less at least, it is at least as wide.
 pub fn wider_needs_get_no_less()
     ensures { (t : Table) (room : ℕ) (ws : List ℕ) (i j : ℕ) → widths t room ≡ Some ws →
         i < t.columns → j < t.columns →

@@ -25,14 +25,14 @@ fn total(bound: Bound, needs: &[Need]) -> u128
     total
 }
 
-/// What a number and one of the code are together, or `None` where they pass `usize`.
+/// The sum of a number and one of the code, or `None` where it passes `usize`.
 fn sum(lines: usize, total: u128) -> Option<usize>
     ensures { result ≡ held lines total }
 {
     lines.checked_add(usize::try_from(total).ok()?)
 }
 
-/// The room that columns with these needs and so many columns of lines take, or `None` where it passes `usize`.
+/// The room that columns with these needs and this many columns of lines take, or `None` where it passes `usize`.
 pub fn room_of(lines: usize, needs: &[Need]) -> Option<Room>
     ensures { result ≡ room_beside lines needs.now }
 {

@@ -1,4 +1,4 @@
-//! The widths of columns in so much room.
+//! The widths of columns in this much room.
 ghost use Rattle.std.specs.Prelude.{◌≡◌, ◌+◌, ◌-◌, ◌*◌, ◌^◌, ◌<◌, ◌≤◌, min, map, sum_by, if◌then◌else◌, option_map, SomeIff, IfOk};
 ghost use Rattle.std.specs.List.{enumerate_from};
 ghost use Rattle.column_widths.specs.Needs.{width_of};
@@ -8,7 +8,7 @@ ghost use Rattle.column_widths.specs.declared.need.Bound.TheVariants.{Greatest};
 use crate::need::{Bound, Need};
 use std::alloc::{AllocError, Global};
 
-/// What is left of so much room beside one of the two widths of each column, or `None` where they don't fit.
+/// What is left of this much room beside one of the two widths of each column, or `None` where they don't fit.
 fn left_of(room: usize, bound: Bound, columns: &[Need]) -> Option<usize>
     ensures { SomeIff result (sum_by (width_of bound) columns.now ≤ room)
         (room - sum_by (width_of bound) columns.now) }
@@ -91,7 +91,7 @@ fn rank(place: usize, need: Need, columns: &[Need]) -> usize
     before
 }
 
-/// 1 where a column gets one of the `left` that are left over after the shares, else 0.
+/// 1 if a column gets one of the `left` columns that are left over after the shares, and otherwise 0.
 fn one_more(left: usize, columns: &[Need], place: usize, need: Need) -> usize
     ensures value { result ≡ (if gets_one left (enumerate_from 0 columns.now) (place, need) then 1 else 0) }
     ensures within { result ≤ min 1 (slack need) }
@@ -128,7 +128,7 @@ fn shared(alloc: Global, extra: usize, columns: &[Need]) -> Result<Vec<usize>, A
     Ok(widths)
 }
 
-/// The widths in so much room beside the lines, or `None` where the least widths don't fit.
+/// The widths in this much room beside the lines, or `None` where the least widths don't fit.
 #[tactic(auto, using(crate::proofs::Shares::greatest_within))]
 pub fn widths_beside_lines(
     alloc: Global,

@@ -6,7 +6,7 @@ use std::process::Abort;
 /// A cell by its first column, how many it spans, its longest word and its widest line.
 type Cell = (usize, usize, usize, usize);
 
-/// The widths of so many columns with lines between them and these cells. A cell that can't be added is left out.
+/// The widths of this many columns with lines between them and these cells. A cell that can't be added is left out.
 fn widths_of(
     alloc: Global,
     count: usize,

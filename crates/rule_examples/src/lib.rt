@@ -1,3 +1,3 @@
-//! Worked examples of blocks, tables and scripts: what small texts become, each as a lemma that the definitions
+//! Worked examples of blocks, tables and scripts: what becomes of small texts, each as a lemma that the definitions
 //! compute.
 #![tactic(auto)]

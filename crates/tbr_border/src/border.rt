@@ -88,7 +88,7 @@ impl<T: Drop> BorderHoriz<T> {
 impl<T> BorderHoriz<T> {
     /// Appends cells `─` up to `width` cells.
     ///
-    /// Where memory is refused the border stays as it was. A border that is as long already takes none.
+    /// If memory is refused, the border stays as it was. A border that is as long already takes none.
     pub fn stretch_to(&mut self, width: usize) -> Result<(), OutOfMemory>
         ensures ok { OnOk result (self.new ≡ model.with_cells (model.stretched width self.old.cells) self.old) }
         ensures err { OnErr result (self.new ≡ self.old) }
@@ -99,8 +99,8 @@ impl<T> BorderHoriz<T> {
 
     /// Stretches the border to `x + 1` cells, and adds the arm up to the cell at `x`.
     ///
-    /// Where memory is refused, or `x + 1` passes `usize`, the border stays as it was. A border that has the cell takes
-    /// no memory.
+    /// If memory is refused, or `x + 1` passes `usize`, the border stays as it was. A border that has the cell takes no
+    /// memory.
     pub fn join_above(&mut self, x: usize) -> Result<(), OutOfMemory>
         ensures ok { OnOk result (self.new ≡ model.with_cells (model.joined_at above x self.old.cells) self.old) }
         ensures err { OnErr result (self.new ≡ self.old) }
@@ -111,8 +111,8 @@ impl<T> BorderHoriz<T> {
 
     /// Stretches the border to `x + 1` cells, and adds the arm down to the cell at `x`.
     ///
-    /// Where memory is refused, or `x + 1` passes `usize`, the border stays as it was. A border that has the cell takes
-    /// no memory.
+    /// If memory is refused, or `x + 1` passes `usize`, the border stays as it was. A border that has the cell takes no
+    /// memory.
     pub fn join_below(&mut self, x: usize) -> Result<(), OutOfMemory>
         ensures ok { OnOk result (self.new ≡ model.with_cells (model.joined_at below x self.old.cells) self.old) }
         ensures err { OnErr result (self.new ≡ self.old) }
@@ -121,11 +121,11 @@ impl<T> BorderHoriz<T> {
         join_at(&mut self.shape.segments, Side::Below, x)
     }
 
-    /// Merges a border that is below. It adds an arm down at `pos + i` for each place `i` where the other has one of
-    /// `┴ ┬ ┼ └ ┘`, also under its holes. This border is stretched as far as joins come.
+    /// Merges a border that is below. It adds an arm down at `pos + i` for each place `i` where the other has one of `┴
+    /// ┬ ┼ └ ┘`, also under its holes. This border is stretched as far as joins come.
     ///
-    /// Where memory is refused, or a place passes `usize`, the border stays as it was. A border that reaches the last
-    /// join takes no memory.
+    /// If memory is refused, or a place passes `usize`, the border stays as it was. A border that reaches the last join
+    /// takes no memory.
     pub fn merge_from_below(
         &mut self,
         other: &BorderHoriz<T>,
@@ -144,11 +144,11 @@ impl<T> BorderHoriz<T> {
         )
     }
 
-    /// Merges a border that is above. It adds an arm up at `pos + i` for each place `i` where the other has one of
-    /// `┴ ┬ ┼ ┌ ┐`, also under its holes. This border is stretched as far as joins come.
+    /// Merges a border that is above. It adds an arm up at `pos + i` for each place `i` where the other has one of `┴ ┬
+    /// ┼ ┌ ┐`, also under its holes. This border is stretched as far as joins come.
     ///
-    /// Where memory is refused, or a place passes `usize`, the border stays as it was. A border that reaches the last
-    /// join takes no memory.
+    /// If memory is refused, or a place passes `usize`, the border stays as it was. A border that reaches the last join
+    /// takes no memory.
     pub fn merge_from_above(
         &mut self,
         other: &BorderHoriz<T>,
@@ -171,7 +171,7 @@ impl<T> BorderHoriz<T> {
     /// least [`span_end`](BorderHoriz::span_end). The border is stretched to the element's end, and the cells beside it
     /// are chopped on the side to it. A marker takes no column.
     ///
-    /// Where memory is refused, or the element's columns or its end pass `usize`, the border stays as it was and the
+    /// If memory is refused, or the element's columns or its end pass `usize`, the border stays as it was and the
     /// element is dropped.
     pub fn add_text_span<W: CharWidth>(
         &mut self,
@@ -247,7 +247,7 @@ impl<T> BorderHoriz<T> {
     }
 }
 
-/// Appends cells `─` up to `width` cells. Where memory is refused nothing changes.
+/// Appends cells `─` up to `width` cells. If memory is refused, nothing changes.
 fn stretch(segments: &mut Vec<BorderSegHoriz>, width: usize) -> Result<(), OutOfMemory>
     ensures ok { OnOk result (cells_of segments.new.items ≡ model.stretched width (cells_of segments.old.items)) }
     ensures len { OnOk result (width ≤ length segments.new.items) }
@@ -261,7 +261,7 @@ fn stretch(segments: &mut Vec<BorderSegHoriz>, width: usize) -> Result<(), OutOf
     Ok(())
 }
 
-/// Stretches to `x + 1` cells, and adds an arm to the cell at `x`. Where memory is refused, or `x + 1` passes `usize`,
+/// Stretches to `x + 1` cells, and adds an arm to the cell at `x`. If memory is refused, or `x + 1` passes `usize`,
 /// nothing changes.
 fn join_at(segments: &mut Vec<BorderSegHoriz>, side: Side, x: usize) -> Result<(), OutOfMemory>
     ensures ok { OnOk result
@@ -278,7 +278,7 @@ fn join_at(segments: &mut Vec<BorderSegHoriz>, side: Side, x: usize) -> Result<(
     Ok(())
 }
 
-/// Adds an arm at `pos + i` for each place `i` where the other cells join, and stretches as far as these come. Where
+/// Adds an arm at `pos + i` for each place `i` where the other cells join, and stretches as far as these come. If
 /// memory is refused, or a place passes `usize`, nothing changes.
 fn merge(
     segments: &mut Vec<BorderSegHoriz>,
@@ -374,7 +374,7 @@ impl<T> BorderHoriz<T> {
         Ok(text)
     }
 
-    /// Appends the border's text to `text`. Where memory is refused, part of it may have been appended.
+    /// Appends the border's text to `text`. If memory is refused, part of it may have been appended.
     pub fn append_to(&self, text: &mut String) -> Result<(), OutOfMemory>
         ensures { OnOk result
             (chars_of text.new ≡ chars_of text.old ++ item_characters (shown self.now.tag self.now)) }
@@ -392,8 +392,8 @@ impl<T> BorderHoriz<T> {
 }
 
 impl<T: Drop> BorderHoriz<T> {
-    /// The same cells and elements, under the tags that `f` makes of theirs. It asks that `f` may be called on every
-    /// tag. It refuses where `f` does, and where memory is refused; the border is dropped.
+    /// A border of these cells and elements, under the tags that `f` makes of theirs. It asks that `f` may be called on
+    /// every tag. It refuses where `f` does, and where memory is refused; the border is dropped.
     #[tactic(auto, using(crate::proofs::HolesInOrder::mapped_order))]
     pub fn try_map_tag<U: Drop, F: Fn(T) -> Result<U, OutOfMemory>>(
         self,
@@ -421,7 +421,7 @@ impl<T: Drop> BorderHoriz<T> {
     }
 }
 
-/// The same holes, whose pieces are under the tags that `f` makes of theirs.
+/// These holes, with pieces under the tags that `f` makes of theirs.
 fn mapped_holes<T: Drop, U: Drop, F: Fn(T) -> Result<U, OutOfMemory>>(
     holes: Vec<Span<T>>,
     f: &F,
@@ -441,7 +441,7 @@ fn mapped_holes<T: Drop, U: Drop, F: Fn(T) -> Result<U, OutOfMemory>>(
     Ok(mapped)
 }
 
-/// The same element. A piece is under the tag that `f` makes of its own.
+/// This element. If it is a piece, it is under the tag that `f` makes of its own.
 fn mapped_element<T: Drop, U: Drop, F: Fn(T) -> Result<U, OutOfMemory>>(
     element: TaggedLineElement<T>,
     f: &F,
@@ -490,7 +490,7 @@ impl<T: Eq + Clone + Drop> BorderHoriz<T> {
         flattened(&segments, holes, tag)
     }
 
-    /// The same cells and holes under copies of their tags. It refuses only where memory is refused.
+    /// A border of these cells and holes, under copies of their tags. It refuses only where memory is refused.
     pub fn clone(&self) -> Result<BorderHoriz<T>, OutOfMemory>
         requires { CopiesAreEqual T.is_clone T.eq }
         ensures { IfOk result (λ b. SameBorder T.eq b self.now) }
@@ -511,7 +511,7 @@ impl<T: Eq + Clone + Drop> BorderHoriz<T> {
     }
 }
 
-/// The same holes, whose pieces are under copies of their tags.
+/// These holes, with pieces under copies of their tags.
 fn copied<T: Eq + Clone + Drop>(
     alloc: Global,
     holes: &[Span<T>],

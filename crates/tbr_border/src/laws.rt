@@ -5,7 +5,7 @@ ghost use Rattle.tbr_border.specs.Border.{joined_at, stretched};
 
 use crate::border::BorderSegHoriz;
 
-/// Joining twice is joining once, in a cell and at a place of a border.
+/// To join twice is to join once, in a cell and at a place of a border.
 pub fn joins_are_idempotent()
     ensures cell { (side : Side) (c : Cell) → joined side (joined side c) ≡ joined side c }
     ensures border { (side : Side) (x : ℕ) (cells : List Cell) →
@@ -19,7 +19,7 @@ pub fn joins_commute()
         joined_at side x (joined_at other y cells) ≡ joined_at other y (joined_at side x cells) }
 {}
 
-/// Chopping one side twice is chopping it once.
+/// To chop one side twice is to chop it once.
 pub fn chops_are_idempotent()
     ensures left { (c : Cell) → chopped_left (chopped_left c) ≡ chopped_left c }
     ensures right { (c : Cell) → chopped_right (chopped_right c) ≡ chopped_right c }

@@ -30,7 +30,7 @@ impl<T> RenderLine<T> {
         }
     }
 
-    /// Appends the line's text to `text`. Where memory is refused, part of it may have been appended.
+    /// Appends the line's text to `text`. If memory is refused, part of it may have been appended.
     pub fn append_to(&self, text: &mut String) -> Result<(), OutOfMemory>
         ensures { OnOk result (chars_of text.new ≡ chars_of text.old ++ item_characters (model.line_items self.now)) }
     {
@@ -79,7 +79,7 @@ impl<T: Eq + Clone + Drop> RenderLine<T> {
         }
     }
 
-    /// The same line, its pieces and cells under copies of their tags. It refuses only where memory is refused.
+    /// A copy of the line, with pieces and cells under copies of their tags. It refuses only where memory is refused.
     pub fn clone(&self) -> Result<RenderLine<T>, OutOfMemory>
         requires { CopiesAreEqual T.is_clone T.eq }
         ensures { IfOk result (λ line. model.SameLine T.eq line self.now) }

@@ -1,5 +1,5 @@
-//! A script as a whole, for programs in C. `text_block_renderer.c` calls what is exported here, and
-//! `text_block_renderer.h` says what it does.
+//! Whole scripts, for programs in C. `text_block_renderer.c` calls what is exported here, and `text_block_renderer.h`
+//! says what it does.
 #![tactic(auto)]
 
 mod script;

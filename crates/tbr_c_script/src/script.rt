@@ -1,4 +1,4 @@
-//! A script as a whole.
+//! Whole scripts.
 ghost use Rattle.std.specs.Prelude.{◌≡◌, ◌≢◌, ℕ, List, length, take, Ok};
 ghost use Rattle.tbr_tagged.specs.UnicodeColumns.{unicode_columns};
 ghost use Rattle.tbr_runner.specs.Safe.{shown};
@@ -40,7 +40,7 @@ pub extern "C" fn tbr1_render(alloc: Global, script: &[u8], raw: bool, out: &mut
     }
 }
 
-/// What is answered where a script is refused. No stream fails, since there is none.
+/// What is answered if a script is refused. No stream fails, since there is none.
 fn refused(e: RunError) -> Answer
     ensures { result.status ≢ 0 }
 {

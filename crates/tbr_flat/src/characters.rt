@@ -96,14 +96,14 @@ impl<T> Characters<T> {
         let _ = &self.tags;
     }
 
-    /// Makes room ahead of time for placed characters of so many more bytes, if there is memory for them.
+    /// Makes room ahead of time for placed characters of this many more bytes, if there is memory for them.
     pub fn make_room(&mut self, bytes: usize)
         ensures { self.new ≡ self.old }
     {
         self.placed.make_room(bytes);
     }
 
-    /// Places the word. It takes the time of moving its text. Where memory is refused the characters stay as they were.
+    /// Places the word. It takes the time of moving its text. If memory is refused, the characters stay as they were.
     pub fn place_word(&mut self) -> Result<(), OutOfMemory>
         ensures ok { OnOk result (self.new ≡ record { placed = self.old.placed ++ self.old.word; word = [] }) }
         ensures err { OnErr result (self.new ≡ self.old) }
@@ -122,7 +122,7 @@ impl<T> Characters<T> {
     /// Places the characters that the word begins with, at most `most`, while they fit into `room` columns. It answers
     /// how many they are, and their columns.
     ///
-    /// Where memory is refused the characters stay as they were.
+    /// If memory is refused, the characters stay as they were.
     pub fn place_fitting<W: CharWidth>(
         &mut self,
         most: usize,
@@ -144,7 +144,7 @@ impl<T> Characters<T> {
 }
 
 impl<T: Drop> Characters<T> {
-    /// Takes the spaces away at the end of the last `last` placed characters, and answers how many they were. It takes
+    /// Takes away the spaces at the end of the last `last` placed characters, and answers how many they were. It takes
     /// the time of going over the word's stored tags.
     pub fn trim_placed(&mut self, last: usize) -> usize
         requires { last ≤ length self.old.placed }
@@ -158,7 +158,7 @@ impl<T: Drop> Characters<T> {
         spaces
     }
 
-    /// Takes the white space away at the beginning of the word's first `first` characters, and answers how many these
+    /// Takes away the white space at the beginning of the word's first `first` characters, and answers how many these
     /// were. It takes the time of going over the word's stored tags.
     pub fn trim_word(&mut self, first: usize) -> usize
         requires { first ≤ length self.old.word }
@@ -177,7 +177,7 @@ impl<T: Drop> Characters<T> {
 impl<T: Eq + Clone + Drop> Characters<T> {
     /// Adds a character to the word. The tag is copied only where the one before isn't equal to it.
     ///
-    /// Where memory is refused the characters may be lost.
+    /// If memory is refused, the characters may be lost.
     pub fn push(&mut self, c: char, tag: &T) -> Result<(), OutOfMemory>
         requires { CopiesAreEqual T.is_clone T.eq }
         ensures { OnOk result ((a : T) × (T.eq a tag.now ≡ true)
@@ -193,7 +193,7 @@ impl<T: Eq + Clone + Drop> Characters<T> {
 
     /// Adds a text of `count` characters to the word. The tag is copied only where the one before isn't equal to it.
     ///
-    /// Where memory is refused the characters may be lost.
+    /// If memory is refused, the characters may be lost.
     pub fn push_text(&mut self, text: &str, count: usize, tag: &T) -> Result<(), OutOfMemory>
         requires faithful { CopiesAreEqual T.is_clone T.eq }
         requires some { 0 < count }
@@ -212,7 +212,7 @@ impl<T: Eq + Clone + Drop> Characters<T> {
     /// Places a text of `count` characters, where the word has none. The tag is copied only where the one before isn't
     /// equal to it.
     ///
-    /// Where memory is refused the characters may be lost.
+    /// If memory is refused, the characters may be lost.
     pub fn place_text(&mut self, text: &str, count: usize, tag: &T) -> Result<(), OutOfMemory>
         requires faithful { CopiesAreEqual T.is_clone T.eq }
         requires none { self.old.word ≡ [] }
@@ -232,7 +232,7 @@ impl<T: Eq + Clone + Drop> Characters<T> {
     /// Places `count` spaces before the word. It takes the time of going over the word's stored tags.
     ///
     /// Where the spaces part characters under one stored tag, that is copied, and the word's first characters are under
-    /// the copy. Where memory is refused the characters may be lost.
+    /// the copy. If memory is refused, the characters may be lost.
     pub fn push_spaces(&mut self, count: usize, tag: T) -> Result<(), OutOfMemory>
         requires faithful { CopiesAreEqual T.is_clone T.eq }
         requires some { 0 < count }
@@ -254,7 +254,7 @@ impl<T: Eq + Clone + Drop> Characters<T> {
     /// Moves the first placed characters, at most `most` and all under one tag, to the end of a line, and answers how
     /// many they are.
     ///
-    /// Where memory is refused the characters may be lost.
+    /// If memory is refused, the characters may be lost.
     pub fn move_piece(
         &mut self,
         most: usize,
@@ -284,7 +284,7 @@ impl<T: Drop> Characters<T> {
     /// Moves the text of the first placed characters, at most `most` and all under one tag, to the end of another, and
     /// answers how many they are.
     ///
-    /// Where memory is refused the characters may be lost.
+    /// If memory is refused, the characters may be lost.
     pub fn move_text(&mut self, most: usize, text: &mut String) -> Result<usize, OutOfMemory>
         requires some { 0 < most }
         requires placed { most ≤ length self.old.placed }

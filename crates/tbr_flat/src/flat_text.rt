@@ -129,14 +129,14 @@ impl<T> FlatText<T> {
         Some(W::width(c).unwrap_or(0))
     }
 
-    /// Makes room ahead of time for placed characters of so many more bytes, if there is memory for them.
+    /// Makes room ahead of time for placed characters of this many more bytes, if there is memory for them.
     pub fn make_room(&mut self, bytes: usize)
         ensures { self.new ≡ self.old }
     {
         self.text.make_room(bytes);
     }
 
-    /// Adds a marker to the word. Where memory is refused the items stay as they were.
+    /// Adds a marker to the word. If memory is refused, the items stay as they were.
     pub fn push_marker(&mut self, name: String) -> Result<(), OutOfMemory>
         ensures { OnOk result (self.new ≡ record self.old { word = self.old.word ++ marker (string_bytes name) ∷ [] }) }
     {
@@ -147,7 +147,7 @@ impl<T> FlatText<T> {
 impl<T: Drop> FlatText<T> {
     /// Places the word, and answers how many markers it has. It takes the time of moving its text and these.
     ///
-    /// Where memory is refused the items may be lost.
+    /// If memory is refused, the items may be lost.
     pub fn place_word(&mut self) -> Result<usize, OutOfMemory>
         ensures markers { IfOk result (λ n. n ≡ length (names_in_items self.old.word)) }
         ensures placed { OnOk result (self.new ≡ record { placed = self.old.placed ++ self.old.word; word = [] }) }
@@ -165,7 +165,7 @@ impl<T: Drop> FlatText<T> {
     /// Places items that the word begins with, at most `most`: a marker, or characters up to a marker, while they fit
     /// into `room` columns. It takes the time of going over them.
     ///
-    /// Where memory is refused the items may be lost.
+    /// If memory is refused, the items may be lost.
     pub fn place_front<W: CharWidth>(
         &mut self,
         most: usize,
@@ -211,7 +211,7 @@ impl<T: Drop> FlatText<T> {
 
     /// Puts the last `last` placed items in front of the word, if they are markers.
     ///
-    /// Where memory is refused a marker may be lost.
+    /// If memory is refused, a marker may be lost.
     pub fn unplace(&mut self, last: usize) -> Result<(), OutOfMemory>
         ensures { (before line : List (Item T)) → self.old.placed ≡ before ++ line →
             length line ≡ last → has_character line ≡ false →
@@ -227,7 +227,7 @@ impl<T: Drop> FlatText<T> {
         Ok(())
     }
 
-    /// Takes the markers out that the word begins with.
+    /// Takes out the markers that the word begins with.
     pub fn take_markers(&mut self) -> Result<Vec<TaggedLineElement<T>>, OutOfMemory>
         requires { has_character self.old.word ≡ false }
         ensures markers { IfOk result (λ es.
@@ -242,9 +242,9 @@ impl<T: Drop> FlatText<T> {
         Ok(markers)
     }
 
-    /// Takes away the spaces at the end of the last `most` placed items, back to a marker. It takes away too the white
-    /// space at the word's beginning, up to a marker. It answers how many placed spaces it took away. It takes the time
-    /// of going over the word's stored tags.
+    /// Takes away the spaces at the end of the last `most` placed items, back to a marker, and the white space at the
+    /// word's beginning, up to a marker. It answers how many placed spaces it took away. It takes the time of going
+    /// over the word's stored tags.
     pub fn trim(&mut self, most: usize) -> usize
         requires { most ≤ length self.old.placed }
         ensures placed { (before line : List (Item T)) → self.old.placed ≡ before ++ line → length line ≡ most →
@@ -310,7 +310,7 @@ impl<T: Drop> FlatText<T> {
 impl<T: Eq + Clone + Drop> FlatText<T> {
     /// Adds a character to the word. The tag is copied only where the one before isn't equal to it.
     ///
-    /// Where memory is refused the items may be lost.
+    /// If memory is refused, the items may be lost.
     pub fn push(&mut self, c: char, tag: &T) -> Result<(), OutOfMemory>
         requires { CopiesAreEqual T.is_clone T.eq }
         ensures { OnOk result ((a : T) × (T.eq a tag.now ≡ true)
@@ -326,7 +326,7 @@ impl<T: Eq + Clone + Drop> FlatText<T> {
 
     /// Adds a text of `count` characters to the word. The tag is copied only where the one before isn't equal to it.
     ///
-    /// Where memory is refused the items may be lost.
+    /// If memory is refused, the items may be lost.
     pub fn push_text(&mut self, text: &str, count: usize, tag: &T) -> Result<(), OutOfMemory>
         requires faithful { CopiesAreEqual T.is_clone T.eq }
         requires some { 0 < count }
@@ -345,7 +345,7 @@ impl<T: Eq + Clone + Drop> FlatText<T> {
     /// Places the word and then a text of `count` characters, and answers how many markers the word has. The tag is
     /// copied only where the one before isn't equal to it.
     ///
-    /// Where memory is refused the items may be lost.
+    /// If memory is refused, the items may be lost.
     pub fn place_with(&mut self, text: &str, count: usize, tag: &T) -> Result<usize, OutOfMemory>
         requires faithful { CopiesAreEqual T.is_clone T.eq }
         requires some { 0 < count }
@@ -384,7 +384,7 @@ impl<T: Eq + Clone + Drop> FlatText<T> {
     /// Places `count` spaces before the word. It takes the time of going over the word's stored tags.
     ///
     /// Where the spaces part characters under one stored tag, that is copied, and the word's first characters are under
-    /// the copy. Where memory is refused the items may be lost.
+    /// the copy. If memory is refused, the items may be lost.
     pub fn push_spaces(&mut self, count: usize, tag: T) -> Result<(), OutOfMemory>
         requires faithful { CopiesAreEqual T.is_clone T.eq }
         requires some { 0 < count }

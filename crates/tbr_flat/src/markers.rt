@@ -108,7 +108,7 @@ impl Markers {
         Ok(())
     }
 
-    /// Notes a marker after all characters. Where memory is refused it changes nothing.
+    /// Notes a marker after all characters. If memory is refused, it changes nothing.
     pub fn push(&mut self, name: String) -> Result<(), OutOfMemory>
         ensures ok { OnOk result (self.new
             ≡ record { markers = self.old.markers ++ (self.old.after, string_bytes name) ∷ []; after = 0 }) }
@@ -120,7 +120,7 @@ impl Markers {
         Ok(())
     }
 
-    /// Notes a marker before all characters. Where memory is refused it changes nothing.
+    /// Notes a marker before all characters. If memory is refused, it changes nothing.
     pub fn push_first(&mut self, name: String) -> Result<(), OutOfMemory>
         ensures ok { OnOk result (self.new ≡ record self.old { markers = (0, string_bytes name) ∷ self.old.markers }) }
         ensures err { OnErr result (self.new ≡ self.old) }
@@ -178,7 +178,7 @@ impl Markers {
         }
     }
 
-    /// Notes the characters and markers of another after its own ones. Where memory is refused markers may be lost.
+    /// Notes the characters and markers of another after its own ones. If memory is refused, markers may be lost.
     pub fn append(&mut self, other: &mut Markers) -> Result<(), OutOfMemory>
         ensures ok { OnOk result ((self.new ≡ followed self.old other.old)
             × (other.new ≡ record { markers = []; after = 0 })) }

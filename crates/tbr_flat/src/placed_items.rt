@@ -46,7 +46,7 @@ impl<'a> PlacedItems<'a> {
         }
     }
 
-    /// Goes past the next item, and answers its character. A marker has none.
+    /// Moves past the next item, and answers its character. A marker has none.
     pub fn next_character(&mut self) -> Option<char>
         ensures first { result ≡ first_given self.old }
         ensures rest { self.new ≡ drop 1 self.old }
@@ -61,7 +61,7 @@ impl<'a> PlacedItems<'a> {
         self.characters.next()
     }
 
-    /// Goes past the next `count` items, and answers their columns, or `usize::MAX` where they are more.
+    /// Moves past the next `count` items, and answers their columns, or `usize::MAX` where they are more.
     pub fn next_width<W: CharWidth>(&mut self, count: usize) -> usize
         ensures width { result ≡ min (given_width W.columns (take count self.old)) (2 ^ 64 - 1) }
         ensures rest { self.new ≡ drop count self.old }

@@ -94,7 +94,7 @@ impl<T: Drop> Tags<T> {
 impl<T: Eq + Clone> Tags<T> {
     /// Adds a tag `count` times at the end. It is copied only where the tag before isn't equal to it.
     ///
-    /// Where memory is refused the tags stay as they were.
+    /// If memory is refused, the tags stay as they were.
     pub fn push(&mut self, tag: &T, count: usize) -> Result<(), OutOfMemory>
         requires faithful { CopiesAreEqual T.is_clone T.eq }
         requires some { 0 < count }
@@ -114,7 +114,7 @@ impl<T: Eq + Clone> Tags<T> {
     /// Takes the first tags, at most `most`, which are stored as one. It answers how many they are, and the tag, which
     /// is copied only where more of these stay.
     ///
-    /// Where memory is refused the tags stay as they were.
+    /// If memory is refused, the tags stay as they were.
     pub fn take(&mut self, most: usize) -> Result<(usize, T), OutOfMemory>
         requires faithful { CopiesAreEqual T.is_clone T.eq }
         requires some { 0 < most }
@@ -236,7 +236,7 @@ fn begin_at<T>(stored: &mut VecDeque<RepeatedTag<T>>, place: Place)
 
 /// Ends a stored tag after its first `offset` tags, and answers what came after them, under a copy.
 ///
-/// Where memory is refused it stays as it was.
+/// If memory is refused, it stays as it was.
 fn split_off<T: Eq + Clone>(
     repeated: &mut RepeatedTag<T>,
     offset: usize,

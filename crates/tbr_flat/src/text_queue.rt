@@ -12,14 +12,14 @@ use std::marker::Model;
 use tbr_model::CharWidth;
 use tbr_tagged::{OutOfMemory, TaggedLine, append_spaces, text_width};
 
-/// While fewer bytes than these were taken, they stay in memory.
+/// As long as fewer bytes than this were taken, they stay in memory.
 const FEW: usize = 1024;
 
 /// A text that is taken from its front. What is taken is forgotten. A contract sees the characters that are left.
 #[derive(Drop)]
 pub struct TextQueue {
     text: String,
-    /// The byte at which the characters begin that are left.
+    /// The byte at which the remaining characters begin.
     start: usize,
     /// How many they are.
     len: usize,
@@ -84,14 +84,14 @@ impl TextQueue {
         text_width::<W>(self.as_str())
     }
 
-    /// Makes room for so many more bytes ahead of time, if there is memory for them.
+    /// Makes room for this many more bytes ahead of time, if there is memory for them.
     pub fn make_room(&mut self, bytes: usize)
         ensures { self.new ≡ self.old }
     {
         let _ = self.text.reserve(bytes);
     }
 
-    /// Adds a character. Where memory is refused the text stays as it was.
+    /// Adds a character. If memory is refused, the text stays as it was.
     pub fn push(&mut self, c: char) -> Result<(), OutOfMemory>
         ensures ok { OnOk result (self.new ≡ self.old ++ c ∷ []) }
         ensures err { OnErr result (self.new ≡ self.old) }
@@ -101,7 +101,7 @@ impl TextQueue {
         Ok(())
     }
 
-    /// Adds a text of `count` characters. Where memory is refused the text stays as it was.
+    /// Adds a text of `count` characters. If memory is refused, the text stays as it was.
     pub fn push_str(&mut self, text: &str, count: usize) -> Result<(), OutOfMemory>
         requires { count ≡ length (chars text.now) }
         ensures ok { OnOk result (self.new ≡ self.old ++ chars text.now) }
@@ -112,7 +112,7 @@ impl TextQueue {
         Ok(())
     }
 
-    /// Adds `count` spaces. Where memory is refused the text stays as it was.
+    /// Adds `count` spaces. If memory is refused, the text stays as it was.
     pub fn push_spaces(&mut self, count: usize) -> Result<(), OutOfMemory>
         ensures ok { OnOk result (self.new ≡ self.old ++ replicate count 32) }
         ensures err { OnErr result (self.new ≡ self.old) }
@@ -126,7 +126,7 @@ impl TextQueue {
         Ok(())
     }
 
-    /// Adds all characters of another text, which has none then. Where memory is refused both stay as they were.
+    /// Adds all characters of another text, which then has none. If memory is refused, both stay as they were.
     pub fn append(&mut self, other: &mut TextQueue) -> Result<(), OutOfMemory>
         ensures ok { OnOk result ((self.new ≡ self.old ++ other.old) × (other.new ≡ [])) }
         ensures err { OnErr result ((self.new ≡ self.old) × (other.new ≡ other.old)) }
@@ -136,7 +136,7 @@ impl TextQueue {
         Ok(())
     }
 
-    /// Takes the spaces away at the end, at most `most`, and answers how many they were.
+    /// Takes away the spaces at the end, at most `most`, and answers how many they were.
     pub fn pop_spaces(&mut self, most: usize) -> usize
         ensures most { result ≤ most }
         ensures small { result < 2 ^ 63 }
@@ -149,7 +149,7 @@ impl TextQueue {
         count
     }
 
-    /// Takes the white space away at the beginning, at most `most` characters, and answers how many they were.
+    /// Takes away the white space at the beginning, at most `most` characters, and answers how many they were.
     pub fn pop_blanks(&mut self, most: usize) -> usize
         ensures most { result ≤ most }
         ensures within { result ≤ length self.old }
@@ -179,7 +179,7 @@ impl TextQueue {
 
     /// Moves the first `count` characters to the end of a line, under a tag. It takes the time of going over them.
     ///
-    /// Where memory is refused both stay as they were.
+    /// If memory is refused, both stay as they were.
     pub fn move_under<T: Eq + Drop>(
         &mut self,
         count: usize,
@@ -202,7 +202,7 @@ impl TextQueue {
 
     /// Moves the first `count` characters to the end of another text. It takes the time of going over them.
     ///
-    /// Where memory is refused both stay as they were.
+    /// If memory is refused, both stay as they were.
     pub fn move_to(&mut self, count: usize, text: &mut String) -> Result<(), OutOfMemory>
         requires { count ≤ length self.old }
         ensures text { OnOk result (chars_of text.new ≡ chars_of text.old ++ take count self.old) }
@@ -219,7 +219,7 @@ impl TextQueue {
     /// Moves the first characters to the end of another text, at most `most`, while they fit into `room` columns. It
     /// answers how many they are, and their columns.
     ///
-    /// Where memory is refused both stay as they were.
+    /// If memory is refused, both stay as they were.
     pub fn move_fitting<W: CharWidth>(
         &mut self,
         most: usize,
@@ -255,7 +255,7 @@ impl TextQueue {
         self.give_back();
     }
 
-    /// Gives back the memory of what was taken, where that is the greater part and so pays for moving the rest.
+    /// Frees the memory of what was taken, if that is the greater part and so pays for moving the rest.
     #[inline]
     fn give_back(&mut self)
         ensures { self.new ≡ self.old }
@@ -266,7 +266,7 @@ impl TextQueue {
         }
     }
 
-    /// Moves what is left to the beginning, and gives the rest of the memory back.
+    /// Moves what is left to the beginning, and frees the rest of the memory.
     #[inline(never)]
     fn begin_anew(&mut self)
         ensures { self.new ≡ self.old }

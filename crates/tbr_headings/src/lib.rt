@@ -34,7 +34,7 @@ impl Headings for RichDecorator {
     }
 }
 
-/// The columns of the prefix of headings of a level. `None` where they pass `usize`.
+/// The columns of the prefix of a heading of this level. `None` where they pass `usize`.
 pub fn heading_columns<D: Headings, W: CharWidth>(level: usize) -> Option<usize>
     ensures { (d : D) → let columns = width_of_text W.columns (D.prefix_text d (header level)) in
         SomeIff result (columns < 2 ^ 64) columns }
@@ -50,7 +50,7 @@ pub fn heading_columns<D: Headings, W: CharWidth>(level: usize) -> Option<usize>
     }
 }
 
-/// The bytes of the prefix of headings of a level. `None` where they pass `usize`.
+/// The bytes of the prefix of a heading of this level. `None` where they pass `usize`.
 pub fn heading_length<D: Headings>(level: usize) -> Option<usize>
     ensures { (d : D) → let bytes = length (encode_utf8_all (D.prefix_text d (header level))) in
         SomeIff result (bytes < 2 ^ 64) bytes }

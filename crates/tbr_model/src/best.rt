@@ -1,4 +1,4 @@
-//! The best layout of a run, found by looking at its layouts.
+//! The best layout of a run, found by trying its layouts.
 ghost use Rattle.std.specs.Prelude.{◌+◌, ◌<◌, length, MatchOption, IfOk, IfSome};
 ghost use Rattle.tbr_model.specs.Layout.{slots_of, IsBest};
 ghost use Rattle.tbr_model.specs.Cuts.{HasLegalLayout, IsBestLayout, lines_between};

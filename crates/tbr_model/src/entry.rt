@@ -56,7 +56,7 @@ impl<T> Entry<T> {
         }
     }
 
-    /// Its columns. A character without a width has none, and so has a marker.
+    /// Its columns. A character without a width takes none, and neither does a marker.
     pub fn width<W: CharWidth>(&self) -> usize
         ensures { result ≡ item_width W.columns (item_of (entry_value self.now)) }
     {
@@ -66,7 +66,7 @@ impl<T> Entry<T> {
         }
     }
 
-    /// Whether it is a character, and no marker.
+    /// Whether it is a character, and not a marker.
     pub fn is_character(&self) -> bool
         ensures { result ≡ is_glyph (item_of (entry_value self.now)) }
     {

@@ -46,7 +46,7 @@ pub fn legal_layouts_exist<T>()
         (lines : List (List (Slot T))) × IsBest width (slots_of columns width run) lines }
 {}
 
-/// No line of the best layout is without a character.
+/// Each line of the best layout has a character.
 pub fn best_lines_have_characters<T>()
     ensures { (columns : ℕ → Option ℕ) (width : ℕ) (run : List (Entry T)) (lines : List (List (Slot T))) →
         IsBest width (slots_of columns width run) lines →
@@ -73,8 +73,8 @@ pub fn words_stand_between_working_breaks<T>()
         trailing columns run ≡ markers_left columns rest }
 {}
 
-/// Between neighbouring words of a line is one space where the gap between them is spaced, and else nothing. It is
-/// spaced exactly where a blank is there.
+/// Between neighbouring words of a line is one space if the gap between them is spaced, and otherwise nothing. The gap
+/// is spaced exactly where a blank is between them.
 #[tactic(auto, using(crate::proofs::words::SpacedGaps::gap_laws))]
 pub fn gaps_are_one_space<T>()
     ensures line { (columns : ℕ → Option ℕ) (width : ℕ) (w : Word T) (ws : List (Word T)) →
@@ -85,7 +85,7 @@ pub fn gaps_are_one_space<T>()
         (first_blank between ≡ None) ↔ Each (λ e. blank_of e ≡ None) between }
 {}
 
-/// Layouts as cuts are layouts as lines.
+/// Layouts as cuts and layouts as lines are the same.
 #[tactic(auto, using(crate::proofs::layouts::Cuts::cut_laws))]
 pub fn layouts_are_cuts<T>()
     ensures lines { (items : List T) (cuts : List ℕ) → IsLayout (length items) cuts →
@@ -108,8 +108,8 @@ pub fn layouts_are_cuts<T>()
         ↔ (IsLayout (length slots) cuts × IsBest width slots (lines_between slots cuts)) }
 {}
 
-/// The gap before the first word never counts: whatever it is, the legal layouts are the same, and so are their lines'
-/// texts.
+/// The gap before the first word doesn't matter: whatever it is, the legal layouts are the same, and so are the texts
+/// of their lines.
 pub fn first_gap_never_counts<T>()
     ensures legal { (width : ℕ) (s : Slot T) (gap : Option T) (ss : List (Slot T)) (cuts : List ℕ) →
         IsLegalLayout width (s ∷ ss) cuts → IsLegalLayout width (with_gap s gap ∷ ss) cuts }

@@ -6,7 +6,7 @@ ghost use Rattle.tbr_model.specs.Layout.{Slot, slots_of, line_text, IsBest};
 ghost use Rattle.tbr_model.specs.Hard.{hard_lines, Parted, ShowsVisible, ShowsHardLine, ShowsPre, ShowsPreWrap, ShowsTabs};
 ghost use Rattle.tbr_model.specs.Mapped.{map_items, map_run, map_word, map_slots, map_layout, map_lines, map_events, map_laid, map_progress, KeepsEqual};
 
-/// Which annotations a run has doesn't change how it is laid out.
+/// The annotations of a run don't change how it is laid out.
 #[tactic(auto, using(crate::proofs::maps::Layouts::layout_maps))]
 pub fn annotations_change_no_layout<A, B>()
     ensures words { (f : A → B) (columns : ℕ → Option ℕ) (run : List (Entry A)) →
@@ -21,7 +21,8 @@ pub fn annotations_change_no_layout<A, B>()
         IsBest width slots lines → IsBest width (map_slots f slots) (map_layout f lines) }
 {}
 
-/// Where a block is in a run, and what that leaves, is the same under other annotations, each as the function makes it.
+/// If the annotations of a run are replaced by what a function makes of them, the block goes on in the same way, and so
+/// do the annotations in what it leaves.
 #[tactic(auto, using(crate::proofs::maps::Rule::rule_maps))]
 pub fn annotations_change_no_progress<A, B>()
     ensures progress { (f : A → B) (columns : ℕ → Option ℕ) (width : ℕ) (es : List (Event A)) →

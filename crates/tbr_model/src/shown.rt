@@ -53,8 +53,8 @@ pub fn waiting_markers_end_a_run<T>()
 {}
 
 /// A run of `Normal` alone keeps its items, whatever the width. Its kept characters and its markers are on its lines,
-/// and then in what waits, in order, each character under its own annotation. Nothing else is there but the spaces that
-/// gaps are.
+/// and then in what waits, in order, each character under its own annotation. Nothing else is there except the spaces
+/// of gaps.
 #[tactic(auto, using(crate::proofs::lines::NormalItems::normal_keeps))]
 pub fn normal_items_are_kept<T>()
     ensures { (columns : ℕ → Option ℕ) (width : ℕ) (es : List (Event T)) → AllHaveMode Normal (run_of es) →

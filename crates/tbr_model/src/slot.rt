@@ -1,9 +1,9 @@
-//! The items of a run, with what a line has to know of them.
+//! The items of a run, with what is needed to lay them on lines.
 ghost use Rattle.std.specs.Prelude.{◌≡◌, ◌||◌};
 
 use crate::entry::Entry;
 
-/// An item of a run, with what a line has to know of it.
+/// An item of a run, with what is needed to lay it on a line.
 #[derive_where(Clone, Copy)]
 pub struct Slot<'a, T> {
     /// The entry that the item is.

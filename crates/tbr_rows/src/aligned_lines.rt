@@ -14,7 +14,7 @@ use tbr_tagged::{CellAlign, OutOfMemory, TaggedLine, columns_in_front};
 use tbr_wrap::EndedLines;
 
 /// Lines that a block has ended, in its one text, each filled up to a width with spaces under a tag. A line takes a
-/// number, and its spaces nothing until it is moved. A contract sees the lines that are left, each as its items.
+/// number, and its spaces take nothing until it is moved. A contract sees the lines that are left, each as its items.
 #[derive(Drop)]
 pub(crate) struct AlignedLines<T> {
     ended: EndedLines<T>,
@@ -72,7 +72,7 @@ impl<T: Drop> AlignedLines<T> {
 }
 
 impl<T: Eq + Clone + Drop> AlignedLines<T> {
-    /// Moves the first line, if one is left, to the end of another. Where memory is refused lines may be lost.
+    /// Moves the first line, if one is left, to the end of another. If memory is refused, lines may be lost.
     pub(crate) fn move_line(&mut self, line: &mut TaggedLine<T>) -> Result<(), OutOfMemory>
         requires { CopiesAreEqual T.is_clone T.eq }
         ensures items { (is : List (Item T)) (rest : List (List (Item T))) → self.old ≡ is ∷ rest →

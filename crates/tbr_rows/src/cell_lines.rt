@@ -69,7 +69,7 @@ impl<T: Eq> CellLines<T> {
         }
     }
 
-    /// How many they are.
+    /// How many lines there are.
     pub(crate) fn len(&self) -> usize
         ensures { result ≡ length self.now }
     {
@@ -79,7 +79,7 @@ impl<T: Eq> CellLines<T> {
         }
     }
 
-    /// Whether there is none.
+    /// Whether there is no line.
     pub(crate) fn is_empty(&self) -> bool
         ensures { result ≡ (length self.now == 0) }
     {
@@ -113,7 +113,7 @@ impl<T: Eq + Drop> CellLines<T> {
 
 impl<T: Eq + Clone + Drop> CellLines<T> {
     /// Moves the first line, if there is one, to the end of another. A border's cells are drawn under a copy of the
-    /// tag. Where memory is refused lines may be lost.
+    /// tag. If memory is refused, lines may be lost.
     pub(crate) fn move_first(
         &mut self,
         line: &mut TaggedLine<T>,
@@ -136,8 +136,8 @@ impl<T: Eq + Clone + Drop> CellLines<T> {
         line.append(first.into_tagged_line_with(tag)?)
     }
 
-    /// Takes the first line as text, for the border below its row. Where there is no line it is spaces of that width.
-    /// Where memory is refused lines may be lost.
+    /// Takes the first line as text, for the border below its row, or spaces of that width if no line is left. If
+    /// memory is refused, lines may be lost.
     pub(crate) fn take_gap_text(
         &mut self,
         alloc: Global,
@@ -191,7 +191,7 @@ fn is_mergeable<T>(line: Option<&RenderLine<T>>) -> bool
     }
 }
 
-/// The text of a cell in the border below its row: a line, or, where it has none left, spaces.
+/// The text of a cell in the border below its row: a line, or spaces if it has none left.
 fn gap_text<T: Eq + Clone + Drop>(
     alloc: Global,
     line: Option<RenderLine<T>>,
@@ -207,8 +207,8 @@ fn gap_text<T: Eq + Clone + Drop>(
     }
 }
 
-/// The text of a cell in the border below its row, where the cell's lines are in a block's text: the first one, which
-/// it takes out, or, where there is none left, spaces.
+/// The text of a cell in the border below its row, where the cell's lines are in a block's text. That is the first
+/// line, which it takes out, or spaces if none is left.
 fn first_in_gap<T: Eq + Clone + Drop>(
     alloc: Global,
     lines: &mut AlignedLines<T>,
@@ -238,7 +238,7 @@ impl<T: Eq> fmt::Display for CellLines<T> {
     }
 }
 
-/// As they are displayed.
+/// The lines as they are displayed.
 impl<T: Eq> fmt::Debug for CellLines<T> {
     fn fmt<W: fmt::Write>(&self, f: &mut fmt::Formatter<W>) -> fmt::Result {
         write!(f, "{self}")

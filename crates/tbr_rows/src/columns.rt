@@ -52,8 +52,8 @@ impl<T: Eq + Clone + Drop> Columns<T> {
     /// filled up to its width: a text with spaces under copies of the tag, as the alignment says, and a border with
     /// `─`.
     ///
-    /// Where memory is refused, or a place or a line's columns pass `usize`, the cell and its lines are dropped, and
-    /// the others stay.
+    /// If memory is refused, or a place or a line's columns pass `usize`, the cell and its lines are dropped, and the
+    /// others stay.
     pub fn push<W: CharWidth>(
         &mut self,
         width: usize,
@@ -85,7 +85,7 @@ impl<T: Eq + Clone + Drop> Columns<T> {
     /// Adds a cell as [`push`](Columns::push) does, of lines that a block has ended. They stay in the block's text
     /// until they are shown.
     ///
-    /// Where memory is refused, or a place passes `usize`, the cell and its lines are dropped, and the others stay.
+    /// If memory is refused, or a place passes `usize`, the cell and its lines are dropped, and the others stay.
     pub fn push_ended<W: CharWidth>(
         &mut self,
         width: usize,

@@ -49,7 +49,7 @@ pub fn a_row_with_fewer_lines_fits_too<T>()
         row_fits hanging spots ≡ true → row_fits hanging others ≡ true }
 {}
 
-/// What a row shows of a cell, with the line in the border below it, and what it leaves to later rows are together the
+/// What a row shows of a cell, with the line in the border below it, and then what it leaves to later rows are the
 /// cell's lines.
 #[tactic(auto, using(crate::proofs::AllLines::part_and_later))]
 pub fn a_row_loses_no_line<T>()
@@ -63,7 +63,7 @@ pub fn a_row_is_high_enough<T>()
     ensures { (columns : List (Column T)) → Each (λ c. cell_height (cell_in c) ≤ row_height columns) columns }
 {}
 
-/// What a row merges of a cell's lines, and what is left of them, are together the cell's lines.
+/// What a row merges of a cell's lines, and what is left of them, are all of the cell's lines.
 #[tactic(auto, using(crate::proofs::AllLines::merged_and_left))]
 pub fn merging_takes_borders_alone<T>()
     ensures { (m : Meeting) (cell : Cell T) →
@@ -122,7 +122,7 @@ pub fn lines_that_fit_take_their_columns<T>()
         LinesFillCell columns tag column → TakesCellColumns columns tag i column }
 {}
 
-/// A row with each tag as what it means is the row of the cells with their tags as what they mean. That holds where
+/// A row with each tag replaced by what it means is the row of the cells with their tags replaced so. That holds where
 /// tags are equal exactly if they mean the same.
 pub fn a_row_is_its_row_by_meaning<A, B>()
     ensures { (f : A → B) (eq : A → A → Bool) → MeansEqual f eq → EqualIfMeant f eq →
@@ -132,7 +132,7 @@ pub fn a_row_is_its_row_by_meaning<A, B>()
         (option_map (map_border f) top) (row_meant f row) }
 {}
 
-/// Lines that are filled stay so when each tag becomes what it means, and that changes no place.
+/// Lines that are filled stay filled if each tag is replaced by what it means, and that changes no place.
 pub fn meanings_change_no_place<A, B>()
     ensures lines { (f : A → B) (eq : A → A → Bool) → MeansEqual f eq →
         (columns : ℕ → Option ℕ) (align : CellAlign) (width : ℕ) (tag : A) (lines done : List (RenderLine A)) →
@@ -143,14 +143,14 @@ pub fn meanings_change_no_place<A, B>()
         row_fits (map (map_cell f) hanging) spots ≡ row_fits hanging spots }
 {}
 
-/// With each tag as what it means, there is only one row of the same cells under the same border.
+/// If each tag is replaced by what it means, there is only one row of the same cells under the same border.
 pub fn there_is_one_row_by_meaning<T>()
     ensures { (columns : ℕ → Option ℕ) (style : RowStyle) (tag : T) (hanging cells : List (Cell T))
         (top : Option (Border T)) (row other : SeenRow T) → MeansRow columns style tag hanging cells top row →
         MeansRow columns style tag hanging cells top other → row ≡ other }
 {}
 
-/// Where tags can be told apart, the row by what they mean is computed.
+/// If tags can be told apart, the row by what they mean is computed.
 pub fn a_row_is_computed<T>()
     ensures { (same : T → T → Bool) → TellsApart same → (columns : ℕ → Option ℕ) (style : RowStyle) (tag : T)
         (hanging cells : List (Cell T)) (top : Option (Border T)) (row : SeenRow T) →
@@ -160,7 +160,7 @@ pub fn a_row_is_computed<T>()
 
 /// Over the rows of its span each cell shows its texts once, in order, in its own columns, also in the borders between
 /// them. The rows follow one another, and the lines of all cells take their cells' columns. The cells of a row are its
-/// own and those that overhang. One of its own that has no line may leave its place to one that overhangs.
+/// own and those that overhang. An own cell without lines may leave its place to one that overhangs.
 pub fn rows_show_each_cell_in_its_columns<T>()
     ensures shown { (columns : ℕ → Option ℕ) → DrawsInOne columns → (draws : Bool) (rows : List (MadeRow T columns))
         (cell : Cell T) → FollowOneAnother columns draws rows → Each (HasFilledCells columns) rows →

@@ -37,8 +37,8 @@ impl<T: Eq> LineSet<T> {
         self.place.checked_add(self.width).ok_or(OutOfMemory)
     }
 
-    /// How many lines the cell asks of its row: all that it has. Where it spans more rows it is its share of them,
-    /// rounded down.
+    /// How many lines the cell asks of its row: all that it has, or, if it spans more rows, its share of them, rounded
+    /// down.
     pub(crate) fn height(&self) -> usize
         ensures { result ≡ model.cell_height self.now }
     {

@@ -61,7 +61,7 @@ impl<T: Eq + Drop> Overhang<T> {
         self.cells.is_empty()
     }
 
-    /// Whether a cell has lines that it has still to show. They are lost where no row comes any more. It takes no memory.
+    /// Whether a cell has lines that it has still to show. They are lost if no more row comes. It takes no memory.
     pub fn has_lines(&self) -> bool
         ensures { result ≡ list_any has_lines self.now }
     {

@@ -22,14 +22,14 @@ use tbr_tagged::{OutOfMemory, TaggedLine};
 /// How a row is drawn.
 #[derive(Clone, Copy, PartialEq, Eq, Debug)]
 pub struct RowStyle {
-    /// Whether `│` parts cells and a border is below the row. Else spaces part them.
+    /// Whether `│` separates cells and a border is below the row. Otherwise spaces separate them.
     pub draws_borders: bool,
     /// Whether the first and the last borders of cells are merged into the borders above and below the row.
     pub collapses: bool,
 }
 
 impl RowStyle {
-    /// What parts two cells.
+    /// What separates two cells.
     fn separator(self) -> char
         ensures { result ≡ model.separator_in self }
     {
@@ -108,7 +108,7 @@ fn plain<T: Eq + Clone + Drop>(
     BorderHoriz::new(alloc, width, tag.clone()?)
 }
 
-/// Joins a row to the border above it, if there is one, and merges with it what collapses.
+/// Joins a row to the border above it, if there is one, and merges into that what collapses.
 fn meet_above<T: Eq + Drop>(
     alloc: Global,
     above: Option<BorderHoriz<T>>,
@@ -131,7 +131,7 @@ fn meet_above<T: Eq + Drop>(
     Ok((Some(border), cells))
 }
 
-/// Merges with the border below a row what collapses.
+/// Merges what collapses into the border below a row.
 fn meet_next<T: Eq + Drop>(
     alloc: Global,
     next: &mut BorderHoriz<T>,

@@ -24,7 +24,7 @@ pub(crate) fn seated<T: Eq + Drop>(
     Ok(row)
 }
 
-/// The cell at a place: the first overhanging one, if that is there, or else the row's own.
+/// The cell at a place: the first overhanging one, if that is there, and otherwise the row's own.
 fn seat<T: Eq + Drop>(cell: LineSet<T>, hanging: &mut LinkedList<LineSet<T>>) -> LineSet<T>
     ensures cell { result ≡ model.taker hanging.old cell }
     ensures waiting { hanging.new ≡ model.still_waiting hanging.old cell }

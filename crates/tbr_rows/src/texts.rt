@@ -55,7 +55,7 @@ fn line_of<T: Eq + Clone + Drop>(
     Ok(line)
 }
 
-/// How many bytes a line of a row mostly has: one for each column, and three for what parts two cells.
+/// How many bytes a line of a row mostly has: one for each column, and three for what separates two cells.
 fn room_for<T: Eq>(columns: &[Column<T>]) -> usize {
     let mut bytes = 0usize;
     for column in columns {

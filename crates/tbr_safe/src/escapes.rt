@@ -9,8 +9,8 @@ use percent_encoding::{CONTROLS, utf8_percent_encode};
 use std::alloc::Global;
 use tbr_tagged::OutOfMemory;
 
-/// A copy of a text, each control character as the bytes of its UTF-8, of which each is `%` and two hexadecimal digits:
-/// an escape is `%1B`, a newline `%0A`, U+009B `%C2%9B`. It refuses only where memory is refused.
+/// A copy of a text with its control characters escaped: each byte of their UTF-8 is `%` and two hexadecimal digits. So
+/// an escape is `%1B`, a newline `%0A`, and U+009B `%C2%9B`. It refuses only where memory is refused.
 pub fn escape(alloc: Global, text: &str) -> Result<String, OutOfMemory>
     ensures bytes { IfOk result (λ safe. string_bytes safe ≡ escaped_bytes text.now) }
     ensures characters { IfOk result (λ safe. chars_of safe ≡ escaped (chars text.now)) }
@@ -20,7 +20,8 @@ pub fn escape(alloc: Global, text: &str) -> Result<String, OutOfMemory>
     Ok(safe)
 }
 
-/// The same of each of these texts, in their order. One without control characters is itself, and takes no memory.
+/// Copies of these texts with their control characters escaped, in order. A text without control characters is itself,
+/// and takes no memory.
 pub fn escape_all(texts: Vec<String>) -> Result<Vec<String>, OutOfMemory>
     ensures { IfOk result (λ safe. map chars_of safe.items ≡ map escaped (map chars_of texts.items)) }
 {
@@ -32,7 +33,7 @@ pub fn escape_all(texts: Vec<String>) -> Result<Vec<String>, OutOfMemory>
     Ok(safe)
 }
 
-/// The same of one text.
+/// A text with its control characters escaped.
 fn escape_one(alloc: Global, text: String) -> Result<String, OutOfMemory>
     ensures { IfOk result (λ safe. chars_of safe ≡ escaped (chars_of text)) }
 {
@@ -50,7 +51,7 @@ fn has_control(text: &str) -> bool
     text.chars().any(|c| c.is_control())
 }
 
-/// Appends the characters of a text, control characters escaped. Where memory is refused, part of them may have been
+/// Appends the characters of a text, control characters escaped. If memory is refused, part of them may have been
 /// appended.
 fn push_escaped(safe: &mut String, text: &str) -> Result<(), OutOfMemory>
     ensures { OnOk result (chars_of safe.new ≡ chars_of safe.old ++ escaped (chars text.now)) }

@@ -6,7 +6,7 @@ ghost use Rattle.tbr_tagged.specs.Elements.{characters};
 ghost use Rattle.tbr_decor.specs.Usual.{footnotes};
 ghost use Rattle.tbr_safe.specs.Escaped.{escaped};
 
-/// An escaped text has no control character: none of C0, no delete, none of C1.
+/// An escaped text has no control character: none of C0 or C1, and not U+007F.
 #[tactic(auto, using(crate::proofs::Controls::none_left))]
 pub fn no_control_character_is_left()
     ensures { (cs : List ℕ) → Each (λ c. is_control c ≡ false) (escaped cs) }

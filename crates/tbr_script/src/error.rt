@@ -18,7 +18,7 @@ pub enum RunError {
     TooNarrow,
     /// Memory was refused, or a size passes `usize`.
     OutOfMemory,
-    /// The line isn't a command, or is one that may not come there.
+    /// The line isn't a command, or comes where it may not.
     NotACommand(usize),
     /// The line ends what wasn't begun.
     NothingToEnd(usize),

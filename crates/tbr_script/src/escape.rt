@@ -7,8 +7,8 @@ use crate::number::character;
 use memchr::memchr;
 use std::alloc::{AllocError, Global};
 
-/// The text with its escapes replaced. `Ok(None)` where a backslash begins no escape. It refuses only where memory is
-/// refused.
+/// The text with its escapes replaced. `Ok(None)` where a backslash doesn't begin an escape. It refuses only where
+/// memory is refused.
 pub fn unescape(alloc: Global, writing: &str) -> Result<Option<String>, AllocError>
     ensures { IfOk result (λ found. option_map string_bytes found ≡ text_read writing.now) }
 {

@@ -2,7 +2,7 @@
 ghost use Rattle.std.specs.Prelude.{◌≡◌};
 ghost use Rattle.tbr_script.specs.Read.{number_read, size_read, byte_read, character_read};
 
-/// The value of decimal digits. `None` where there is no digit, where anything else is there, and past `usize`.
+/// The value of decimal digits. `None` without a digit, with any other character, and past `usize`.
 pub fn parse_number(digits: &str) -> Option<usize>
     ensures { result ≡ number_read digits.now }
 {
@@ -13,14 +13,14 @@ pub fn parse_number(digits: &str) -> Option<usize>
     digits.parse::<usize>().ok()
 }
 
-/// The size that decimal digits are: the same of at least 1. `None` for 0 too.
+/// The size that decimal digits name, from 1 to the greatest `usize`. `None` for anything else.
 pub fn parse_size(digits: &str) -> Option<usize>
     ensures { result ≡ size_read digits.now }
 {
     parse_number(digits).filter(|size| *size > 0)
 }
 
-/// The same up to 255. `None` past that.
+/// The value of decimal digits up to 255. `None` for anything else.
 pub fn parse_byte(digits: &str) -> Option<u8>
     ensures { result ≡ byte_read digits.now }
 {

@@ -9,9 +9,9 @@ use std::alloc::{AllocError, Global};
 /// Two texts that one argument gives. Each may be empty.
 #[derive(Debug, Drop)]
 pub struct TextPair {
-    /// The one before the bar.
+    /// The text before the bar.
     pub first: String,
-    /// The one after it.
+    /// The text after the bar.
     pub second: String,
 }
 

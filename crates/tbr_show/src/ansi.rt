@@ -10,7 +10,7 @@ use tbr_lines::{OutOfMemory, TaggedLine, TaggedLineElement};
 
 /// Appends a line with its newline: each piece without its control characters, between what begins its annotations and
 /// what ends them. Markers aren't shown. A link to a target with another scheme than `http`, `https`, `mailto` and
-/// `ftp` is underlined, and leads nowhere. Where memory is refused, part of the line may have been appended.
+/// `ftp` is underlined, and leads nowhere. If memory is refused, part of the line may have been appended.
 pub fn push_line(
     text: &mut String,
     line: &TaggedLine<Vec<RichAnnotation>>,
@@ -23,7 +23,7 @@ pub fn push_line(
     push_ascii(text, "\n")
 }
 
-/// Appends a line with its newline: the characters of its pieces, but for control characters. Where memory is refused,
+/// Appends a line with its newline: the characters of its pieces, except for control characters. If memory is refused,
 /// part of the line may have been appended.
 pub fn push_bare_line<T>(text: &mut String, line: &TaggedLine<T>) -> Result<(), OutOfMemory>
     ensures { OnOk result (chars_of text.new ≡ chars_of text.old ++ model.bare_line line.now) }
@@ -47,8 +47,7 @@ fn push_element(
     }
 }
 
-/// Appends a piece under annotations, as `push_line` shows it. Where memory is refused, part of it may have been
-/// appended.
+/// Appends a piece under annotations, as `push_line` shows it. If memory is refused, part of it may have been appended.
 pub fn push_piece(
     text: &mut String,
     piece: &str,
@@ -107,7 +106,7 @@ fn push_begin(text: &mut String, annotation: &RichAnnotation) -> Result<(), OutO
     }
 }
 
-/// Begins a link, which is underlined. It leads to its target if that may be followed, and else nowhere.
+/// Begins a link, which is underlined. It leads to its target if that may be followed, and otherwise nowhere.
 fn push_link(text: &mut String, target: &str) -> Result<(), OutOfMemory>
     ensures { OnOk result (chars_of text.new ≡ chars_of text.old ++ model.link target.now) }
 {

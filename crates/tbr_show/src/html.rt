@@ -11,11 +11,11 @@ use crate::text::{push_ascii, push_char, push_parts};
 use tbr_decor::{Colour, RichAnnotation};
 use tbr_lines::{CharWidth, OutOfMemory, TaggedLine, TaggedLineElement};
 
-/// What is before the lines, so that they are a document of their own.
+/// What comes before the lines, so that they are a document of their own.
 pub const BEGINNING: &str =
     "<!DOCTYPE html>\n<meta charset=\"utf-8\">\n<style>\npre { font-family: monospace }\npre code { font: inherit }\npre .wide { display: inline-block; width: 2ch }\n</style>\n<pre>\n";
 
-/// What is after them.
+/// What comes after the lines.
 pub const END: &str = "</pre>\n";
 
 /// Appends a line with its newline: each piece without its control characters, in the elements of its annotations. A
@@ -54,8 +54,7 @@ fn push_element<W: CharWidth>(
     }
 }
 
-/// Appends a piece under annotations, as `push_line` shows it. Where memory is refused, part of it may have been
-/// appended.
+/// Appends a piece under annotations, as `push_line` shows it. If memory is refused, part of it may have been appended.
 pub fn push_piece<W: CharWidth>(
     text: &mut String,
     piece: &str,
@@ -69,7 +68,7 @@ pub fn push_piece<W: CharWidth>(
     push_ends(text, annotations)
 }
 
-/// Appends a marker, as `push_line` shows it. Where memory is refused, part of it may have been appended.
+/// Appends a marker, as `push_line` shows it. If memory is refused, part of it may have been appended.
 pub fn push_marker(text: &mut String, name: &str) -> Result<(), OutOfMemory>
     ensures { OnOk result (chars_of text.new ≡ chars_of text.old ++ model.marker_shown name.now) }
 {
@@ -169,7 +168,7 @@ fn push_coloured(text: &mut String, property: &str, colour: Colour) -> Result<()
     push_ascii(text, ")\">")
 }
 
-/// Appends the characters of a text as HTML writes them, but for control characters.
+/// Appends the characters of a text as HTML writes them, except for control characters.
 fn push_escaped(text: &mut String, more: &str) -> Result<(), OutOfMemory>
     ensures { OnOk result
         (chars_of text.new ≡ chars_of text.old ++ flat_map model.escaped (printable (chars more.now))) }
@@ -196,7 +195,8 @@ fn push_character(text: &mut String, c: char) -> Result<(), OutOfMemory>
     }
 }
 
-/// The same, where each character of two columns is in an element, with those of no columns after it.
+/// Appends the characters of a text, where each character of two columns is in an element, with those of no columns
+/// after it.
 fn push_shown<W: CharWidth>(text: &mut String, more: &str) -> Result<(), OutOfMemory>
     ensures { OnOk result
         (chars_of text.new ≡ chars_of text.old ++ model.shown W.columns (printable (chars more.now))) }
@@ -213,8 +213,8 @@ fn push_shown<W: CharWidth>(text: &mut String, more: &str) -> Result<(), OutOfMe
     push_ascii(text, between(is_wide, Some(1)))
 }
 
-/// What is before a character of so many columns: it ends the element that is open, if one is, and begins another
-/// one, as the character needs.
+/// What comes before a character of this many columns: it ends the element that is open, if one is, and begins another,
+/// if the character needs one.
 fn between(is_wide: bool, width: Option<usize>) -> &'static str
     ensures { result.now ≡ model.between is_wide width }
 {
@@ -226,7 +226,7 @@ fn between(is_wide: bool, width: Option<usize>) -> &'static str
     }
 }
 
-/// Whether an element is open after a character of so many columns.
+/// Whether an element is open after a character of this many columns.
 fn is_wide_after(is_wide: bool, width: Option<usize>) -> bool
     ensures { result ≡ model.is_wide_after is_wide width }
 {

@@ -10,15 +10,15 @@ ghost use Rattle.tbr_show.specs.Written.{printable};
 ghost use Rattle.tbr_show.specs.Ansi.{line, escape_character};
 ghost use Rattle.tbr_show.specs.Terminal.{seen, among};
 
-/// Of a line that is written for it, a terminal shows all characters but control characters, in order.
+/// Of a line that is written for it, a terminal shows all characters except control characters, in order.
 #[tactic(auto, using(crate::proofs::Terminal::line_is_seen))]
 pub fn a_terminal_shows_the_characters()
     ensures { (es : List (Element (Vec RichAnnotation Heap))) →
         seen among (line es) ≡ printable (characters es) ++ newline_character ∷ [] }
 {}
 
-/// A line that is written for a terminal has no control characters but the escapes of its own, and the newline after
-/// it.
+/// A line that is written for a terminal has no control characters except the escapes of its own sequences, and the
+/// newline after it.
 #[tactic(auto, using(crate::proofs::Terminal::line_is_own))]
 pub fn no_other_control_character_is_written()
     ensures { (es : List (Element (Vec RichAnnotation Heap))) → Each (λ c. is_control c ≡ true → c ≢ newline_character →

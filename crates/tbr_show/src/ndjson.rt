@@ -1,4 +1,4 @@
-//! Lines as JSON, an object a line.
+//! Lines as JSON, with one object for each line.
 ghost use Rattle.std.specs.Prelude.{◌≡◌, ◌++◌, ◌<◌, [], chars, flat_map, OnOk};
 ghost use Rattle.std.specs.Char.{digit_char};
 ghost use Rattle.tbr_tagged.specs.View.{chars_of, element_of};
@@ -28,7 +28,7 @@ pub fn push_line<W: CharWidth>(
     push_ascii(text, "\n")
 }
 
-/// Appends what was written, U+007F to U+009F as escapes. Where memory is refused, part of it may have been appended.
+/// Appends what was written, U+007F to U+009F as escapes. If memory is refused, part of it may have been appended.
 pub fn push_written(text: &mut String, writer: Writer) -> Result<(), OutOfMemory>
     requires { writer.before ≡ [] }
     ensures { OnOk result (chars_of text.new ≡ chars_of text.old ++ model.written writer.tokens) }
@@ -52,7 +52,7 @@ fn write_line<W: CharWidth>(
     end_line(writer)
 }
 
-/// Writes what is before the pieces of a line of so many columns, which may be a border.
+/// Writes what comes before the pieces of a line of this many columns, which may be a border.
 pub fn begin_line(writer: &mut Writer, is_border: bool, columns: usize) -> Result<(), OutOfMemory>
     ensures tokens { OnOk result
         (writer.new.tokens ≡ writer.old.tokens ++ model.begin_tokens is_border columns) }
@@ -67,7 +67,7 @@ pub fn begin_line(writer: &mut Writer, is_border: bool, columns: usize) -> Resul
     Ok(())
 }
 
-/// Writes what is after the pieces of a line.
+/// Writes what comes after the pieces of a line.
 pub fn end_line(writer: &mut Writer) -> Result<(), OutOfMemory>
     ensures tokens { OnOk result (writer.new.tokens ≡ writer.old.tokens ++ model.end_tokens) }
     ensures before { OnOk result (writer.new.before ≡ writer.old.before) }
@@ -130,7 +130,7 @@ fn write_tagged<W: CharWidth>(
     write_piece(writer, piece.s.as_str(), columns, piece.tag.as_slice())
 }
 
-/// Writes a piece of so many columns under annotations.
+/// Writes a piece of this many columns under annotations.
 pub fn write_piece(
     writer: &mut Writer,
     piece: &str,
@@ -208,7 +208,7 @@ fn kind(annotation: &RichAnnotation) -> &'static str
     }
 }
 
-/// Writes what an annotation has besides its kind.
+/// Writes what an annotation has apart from its kind.
 fn write_details(writer: &mut Writer, annotation: &RichAnnotation) -> Result<(), OutOfMemory>
     ensures tokens { OnOk result (writer.new.tokens ≡ writer.old.tokens ++ model.details annotation.now) }
     ensures before { OnOk result (writer.new.before ≡ writer.old.before) }

@@ -22,7 +22,7 @@ pub const NOT_OF_URLS: AsciiSet = ascii_set!(
 );
 
 /// Appends a target, in which each byte that may not be in a URL becomes `%` and two hexadecimal digits. What is
-/// written so already stays. It refuses only where memory is refused.
+/// encoded already stays. It refuses only where memory is refused.
 pub fn push_target(text: &mut String, target: &str) -> Result<(), OutOfMemory>
     ensures { OnOk result (chars_of text.new ≡ chars_of text.old ++ encoded target.now) }
 {

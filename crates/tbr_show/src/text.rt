@@ -35,7 +35,7 @@ pub fn push_decimal(text: &mut String, number: u8) -> Result<(), OutOfMemory>
     Ok(())
 }
 
-/// Appends the characters of a text, but for control characters. Where memory is refused, part of them may have been
+/// Appends the characters of a text, except for control characters. If memory is refused, part of them may have been
 /// appended.
 pub fn push_printable(text: &mut String, more: &str) -> Result<(), OutOfMemory>
     ensures { OnOk result (chars_of text.new ≡ chars_of text.old ++ printable (chars more.now)) }
@@ -54,7 +54,7 @@ fn is_printable(text: &str) -> bool
     text.chars().all(|c| !c.is_control())
 }
 
-/// Appends a text as a whole.
+/// Appends a whole text.
 fn push_text(text: &mut String, more: &str) -> Result<(), OutOfMemory>
     ensures { OnOk result (chars_of text.new ≡ chars_of text.old ++ chars more.now) }
 {
@@ -62,7 +62,7 @@ fn push_text(text: &mut String, more: &str) -> Result<(), OutOfMemory>
     Ok(())
 }
 
-/// Appends the characters of a text that are no control characters, one by one.
+/// Appends one by one the characters of a text that aren't control characters.
 fn push_each_printable(text: &mut String, more: &str) -> Result<(), OutOfMemory>
     ensures { OnOk result (chars_of text.new ≡ chars_of text.old ++ printable (chars more.now)) }
 {
@@ -74,8 +74,8 @@ fn push_each_printable(text: &mut String, more: &str) -> Result<(), OutOfMemory>
     Ok(())
 }
 
-/// Appends the parts of a colour in decimal digits, with a separator of ASCII between two. Where memory is refused,
-/// part of them may have been appended.
+/// Appends the parts of a colour in decimal digits, with a separator of ASCII between two. If memory is refused, part
+/// of them may have been appended.
 pub fn push_parts(text: &mut String, colour: Colour, separator: &str) -> Result<(), OutOfMemory>
     requires { IsTrue (list_all is_ascii separator.now) }
     ensures { OnOk result (chars_of text.new ≡ chars_of text.old ++ colour_parts separator.now colour) }

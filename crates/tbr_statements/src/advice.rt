@@ -1,4 +1,4 @@
-//! What errors say: what is wrong with a line, and one way to put it right.
+//! What errors say: what is wrong with a line, and one way to correct it.
 ghost use Rattle.std.specs.Prelude.{◌≡◌, None, Some, IfOk};
 ghost use Rattle.std.specs.Option.{option_map};
 ghost use Rattle.tbr_statements.specs.Problem.{IsOf, Tells};
@@ -39,7 +39,7 @@ fn refusal(
     }
 }
 
-/// The line is no command.
+/// The line isn't a command.
 pub fn not_a_command(alloc: Global, line: usize, writing: &[u8]) -> Refusal
     ensures { Tells result kind_is.NotACommand line None }
 {
@@ -71,7 +71,7 @@ fn faulty(line: usize, fault: Result<Fault, AllocError>) -> Refusal
     }
 }
 
-/// There is no first command.
+/// The script has no first command.
 pub fn nothing_there(alloc: Global, line: usize) -> Refusal
     ensures { Tells result kind_is.NotACommand line None }
 {
@@ -99,7 +99,7 @@ pub fn not_open(alloc: Global, line: usize, word: &str, level: Option<&Level>) -
     refusal(Kind::NothingToEnd, line, FIRST, related, texts)
 }
 
-/// What is said where nothing is open that a command ends.
+/// What is said if nothing is open that a command could end.
 fn nothing_to_end(alloc: Global, word: &str) -> Result<(String, String), AllocError> {
     Ok((
         format!(in alloc; "nothing that `{word}` ends is open")?,
@@ -107,7 +107,7 @@ fn nothing_to_end(alloc: Global, word: &str) -> Result<(String, String), AllocEr
     ))
 }
 
-/// What is said where a level is open inside which nothing is open that a command ends.
+/// What is said if a level is open, and nothing is open inside it that a command could end.
 fn inside(alloc: Global, word: &str, level: &Level) -> Result<(String, String), AllocError> {
     let name = level.by.name();
     let end = level.by.end();
@@ -225,7 +225,8 @@ fn no_column(
     ))
 }
 
-/// Lines of a cell are lost that takes more rows than come. The other line is that of the last cell that takes several.
+/// Lines of a cell are lost, since it takes more rows than come. The other line is that of the last cell that takes
+/// several.
 pub fn lost_lines(alloc: Global, line: usize, cell: Option<usize>) -> Result<Problem, AllocError>
     ensures { IfOk result (λ problem. IsOf problem kind_is.LinesLost line cell) }
 {
@@ -248,7 +249,7 @@ pub fn lost_lines(alloc: Global, line: usize, cell: Option<usize>) -> Result<Pro
     })
 }
 
-/// What began on a line isn't ended in its level.
+/// Something that began on a line isn't ended in its level.
 pub fn not_ended(alloc: Global, line: usize, stretch: Stretch) -> Result<Problem, AllocError>
     ensures { IfOk result (λ problem. IsOf problem kind_is.NotEnded line None) }
 {
@@ -264,7 +265,7 @@ pub fn not_ended(alloc: Global, line: usize, stretch: Stretch) -> Result<Problem
     })
 }
 
-/// A row takes more columns than were set in the place of those of the script.
+/// A row takes more columns than were set instead of those of the script.
 pub fn row_too_wide(
     alloc: Global,
     line: usize,

@@ -12,13 +12,13 @@ use tbr_script::TextPair;
 /// A block that comes after a prefix of the decorator.
 #[derive(Clone, Copy, Debug, PartialEq, Eq)]
 pub enum Block {
-    /// A quotation: each line after the prefix, and empty lines round it.
+    /// A quotation: each line comes after the prefix, between empty lines.
     Quote,
     /// An item of a list: the first line after the prefix, and the others after as many spaces.
     Item,
     /// The item of this number.
     Ordered(i64),
-    /// A heading of this level: each line after the prefix, and empty lines round it.
+    /// A heading of this level: each line comes after the prefix, between empty lines.
     Heading(usize),
 }
 
@@ -66,8 +66,8 @@ impl Block {
         }
     }
 
-    /// What is before its first line, and before the others, where the decorator's prefix is this one. It refuses
-    /// where memory is refused, and where the prefix's columns pass `usize`.
+    /// What comes before its first line, and before the others, if this is the decorator's prefix. It refuses where
+    /// memory is refused, and where the prefix's columns pass `usize`.
     pub fn prefixes<W: CharWidth>(
         self,
         alloc: Global,
@@ -84,7 +84,7 @@ impl Block {
         })
     }
 
-    /// What is before its lines but the first.
+    /// What comes before its lines after the first.
     fn other_prefix<W: CharWidth>(self, alloc: Global, prefix: &str) -> Result<String, OutOfMemory>
         ensures { IfOk result (λ other.
             chars_of other ≡ model.other_prefix W.columns self (chars prefix.now)) }

@@ -1,4 +1,4 @@
-//! Why a line is no command.
+//! Why a line isn't a command.
 ghost use Rattle.std.specs.Prelude.{◌≡◌, ◌≤◌, length, IfOk, IfSome};
 ghost use Rattle.tbr_statements.specs.Fault as model;
 
@@ -20,21 +20,21 @@ const TEXT_BELOW: [&str; 9] = [
 /// What is before the number of an option.
 const WRAP: &str = "wrap=";
 
-/// What is wrong with a line, and one way to put it right.
+/// What is wrong with a line, and one way to correct it.
 #[derive(Debug, Drop)]
 pub struct Fault {
     /// The character of the line where the word at fault begins, counted from 1, if a word is at fault.
     pub column: Option<usize>,
     /// What is wrong.
     pub message: String,
-    /// The way to put it right.
+    /// The way to correct it.
     pub help: String,
 }
 
 /// The column of a line's first word.
 const FIRST: usize = 1;
 
-/// Why a line is no command, or no first command.
+/// Why a line isn't a command, or isn't a first command.
 pub fn fault_of(alloc: Global, line: &[u8], is_first: bool) -> Result<Fault, AllocError> {
     let Ok(line) = str::from_utf8(line) else {
         return Ok(Fault {
@@ -151,7 +151,7 @@ fn help_of(alloc: Global, word: &str, form: &str) -> Result<String, AllocError> 
     format!(in alloc; "write it as `{form}`{besides}")
 }
 
-/// What is said besides of how the command of a word is written.
+/// What else is said about how the command of a word is written.
 fn besides(word: &str) -> &'static str
     ensures { result.now ≡ model.besides word.now }
 {
@@ -164,7 +164,7 @@ fn besides(word: &str) -> &'static str
     }
 }
 
-/// The first of the words after a command's that may not be there, if there is one.
+/// The first of the words after a command's that may not come there, if there is one.
 fn fault_of_arguments(
     alloc: Global,
     word: &str,
@@ -239,7 +239,7 @@ fn too_much(alloc: Global, word: &str, form: &str, column: usize) -> Result<Faul
     })
 }
 
-/// A word that is no command.
+/// A word that isn't a command.
 fn unknown_word(alloc: Global, word: &str) -> Result<Fault, AllocError> {
     let message = format!(in alloc; "`{word}` isn't a command")?;
     let help = match nearest(alloc, word, &FORMS)? {
@@ -253,7 +253,7 @@ fn unknown_word(alloc: Global, word: &str) -> Result<Fault, AllocError> {
     })
 }
 
-/// The help where no command is near a word.
+/// The help if no command is similar to a word.
 fn help_far_from_all(alloc: Global, word: &str) -> Result<String, AllocError> {
     match word.strip_prefix("end") {
         Some(begun) if form_of(begun).is_some() => {
@@ -281,7 +281,7 @@ fn fault_of_text(alloc: Global, word: &str, form: &str, line: &str) -> Result<Fa
     }
 }
 
-/// The character of a line, counted from 1, where a backslash is that begins no escape, if one is there.
+/// The character of a line, counted from 1, where a backslash doesn't begin an escape, if there is one.
 fn bad_escape(alloc: Global, line: &str) -> Result<Option<usize>, AllocError> {
     let mut rest = line;
     while let Some((_, after)) = rest.split_once('\\') {
@@ -349,7 +349,7 @@ fn fault_of_opening(alloc: Global, line: &str) -> Result<Fault, AllocError> {
     fault_of_options(alloc, words)
 }
 
-/// The first of the words that is no option.
+/// The first of the words that isn't an option.
 fn fault_of_options(alloc: Global, words: PlacedWords<'_>) -> Result<Fault, AllocError> {
     let mut words = words;
     while let Some((column, option)) = words.next() {
@@ -366,7 +366,7 @@ fn fault_of_options(alloc: Global, words: PlacedWords<'_>) -> Result<Fault, Allo
     )
 }
 
-/// What is wrong with a word that is no option.
+/// What is wrong with a word that isn't an option.
 fn fault_of_option(alloc: Global, column: usize, option: &str) -> Result<Fault, AllocError> {
     match option.strip_prefix(WRAP) {
         Some(digits) => Ok(Fault {
@@ -378,7 +378,7 @@ fn fault_of_option(alloc: Global, column: usize, option: &str) -> Result<Fault, 
     }
 }
 
-/// A word that isn't one of those that may be there.
+/// A word that isn't one of those that may come there.
 fn unknown(
     alloc: Global,
     column: usize,
@@ -398,7 +398,7 @@ fn unknown(
     })
 }
 
-/// What may be there.
+/// The words that may come there.
 fn listed(alloc: Global, among: &[&'static str]) -> Result<String, AllocError> {
     let mut help = String::from_str(alloc, "one of")?;
     for (place, word) in among.iter().enumerate() {

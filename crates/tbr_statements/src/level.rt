@@ -24,7 +24,7 @@ pub enum Opener {
 pub struct Level {
     /// What opened it.
     pub by: Opener,
-    /// The line of that.
+    /// The line of the command that opened it.
     pub line: usize,
     /// What is known of the level outside.
     pub outside: Notes,
@@ -93,7 +93,7 @@ impl Opener {
 }
 
 impl Notes {
-    /// What is known of a level that was opened just now: nothing.
+    /// What is known of a level that has just opened: nothing.
     fn nothing() -> Notes
         ensures { result ≡ model.nothing }
     {
@@ -105,7 +105,7 @@ impl Notes {
         }
     }
 
-    /// One more cell waits, which was opened on a line, with so many columns and rows.
+    /// One more cell waits, which was opened on a line, with this many columns and rows.
     pub fn add_cell(&mut self, line: usize, columns: usize, rows: usize)
         ensures { self.new ≡ model.with_cell self.old line columns rows }
     {
@@ -120,7 +120,7 @@ impl Notes {
         }
     }
 
-    /// No cell waits any more.
+    /// No cell waits any longer.
     pub fn take_cells(&mut self)
         ensures { self.new ≡ model.without_cells self.old }
     {
@@ -199,7 +199,7 @@ impl Levels {
     }
 
     /// The innermost level closes, if one is open. What was known of the level outside is known again. A text inside
-    /// that is too wide is then known there, if none was.
+    /// that is too wide is then known there, unless another one was.
     pub fn leave(&mut self) -> Option<Opener>
         ensures closed { IfSome result (λ by. model.Leaves self.old.inside.items self.old.notes by
             self.new.inside.items self.new.notes) }

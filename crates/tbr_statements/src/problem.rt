@@ -8,7 +8,7 @@ use tbr_lines::{Error, OutOfMemory};
 /// The kinds of problems.
 #[derive(Clone, Copy, Debug, PartialEq, Eq)]
 pub enum Kind {
-    /// The line is no command, or not the first one that it should be, or the script has none.
+    /// The line isn't a command, or isn't the first one that it should be, or the script has none.
     NotACommand,
     /// The line ends what isn't open there.
     NothingToEnd,
@@ -26,7 +26,7 @@ pub enum Kind {
     LinesLost,
     /// What began isn't ended where its level closes, or the script ends.
     NotEnded,
-    /// A row is wider than the columns that were set in the place of those of the script.
+    /// A row is wider than the columns that were set instead of those of the script.
     RowTooWide,
 }
 
@@ -43,7 +43,7 @@ impl Kind {
         }
     }
 
-    /// Whether the script is shown nevertheless.
+    /// Whether the script is shown in spite of it.
     pub fn is_warning(self) -> bool
         ensures { result ≡ (model.status_of self == 0) }
     {
@@ -51,7 +51,7 @@ impl Kind {
     }
 }
 
-/// What is wrong with a script, or what isn't shown as it says.
+/// What is wrong with a script, or what isn't shown as the script says.
 #[derive(Debug, Drop)]
 pub struct Problem {
     /// Its kind.
@@ -64,7 +64,7 @@ pub struct Problem {
     pub message: String,
     /// Another line that this has to do with.
     pub related: Option<Related>,
-    /// One way to put it right.
+    /// One way to correct it.
     pub help: String,
 }
 
@@ -82,7 +82,7 @@ pub struct Related {
 pub enum Refusal {
     /// Memory was refused, or a size passes `usize`.
     OutOfMemory,
-    /// The script is at fault.
+    /// The script is wrong.
     Script(Problem),
 }
 

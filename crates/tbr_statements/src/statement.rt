@@ -13,7 +13,7 @@ use tbr_script::{parse_number, parse_size};
 /// What a line after the first command asks for.
 #[derive(Debug, Drop)]
 pub enum Statement {
-    /// What it asks `blockrender` for.
+    /// A request to `blockrender`.
     Command(Command),
     /// A block opens.
     Open(Block),
@@ -22,8 +22,8 @@ pub enum Statement {
 }
 
 impl Statement {
-    /// What a line asks for, without its newline. `Ok(None)` where it asks for nothing that is known. It refuses only
-    /// where memory is refused.
+    /// What a line asks for, without its newline. `Ok(None)` if it isn't known. It refuses only where memory is
+    /// refused.
     pub fn parse(alloc: Global, line: &[u8]) -> Result<Option<Statement>, AllocError>
         ensures read { IfOk result (λ found. option_map statement_of found ≡ statement_read line.now) }
         ensures sized { IfOk result (λ found. IfSome found IsSized) }
@@ -60,7 +60,7 @@ fn of_blocks(line: &str) -> Option<Statement>
     }
 }
 
-/// The same of one with a number.
+/// What a line with a number asks for that opens a block with a prefix.
 fn numbered(line: &str) -> Option<Statement>
     ensures { option_map statement_of result ≡ numbered_read line.now }
 {

@@ -13,7 +13,7 @@ const KINDS: usize = 10;
 /// What one command begins and another ends, inside one level.
 #[derive(Clone, Copy, Debug, PartialEq, Eq)]
 pub enum Stretch {
-    /// What is of a kind.
+    /// A stretch of this kind.
     Of(Kind),
     /// A link.
     Link,
@@ -89,7 +89,7 @@ impl Stretch {
     }
 }
 
-/// The word that ends what is of a kind.
+/// The word that ends a stretch of a kind.
 pub fn ending(kind: Kind) -> &'static str
     ensures { result.now ≡ ending_name kind }
 {
@@ -136,7 +136,7 @@ impl Stretches {
         }
     }
 
-    /// A stretch begins on a line, where so many levels are open. It refuses only where memory is refused.
+    /// A stretch begins on a line, where this many levels are open. It refuses only where memory is refused.
     pub fn begin(&mut self, stretch: Stretch, line: usize, level: usize) -> Result<(), AllocError> {
         let place = self.begun.len();
         let before = mem::replace(&mut self.last[stretch.place()], Some(place));
@@ -174,7 +174,7 @@ impl Stretches {
         self.begun.truncate(self.begun.len().saturating_sub(ended));
     }
 
-    /// The place of the first that began where so many levels were open, or more.
+    /// The place of the first that began where this many levels were open, or more.
     pub fn first_in(&self, level: usize) -> usize {
         let inside = self
             .begun

@@ -1,4 +1,4 @@
-//! The commands of a script, and which is near a word.
+//! The commands of a script, and which is similar to a word.
 ghost use Rattle.std.specs.Prelude.{◌≡◌, map, IfOk, IfSome, IfNone};
 ghost use Rattle.tbr_statements.specs.Words as model;
 ghost use Rattle.tbr_statements.specs.Words.{IsNearest, AreFar, IsFirstOf, NoneBegins};
@@ -72,7 +72,7 @@ pub const OPTIONS: [&str; 10] = [
 /// The decorators.
 pub const DECORATORS: [&str; 3] = ["plain", "trivial", "rich"];
 
-/// Where the lines of a cell may be.
+/// The alignments of a cell's lines.
 pub const ALIGNMENTS: [&str; 3] = ["left", "right", "centre"];
 
 /// The modes of white space.

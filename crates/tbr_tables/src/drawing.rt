@@ -47,8 +47,8 @@ impl Model for Drawing {
     } };
 }
 
-/// The calls that draw these steps in so many columns, where their tables have these shapes. It refuses where memory is
-/// refused, and where a size passes `usize`.
+/// The calls that draw these steps in this many columns, where their tables have these shapes. It refuses where memory
+/// is refused, and where a size passes `usize`.
 pub fn drawn(
     alloc: Global,
     shapes: &[Shape],
@@ -88,7 +88,7 @@ fn is_moved(align: CellAlign) -> bool
 }
 
 impl Drawing {
-    /// Nothing, in so many columns.
+    /// Nothing, in this many columns.
     fn begun(alloc: Global, room: usize) -> Drawing
         ensures { result ≡ nothing_drawn room }
     {
@@ -137,7 +137,7 @@ impl Drawing {
         Ok(())
     }
 
-    /// The same, if it is asked for.
+    /// Adds a call for a step, if it is asked for.
     fn add_if(&mut self, at: usize, is_asked: bool, call: Call) -> Result<(), OutOfMemory>
         ensures { OnOk result (self.new ≡ adding (model.call_if at is_asked call) self.old) }
     {
@@ -147,7 +147,7 @@ impl Drawing {
         Ok(())
     }
 
-    /// A level opens inside, of so many columns.
+    /// A level opens inside, of this many columns.
     fn enter(&mut self, room: usize, moves: bool) -> Result<(), OutOfMemory>
         ensures { OnOk result (self.new ≡ entered room moves self.old) }
     {
@@ -156,7 +156,7 @@ impl Drawing {
         Ok(())
     }
 
-    /// The same, by a step of its own.
+    /// A level of this many columns opens inside, by a step of its own.
     fn enter_given(&mut self, at: usize, room: usize, moves: bool) -> Result<(), OutOfMemory>
         ensures { OnOk result (self.new ≡ entered room moves (given at self.old)) }
     {
@@ -173,7 +173,7 @@ impl Drawing {
         }
     }
 
-    /// The same, after a call.
+    /// The innermost level closes, after a call.
     fn leave_by(&mut self, at: usize, call: Call) -> Result<(), OutOfMemory>
         ensures { OnOk result (self.new ≡ left (adding (call_at at call ∷ []) self.old)) }
     {

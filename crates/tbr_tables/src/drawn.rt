@@ -20,9 +20,9 @@ pub enum Call {
     Given,
     /// A table begins, as a block.
     StartTable,
-    /// A border of so many columns.
+    /// A border of this many columns.
     Border(usize),
-    /// A block of so many columns opens inside.
+    /// A block of this many columns opens inside.
     Sub(usize),
     /// It closes, and its lines come after empty prefixes.
     Append,
@@ -30,7 +30,7 @@ pub enum Call {
     Cell(DrawnCell),
     /// It closes, and waits.
     EndCell,
-    /// The cells that wait come side by side. Borders at their tops and bottoms become one with those of the row.
+    /// The cells that wait come side by side. Borders at their tops and bottoms are merged with those of the row.
     Row,
     /// The cells that wait come one below another.
     VerticalRow,

@@ -25,7 +25,7 @@ pub struct DrawnLevel {
 /// A table that is open.
 #[derive(Drop)]
 pub struct OpenTable {
-    /// Where each column begins, and where one after the last would. `None` where the cells of a row go one below
+    /// Where each column begins, and where one after the last would begin. `None` if the cells of a row come one below
     /// another.
     edges: Option<Vec<usize>>,
     level: DrawnLevel,
@@ -190,7 +190,7 @@ fn edges(alloc: Global, widths: Option<Vec<usize>>) -> Result<Option<Vec<usize>>
     }
 }
 
-/// Where columns of these widths begin, with a line between two, and where one after the last would.
+/// Where columns of these widths begin, with a line between two, and where one after the last would begin.
 fn edges_of(alloc: Global, widths: &[usize]) -> Result<Vec<usize>, OutOfMemory>
     ensures { IfOk result (λ edges. edges.items ≡ edges_from 0 widths.now) }
 {

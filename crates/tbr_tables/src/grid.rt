@@ -81,7 +81,7 @@ impl Grid {
         Ok(())
     }
 
-    /// The place of a cell that would come next and span so many columns and rows. It ends where a cell from above
+    /// The place of a cell that would come next and span this many columns and rows. It ends where a cell from above
     /// begins.
     pub fn spot(&self, columns: usize, rows: usize) -> Result<Spot, OutOfMemory>
         ensures { IfOk result (λ spot. spot ≡ spot_for columns rows self.now) }
@@ -113,7 +113,8 @@ impl Grid {
         self.row.last().copied()
     }
 
-    /// What fills the row of a table of so many columns: a cell in each column where none is, and the cells from above.
+    /// What fills the row of a table of this many columns: a cell in each column where none is, and the cells from
+    /// above.
     pub fn rest(&self, count: usize) -> Result<Vec<Spot>, OutOfMemory>
         ensures { IfOk result (λ spots. spots.items ≡ rest_of_row count self.now) }
     {

@@ -45,13 +45,13 @@ pub fn rows_take_the_width()
         Tiles 0 row t.columns → sum_by (width_at ws any) row + (length row - 1) ≡ sum ws + (t.columns - 1) }
 {}
 
-/// The border of a table with columns is as wide.
+/// The border of a table with columns is as wide as the table.
 pub fn borders_take_the_width()
     ensures { (t : Table) (room any : ℕ) (ws : List ℕ) → widths t room ≡ Some ws → 0 < t.columns →
         width_at ws any (record { column = 0; end = t.columns; rows = 1 }) ≡ sum ws + (t.columns - 1) }
 {}
 
-/// The cells of rows go one below another exactly where the longest words and the lines between columns don't fit.
+/// The cells of rows come one below another exactly where the longest words and the lines between columns don't fit.
 pub fn cells_are_below_where_words_do_not_fit()
     ensures { (level : DrawnLevel) (shape : Shape) →
         ((table_of level (Some shape)).edges ≡ None) ↔ (level.room < room_of Least shape.columns) }

@@ -9,7 +9,7 @@ use column_widths::Room;
 /// What is known of a level.
 #[derive(Clone, Copy, Debug, PartialEq, Eq)]
 pub struct Level {
-    /// Of its lines.
+    /// What is known of its lines.
     pub ruler: Ruler,
     /// How many modes of white space had begun before it.
     pub modes: usize,
@@ -20,7 +20,8 @@ pub struct Level {
 }
 
 impl Level {
-    /// A level whose lines take so many columns at most, and those of text so many, where so many modes have begun.
+    /// A level whose lines take this many columns at most, and those of text this many, where this many modes have
+    /// begun.
     pub fn new(limit: usize, wrap: usize, modes: usize) -> Level
         ensures { result ≡ new_level limit wrap modes }
     {
@@ -32,7 +33,7 @@ impl Level {
         }
     }
 
-    /// A cell of so many columns waits.
+    /// A cell of this many columns waits.
     pub fn add_cell(&mut self, columns: usize)
         ensures { self.new ≡ with_cell columns self.old }
     {
@@ -41,7 +42,7 @@ impl Level {
         self.widest = self.widest.max(columns);
     }
 
-    /// The cells that wait come as lines of so many columns.
+    /// The cells that wait come as lines of this many columns.
     fn add_cells(&mut self, columns: usize)
         ensures { self.new ≡ cells_added columns self.old }
     {
@@ -65,7 +66,7 @@ impl Level {
     }
 }
 
-/// So many columns, all of them needed.
+/// This many columns, all of them needed.
 pub fn exactly(columns: usize) -> Room
     ensures { result ≡ exactly columns }
 {

@@ -22,7 +22,7 @@ pub struct MeasuredTable {
 }
 
 impl MeasuredTable {
-    /// A table that begins after so many others.
+    /// A table that begins after this many others.
     pub fn begun(alloc: Global, place: usize) -> MeasuredTable
         ensures { result ≡ new_table place }
     {
@@ -42,7 +42,7 @@ impl MeasuredTable {
         self.grid.place(spot)
     }
 
-    /// The cell that came last asks for so much, if there is one.
+    /// The cell that came last asks for this much, if there is one.
     pub fn need(&mut self, room: Room) -> Result<(), OutOfMemory>
         ensures { OnOk result (self.new ≡ cell_needs room (last_of self.old.grid) self.old) }
     {

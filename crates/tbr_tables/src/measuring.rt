@@ -56,7 +56,7 @@ impl Model for Measuring {
 }
 
 impl Measuring {
-    /// Nothing has come, where lines of text take so many columns at most.
+    /// Nothing has come, where lines of text take this many columns at most.
     pub fn begun(alloc: Global, wrap: usize) -> Measuring
         ensures { result ≡ nothing_measured wrap }
     {
@@ -116,7 +116,7 @@ impl Measuring {
         }
     }
 
-    /// It ends, if it began in the innermost level.
+    /// The mode ends, if it began in the innermost level.
     fn end_mode(&mut self)
         ensures { self.new ≡ mode_ended self.old }
     {
@@ -140,7 +140,7 @@ impl Measuring {
         self.level.ruler.add_lines(room);
     }
 
-    /// A level opens inside, whose lines take so many columns at most.
+    /// A level opens inside, whose lines take this many columns at most.
     fn enter(&mut self, limit: usize) -> Result<(), OutOfMemory>
         ensures { OnOk result (self.new ≡ entered limit self.old) }
     {
@@ -163,7 +163,7 @@ impl Measuring {
         inside
     }
 
-    /// The innermost level closes, and its lines come after prefixes of so many columns.
+    /// The innermost level closes, and its lines come after prefixes of this many columns.
     fn append(&mut self, prefix: usize)
         ensures { self.new ≡ lines_come (beside prefix (room_of self.old.level.ruler)) (left self.old) }
     {
@@ -200,7 +200,7 @@ impl Measuring {
         self.enter(usize::MAX)
     }
 
-    /// It closes.
+    /// The cell closes.
     fn end_cell(&mut self) -> Result<(), OutOfMemory>
         ensures { let outside = left self.old in OnOk result (self.new ≡ record outside {
           table = cell_needs (room_of self.old.level.ruler) (last_of self.old.table.grid) self.old.table;
@@ -222,7 +222,7 @@ impl Measuring {
         Ok(())
     }
 
-    /// The same, where it takes this room.
+    /// The innermost table ends, if one is open, and takes this room.
     fn leave_table(&mut self, room: Room)
         ensures { self.new ≡ table_left room self.old.tables self.old }
     {
@@ -236,7 +236,7 @@ impl Measuring {
     }
 }
 
-/// Lines beside a prefix of so many columns.
+/// Lines beside a prefix of this many columns.
 fn beside(prefix: usize, room: Room) -> Room
     ensures { result ≡ beside prefix room }
 {

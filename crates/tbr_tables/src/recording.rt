@@ -28,7 +28,7 @@ impl Model for Recording {
 }
 
 impl Recording {
-    /// Nothing, where lines of text take so many columns at most.
+    /// Nothing, where lines of text take this many columns at most.
     pub fn begun(alloc: Global, wrap: usize) -> Recording
         ensures { result ≡ nothing_recorded wrap }
     {
@@ -39,8 +39,8 @@ impl Recording {
         }
     }
 
-    /// A step more, with the text that it writes. It refuses where memory is refused, and where a size passes `usize`;
-    /// the recording isn't to be used any more then.
+    /// Records one more step, with the text that it writes. It refuses where memory is refused, and where a size passes
+    /// `usize`; the recording must not be used any longer then.
     pub fn add<W: CharWidth>(&mut self, step: Step, text: &str) -> Result<(), OutOfMemory>
         ensures { OnOk result (self.new ≡ with_step W.columns self.old step (chars text.now)) }
     {
@@ -48,7 +48,7 @@ impl Recording {
         self.measuring.add::<W>(step, text)
     }
 
-    /// The calls that draw what is recorded in so many columns. It refuses where memory is refused, and where a size
+    /// The calls that draw what is recorded in this many columns. It refuses where memory is refused, and where a size
     /// passes `usize`.
     pub fn draw(&self, room: usize) -> Result<Vec<Drawn>, OutOfMemory>
         ensures { IfOk result (λ calls. calls.items ≡ calls_in room self.now) }

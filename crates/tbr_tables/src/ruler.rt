@@ -9,7 +9,7 @@ use column_widths::Room;
 use tbr_model::{CharWidth, WhiteSpace};
 use tbr_tagged::is_wordbreak_point;
 
-/// A tab goes to the next multiple of so many columns.
+/// A tab goes to the next multiple of this many columns.
 const TAB: usize = 8;
 
 const ZERO_WIDTH_SPACE: char = '\u{200b}';
@@ -34,7 +34,7 @@ pub struct Ruler {
 }
 
 impl Ruler {
-    /// No text, in lines of so many columns at most, and those of text of so many.
+    /// No text, in lines of this many columns at most, and those of text of this many.
     pub fn new(limit: usize, wrap: usize) -> Ruler
         ensures { result ≡ no_text limit wrap }
     {
@@ -88,7 +88,7 @@ impl Ruler {
         self.grow(room.least, room.greatest);
     }
 
-    /// The longest word and the widest line are at least so wide.
+    /// The longest word and the widest line are at least this wide.
     fn grow(&mut self, word: usize, line: usize)
         ensures { self.new ≡ grown word line self.old }
     {
@@ -96,7 +96,7 @@ impl Ruler {
         self.greatest = self.greatest.max(line.min(self.limit));
     }
 
-    /// The word and the line that are open count.
+    /// The open word and the open line are counted.
     fn settle(&mut self)
         ensures { self.new ≡ settled self.old }
     {
@@ -131,7 +131,7 @@ impl Ruler {
         }
     }
 
-    /// The same where white space counts as one space.
+    /// A character comes, where white space counts as one space.
     fn add_normal<W: CharWidth>(&mut self, c: char)
         ensures { self.new ≡ after_normal W.columns c self.old }
     {
@@ -145,7 +145,7 @@ impl Ruler {
         }
     }
 
-    /// The same where no line is broken.
+    /// A character comes, where no line is broken.
     fn add_kept<W: CharWidth>(&mut self, c: char)
         ensures { self.new ≡ after_kept W.columns c self.old }
     {
@@ -157,7 +157,7 @@ impl Ruler {
         }
     }
 
-    /// The same where white space is kept, and lines are broken there.
+    /// A character comes, where white space is kept and lines are broken there.
     fn add_wrapped<W: CharWidth>(&mut self, c: char)
         ensures { self.new ≡ after_wrapped W.columns c self.old }
     {
@@ -199,7 +199,7 @@ impl Ruler {
     }
 }
 
-/// Whether a word ends before a character, as `is_wordbreak_point` tells. It is sooner known of printable ASCII.
+/// Whether a word ends before a character, as `is_wordbreak_point` tells. For printable ASCII it is known faster.
 #[tactic(auto, using(tbr_model::proofs::rule::Printable::break_not))]
 fn ends_word(c: char) -> bool
     ensures { result ≡ is_break c }

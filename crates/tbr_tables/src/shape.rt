@@ -29,7 +29,7 @@ impl Shape {
         }
     }
 
-    /// A cell asks for so much, and there are as many columns as it spans. It refuses where memory is refused, and
+    /// A cell asks for this much, and there are as many columns as it spans. It refuses where memory is refused, and
     /// where a column passes `usize`.
     pub fn need(&mut self, cell: CellNeed) -> Result<(), OutOfMemory>
         requires { 1 ≤ cell.span }

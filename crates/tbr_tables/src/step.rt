@@ -9,7 +9,7 @@ pub struct TableCell {
     /// The columns of the table that it spans, if no cell from above is in the way. 0 counts as 1, and more than 1,000
     /// as 1,000, as in browsers.
     pub columns: usize,
-    /// The rows that it spans, if so many come. 0 counts as 1.
+    /// The rows that it spans, if this many come. 0 counts as 1.
     pub rows: usize,
     /// Where its lines are in its columns.
     pub align: CellAlign,
@@ -18,7 +18,7 @@ pub struct TableCell {
 /// A step of what is recorded from the beginning of a table to its end. Tables may be in cells of other tables.
 #[derive(Clone, Copy, Debug, PartialEq, Eq)]
 pub enum Step {
-    /// A text, a link, or anything else that changes no line but by its text.
+    /// A text, a link, or anything else that only changes lines by its text.
     Text,
     /// A mode of white space begins.
     BeginMode(WhiteSpace),
@@ -26,17 +26,17 @@ pub enum Step {
     EndMode,
     /// The open line ends.
     EndLine,
-    /// A border of so many columns.
+    /// A border of this many columns.
     Border(usize),
-    /// A block opens inside, as wide as a prefix of so many columns leaves.
+    /// A block opens inside, as wide as a prefix of this many columns leaves.
     Inside(usize),
-    /// A block of so many columns opens inside.
+    /// A block of this many columns opens inside.
     Sub(usize),
-    /// The block that is open closes. Its lines come after prefixes of so many columns.
+    /// The block that is open closes. Its lines come after prefixes of this many columns.
     Append(usize),
-    /// A cell of so many columns opens, which isn't of a table that finds its widths.
+    /// A cell of this many columns opens, in a table that doesn't find its widths.
     GivenCell(usize, CellAlign),
-    /// It closes, and waits.
+    /// That cell closes, and waits.
     EndGivenCell,
     /// The cells that wait come side by side.
     GivenRow,
@@ -46,7 +46,7 @@ pub enum Step {
     Table,
     /// A cell of the table opens.
     Cell(TableCell),
-    /// It closes.
+    /// That cell closes.
     EndCell,
     /// The row of the cells that came ends.
     Row,

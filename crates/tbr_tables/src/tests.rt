@@ -9,7 +9,7 @@ const CELL: TableCell = TableCell {
     align: CellAlign::Left,
 };
 
-/// The columns of the border of a table of two cells in so much room.
+/// The columns of the border of a table of two cells in this much room.
 fn border(alloc: Global, room: usize) -> Result<Option<usize>, OutOfMemory> {
     let mut recording = Recording::begun(alloc, usize::MAX);
     recording.add::<UnicodeColumns>(Step::Table, "")?;

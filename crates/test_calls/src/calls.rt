@@ -11,7 +11,7 @@ use test_support::texts::{append_marked_line, append_pieces};
 /// A colour for tests.
 pub const RED: Colour = Colour { r: 255, g: 0, b: 0 };
 
-/// What a call ends that can't refuse.
+/// A call that ends something and can't refuse.
 #[derive(Clone, Copy)]
 pub enum End {
     Block,
@@ -180,7 +180,7 @@ pub enum Shown {
     Text,
     /// Their text with markers, as `<name>`.
     Markers,
-    /// Their pieces, each with its annotations; of a border its text alone.
+    /// Their pieces, each with its annotations; only the text of a border.
     Pieces,
 }
 

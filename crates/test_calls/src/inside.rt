@@ -21,11 +21,11 @@ pub enum Inner<'a> {
     Row(&'a str, &'a str),
 }
 
-/// A renderer inside: its columns, of which it has one at least, and the calls on it.
+/// A renderer inside: its columns, at least one, and the calls on it.
 #[derive(Clone, Copy)]
 pub struct Block<'a>(pub usize, pub &'a [Inner<'a>]);
 
-/// A cell: how many rows it spans, of which it has one at least, and the renderer inside.
+/// A cell: how many rows it spans, at least one, and the renderer inside.
 #[derive(Clone, Copy)]
 pub struct Cell<'a>(pub usize, pub Block<'a>);
 
@@ -144,7 +144,8 @@ pub fn append_columns<D: TextDecorator, W: CharWidth>(
     r.append_columns_with_borders(cols, collapse)
 }
 
-/// The same of as many cells as there are alignments, each of them aligned. No borders of neighbours are merged.
+/// Appends as many cells as there are alignments as a row side by side, each of them aligned. No borders of neighbours
+/// are merged.
 pub fn append_aligned<D: TextDecorator, W: CharWidth>(
     alloc: Global,
     r: &mut SubRenderer<D, W>,

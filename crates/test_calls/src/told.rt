@@ -5,7 +5,7 @@ use std::alloc::Global;
 use tbr_decor::PlainDecorator;
 use tbr_renderer::{ImageRenderMode, RenderOptions, SubRenderer};
 
-/// What a renderer is told besides the usual options.
+/// What a renderer is told apart from the usual options.
 #[derive(Clone, Copy)]
 pub enum Told {
     Nothing,

@@ -1,4 +1,4 @@
-//! Lists of annotations that share what they have in common.
+//! Lists of annotations that share their common part.
 use crate::compared::counts;
 use std::alloc::Global;
 use std::process::Abort;

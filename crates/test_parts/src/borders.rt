@@ -218,7 +218,7 @@ fn vertical_lines_stand_above_arms_that_go_up(rt: HostRuntime) -> Result<(), Fai
     Ok(())
 }
 
-/// A kept line of a text, or of a marker alone.
+/// A kept line of a text, or of only a marker.
 fn text_line(alloc: Global, text: &str) -> Result<RenderLine<Voice>, OutOfMemory> {
     let mut line = TaggedLine::new(alloc);
     if text.is_empty() {

@@ -11,7 +11,7 @@ pub enum Edit<'a> {
     Character(char, Voice),
     /// A text joins the line at its front.
     Front(&'a str, Voice),
-    /// The same by its characters.
+    /// A text joins the line at its front, character by character.
     FrontStr(&'a str, Voice),
     Marker(&'a str),
     Pad(usize, Voice),

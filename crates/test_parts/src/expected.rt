@@ -9,11 +9,11 @@ use test_support::texts::Voice;
 /// A block without text.
 #[derive(Clone, Copy)]
 pub enum On {
-    /// Of so many columns, at least one.
+    /// Of this many columns, at least one.
     Columns(usize),
-    /// The same, where each character takes one column but U+0336, which takes none.
+    /// Of this many columns, where each character takes one column, except that U+0336 takes none.
     EveryOne(usize),
-    /// The same, where the em space takes none either.
+    /// Of this many columns, where each character takes one column, except that U+0336 and the em space take none.
     NoEmSpace(usize),
     /// Of five columns, where lines are padded under the second tag.
     Padding,
@@ -39,7 +39,7 @@ pub struct Example {
     pub expected: Expected,
 }
 
-/// A block of so many columns.
+/// A block of this many columns.
 fn of_columns<W: CharWidth + Drop>(
     rt: &impl Abort,
     alloc: Global,

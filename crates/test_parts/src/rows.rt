@@ -132,7 +132,7 @@ impl Table {
     }
 }
 
-/// A line of a cell: a border where it begins with `─`, else a text.
+/// A line of a cell: a border if it begins with `─`, and otherwise a text.
 fn line(alloc: Global, text: &str) -> Result<RenderLine<Voice>, OutOfMemory> {
     if text.starts_with("─") {
         let width = text.chars().count();
@@ -447,7 +447,7 @@ fn cells_are_aligned(rt: HostRuntime) {
     );
 }
 
-/// So many lines of one letter.
+/// This many lines of one letter.
 fn letters(alloc: Global, count: usize) -> Result<Vec<RenderLine<Voice>>, OutOfMemory> {
     let mut letters = Vec::new(alloc);
     for _ in 0..count {
@@ -456,7 +456,7 @@ fn letters(alloc: Global, count: usize) -> Result<Vec<RenderLine<Voice>>, OutOfM
     Ok(letters)
 }
 
-/// The text of a row of so many cells, each of one letter.
+/// The text of a row of this many cells, each of one letter.
 fn wide(alloc: Global, count: usize) -> Result<usize, OutOfMemory> {
     let mut row = Columns::new(alloc);
     for _ in 0..count {
@@ -467,7 +467,7 @@ fn wide(alloc: Global, count: usize) -> Result<usize, OutOfMemory> {
     Ok(table.text()?.len())
 }
 
-/// The text of a cell of one letter a row, which spans so many rows.
+/// The text of a cell of one letter a row, which spans this many rows.
 fn long(alloc: Global, count: usize) -> Result<usize, OutOfMemory> {
     let mut row = Columns::new(alloc);
     let lines = letters(alloc, count)?;

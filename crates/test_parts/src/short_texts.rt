@@ -72,7 +72,7 @@ fn append_line(all: &mut String, line: &[Slot<'_, u8>]) -> Result<(), OutOfMemor
     Ok(())
 }
 
-/// Appends the markers that trail: those of the text that are no items.
+/// Appends the markers that trail: those of the text that aren't items.
 fn append_trailing(
     all: &mut String,
     text: &str,
@@ -153,7 +153,7 @@ fn join_one(block: &mut WrappedBlock<Voice>, alloc: Global, c: char) -> Result<(
     add(block, WhiteSpace::Normal, c.encode_utf8(&mut bytes))
 }
 
-/// The same, or that the block refused the text.
+/// One character joins the block's run, or a marker, or the block has refused the text.
 fn wrapped_or_refused(alloc: Global, width: usize, text: &str) -> Result<String, Error>
     requires { 0 < width }
 {

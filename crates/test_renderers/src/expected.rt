@@ -56,7 +56,7 @@ fn shown_by<D: TextDecorator, W: CharWidth>(
     handed_out(alloc, shown, r, example.calls)
 }
 
-/// The same under one decorator.
+/// What the lines after an example's calls show under one decorator.
 fn shown_under(alloc: Global, example: Example, shown: Shown, under: Under) -> Result<String, Error>
     requires { 0 < example.width }
 {

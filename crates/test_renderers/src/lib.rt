@@ -1,6 +1,6 @@
 //! Tests of renderers, alone and on a stack. There are tables of calls on a new one, each with the lines that they
-//! leave. There are tests of what renderers answer besides their lines, of what they refuse, of memory that is refused,
-//! and of what is printed of them.
+//! leave. There are tests of what renderers answer apart from their lines, of what they refuse, of memory that is
+//! refused, and of what is printed of them.
 #![tactic(auto)]
 
 #[cfg(test)]

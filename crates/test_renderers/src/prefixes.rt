@@ -25,7 +25,7 @@ fn prefixes<D: TextDecorator, W: CharWidth>(
     Ok(all)
 }
 
-/// The same, where a prefix that is refused isn't kept.
+/// These prefixes, where a prefix that is refused isn't kept.
 pub fn prefixes_of<D: TextDecorator, W: CharWidth>(
     rt: &impl Abort,
     r: &mut SubRenderer<D, W>,

@@ -7,7 +7,7 @@ use std::test::Fail;
 use tbr_runner::run;
 use tbr_script::{RunError, StdSink, StdSource};
 
-/// A writer that takes so many bytes a call, and fails once its calls are used up.
+/// A writer that takes this many bytes a call, and fails once its calls are used up.
 #[derive(Drop)]
 pub struct Slow {
     held: Vec<u8>,
@@ -16,7 +16,7 @@ pub struct Slow {
 }
 
 impl Slow {
-    /// A writer that takes so many bytes a call, and fails after so many calls.
+    /// A writer that takes this many bytes a call, and fails after this many calls.
     pub fn new(alloc: Global, bytes_a_call: usize, calls: usize) -> Slow {
         Slow {
             held: Vec::new(alloc),

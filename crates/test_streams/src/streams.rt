@@ -6,7 +6,7 @@ use std::io::{ErrorKind, Read};
 use std::process::Abort;
 use std::test::Fail;
 
-/// A reader that has these bytes, gives so many of them a call, and fails after them.
+/// A reader that has these bytes, gives this many of them a call, and fails after them.
 #[derive(Drop)]
 struct Cut<'a> {
     bytes: &'a [u8],
@@ -85,7 +85,7 @@ fn failing_streams_are_told(rt: HostRuntime) -> Result<(), Fail> {
 
 const TEXT: &[u8] = b"Hello,\nworld.\nSuperlon\ngwordrea\nlly\n";
 
-/// What a writer holds that takes three bytes a call and fails after so many calls.
+/// What a writer holds that takes three bytes a call and fails after this many calls.
 fn told_after(alloc: Global, calls: usize) -> Result<Vec<u8>, Fail> {
     let mut told = Vec::new(alloc);
     for byte in TEXT.iter().take(calls.saturating_mul(3)) {
@@ -133,7 +133,7 @@ fn streams_that_fail_anywhere_are_told(rt: HostRuntime) -> Result<(), Fail> {
 const NESTED: &str =
     "new 5 plain\nborder\ncell 3 1\nborder\ncell 1 1\ntext 1\nendcell\ncell 1 1\ntext 2\nendcell\nrow\nendcell\ncell 1 1\ntext xy\nendcell\nrow collapse";
 
-/// A text, or the refusal of a line that is no command, with nothing before it.
+/// A text, or the refusal of a line that isn't a command, with nothing before it.
 fn is_text_or_no_command(told: &str) -> bool {
     !told.contains(": ") || told.starts_with("2: line ") && told.ends_with(": not a command\n")
 }

@@ -3,7 +3,7 @@ ghost use Rattle.test_support.specs.EveryOne.{every_one, every_one_at_most_two, 
 
 use tbr_lines::CharWidth;
 
-/// Every character takes one column, but the stroke U+0336 takes none.
+/// Every character takes one column, except that the stroke U+0336 takes none.
 #[derive(Clone, Copy)]
 pub struct EveryOne;
 

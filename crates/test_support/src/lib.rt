@@ -1,5 +1,5 @@
-//! What tests of several crates share: texts of lines, width instances whose widths need no table, and decorators
-//! besides those that are shipped.
+//! What tests of several crates share: texts of lines, width instances whose widths need no table, and decorators other
+//! than those that are shipped.
 #![tactic(auto)]
 
 pub mod columns;

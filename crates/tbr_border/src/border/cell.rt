@@ -39,7 +39,7 @@ pub(crate) enum Side {
 }
 
 impl BorderSegHoriz {
-    /// Takes away the arm to the left. An arm that is then alone is completed by its opposite. It takes no memory.
+    /// Takes away the arm to the left. If a single arm is left, its opposite is added. It takes no memory.
     pub fn chop_left(&mut self)
         ensures { model.cell_of self.new ≡ model.chopped_left (model.cell_of self.old) }
     {
@@ -54,7 +54,7 @@ impl BorderSegHoriz {
         };
     }
 
-    /// Takes away the arm to the right. An arm that is then alone is completed by its opposite. It takes no memory.
+    /// Takes away the arm to the right. If a single arm is left, its opposite is added. It takes no memory.
     pub fn chop_right(&mut self)
         ensures { model.cell_of self.new ≡ model.chopped_right (model.cell_of self.old) }
     {
@@ -79,7 +79,7 @@ impl BorderSegHoriz {
         };
     }
 
-    /// What the cell is once a line joins it from above. The slash stays.
+    /// The cell after a line joins it from above. The slash stays.
     fn with_arm_up(self) -> BorderSegHoriz
         ensures { model.cell_of result ≡ model.joined model.above (model.cell_of self) }
     {
@@ -92,7 +92,7 @@ impl BorderSegHoriz {
         }
     }
 
-    /// What the cell is once a line joins it from below. The slash stays.
+    /// The cell after a line joins it from below. The slash stays.
     fn with_arm_down(self) -> BorderSegHoriz
         ensures { model.cell_of result ≡ model.joined model.below (model.cell_of self) }
     {
@@ -105,7 +105,7 @@ impl BorderSegHoriz {
         }
     }
 
-    /// Whether the cell joins a border into which its own is merged from that side.
+    /// Whether the cell joins a border into which its own border is merged from that side.
     pub(crate) fn merges(self, side: Side) -> bool
         ensures { result ≡ model.merges (model.side_of side) (model.cell_of self) }
     {
@@ -139,7 +139,7 @@ impl BorderSegHoriz {
         }
     }
 
-    /// What is above the cell: `│` above `┴`, `┼`, `└` and `┘`, else a space.
+    /// What is above the cell: `│` above `┴`, `┼`, `└` and `┘`, and a space above others.
     pub(crate) fn line_above(self) -> char
         ensures { result ≡ model.line_above (model.cell_of self) }
     {
