@@ -1,43 +1,43 @@
 /*
- * A text block renderer. Calls go in: texts, blocks, links, images and rows of cells. Lines of a width in columns come
- * out, as text or as pieces under annotations. C99 and later, and C++.
+ * A text block renderer. Calls add texts, blocks, links, images and rows of cells. It gives lines of a width in
+ * columns, as text or as pieces under annotations. It is for C99 and later, and C++.
  *
  * UNITS. Widths are in columns: most characters take one, those of East Asian scripts mostly two, combining marks
- * none. Lengths, rooms and places in a text are in bytes. Texts are UTF-8; those that come out have no NUL after
- * them.
+ * none. Lengths, rooms and places in a text are in bytes. Texts are UTF-8. Those that come out don't end in a NUL.
  *
  * TEXTS THAT GO IN. A function whose name ends in _n takes bytes and their number, where the pointer may be NULL if
  * the number is 0. The one without _n takes a NUL-terminated text, and NULL as the empty one. All are copied: a
  * caller may free them after the call.
  *
- * TEXTS THAT COME OUT go into a buffer of the caller's, of `room` bytes, which may be NULL if the room is 0.
- * `*length` is the number of bytes of the whole text. Where the room is smaller, the answer is TBR_BUFFER_TOO_SMALL,
- * nothing is written, and a second call with more room has all of it. A buffer may not overlap what another argument
+ * TEXTS THAT COME OUT are written to a buffer of the caller's, of `room` bytes, which may be NULL if the room is 0.
+ * `*length` is the number of bytes of the whole text. If the room is smaller, the answer is TBR_BUFFER_TOO_SMALL,
+ * nothing is written, and a second call with more room gives all of it. A buffer may not overlap what another argument
  * points to.
  *
- * CONTROL CHARACTERS. A text that comes out has none but the newlines that end lines: not U+0000 to U+001F, U+007F, nor
- * U+0080 to U+009F. Those of texts are white space or vanish. Those of prefixes, and of the targets that footnotes list,
+ * CONTROL CHARACTERS. A text that comes out has none except the newlines that end lines: not U+0000 to U+001F, U+007F,
+ * nor U+0080 to U+009F. Those of texts are white space or vanish. Those of prefixes, and of the targets in footnotes,
  * are shown as a browser shows them, so that an escape is %1B; `raw` of tbr_options lets them through. Annotations and
  * the names of markers keep what came.
  *
  * STATUSES. Each call answers TBR_OK or says why it did nothing. TBR_OUT_OF_MEMORY and TBR_TOO_NARROW are kept: what
- * the renderer was filled with is lost, and each later call but tbr_free answers the same. All other refusals leave
- * the renderer as it was. Calls that keep none say so. What an out pointer points to is written only where a call
- * answers TBR_OK, but for `*length` at TBR_BUFFER_TOO_SMALL, and for tbr_new. No call aborts, prints, or reads the
- * environment.
+ * the renderer was filled with is lost, and each later call except tbr_free answers that status. All other refusals
+ * leave the renderer as it was. Calls that keep no refusal say so. What an out pointer points to is written only if a
+ * call answers TBR_OK, except for `*length` at TBR_BUFFER_TOO_SMALL, and for tbr_new. No call aborts, prints, or reads
+ * the environment.
  *
- * OWNERSHIP. tbr_new makes a renderer, which belongs to the caller until tbr_free. Its memory is taken by the
- * program's malloc and realloc, and given back by free. The pointer stays the same all the while.
+ * OWNERSHIP. tbr_new makes a renderer, which belongs to the caller until tbr_free. Its memory is allocated by the
+ * program's malloc and realloc, and freed by its free, which have to belong to one allocator. The pointer stays the
+ * same until then. A line belongs to its renderer: tbr_next_line frees the one before, and tbr_free the last.
  *
- * THREADS. A renderer is used by one call at a time, questions among them, and may be handed from one thread to another.
- * Any number of threads may each have their own; the library has no state beside them. No call may come from a signal
+ * THREADS. A renderer is used by one call at a time, even for questions, and may be handed from one thread to another.
+ * Any number of threads may each have their own; the library has no other state. No call may come from a signal
  * handler, nor in the forked child of a process with threads.
  *
  * VERSIONS. Each call is a symbol of the shared library, with the version that it came in. docs/versions.md says what
  * may change when.
  *
- * WHAT C CAN'T STOP, and the library can't see: a call with a renderer after tbr_free, a second tbr_free, and a pointer
- * that tbr_new didn't give. So are fewer bytes than their number says, and an out pointer that is NULL.
+ * WHAT C CAN'T STOP, and the library can't see, is undefined behaviour: a call with a renderer after tbr_free, a second
+ * tbr_free, a pointer that tbr_new didn't give, fewer bytes than their number says, and an out pointer that is NULL.
  */
 #ifndef TEXT_BLOCK_RENDERER_H
 #define TEXT_BLOCK_RENDERER_H
@@ -65,9 +65,9 @@ typedef enum tbr_status {
     /* A word that is placed holds a character wider than the line, and `overflow` isn't on. Never in lines of two
        columns or more. Kept. Where a prefix leaves no column it isn't kept. */
     TBR_TOO_NARROW = 2,
-    /* Of tbr_render alone: a line of the script isn't a command, or is where it may not be. */
+    /* Only of tbr_render: a line of the script isn't a command, or is where it may not be. */
     TBR_NOT_A_COMMAND = 3,
-    /* An end of what wasn't begun, or was ended already, in the level that is open. */
+    /* In the open level, nothing is open that the call could end. */
     TBR_NOTHING_TO_END = 4,
     /* The cells of a row are in the way of what overhangs from the rows above. */
     TBR_ROW_DOES_NOT_FIT = 5,
@@ -75,10 +75,10 @@ typedef enum tbr_status {
     TBR_NOT_UTF8 = 6,
     /* A width of 0 columns. */
     TBR_BAD_WIDTH = 7,
-    /* A number that names nothing, as a decorator 9; a span of 0 rows; NULL for a text that has bytes; or options whose
-       size the library doesn't know. */
+    /* A number that isn't a value of its enum, as a decorator 9; a span of 0 rows; NULL for a text that has bytes; or
+       options whose size the library doesn't know. */
     TBR_BAD_ARGUMENT = 8,
-    /* What would end has a level inside that is open, or cells that wait for a row. */
+    /* Inside what the call would end, a level is open, or cells wait for a row. */
     TBR_STILL_OPEN = 9,
     /* A call that fills, questions or finishes a renderer, after it was finished. */
     TBR_FINISHED = 10,
@@ -98,7 +98,7 @@ typedef enum tbr_status {
 typedef enum tbr_decorator {
     /* By characters, as [ and ] about a link. */
     TBR_PLAIN = 0,
-    /* By nothing but a superscript's ^{ and }. */
+    /* Only by a superscript's ^{ and }. */
     TBR_TRIVIAL = 1,
     /* As TBR_TRIVIAL, and by annotations of each piece. */
     TBR_RICH = 2
@@ -116,11 +116,11 @@ typedef enum tbr_images {
 
 /* What becomes of white space. */
 typedef enum tbr_white_space {
-    /* A stretch of it counts as one space, and as none at the ends of lines. */
+    /* A stretch of it is one space, and nothing at the ends of lines. */
     TBR_NORMAL = 0,
     /* It is kept, and lines are cut where they are full. */
     TBR_PRE = 1,
-    /* It is kept, and words go on a fresh line where they don't fit. */
+    /* It is kept, and words that don't fit go to a new line. */
     TBR_PRE_WRAP = 2
 } tbr_white_space;
 
@@ -132,31 +132,31 @@ typedef enum tbr_alignment {
     TBR_CENTRE = 2
 } tbr_alignment;
 
-/* How lines are shown. None of these lets a control character of a text, a target or a name out, but text of a renderer
-   that is raw. Links of TBR_FORMAT_ANSI and TBR_FORMAT_HTML lead to http, https, mailto, ftp and where there is no
-   scheme, and to nothing else. Since 0.3. */
+/* How lines are shown. Only TBR_FORMAT_TEXT of a renderer that is raw has control characters of a text, a target or a
+   name. Links of TBR_FORMAT_ANSI and TBR_FORMAT_HTML lead only to http, https, mailto and ftp, and to targets without a
+   scheme. Since 0.3. */
 typedef enum tbr_format {
     /* The text alone. */
     TBR_FORMAT_TEXT = 0,
     /* For a terminal: emphasis, strong and struck out text, code and colours by control sequences, and hyperlinks. */
     TBR_FORMAT_ANSI = 1,
-    /* For HTML: what is in a <pre>, with links, emphasis and colours as elements, and markers as places to link to. A
-       character of two columns is in a <span class="wide">, to be shown as two characters wide. */
+    /* For HTML: the content of a <pre>, with links, emphasis and colours as elements, and markers as places to link to.
+       A character of two columns is in a <span class="wide">, to be shown as two characters wide. */
     TBR_FORMAT_HTML = 2,
     /* An object of JSON for each line: columns, whether it is a border, and its pieces and markers. Targets and names
        are as they came, their control characters as escapes. */
     TBR_FORMAT_JSON = 3
 } tbr_format;
 
-/* What a renderer is told to do. Make it by tbr_options_default, which sets all fields. A later version may have more
+/* The settings of a renderer. Make them by tbr_options_default, which sets all fields. A later version may have more
    fields at the end. */
 typedef struct tbr_options {
-    /* The bytes of this struct in the header that a caller was compiled with: so the library knows which fields are
-       there. */
+    /* The bytes of this struct in the header that a caller was compiled with, so that the library knows which fields it
+       has. */
     size_t size;
     /* The columns of the renderer, at least 1. */
     size_t width;
-    /* The most columns that a line of wrapped text takes, or 0 for as many as the renderer has. */
+    /* The most columns that a line of wrapped text takes. 0 means those of the renderer. */
     size_t wrap_width;
     /* A tbr_decorator. */
     uint32_t decorator;
@@ -168,13 +168,13 @@ typedef struct tbr_options {
     bool pad;
     /* Whether links show numbers, and tbr_finish lists their targets under these. */
     bool footnotes;
-    /* Whether the targets listed there are cut where they don't fit a line. */
+    /* Whether these targets are cut where they don't fit a line. */
     bool wrap_links;
     /* Whether struck out text has strokes. */
     bool strikeout_strokes;
     /* Whether borders of tables are drawn; those of tbr_add_border always are. */
     bool draw_borders;
-    /* For nothing. Since 0.3. */
+    /* Not used. Since 0.3. */
     uint16_t unused;
     /* Whether control characters of prefixes, and of the targets that footnotes list, come out as they went in. Since
        0.3. */
@@ -214,7 +214,7 @@ typedef enum tbr_piece_kind {
     TBR_MARKER = 1
 } tbr_piece_kind;
 
-/* A piece of a line. Those of text are the longest stretches under equal annotations; end to end they are the line. */
+/* A piece of a line. Pieces of text are the longest stretches under equal annotations; end to end they are the line. */
 typedef struct tbr_piece {
     /* Where its bytes begin in the line's text, and where they end. For a marker they are equal. */
     size_t begin;
@@ -229,7 +229,7 @@ typedef struct tbr_piece {
 
 /* What a stretch of text is. */
 typedef enum tbr_annotation_kind {
-    /* Nothing in particular. Under TBR_PLAIN and TBR_TRIVIAL every annotation is this. */
+    /* Nothing in particular. Under TBR_PLAIN and TBR_TRIVIAL every annotation is of this kind. */
     TBR_DEFAULT = 0,
     /* A link, to the annotation's target. */
     TBR_LINK = 1,
@@ -261,26 +261,26 @@ typedef struct tbr_annotation {
     uint8_t blue;
 } tbr_annotation;
 
-/* ---- a script as a whole ---- */
+/* ---- whole scripts ---- */
 
 /*
- * Renders a script, whose language docs/SCRIPT.md teaches. As much of its text is written as `out` has room for. The
- * answer's length is that of the whole text in bytes, as with snprintf: there is more where it is greater than the
- * room.
+ * Renders a script in the language that docs/SCRIPT.md teaches. As much of its text is written as `out` has room for.
+ * The answer's length is that of the whole text in bytes, as with snprintf. If it is greater than the room, the text
+ * was cut.
  *
  * Any bytes may come as a script. At any other status than TBR_OK nothing is written, and the answer's line is the one
  * at fault, if there is one.
  */
 tbr_answer tbr_render(const char *script, size_t length, char *out, size_t room);
 
-/* The same, where control characters of prefixes, and of the targets that footnotes list, come out as they went in. Its
-   text is that of the program blockrender. Since 0.3. */
+/* Renders a script as tbr_render does, but control characters of prefixes, and of the targets in footnotes, come out as
+   they went in. Its text is that of the program blockrender. Since 0.3. */
 tbr_answer tbr_render_raw(const char *script, size_t length, char *out, size_t room);
 
 /* ---- how wide a text is ---- */
 
-/* The columns of a text: those of its characters together, as a renderer counts them. Control characters, as a tab or
-   a newline, take none. TBR_NOT_UTF8 where it isn't UTF-8, and TBR_OUT_OF_MEMORY where its columns pass SIZE_MAX. It
+/* The columns of a text: the sum over its characters, as a renderer counts them. Control characters, as a tab or a
+   newline, take none. TBR_NOT_UTF8 if it isn't UTF-8, and TBR_OUT_OF_MEMORY if its columns pass SIZE_MAX. The call
    takes no memory. */
 tbr_status tbr_text_width_n(const char *text, size_t length, size_t *columns);
 
@@ -288,14 +288,14 @@ tbr_status tbr_text_width(const char *text, size_t *columns);
 
 /* ---- making a renderer ---- */
 
-/* Sets options to those of a plain renderer of so many columns. Lines are as wide as it, neither padded nor wider. There
-   are no footnotes; where they are turned on, their lines are cut. Struck out text has strokes, borders are drawn, an
-   image without a title shows nothing, and no control character comes out. `size` is the number of bytes that `options`
-   has. */
+/* Sets options to those of a plain renderer of `width` columns. Text is wrapped to these columns, and lines are neither
+   padded nor wider. There are no footnotes; if they are turned on, their lines are cut. Struck out text has strokes,
+   borders are drawn, an image without a title shows nothing, and no control characters come out. `size` is the number
+   of bytes that `options` has. */
 void tbr_options_init(tbr_options *options, size_t size, size_t width);
 
-/* The same options as a value. This is the one call that a program has in itself, so that their size is the one that it
-   was compiled with. */
+/* These options as a value. This call is compiled into the program, so that their size is the one that the program was
+   compiled with. */
 static inline tbr_options tbr_options_default(size_t width) {
     tbr_options options;
     tbr_options_init(&options, sizeof options, width);
@@ -305,24 +305,24 @@ static inline tbr_options tbr_options_default(size_t width) {
 /*
  * Makes a renderer. Free it by tbr_free.
  *
- * TBR_BAD_WIDTH where its width is 0. TBR_BAD_ARGUMENT where the decorator or what images show is none of its values,
- * and where the options have no size that tbr_options_init set, or ask for what only a later version knows.
- * TBR_OUT_OF_MEMORY. `*renderer` is NULL then.
+ * TBR_BAD_WIDTH if its width is 0. TBR_BAD_ARGUMENT if `decorator` or `images` isn't a value of its enum, or if the
+ * options have no size that tbr_options_init set, or ask for what only a later version knows. TBR_OUT_OF_MEMORY. In
+ * these cases `*renderer` is NULL.
  */
 tbr_status tbr_new(const tbr_options *options, tbr_renderer **renderer);
 
-/* Frees a renderer, in whatever state it is. With NULL it does nothing. */
+/* Frees a renderer in any state. With NULL it does nothing. */
 void tbr_free(tbr_renderer *renderer);
 
 /* ---- filling it: text, blocks and lines ---- */
 
 /*
  * All calls from here to tbr_finish_text fill the innermost level that is open. Besides what is said at each call, they
- * answer TBR_OUT_OF_MEMORY, TBR_TOO_NARROW where they place a word, and TBR_FINISHED where the renderer is finished.
+ * answer TBR_OUT_OF_MEMORY, TBR_TOO_NARROW if they place a word, and TBR_FINISHED if the renderer is finished.
  */
 
-/* Adds text. White space counts as the mode that was pushed last says. A text ends no word: two texts without white
-   space between them make one. TBR_NOT_UTF8 where it isn't UTF-8. */
+/* Adds text. The mode that was pushed last says what becomes of white space. The end of a text doesn't end a word: two
+   texts without white space between them make one. TBR_NOT_UTF8 if it isn't UTF-8. */
 tbr_status tbr_add_text_n(tbr_renderer *renderer, const char *text, size_t length);
 
 tbr_status tbr_add_text(tbr_renderer *renderer, const char *text);
@@ -330,17 +330,17 @@ tbr_status tbr_add_text(tbr_renderer *renderer, const char *text);
 /* Begins a block: ends the open line, and adds an empty one if any line has content. */
 tbr_status tbr_start_block(tbr_renderer *renderer);
 
-/* Ends a block: text that comes begins a new one. In TBR_NORMAL white space before it is ignored. It may come at any
-   time. */
+/* Ends a block: the next text begins a new one. In TBR_NORMAL white space before that text is ignored. The call may
+   come at any time. */
 tbr_status tbr_end_block(tbr_renderer *renderer);
 
-/* Begins a table, as a block is begun. */
+/* Begins a table, as tbr_start_block begins a block. */
 tbr_status tbr_start_table(tbr_renderer *renderer);
 
 /* Ends the open line, if there is one. */
 tbr_status tbr_new_line(tbr_renderer *renderer);
 
-/* Ends the open line. Where none is open, or it has no columns, an empty one is added. */
+/* Ends the open line. If none is open, or it has no columns, an empty one is added. */
 tbr_status tbr_new_line_hard(tbr_renderer *renderer);
 
 /* Ends the open line, and adds an empty one. */
@@ -349,16 +349,16 @@ tbr_status tbr_add_empty_line(tbr_renderer *renderer);
 /* Ends the open line, and adds a border of the level's width. Where lines are padded the border is text. */
 tbr_status tbr_add_border(tbr_renderer *renderer);
 
-/* The same with so many columns: 0, or more than the level has, are allowed. */
+/* Ends the open line, and adds a border of this many columns: 0, or more than the level has, are allowed. */
 tbr_status tbr_add_border_width(tbr_renderer *renderer, size_t columns);
 
-/* Begins a mode of white space. TBR_BAD_ARGUMENT where it is none. Where none has begun, all is TBR_NORMAL. */
+/* Begins a mode of white space. TBR_BAD_ARGUMENT if it isn't one. Before any has begun, the mode is TBR_NORMAL. */
 tbr_status tbr_push_white_space(tbr_renderer *renderer, tbr_white_space mode);
 
-/* Ends the mode that was pushed last. TBR_NOTHING_TO_END where none was. */
+/* Ends the mode that was pushed last. TBR_NOTHING_TO_END if none was. */
 tbr_status tbr_pop_white_space(tbr_renderer *renderer);
 
-/* Puts a marker where the text is, as an anchor for links. TBR_NOT_UTF8 where its name isn't. */
+/* Adds a marker to the text, as an anchor for links. TBR_NOT_UTF8 if its name isn't UTF-8. */
 tbr_status tbr_add_marker_n(tbr_renderer *renderer, const char *name, size_t length);
 
 tbr_status tbr_add_marker(tbr_renderer *renderer, const char *name);
@@ -366,11 +366,11 @@ tbr_status tbr_add_marker(tbr_renderer *renderer, const char *name);
 /* ---- filling it: decorated text ---- */
 
 /*
- * A stretch is begun and ended in the same level. An end asks only that its own beginning came more often, and answers
- * TBR_NOTHING_TO_END if it didn't. So stretches may overlap. What the decorator writes for one is text.
+ * A stretch is begun and ended in the same level. An end needs only an open beginning of its own kind, and answers
+ * TBR_NOTHING_TO_END if there is none. So stretches may overlap. What the decorator writes for one is text.
  */
 
-/* Begins a link to a target, which may be empty. TBR_NOT_UTF8 where it isn't UTF-8. */
+/* Begins a link to a target, which may be empty. TBR_NOT_UTF8 if it isn't UTF-8. */
 tbr_status tbr_start_link_n(tbr_renderer *renderer, const char *target, size_t length);
 
 tbr_status tbr_start_link(tbr_renderer *renderer, const char *target);
@@ -399,7 +399,7 @@ tbr_status tbr_start_superscript(tbr_renderer *renderer);
 
 tbr_status tbr_end_superscript(tbr_renderer *renderer);
 
-/* Begins a preformatted stretch. That is a matter of annotations: push TBR_PRE to keep white space. */
+/* Begins a preformatted stretch. It is only an annotation: push TBR_PRE to keep white space. */
 tbr_status tbr_start_preformatted(tbr_renderer *renderer);
 
 tbr_status tbr_end_preformatted(tbr_renderer *renderer);
@@ -414,7 +414,7 @@ tbr_status tbr_start_background(tbr_renderer *renderer, uint8_t red, uint8_t gre
 
 tbr_status tbr_end_background(tbr_renderer *renderer);
 
-/* Adds an image, shown by its title. The options say what one without a title shows. TBR_NOT_UTF8 where one of the two
+/* Adds an image, shown by its title. The options say what one without a title shows. TBR_NOT_UTF8 if one of the two
    isn't UTF-8. */
 tbr_status tbr_add_image_n(tbr_renderer *renderer, const char *source, size_t source_length,
     const char *title, size_t title_length);
@@ -425,13 +425,13 @@ tbr_status tbr_add_image(tbr_renderer *renderer, const char *source, const char 
 
 /*
  * A start opens a level in the columns that the decorator's prefix leaves, and its end adds the lines of that level,
- * each after the prefix. The lines of an item but the first come after as many spaces. A quote and a header are blocks,
+ * each after the prefix. In an item, lines after the first come after as many spaces. A quote and a header are blocks,
  * which begin as tbr_start_block says, and end as tbr_end_block says.
  *
- * A start answers TBR_TOO_NARROW where the prefix leaves no column and `overflow` isn't on. An end takes the innermost
- * level, whichever call began it. It answers TBR_NOTHING_TO_END where none is open or that is a cell, and
- * TBR_STILL_OPEN where cells wait in it. All of these leave the renderer as it was. So does TBR_OUT_OF_MEMORY where the
- * prefix takes memory: tbr_refusal says whether one was kept.
+ * A start answers TBR_TOO_NARROW if the prefix leaves no column and `overflow` isn't on. An end closes the innermost
+ * level, whichever call began it. It answers TBR_NOTHING_TO_END if none is open or that is a cell, and TBR_STILL_OPEN
+ * if cells wait in it. All of these leave the renderer as it was. So does TBR_OUT_OF_MEMORY if the prefix takes memory:
+ * tbr_refusal says whether a refusal was kept.
  */
 
 tbr_status tbr_start_quote(tbr_renderer *renderer);
@@ -447,8 +447,8 @@ tbr_status tbr_start_ordered_item(tbr_renderer *renderer, int64_t number);
 
 tbr_status tbr_end_ordered_item(tbr_renderer *renderer, int64_t number);
 
-/* Begins a header of a level, of which 1 is the highest. Its end takes the same level. TBR_BAD_ARGUMENT above 255, where
-   the decorator has a prefix for it. */
+/* Begins a header of a level, of which 1 is the highest. Its end takes the same level. TBR_BAD_ARGUMENT above 255, if
+   the decorator has a prefix for headers. */
 tbr_status tbr_start_header(tbr_renderer *renderer, size_t level);
 
 tbr_status tbr_end_header(tbr_renderer *renderer, size_t level);
@@ -457,66 +457,67 @@ tbr_status tbr_end_header(tbr_renderer *renderer, size_t level);
 
 /*
  * A level is a renderer inside another one, with the same options and annotations, in which all else begins anew.
- * Levels may be inside one another to any depth. A level takes columns of its own: leave room for the prefixes that
- * come before its lines.
+ * Levels may be inside one another to any depth. A level has a width of its own: leave room for the prefixes that come
+ * before its lines.
  */
 
-/* Opens a level of so many columns, whose lines tbr_append_sub takes. TBR_BAD_WIDTH at 0. */
+/* Opens a level of `width` columns, whose lines tbr_append_sub takes. TBR_BAD_WIDTH at 0. */
 tbr_status tbr_start_sub(tbr_renderer *renderer, size_t width);
 
 /* Closes the level that tbr_start_sub opened, and adds its lines to the one outside: the first line after `first`, each
-   other line after `others`. TBR_NOTHING_TO_END where the innermost level isn't one of these, TBR_STILL_OPEN where
-   cells wait in it, TBR_NOT_UTF8 where one of the two isn't UTF-8. */
+   other line after `others`. TBR_NOTHING_TO_END if the innermost level isn't such a level, TBR_STILL_OPEN if cells wait
+   in it, TBR_NOT_UTF8 if one of the two isn't UTF-8. */
 tbr_status tbr_append_sub_n(tbr_renderer *renderer, const char *first, size_t first_length,
     const char *others, size_t others_length);
 
 tbr_status tbr_append_sub(tbr_renderer *renderer, const char *first, const char *others);
 
-/* Opens a cell of so many columns that spans so many rows. TBR_BAD_WIDTH at no column, TBR_BAD_ARGUMENT at no row, or
-   where the alignment is none of its values. */
+/* Opens a cell of `width` columns that spans `span` rows. TBR_BAD_WIDTH at 0 columns, TBR_BAD_ARGUMENT at 0 rows, or if
+   the alignment isn't a value of its enum. */
 tbr_status tbr_start_cell(tbr_renderer *renderer, size_t width, size_t span, tbr_alignment alignment);
 
-/* Closes the cell that is open, which then waits for a row. TBR_NOTHING_TO_END where the innermost level is no cell,
-   TBR_STILL_OPEN where cells wait in it. */
+/* Closes the cell that is open, which then waits for a row. TBR_NOTHING_TO_END if the innermost level isn't a cell,
+   TBR_STILL_OPEN if cells wait in it. */
 tbr_status tbr_end_cell(tbr_renderer *renderer);
 
-/* Adds the cells that wait as a row, side by side, joined to a border that is the last line, with a border below. What
-   a cell of more rows has below this one overhangs into the next. With `collapse`, borders at the tops and bottoms of
-   cells become one with those of the row. TBR_ROW_DOES_NOT_FIT where cells are in the way of what overhangs; they go on
-   waiting then. */
+/* Adds the waiting cells as a row, side by side, with a border below. If the last line is a border, the row joins it.
+   What is left of a cell that spans more rows overhangs into the next row. With `collapse`, borders at the tops and
+   bottoms of cells are merged with those of the row. TBR_ROW_DOES_NOT_FIT if cells are in the way of what overhangs;
+   the cells still wait then. */
 tbr_status tbr_add_row(tbr_renderer *renderer, bool collapse);
 
-/* Adds the cells that wait, one below another, whatever rows they span. */
+/* Adds the waiting cells one below another, however many rows they span. */
 tbr_status tbr_add_vertical_row(tbr_renderer *renderer);
 
-/* Ends the last line, and with footnotes adds the targets of all links. Then lines can be taken, and the renderer
-   can't be filled any more. TBR_STILL_OPEN where a level is open or cells wait. */
+/* Ends the last line, and with footnotes adds the targets of all links. After that lines can be taken, and the renderer
+   can't be filled any longer. TBR_STILL_OPEN if a level is open or cells wait. */
 tbr_status tbr_finish(tbr_renderer *renderer);
 
-/* The same for a caller who wants the text as a whole. `*length` is the number of its bytes, and tbr_text has it. No
-   line can be taken then: tbr_next_line answers TBR_NO_LINE. It takes less time and memory than tbr_finish. */
+/* Finishes the renderer as tbr_finish does, for a caller who wants only the whole text. `*length` is the number of its
+   bytes, and tbr_text gives it. No line can be taken then: tbr_next_line answers TBR_NO_LINE. It takes less time and
+   memory than tbr_finish. */
 tbr_status tbr_finish_text(tbr_renderer *renderer, size_t *length);
 
 /* ---- questions to a renderer that is being filled ---- */
 
-/* All but tbr_refusal answer TBR_FINISHED where the renderer is finished. They change nothing, and a refusal of theirs
-   isn't kept. */
+/* All except tbr_refusal answer TBR_FINISHED if the renderer is finished. They change nothing, and their refusals
+   aren't kept. */
 
-/* The refusal that is kept, or TBR_OK, also where it is finished. */
+/* The refusal that is kept, or TBR_OK, even if the renderer is finished. */
 tbr_status tbr_refusal(tbr_renderer *renderer);
 
 /* Whether the innermost level has no line, and no text on an open one. */
 tbr_status tbr_is_empty(tbr_renderer *renderer, bool *is_empty);
 
-/* Whether cells that span more rows than came yet overhang in the innermost level. Lines that they still have when
-   it is closed or finished are lost. */
+/* Whether cells of the innermost level overhang, since they span more rows than have come. Lines that they still have
+   when the level is closed or finished are lost. */
 tbr_status tbr_has_overhang(tbr_renderer *renderer, bool *has_overhang);
 
 /* The columns of the innermost level. */
 tbr_status tbr_width(tbr_renderer *renderer, size_t *columns);
 
-/* The columns that the innermost level has left after a prefix of so many columns, but at least `least`.
-   TBR_TOO_NARROW, which isn't kept, where fewer than these are left and `overflow` isn't on. */
+/* The columns that the innermost level has left after a prefix of `prefix` columns, but at least `least`.
+   TBR_TOO_NARROW, which isn't kept, if fewer than `least` are left and `overflow` isn't on. */
 tbr_status tbr_width_minus(tbr_renderer *renderer, size_t prefix, size_t least, size_t *columns);
 
 /* How many levels are open inside the renderer. */
@@ -528,16 +529,16 @@ tbr_status tbr_open_links(tbr_renderer *renderer, size_t *count);
 /* How many cells wait for a row in the innermost level. */
 tbr_status tbr_waiting_cells(tbr_renderer *renderer, size_t *count);
 
-/* The prefixes of the decorator, which the calls for quotes, lists and headers use, and others may by tbr_append_sub.
-   All answer TBR_OUT_OF_MEMORY, which isn't kept. */
+/* The prefixes of the decorator, which the calls for quotes, lists and headers use. Callers may use them with
+   tbr_append_sub. All answer TBR_OUT_OF_MEMORY, which isn't kept. */
 
 /* What comes before each line of a quoted block, as "> ". */
 tbr_status tbr_quote_prefix(tbr_renderer *renderer, char *out, size_t room, size_t *length);
 
-/* What comes before the first line of an item of a list, as "* ". Before the others come as many spaces. */
+/* What comes before the first line of an item of a list, as "* ". As many spaces come before the other lines. */
 tbr_status tbr_item_prefix(tbr_renderer *renderer, char *out, size_t room, size_t *length);
 
-/* The same of the item of a list that has a number, as "3. ". */
+/* What comes before the first line of an item with this number, as "3. ". */
 tbr_status tbr_ordered_item_prefix(tbr_renderer *renderer, int64_t number, char *out, size_t room,
     size_t *length);
 
@@ -549,43 +550,45 @@ tbr_status tbr_header_prefix(tbr_renderer *renderer, size_t level, char *out, si
 
 /* All calls from here answer TBR_NOT_FINISHED before tbr_finish or tbr_finish_text. */
 
-/* The text of all lines that tbr_next_line hasn't taken, each with a newline. It takes none. TBR_OUT_OF_MEMORY, which
-   is kept. At TBR_BUFFER_TOO_SMALL the renderer keeps the text until it is copied or a line is taken, so that a second
-   call doesn't put it together anew. After tbr_finish_text it takes no memory. */
+/* The text of all lines that tbr_next_line hasn't taken, each with a newline. It takes no line. TBR_OUT_OF_MEMORY,
+   which is kept. At TBR_BUFFER_TOO_SMALL the renderer keeps the text until it is copied or a line is taken, so that a
+   second call doesn't make it again. After tbr_finish_text the call takes no memory. */
 tbr_status tbr_text(tbr_renderer *renderer, char *out, size_t room, size_t *length);
 
-/* The same lines in a format, each with a newline. It takes none. TBR_NO_LINE after tbr_finish_text, but for
-   TBR_FORMAT_TEXT, which is tbr_text. TBR_BAD_ARGUMENT where the format is none of its values. TBR_OUT_OF_MEMORY, which
-   is kept. At TBR_BUFFER_TOO_SMALL they are kept for a second call in the same format. Since 0.3. */
+/* All lines that tbr_next_line hasn't taken, in a format, each with a newline. It takes no line. TBR_NO_LINE after
+   tbr_finish_text, except for TBR_FORMAT_TEXT, which is tbr_text. TBR_BAD_ARGUMENT if the format isn't a value of its
+   enum. TBR_OUT_OF_MEMORY, which is kept. At TBR_BUFFER_TOO_SMALL the result is kept for a second call in the same
+   format. Since 0.3. */
 tbr_status tbr_text_as(tbr_renderer *renderer, tbr_format format, char *out, size_t room, size_t *length);
 
-/* Takes the next line, which the calls below are about, and frees the one before. TBR_NO_LINE where none is left; the
-   line that was taken last stays. TBR_OUT_OF_MEMORY, which is kept. */
+/* Takes the next line, for the calls below, and frees the one before. TBR_NO_LINE if none is left; the line that was
+   taken last stays. TBR_OUT_OF_MEMORY, which is kept. */
 tbr_status tbr_next_line(tbr_renderer *renderer, tbr_line *line);
 
-/* The calls below take no memory but for tbr_line_as, and answer TBR_NO_LINE where tbr_next_line has taken no line yet. */
+/* The calls below, except tbr_line_as, take no memory. They answer TBR_NO_LINE if tbr_next_line has taken no line yet.
+   */
 
 /* The text of the line, without a newline. */
 tbr_status tbr_line_text(tbr_renderer *renderer, char *out, size_t room, size_t *length);
 
-/* The line in a format, without a newline. TBR_BAD_ARGUMENT where that is none of its values. TBR_OUT_OF_MEMORY, which
+/* The line in a format, without a newline. TBR_BAD_ARGUMENT if that isn't a value of its enum. TBR_OUT_OF_MEMORY, which
    is kept. Since 0.3. */
 tbr_status tbr_line_as(tbr_renderer *renderer, tbr_format format, char *out, size_t room, size_t *length);
 
-/* A piece of the line, by its place from 0. TBR_NO_PIECE where it has none there. */
+/* A piece of the line, by its place from 0. TBR_NO_PIECE if the line has none there. */
 tbr_status tbr_get_piece(tbr_renderer *renderer, size_t place, tbr_piece *piece);
 
-/* The name of the marker at a place. TBR_NO_PIECE where none is there. */
+/* The name of the marker at a place. TBR_NO_PIECE if none is there. */
 tbr_status tbr_marker_name(tbr_renderer *renderer, size_t place, char *out, size_t room,
     size_t *length);
 
-/* The annotation at a place of the piece at a place. Both places count from 0, and the outermost stretch comes first.
-   TBR_NO_PIECE where there is none. */
+/* The annotation of a piece, both by their places. Places are counted from 0, and the outermost stretch comes first.
+   TBR_NO_PIECE if there is none. */
 tbr_status tbr_get_annotation(tbr_renderer *renderer, size_t piece, size_t place,
     tbr_annotation *annotation);
 
-/* The target of a link, or the source of an image, by the place of its annotation. TBR_NO_PIECE where no annotation
-   with one is there. */
+/* The target of a link, or the source of an image, by the place of its annotation. TBR_NO_PIECE if no annotation with
+   one is there. */
 tbr_status tbr_annotation_target(tbr_renderer *renderer, size_t piece, size_t place, char *out,
     size_t room, size_t *length);
 
