@@ -1,8 +1,8 @@
-//! Finds the library, and says how to get it where it isn't there.
+//! Finds the library, or says how to get it.
 //!
-//! It is looked for in the folder that TEXT_BLOCK_RENDERER_LIB names. Where that isn't set, the first of these has it:
-//! `lib` beside this file, the folders that `./build` and `./build quick` fill in the repository, and where pkg-config
-//! says.
+//! It is looked for in the folder that TEXT_BLOCK_RENDERER_LIB names. If that isn't set, these folders are searched in
+//! order: `lib` beside this file, those that `./build` and `./build quick` fill in the repository, and the one that
+//! pkg-config says.
 
 use std::env;
 use std::path::{Path, PathBuf};
@@ -13,9 +13,9 @@ const FOLDER: &str = "TEXT_BLOCK_RENDERER_LIB";
 /// What is in the repository, above the folder of this crate.
 const HEADER: &str = "../../include/text_block_renderer.h";
 const MADE: &str = "../../out";
-/// Where a release has it, and the repository with proofs and without.
+/// Its folders in a release, and in the repository with proofs and without.
 const ABOVE: [&str; 3] = ["../../lib", "../../out/lib", "../../out/quick/lib"];
-/// Where the packed crate has it.
+/// Its folder in the packed crate.
 const BESIDE: &str = "lib";
 
 const HOW_TO_GET_IT: &str =
@@ -100,8 +100,8 @@ fn link(folder: &Path) {
     println!("cargo::rerun-if-changed={}", file.display());
 }
 
-/// Warns, as `cargo check` and `cargo doc` need no library. Where it is linked, the compiler says that it doesn't find
-/// this name.
+/// Warns, since `cargo check` and `cargo doc` need no library. When a program is linked, the compiler says that it
+/// doesn't find this name.
 fn fail_to_link(missing: &str) {
     println!("cargo::warning={missing}");
     println!(

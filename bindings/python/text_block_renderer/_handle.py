@@ -1,4 +1,4 @@
-"""A renderer of the library's that is owned, and the calls to it."""
+"""An owned renderer of the library, and the calls to it."""
 
 from collections.abc import Callable
 from ctypes import Structure, byref, c_bool, c_size_t, c_void_p, create_string_buffer

@@ -10,8 +10,8 @@ from .errors import NothingToEndError, RendererError, StillOpenError
 def nested(depth: Callable[[], int], start: Callable[[], None], end: Callable[[], None]) -> Iterator[None]:
     """Starts something and ends it, also where an exception leaves the block, which then goes on.
 
-    It isn't ended where it isn't in the innermost level any more: `StillOpenError` where the block leaves a level open,
-    `NothingToEndError` where it closed the one that it was in.
+    It isn't ended where it isn't in the innermost level any more: `StillOpenError` if the block leaves a level open,
+    `NothingToEndError` if it closed the one that it was in.
     """
     start()
     begun = depth()

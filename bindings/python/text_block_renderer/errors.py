@@ -26,13 +26,13 @@ class TooNarrowError(RendererError):
 
 
 class NotACommandError(RendererError):
-    """A line of a script isn't a command, or is one that may not come there."""
+    """A line of a script isn't a command, or comes where it may not."""
 
     message = "not a command"
 
 
 class NothingToEndError(RendererError):
-    """An end of what wasn't begun, or was ended already, in the level that is open."""
+    """In the open level, nothing is open that the call could end."""
 
     message = "nothing to end"
 
@@ -62,7 +62,7 @@ class BadArgumentError(RendererError, ValueError):
 
 
 class StillOpenError(RendererError):
-    """What would end has a level inside that is open, or cells that wait for a row."""
+    """Inside what the call would end, a level is open, or cells wait for a row."""
 
     message = "a level is open or cells wait"
 
@@ -86,13 +86,13 @@ class NoLineError(RendererError):
 
 
 class NoPieceError(RendererError):
-    """The line has no such piece, or the piece no such annotation."""
+    """The line has no such piece, or the piece has no such annotation."""
 
     message = "no such piece"
 
 
 class BufferTooSmallError(RendererError):
-    """A text has more bytes than there is room for."""
+    """A text has more bytes than the buffer has room for."""
 
     message = "the buffer is too small"
 
@@ -132,7 +132,7 @@ _BY_STATUS: dict[int, type[RendererError]] = {
 
 
 def refusal(status: int) -> RendererError | None:
-    """The exception of a status, or None where it is well."""
+    """The exception of a status, or None if the status is no refusal."""
     return _BY_STATUS.get(status, RendererError)() if status else None
 
 

@@ -1,4 +1,4 @@
-"""What a renderer and its calls are told."""
+"""The options of a renderer and of its calls."""
 
 from enum import Enum
 from typing import NamedTuple
@@ -49,8 +49,8 @@ class CellAlign(Enum):
 class Format(Enum):
     """How lines are shown.
 
-    None of these lets a control character of a text, a target or a name out, but the text of a renderer that is raw.
-    Links of `ANSI` and `HTML` lead to `http`, `https`, `mailto`, `ftp` and where there is no scheme, and to nothing else.
+    Only `TEXT` of a renderer that is raw has control characters of a text, a target or a name. Links of `ANSI` and
+    `HTML` lead only to `http`, `https`, `mailto` and `ftp`, and to targets without a scheme.
     """
 
     TEXT = 0

@@ -22,24 +22,24 @@ _PREFIX_ROOM = 24
 class Renderer:
     """Writes blocks of text, one below another, into lines of a width in columns.
 
-    Its calls have the names of html2text's renderer, where that has them. They fill the innermost level that is open:
-    a level is a renderer inside another one, which takes its lines after prefixes or as a cell of a table. What begins
-    in a level ends there.
+    Its calls have the names of html2text's renderer, where that has such a call. They fill the innermost level that is
+    open. A level is a renderer inside another one, which takes its lines after prefixes or as a cell of a table. What
+    begins in a level ends there.
 
-    What `quote`, `link` and others fill by `with` ends there, also where an exception leaves the block. It stays open
-    only where the block leaves a level open, or cells waiting in a quote, item or header. `StillOpenError` tells that,
-    if no exception does.
+    What `quote`, `link` and others fill by `with` ends there, even if an exception leaves the block. It stays open only
+    if the block leaves a level open, or cells waiting in a quote, item or header. `StillOpenError` tells that, if no
+    other exception is raised.
 
-    A call that does nothing raises a `RendererError`. `OutOfMemoryError` and `TooNarrowError` leave the renderer
-    refusing all that follows with the same. Each other refusal leaves it as it was. `TooNarrowError` comes only where a
-    line has one column. Besides what is said of a call, any that takes memory can raise `OutOfMemoryError`, and any
-    that places a word `TooNarrowError`.
+    A call that does nothing raises a `RendererError`. After `OutOfMemoryError` or `TooNarrowError`, the renderer raises
+    that at each later call. All other refusals leave it as it was. `TooNarrowError` comes only if a line has one
+    column. Apart from what is said at a call, any that takes memory can raise `OutOfMemoryError`, and any that places a
+    word `TooNarrowError`.
 
-    A call looks at what it is given before it does anything: `TypeError` where a text isn't a `str`, a number isn't
-    whole, or a choice is no member of its enum; `ValueError` where a number is out of bounds. Flags count by their
+    A call checks its arguments before it does anything. It raises `TypeError` if a text isn't a `str`, a number isn't
+    whole, or a choice isn't a member of its enum, and `ValueError` if a number is out of bounds. Flags count by their
     truth.
 
-    A renderer may go from thread to thread; a call waits while another thread is in one. Use it by `with`, or `close`
+    A renderer may move from thread to thread; a call waits while another thread is in one. Use it by `with`, or `close`
     it.
     """
 
@@ -58,17 +58,18 @@ class Renderer:
         img_mode: ImageRenderMode = ImageRenderMode.IGNORE_EMPTY,
         raw: bool = False,
     ) -> None:
-        """A renderer of so many columns. `BadWidthError` at 0.
+        """A renderer of this many columns. `BadWidthError` at 0.
 
         wrap_width: the most columns that a line of wrapped text takes, where these are fewer.
-        allow_width_overflow: a character that is wider than a line goes on a line of its own, and isn't too narrow.
+        allow_width_overflow: a character that is wider than a line goes on a line of its own, and isn't refused as too
+            narrow.
         pad_block_width: lines are filled with spaces up to their width.
         draw_borders: borders of tables are drawn.
         wrap_links: the targets of footnotes are cut where they don't fit a line.
         include_link_footnotes: links show numbers, and their targets come after the text under these.
         use_unicode_strikeout: struck out text has strokes.
         img_mode: what an image without a title shows.
-        raw: control characters of prefixes, and of the targets that footnotes list, come out as they went in. Else they
+        raw: control characters of prefixes, and of the targets in footnotes, come out as they went in. Otherwise they
             are shown as a browser shows them, so that an escape is `%1B`.
         """
         self._owned = OwnedRenderer(
@@ -89,7 +90,7 @@ class Renderer:
         )
 
     def close(self) -> None:
-        """Frees the renderer and its lines. A second time does nothing."""
+        """Frees the renderer and its lines. A second call does nothing."""
         self._owned.close()
 
     def __enter__(self) -> "Renderer":
@@ -109,15 +110,16 @@ class Renderer:
     # ---- taking its lines
 
     def into_lines(self) -> Iterator[TaggedLine]:
-        """Its lines, one by one, with the footnotes of its links after them. It can't be filled any more.
+        """Its lines, one by one, with the footnotes of its links after them. It can't be filled any longer.
 
-        `StillOpenError` where a level is open or cells wait.
+        `StillOpenError` if a level is open or cells wait.
         """
         self._owned.call("finish")
         return self._lines()
 
     def into_string(self, format: Format = Format.TEXT) -> str:
-        """Its lines in a format, each with a newline. It can't be filled any more, and refuses as `into_lines` does."""
+        """Its lines in a format, each with a newline. It can't be filled any longer, and refuses as `into_lines`
+        does."""
         shown = member(format, "format", Format)
         if format is Format.TEXT:
             length = self._owned.number("finish_text")
@@ -126,8 +128,8 @@ class Renderer:
         return self._owned.text(0, "text_as", shown)
 
     def into_strings(self, format: Format = Format.TEXT) -> Iterator[str]:
-        """Its lines in a format one by one, without newlines. It can't be filled any more, and refuses as `into_lines`
-        does.
+        """Its lines in a format one by one, without newlines. It can't be filled any longer, and refuses as
+        `into_lines` does.
         """
         shown = member(format, "format", Format)
         self._owned.call("finish")
@@ -167,10 +169,10 @@ class Renderer:
     # ---- text, blocks and lines
 
     def add_inline_text(self, text: str) -> None:
-        """Adds text, whose white space counts as the mode that was pushed last says.
+        """Adds text. The mode that was pushed last says what becomes of white space.
 
-        A text ends no word: two texts without white space between them make one. `NotUtf8Error` where it has a
-        surrogate.
+        The end of a text doesn't end a word: two texts without white space between them make one. `NotUtf8Error` if it
+        has a surrogate.
         """
         self._owned.with_text("add_text_n", text)
 
@@ -179,14 +181,14 @@ class Renderer:
         self._owned.call("start_block")
 
     def end_block(self) -> None:
-        """Ends a block: text that comes begins a new one. In `NORMAL` white space before it is ignored.
+        """Ends a block: the next text begins a new one. In `NORMAL` white space before that text is ignored.
 
-        It may come at any time.
+        The call may come at any time.
         """
         self._owned.call("end_block")
 
     def start_table(self) -> None:
-        """Begins a table, as a block is begun."""
+        """Begins a table, as `start_block` begins a block."""
         self._owned.call("start_table")
 
     def new_line(self) -> None:
@@ -194,7 +196,7 @@ class Renderer:
         self._owned.call("new_line")
 
     def new_line_hard(self) -> None:
-        """Ends the open line. Where none is open, or it has no columns, an empty one is added."""
+        """Ends the open line. If none is open, or it has no columns, an empty one is added."""
         self._owned.call("new_line_hard")
 
     def add_empty_line(self) -> None:
@@ -206,25 +208,25 @@ class Renderer:
         self._owned.call("add_border")
 
     def add_horizontal_border_width(self, columns: int) -> None:
-        """The same with so many columns: 0, or more than the level has, are allowed."""
+        """Ends the open line, and adds a border of this many columns: 0, or more than the level has, are allowed."""
         self._owned.call("add_border_width", size(columns, "columns"))
 
     def push_ws(self, mode: WhiteSpace) -> None:
-        """Begins a mode of white space. Where none has begun, all is `NORMAL`."""
+        """Begins a mode of white space. Before any has begun, the mode is `NORMAL`."""
         self._owned.call("push_white_space", member(mode, "mode", WhiteSpace))
 
     def pop_ws(self) -> None:
-        """Ends the mode that was pushed last. `NothingToEndError` where none was."""
+        """Ends the mode that was pushed last. `NothingToEndError` if none was."""
         self._owned.call("pop_white_space")
 
     def record_frag_start(self, name: str) -> None:
-        """Puts a marker where the text is, as an anchor for links. `NotUtf8Error` where it has a surrogate."""
+        """Adds a marker to the text, as an anchor for links. `NotUtf8Error` if it has a surrogate."""
         self._owned.with_texts("add_marker_n", name=name)
 
     # ---- decorated text: an end asks only that its own beginning came more often, and else raises `NothingToEndError`
 
     def start_link(self, target: str) -> None:
-        """Begins a link to a target, which may be empty. `NotUtf8Error` where it has a surrogate."""
+        """Begins a link to a target, which may be empty. `NotUtf8Error` if it has a surrogate."""
         self._owned.with_texts("start_link_n", target=target)
 
     def end_link(self) -> None:
@@ -272,7 +274,7 @@ class Renderer:
         self._owned.call("end_superscript")
 
     def push_preformat(self) -> None:
-        """Begins a preformatted stretch. That is a matter of annotations: push `WhiteSpace.PRE` to keep white space."""
+        """Begins a preformatted stretch. It is only an annotation: push `WhiteSpace.PRE` to keep white space."""
         self._owned.call("start_preformatted")
 
     def pop_preformat(self) -> None:
@@ -280,7 +282,7 @@ class Renderer:
         self._owned.call("end_preformatted")
 
     def push_colour(self, colour: Colour) -> None:
-        """Begins text in a colour. `ValueError` where a part of it isn't between 0 and 255."""
+        """Begins text in a colour. `ValueError` if a part of it isn't between 0 and 255."""
         self._owned.call("start_colour", *parts(colour))
 
     def pop_colour(self) -> None:
@@ -288,7 +290,7 @@ class Renderer:
         self._owned.call("end_colour")
 
     def push_bgcolour(self, colour: Colour) -> None:
-        """Begins text on a background in a colour. `ValueError` where a part of it isn't between 0 and 255."""
+        """Begins text on a background in a colour. `ValueError` if a part of it isn't between 0 and 255."""
         self._owned.call("start_background", *parts(colour))
 
     def pop_bgcolour(self) -> None:
@@ -305,8 +307,8 @@ class Renderer:
     def start_quote(self) -> None:
         """Begins a quoted block, each line of which comes after the decorator's prefix.
 
-        `TooNarrowError`, which isn't kept, where the prefix leaves no column and no overflow is allowed.
-        `OutOfMemoryError` isn't kept where the prefix takes memory: `failure` tells.
+        `TooNarrowError`, which isn't kept, if the prefix leaves no column and no overflow is allowed.
+        `OutOfMemoryError` isn't kept if the prefix takes memory: `failure` tells.
         """
         self._owned.call("start_quote")
 
@@ -339,7 +341,7 @@ class Renderer:
     def start_header(self, level: int) -> None:
         """Begins a header of a level, of which 1 is the highest. Each line of this block comes after a prefix.
 
-        It refuses as `start_quote` does. `BadArgumentError` above 255, where the decorator has a prefix for it.
+        It refuses as `start_quote` does. `BadArgumentError` above 255, if the decorator has a prefix for headers.
         """
         self._owned.call("start_header", size(level, "level"))
 
@@ -400,7 +402,7 @@ class Renderer:
         return nested(self.depth, partial(self.start_header, level), partial(self.end_header, level))
 
     def link(self, target: str) -> AbstractContextManager[None]:
-        """Fills a link to a target, which may be empty. `NotUtf8Error` where it has a surrogate.
+        """Fills a link to a target, which may be empty. `NotUtf8Error` if it has a surrogate.
 
         >>> with Renderer(24, include_link_footnotes=True) as page:
         ...     with page.link("https://example.org"):
@@ -472,7 +474,7 @@ class Renderer:
             yield
 
     def colour(self, colour: Colour) -> AbstractContextManager[None]:
-        """Fills text in a colour. `ValueError` where a part of it isn't between 0 and 255.
+        """Fills text in a colour. `ValueError` if a part of it isn't between 0 and 255.
 
         >>> with Renderer(24, Decorator.RICH) as page:
         ...     with page.background(Colour(0, 0, 0)), page.colour(Colour(255, 128, 0)):
@@ -484,11 +486,11 @@ class Renderer:
         return nested(self.depth, partial(self.push_colour, colour), self.pop_colour)
 
     def background(self, colour: Colour) -> AbstractContextManager[None]:
-        """Fills text on a background in a colour. `ValueError` where a part of it isn't between 0 and 255."""
+        """Fills text on a background in a colour. `ValueError` if a part of it isn't between 0 and 255."""
         return nested(self.depth, partial(self.push_bgcolour, colour), self.pop_bgcolour)
 
     def white_space(self, mode: WhiteSpace) -> AbstractContextManager[None]:
-        """Fills text whose white space counts as a mode says.
+        """Fills text in a mode of white space.
 
         >>> with Renderer(5) as page:
         ...     with page.white_space(WhiteSpace.PRE_WRAP):
@@ -503,9 +505,9 @@ class Renderer:
 
     @contextmanager
     def subrender(self, width: int, first: str, others: str) -> Iterator[None]:
-        """Fills a level of so many columns, and adds its lines: the first after `first`, each other after `others`.
+        """Fills a level of this many columns, and adds its lines: the first after `first`, each other after `others`.
 
-        Leave room for the prefixes, as by `width_minus`. Where an exception leaves the block, the level stays open.
+        Leave room for the prefixes, as by `width_minus`. If an exception leaves the block, the level stays open.
         """
         utf8(first, "first")  # a prefix is refused here, and not where the block ends
         utf8(others, "others")
@@ -514,21 +516,21 @@ class Renderer:
         self.append_subrender(first, others)
 
     def start_subrender(self, width: int) -> None:
-        """Opens a level of so many columns, whose lines `append_subrender` takes. `BadWidthError` at 0."""
+        """Opens a level of this many columns, whose lines `append_subrender` takes. `BadWidthError` at 0."""
         self._owned.call("start_sub", size(width, "width"))
 
     def append_subrender(self, first: str, others: str) -> None:
         """Closes the level that `start_subrender` opened, and adds its lines, after these prefixes, to the one outside.
 
-        `NothingToEndError` where the innermost level isn't one of these, `StillOpenError` where cells wait in it.
+        `NothingToEndError` if the innermost level isn't such a level,  `StillOpenError` if cells wait in it.
         """
         self._owned.with_texts("append_sub_n", first=first, others=others)
 
     @contextmanager
     def cell(self, width: int, span: int = 1, align: CellAlign = CellAlign.LEFT) -> Iterator[None]:
-        """Fills a cell of so many columns that spans so many rows, and then waits for a row.
+        """Fills a cell of this many columns that spans this many rows, and then waits for a row.
 
-        Where an exception leaves the block, the cell stays open.
+        If an exception leaves the block, the cell stays open.
         """
         self.start_cell(width, span, align)
         yield
@@ -542,21 +544,21 @@ class Renderer:
     def end_cell(self) -> None:
         """Closes the cell that is open, which then waits for a row.
 
-        `NothingToEndError` where the innermost level is no cell, `StillOpenError` where cells wait in it.
+        `NothingToEndError` if the innermost level isn't a cell, `StillOpenError` if cells wait in it.
         """
         self._owned.call("end_cell")
 
     def append_columns_with_borders(self, collapse: bool = False) -> None:
-        """Adds the cells that wait as a row, side by side, joined to a border that is the last line, with one below.
+        """Adds the waiting cells as a row, side by side, joined to a border that is the last line, with a border below.
 
-        What a cell of more rows has below this one overhangs into the next. With `collapse`, borders at the tops and
-        bottoms of cells become one with those of the row. `RowDoesNotFitError` where cells are in the way of what
-        overhangs; they go on waiting then.
+        What is left of a cell that spans more rows overhangs into the next row. With `collapse`, borders at the tops
+        and bottoms of cells are merged with those of the row. `RowDoesNotFitError` if cells are in the way of what
+        overhangs; the cells still wait then.
         """
         self._owned.call("add_row", collapse)
 
     def append_vert_row(self) -> None:
-        """Adds the cells that wait, one below another, whatever rows they span."""
+        """Adds the waiting cells one below another, however many rows they span."""
         self._owned.call("add_vertical_row")
 
     # ---- questions, of the innermost level that is open, which change nothing
@@ -570,7 +572,8 @@ class Renderer:
         return self._owned.flag("is_empty")
 
     def has_overhang(self) -> bool:
-        """Whether cells that span more rows than came yet overhang. Lines that they have at the end are lost."""
+        """Whether cells overhang, since they span more rows than have come. Lines that they still have at the end are
+        lost."""
         return self._owned.flag("has_overhang")
 
     def width(self) -> int:
@@ -580,7 +583,7 @@ class Renderer:
     def width_minus(self, prefix_len: int, min_width: int) -> int:
         """The columns that it has left after a prefix, but at least `min_width`.
 
-        `TooNarrowError`, which isn't kept, where fewer than these are left and no overflow is allowed.
+        `TooNarrowError`, which isn't kept, if fewer are left and no overflow is allowed.
         """
         return self._owned.number("width_minus", size(prefix_len, "prefix_len"), size(min_width, "min_width"))
 
@@ -607,11 +610,12 @@ class Renderer:
         return self._owned.text(_PREFIX_ROOM, "quote_prefix")
 
     def unordered_item_prefix(self) -> str:
-        """What comes before the first line of an item of a list, as `* `. Before the others come as many spaces."""
+        """What comes before the first line of an item of a list, as `* `. As many spaces come before the other
+        lines."""
         return self._owned.text(_PREFIX_ROOM, "item_prefix")
 
     def ordered_item_prefix(self, number: int) -> str:
-        """The same of the item of a list that has a number, as `3. `. `ValueError` past 64 bits."""
+        """What comes before the first line of an item with this number, as `3. `. `ValueError` past 64 bits."""
         return self._owned.text(_PREFIX_ROOM, "ordered_item_prefix", _number(number))
 
 

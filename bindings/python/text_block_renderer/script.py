@@ -12,12 +12,12 @@ if TYPE_CHECKING:
 
 
 def render_script(script: "str | ReadableBuffer", *, raw: bool = False) -> str:
-    """The text of a script, which comes as a text or as its bytes.
+    """The text of a script, which is a `str` or bytes.
 
-    No control character comes out but the newlines that end lines. With `raw`, those of prefixes, and of the targets
-    that footnotes list, come out as they went in, as those of the program `blockrender`.
+    No control characters come out except the newlines that end lines. With `raw`, those of prefixes, and of the targets
+    in footnotes, come out as they went in, as from the program `blockrender`.
 
-    Any bytes may come; `ScriptError` where a line is at fault, or refuses. `TypeError` for what has no bytes.
+    Any bytes may come; `ScriptError` if a line is at fault, or refuses. `TypeError` for what isn't a text or bytes.
     """
     encoded = as_bytes(script, "script")
     text = create_string_buffer(max(len(encoded), 1))

@@ -8,10 +8,10 @@ from .errors import check
 
 
 def text_width(text: str) -> int:
-    """The columns of a text: those of its characters together, as a renderer counts them.
+    """The columns of a text: the sum over its characters, as a renderer counts them.
 
-    Control characters, as a tab or a newline, take none. `NotUtf8Error` where it has a surrogate, `TypeError` where
-    it isn't a `str`.
+    Control characters, as a tab or a newline, take none. `NotUtf8Error` if it has a surrogate, `TypeError` if it isn't
+    a `str`.
     """
     encoded = utf8(text, "text")
     columns = c_size_t()

@@ -10,9 +10,9 @@ pub enum Error {
     /// A word holds a character that is wider than the line. It doesn't come in lines of two columns or more. A
     /// renderer keeps this refusal.
     TooNarrow,
-    /// A line of a script isn't a command, or is one that may not come there.
+    /// A line of a script isn't a command, or comes where it may not.
     NotACommand,
-    /// An end of what wasn't begun, or was ended already, in the level that is open.
+    /// In the open level, nothing is open that the call could end.
     NothingToEnd,
     /// The cells of a row are in the way of what overhangs from the rows above.
     RowDoesNotFit,
@@ -22,7 +22,7 @@ pub enum Error {
     BadWidth,
     /// A span of 0 rows, or a number that the library has no meaning for.
     BadArgument,
-    /// What would end has a level inside that is open, or cells that wait for a row.
+    /// Inside what the call would end, a level is open, or cells wait for a row.
     StillOpen,
     /// The renderer is finished.
     Finished,
@@ -30,9 +30,9 @@ pub enum Error {
     NotFinished,
     /// There is no line.
     NoLine,
-    /// The line has no such piece, or the piece no such annotation.
+    /// The line has no such piece, or the piece has no such annotation.
     NoPiece,
-    /// A text has more bytes than there is room for.
+    /// A text has more bytes than the buffer has room for.
     BufferTooSmall,
     /// There is no renderer.
     NoRenderer,

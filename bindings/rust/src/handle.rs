@@ -1,4 +1,4 @@
-//! A renderer of the library's that is owned, and the calls to it.
+//! An owned renderer of the library, and the calls to it.
 
 use crate::sys;
 use crate::{Error, Options};
@@ -55,7 +55,8 @@ impl Handle {
         Ok(answer)
     }
 
-    /// The text that a call writes into a buffer. That has so much room at first, and else as much as the text takes.
+    /// The text that a call writes into a buffer, which has this much room at first, and then as much as the text
+    /// takes.
     pub fn text(
         &self,
         room: usize,

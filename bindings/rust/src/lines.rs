@@ -6,7 +6,7 @@ use std::iter::FusedIterator;
 
 /// The lines of a renderer, one by one. What was taken is freed.
 ///
-/// A line is refused with `OutOfMemory` alone, and no line comes after a refusal. As a [`Renderer`](crate::Renderer),
+/// A line is refused only with `OutOfMemory`, and no line comes after a refusal. Like a [`Renderer`](crate::Renderer),
 /// it is `Send` and isn't `Sync`.
 ///
 /// ```
@@ -37,12 +37,12 @@ impl Lines {
         Lines { handle, has_ended: false }
     }
 
-    /// The text of the lines that weren't taken yet, each with a newline. It takes none.
+    /// The text of the lines that weren't taken yet, each with a newline. It takes no line.
     pub fn text(&self) -> Result<String, Error> {
         self.text_of(0)
     }
 
-    /// The same lines in a format, each with a newline. It takes none.
+    /// The lines that weren't taken yet in a format, each with a newline. It takes no line.
     ///
     /// ```
     /// use text_block_renderer::{Format, Options, Renderer};
@@ -58,7 +58,7 @@ impl Lines {
         self.handle.text(0, |it, out, room, length| unsafe { sys::tbr_text_as(it, format as u32, out, room, length) })
     }
 
-    /// The line that was taken last in a format, without a newline. `NoLine` where none was.
+    /// The line that was taken last in a format, without a newline. `NoLine` if none was.
     ///
     /// ```
     /// use text_block_renderer::{Format, Options, Renderer};
@@ -76,7 +76,7 @@ impl Lines {
         self.handle.text(0, |it, out, room, length| unsafe { sys::tbr_line_as(it, format as u32, out, room, length) })
     }
 
-    /// The same as `text`, where so many bytes are expected.
+    /// The text of the lines that weren't taken yet, where this many bytes are expected.
     pub(crate) fn text_of(&self, bytes: usize) -> Result<String, Error> {
         // SAFETY: the renderer is live, and so is the room.
         self.handle.text(bytes, |it, out, room, length| unsafe { sys::tbr_text(it, out, room, length) })

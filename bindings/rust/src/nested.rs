@@ -5,12 +5,12 @@ use std::cmp::Ordering;
 
 /// Blocks and stretches of text that a closure fills.
 ///
-/// Each ends where the closure returns, also where that refuses: its refusal is the answer then, and the renderer goes
-/// on, if the refusal isn't kept.
+/// Each ends where the closure returns, even if that refuses. Its refusal is then the answer, and the renderer can be
+/// used further, if the refusal isn't kept.
 ///
-/// The closure closes the levels that it opens. Where it leaves one open, or cells waiting in a block, what it filled
-/// isn't ended: the answer is `StillOpen`, or what the closure refused with. Where it closed the level that it was in,
-/// that is `NothingToEnd`.
+/// The closure has to close the levels that it opens. If it leaves one open, or cells waiting in a block, what it
+/// filled isn't ended: the answer is `StillOpen`, or the closure's refusal. If it closed the level that it was in, the
+/// answer is `NothingToEnd`.
 ///
 /// ```
 /// use text_block_renderer::{Options, Renderer};
@@ -33,7 +33,7 @@ use std::cmp::Ordering;
 impl Renderer {
     /// Fills a quoted block, each line of which comes after the decorator's prefix, with empty lines around it.
     ///
-    /// `TooNarrow`, which isn't kept, where the prefix leaves no column and no overflow is allowed.
+    /// `TooNarrow`, which isn't kept, if the prefix leaves no column and no overflow is allowed.
     ///
     /// ```
     /// # use text_block_renderer::{Options, Renderer};
@@ -90,8 +90,8 @@ impl Renderer {
     /// Fills a header of a level, of which 1 is the highest. Each line comes after the decorator's prefix, with empty
     /// lines around the block.
     ///
-    /// It refuses as [`quote`](Renderer::quote) does, and with `BadArgument` above level 255, where the decorator has a
-    /// prefix for it.
+    /// It refuses as [`quote`](Renderer::quote) does, and with `BadArgument` above level 255, if the decorator has a
+    /// prefix for headers.
     ///
     /// ```
     /// # use text_block_renderer::{Options, Renderer};
@@ -227,7 +227,7 @@ impl Renderer {
         self.nest(fill, Renderer::pop_bgcolour)
     }
 
-    /// Fills text whose white space counts as a mode says.
+    /// Fills text in a mode of white space.
     ///
     /// ```
     /// # use text_block_renderer::{Options, Renderer, WhiteSpace};
@@ -257,7 +257,7 @@ impl Renderer {
         filled.and(ended)
     }
 
-    /// Ends what was begun where so many levels were open, unless it isn't the innermost any more.
+    /// Ends what was begun when this many levels were open, unless it isn't the innermost any longer.
     fn end_at(&mut self, begun: usize, end: impl FnOnce(&mut Renderer) -> Result<(), Error>) -> Result<(), Error> {
         match self.depth()?.cmp(&begun) {
             Ordering::Greater => Err(Error::StillOpen),

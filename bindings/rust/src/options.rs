@@ -1,7 +1,7 @@
 use crate::sys;
 use std::mem;
 
-/// What a renderer is told to do: its width and how decorated text is shown, and settings that can be changed.
+/// The settings of a renderer: its width, how decorated text is shown, and others that can be changed.
 ///
 /// The settings have the names that html2text gives them.
 ///
@@ -52,17 +52,18 @@ pub enum ImageRenderMode {
 }
 
 impl Options {
-    /// A renderer of so many columns that shows decorated text by characters, as `[` and `]` about a link.
+    /// A renderer of this many columns that shows decorated text by characters, as `[` and `]` around a link.
     pub fn plain(width: usize) -> Options {
         Options::new(width, Decorator::Plain)
     }
 
-    /// One that shows the text alone, with `^{` and `}` about superscripts.
+    /// A renderer of this many columns that shows only the text, with `^{` and `}` around superscripts.
     pub fn trivial(width: usize) -> Options {
         Options::new(width, Decorator::Trivial)
     }
 
-    /// One that shows the same and has annotations on each piece of a line.
+    /// A renderer of this many columns that shows only the text, with `^{` and `}` around superscripts, and has
+    /// annotations on each piece of a line.
     pub fn rich(width: usize) -> Options {
         Options::new(width, Decorator::Rich)
     }
@@ -83,49 +84,49 @@ impl Options {
         }
     }
 
-    /// The most columns that a line of wrapped text takes. At first, and at 0, as many as the renderer has.
+    /// The most columns that a line of wrapped text takes. By default, and for 0, they are those of the renderer.
     pub fn wrap_width(self, columns: usize) -> Options {
         let wrap_width = Some(columns).filter(|&columns| columns > 0);
         Options { wrap_width, ..self }
     }
 
-    /// Whether a character that is wider than a line goes on a line of its own. At first it is too narrow.
+    /// Whether a character that is wider than a line goes on a line of its own. By default it is refused as too narrow.
     pub fn allow_width_overflow(self, allow_width_overflow: bool) -> Options {
         Options { allow_width_overflow, ..self }
     }
 
-    /// Whether lines are filled with spaces up to their width. At first they aren't.
+    /// Whether lines are filled with spaces up to their width. By default they aren't.
     pub fn pad_block_width(self, pad_block_width: bool) -> Options {
         Options { pad_block_width, ..self }
     }
 
-    /// Whether borders of tables are drawn. At first they are.
+    /// Whether borders of tables are drawn. By default they are.
     pub fn draw_borders(self, draw_borders: bool) -> Options {
         Options { draw_borders, ..self }
     }
 
-    /// Whether the targets of footnotes are cut where they don't fit a line. At first they are.
+    /// Whether the targets of footnotes are cut where they don't fit a line. By default they are.
     pub fn wrap_links(self, wrap_links: bool) -> Options {
         Options { wrap_links, ..self }
     }
 
-    /// Whether links show numbers, under which their targets come after the text. At first they don't.
+    /// Whether links show numbers, under which their targets come after the text. By default they don't.
     pub fn include_link_footnotes(self, include_link_footnotes: bool) -> Options {
         Options { include_link_footnotes, ..self }
     }
 
-    /// Whether struck out text has strokes. At first it has.
+    /// Whether struck out text has strokes. By default it has.
     pub fn use_unicode_strikeout(self, use_unicode_strikeout: bool) -> Options {
         Options { use_unicode_strikeout, ..self }
     }
 
-    /// What an image without a title shows. At first nothing.
+    /// What an image without a title shows. By default nothing.
     pub fn img_mode(self, img_mode: ImageRenderMode) -> Options {
         Options { img_mode, ..self }
     }
 
-    /// Whether control characters of prefixes, and of the targets that footnotes list, come out as they went in. At
-    /// first they are shown as a browser shows them, so that an escape is `%1B`.
+    /// Whether control characters of prefixes, and of the targets in footnotes, come out as they went in. By default
+    /// they are shown as a browser shows them, so that an escape is `%1B`.
     pub fn raw(self, raw: bool) -> Options {
         Options { raw, ..self }
     }
@@ -149,18 +150,17 @@ impl Options {
     }
 }
 
-/// How lines are shown. None of these lets a control character of a text, a target or a name out, but the text of a
-/// renderer that is raw. Links of `Ansi` and `Html` lead to `http`, `https`, `mailto`, `ftp` and where there is no scheme,
-/// and to nothing else.
+/// How lines are shown. Only `Text` of a renderer that is raw has control characters of a text, a target or a name.
+/// Links of `Ansi` and `Html` lead only to `http`, `https`, `mailto` and `ftp`, and to targets without a scheme.
 #[derive(Clone, Copy, Debug, Default, PartialEq, Eq, Hash)]
 pub enum Format {
-    /// The text alone.
+    /// Only the text.
     #[default]
     Text = 0,
     /// For a terminal: emphasis, strong and struck out text, code and colours by control sequences, and hyperlinks.
     Ansi = 1,
-    /// What is in a `<pre>`: links, emphasis and colours as elements, and markers as places to link to. A character of
-    /// two columns is in a `<span class="wide">`, to be shown as two characters wide.
+    /// The content of a `<pre>`: links, emphasis and colours as elements, and markers as places to link to. A character
+    /// of two columns is in a `<span class="wide">`, to be shown as two characters wide.
     Html = 2,
     /// An object of JSON for each line: columns, whether it is a border, and its pieces and markers.
     Json = 3,
@@ -169,12 +169,12 @@ pub enum Format {
 /// What becomes of white space.
 #[derive(Clone, Copy, Debug, Default, PartialEq, Eq, Hash)]
 pub enum WhiteSpace {
-    /// A stretch of it counts as one space, and as none at the ends of lines.
+    /// A stretch of it is one space, and nothing at the ends of lines.
     #[default]
     Normal = 0,
     /// It is kept, and lines are cut where they are full.
     Pre = 1,
-    /// It is kept, and words go on a fresh line where they don't fit.
+    /// It is kept, and words that don't fit go to a new line.
     PreWrap = 2,
 }
 
@@ -192,7 +192,7 @@ pub enum CellAlign {
 
 /// A cell to open: its columns, the rows that it spans, and where its lines are in the columns.
 ///
-/// A number of columns alone is a cell of one row whose lines are at the left.
+/// A number of columns by itself is a cell of one row whose lines are at the left.
 #[derive(Clone, Copy, Debug, PartialEq, Eq)]
 pub struct Cell {
     pub(crate) width: usize,
@@ -201,7 +201,7 @@ pub struct Cell {
 }
 
 impl Cell {
-    /// A cell of so many columns and one row, with its lines at the left.
+    /// A cell of this many columns and one row, with its lines at the left.
     pub fn new(width: usize) -> Cell {
         Cell { width, span: 1, align: CellAlign::Left }
     }

@@ -5,16 +5,16 @@ use std::fmt;
 
 /// Writes blocks of text, one below another, into lines of a width in columns.
 ///
-/// Its calls have the names of html2text's renderer, where that has them. They fill the innermost level that is open: a
-/// level is a renderer inside another one, which takes its lines after prefixes or as a cell of a table. What begins in
-/// a level ends there.
+/// Its calls have the names of html2text's renderer, where that has such a call. They fill the innermost level that is
+/// open. A level is a renderer inside another one, which takes its lines after prefixes or as a cell of a table. What
+/// begins in a level ends there.
 ///
-/// A call that answers `OutOfMemory` or `TooNarrow` leaves the renderer refusing all that follows with the same. Each
-/// other refusal leaves it as it was. [`TooNarrow`](Error::TooNarrow) comes only where a line has one column. Besides
-/// what is said of a call, any that takes memory can answer `OutOfMemory`, and any that places a word `TooNarrow`.
+/// After a call has answered `OutOfMemory` or `TooNarrow`, the renderer answers that to each later call. All other
+/// refusals leave it as it was. [`TooNarrow`](Error::TooNarrow) comes only if a line has one column. Apart from what is
+/// said at a call, any that takes memory can answer `OutOfMemory`, and any that places a word `TooNarrow`.
 ///
-/// It is `Send`: it may go from one thread to another. It isn't `Sync`, as the library takes one call at a time, and a
-/// question too may write what the renderer keeps:
+/// It is `Send`: it may move from one thread to another. It isn't `Sync`, since the library takes one call at a time,
+/// and even a question may change what the renderer keeps:
 ///
 /// ```compile_fail,E0277
 /// fn is_shared<T: Sync>() {}
@@ -26,12 +26,12 @@ pub struct Renderer {
 
 /// Making a renderer, and taking its lines.
 impl Renderer {
-    /// A renderer. `BadWidth` where its width is 0.
+    /// A renderer. `BadWidth` if its width is 0.
     pub fn new(options: &Options) -> Result<Renderer, Error> {
         Ok(Renderer { handle: Handle::new(options)? })
     }
 
-    /// Its lines, with the footnotes of its links after them. `StillOpen` where a level is open or cells wait.
+    /// Its lines, with the footnotes of its links after them. `StillOpen` if a level is open or cells wait.
     pub fn into_lines(self) -> Result<Lines, Error> {
         self.handle.plain(sys::tbr_finish)?;
         Ok(Lines::new(self.handle))
@@ -55,8 +55,8 @@ impl Renderer {
 
 /// Text, blocks and lines.
 impl Renderer {
-    /// Adds text, whose white space counts as the mode that was pushed last says. A text ends no word: two texts
-    /// without white space between them make one.
+    /// Adds text. The mode that was pushed last says what becomes of white space. The end of a text doesn't end a word:
+    /// two texts without white space between them make one.
     pub fn add_inline_text(&mut self, text: &str) -> Result<(), Error> {
         self.handle.with_text(sys::tbr_add_text_n, text)
     }
@@ -66,13 +66,13 @@ impl Renderer {
         self.handle.plain(sys::tbr_start_block)
     }
 
-    /// Ends a block: text that comes begins a new one. In `Normal` white space before it is ignored. It may come at any
-    /// time.
+    /// Ends a block: the next text begins a new one. In `Normal` white space before that text is ignored. The call may
+    /// come at any time.
     pub fn end_block(&mut self) -> Result<(), Error> {
         self.handle.plain(sys::tbr_end_block)
     }
 
-    /// Begins a table, as a block is begun.
+    /// Begins a table, as `start_block` begins a block.
     pub fn start_table(&mut self) -> Result<(), Error> {
         self.handle.plain(sys::tbr_start_table)
     }
@@ -82,7 +82,7 @@ impl Renderer {
         self.handle.plain(sys::tbr_new_line)
     }
 
-    /// Ends the open line. Where none is open, or it has no columns, an empty one is added.
+    /// Ends the open line. If none is open, or it has no columns, an empty one is added.
     pub fn new_line_hard(&mut self) -> Result<(), Error> {
         self.handle.plain(sys::tbr_new_line_hard)
     }
@@ -97,31 +97,31 @@ impl Renderer {
         self.handle.plain(sys::tbr_add_border)
     }
 
-    /// The same with so many columns: 0, or more than the level has, are allowed.
+    /// Ends the open line, and adds a border of this many columns: 0, or more than the level has, are allowed.
     pub fn add_horizontal_border_width(&mut self, columns: usize) -> Result<(), Error> {
         // SAFETY: the renderer is live.
         self.handle.call(|it| unsafe { sys::tbr_add_border_width(it, columns) })
     }
 
-    /// Begins a mode of white space. Where none has begun, all is `Normal`.
+    /// Begins a mode of white space. Before any has begun, the mode is `Normal`.
     pub fn push_ws(&mut self, mode: WhiteSpace) -> Result<(), Error> {
         // SAFETY: the renderer is live.
         self.handle.call(|it| unsafe { sys::tbr_push_white_space(it, mode as u32) })
     }
 
-    /// Ends the mode that was pushed last. `NothingToEnd` where none was.
+    /// Ends the mode that was pushed last. `NothingToEnd` if none was.
     pub fn pop_ws(&mut self) -> Result<(), Error> {
         self.handle.plain(sys::tbr_pop_white_space)
     }
 
-    /// Puts a marker where the text is, as an anchor for links.
+    /// Adds a marker to the text, as an anchor for links.
     pub fn record_frag_start(&mut self, name: &str) -> Result<(), Error> {
         self.handle.with_text(sys::tbr_add_marker_n, name)
     }
 }
 
-/// Decorated text. An end asks only that its own beginning came more often in the level, and answers `NothingToEnd` if
-/// it didn't. So stretches may overlap.
+/// Decorated text. An end needs only an open beginning of its own kind in the level, and answers `NothingToEnd` if
+/// there is none. So stretches may overlap.
 impl Renderer {
     /// Begins a link to a target, which may be empty.
     pub fn start_link(&mut self, target: &str) -> Result<(), Error> {
@@ -183,7 +183,7 @@ impl Renderer {
         self.handle.plain(sys::tbr_end_superscript)
     }
 
-    /// Begins a preformatted stretch. That is a matter of annotations: push `Pre` to keep white space.
+    /// Begins a preformatted stretch. It is only an annotation: push `Pre` to keep white space.
     pub fn push_preformat(&mut self) -> Result<(), Error> {
         self.handle.plain(sys::tbr_start_preformatted)
     }
@@ -226,9 +226,9 @@ impl Renderer {
 /// Quotes, items of lists and headers. A start opens a level in the columns that the decorator's prefix leaves, and its
 /// end adds the lines of that level after the prefix.
 ///
-/// A start answers `TooNarrow`, which isn't kept, where the prefix leaves no column and no overflow is allowed. An end
-/// takes the innermost level, whichever call began it: `NothingToEnd` where that is none or a cell, `StillOpen` where
-/// cells wait in it. `OutOfMemory` isn't kept where the prefix takes memory: [`failure`](Renderer::failure) tells.
+/// A start answers `TooNarrow`, which isn't kept, if the prefix leaves no column and no overflow is allowed. An end
+/// closes the innermost level, whichever call began it: `NothingToEnd` if none is open or it is a cell, `StillOpen` if
+/// cells wait in it. `OutOfMemory` isn't kept if the prefix takes memory: [`failure`](Renderer::failure) tells.
 impl Renderer {
     /// Begins a quoted block, each line of which comes after a prefix.
     pub fn start_quote(&mut self) -> Result<(), Error> {
@@ -263,7 +263,7 @@ impl Renderer {
     }
 
     /// Begins a header of a level, of which 1 is the highest. Each line of this block comes after a prefix.
-    /// `BadArgument` above 255, where the decorator has a prefix for it.
+    /// `BadArgument` above 255, if the decorator has a prefix for headers.
     pub fn start_header(&mut self, level: usize) -> Result<(), Error> {
         // SAFETY: the renderer is live.
         self.handle.call(|it| unsafe { sys::tbr_start_header(it, level) })
@@ -278,10 +278,10 @@ impl Renderer {
 
 /// Levels, and rows of cells.
 impl Renderer {
-    /// Fills a level of so many columns, and adds its lines: the first after `first`, each other after `others`.
+    /// Fills a level of this many columns, and adds its lines: the first after `first`, each other after `others`.
     /// `BadWidth` at 0 columns. Leave room for the prefixes, as by [`width_minus`](Renderer::width_minus).
     ///
-    /// Where `fill` refuses, its refusal is the answer, and the level stays open.
+    /// If `fill` refuses, its refusal is the answer, and the level stays open.
     ///
     /// ```
     /// use text_block_renderer::{Options, Renderer};
@@ -304,22 +304,22 @@ impl Renderer {
         self.append_subrender(first, others)
     }
 
-    /// Opens a level of so many columns, whose lines `append_subrender` takes. `BadWidth` at 0.
+    /// Opens a level of this many columns, whose lines `append_subrender` takes. `BadWidth` at 0.
     pub fn start_subrender(&mut self, width: usize) -> Result<(), Error> {
         // SAFETY: the renderer is live.
         self.handle.call(|it| unsafe { sys::tbr_start_sub(it, width) })
     }
 
     /// Closes the level that `start_subrender` opened, and adds its lines to the one outside: the first after `first`,
-    /// each other after `others`. `NothingToEnd` where the innermost level isn't one of these, `StillOpen` where cells
-    /// wait in it.
+    /// each other after `others`. `NothingToEnd` if the innermost level isn't such a level,  `StillOpen` if cells wait
+    /// in it.
     pub fn append_subrender(&mut self, first: &str, others: &str) -> Result<(), Error> {
         self.handle.with_texts(sys::tbr_append_sub_n, first, others)
     }
 
     /// Fills a cell, which then waits for a row. `BadWidth` at 0 columns, `BadArgument` at 0 rows.
     ///
-    /// Where `fill` refuses, its refusal is the answer, and the cell stays open.
+    /// If `fill` refuses, its refusal is the answer, and the cell stays open.
     pub fn cell(
         &mut self,
         cell: impl Into<Cell>,
@@ -337,29 +337,29 @@ impl Renderer {
         self.handle.call(|it| unsafe { sys::tbr_start_cell(it, width, span, align as u32) })
     }
 
-    /// Closes the cell that is open, which then waits for a row. `NothingToEnd` where the innermost level is no cell,
-    /// `StillOpen` where cells wait in it.
+    /// Closes the cell that is open, which then waits for a row. `NothingToEnd` if the innermost level isn't a cell,
+    /// `StillOpen` if cells wait in it.
     pub fn end_cell(&mut self) -> Result<(), Error> {
         self.handle.plain(sys::tbr_end_cell)
     }
 
-    /// Adds the cells that wait as a row, side by side, joined to a border that is the last line, with a border below.
-    /// What a cell of more rows has below this one overhangs into the next. With `collapse`, borders at the tops and
-    /// bottoms of cells become one with those of the row.
+    /// Adds the waiting cells as a row, side by side, with a border below. If the last line is a border, the row joins
+    /// it. What is left of a cell that spans more rows overhangs into the next row. With `collapse`, borders at the
+    /// tops and bottoms of cells are merged with those of the row.
     ///
-    /// `RowDoesNotFit` where cells are in the way of what overhangs; they go on waiting then.
+    /// `RowDoesNotFit` if cells are in the way of what overhangs; the cells still wait then.
     pub fn append_columns_with_borders(&mut self, collapse: bool) -> Result<(), Error> {
         // SAFETY: the renderer is live.
         self.handle.call(|it| unsafe { sys::tbr_add_row(it, collapse) })
     }
 
-    /// Adds the cells that wait, one below another, whatever rows they span.
+    /// Adds the waiting cells one below another, however many rows they span.
     pub fn append_vert_row(&mut self) -> Result<(), Error> {
         self.handle.plain(sys::tbr_add_vertical_row)
     }
 }
 
-/// Questions, of the innermost level that is open. They change nothing.
+/// Questions about the innermost level that is open. They change nothing.
 impl Renderer {
     /// The refusal that is kept, if there is one.
     pub fn failure(&self) -> Option<Error> {
@@ -372,7 +372,8 @@ impl Renderer {
         self.handle.ask(|it, answer| unsafe { sys::tbr_is_empty(it, answer) })
     }
 
-    /// Whether cells that span more rows than came yet overhang. Lines that they have at the end are lost.
+    /// Whether cells overhang, since they span more rows than have come. Lines that they still have at the end are
+    /// lost.
     pub fn has_overhang(&self) -> Result<bool, Error> {
         // SAFETY: as above.
         self.handle.ask(|it, answer| unsafe { sys::tbr_has_overhang(it, answer) })
@@ -384,8 +385,8 @@ impl Renderer {
         self.handle.ask(|it, answer| unsafe { sys::tbr_width(it, answer) })
     }
 
-    /// The columns that it has left after a prefix, but at least `min_width`. `TooNarrow`, which isn't kept, where
-    /// fewer than these are left and no overflow is allowed.
+    /// The columns that it has left after a prefix, but at least `min_width`. `TooNarrow`, which isn't kept, if fewer
+    /// are left and no overflow is allowed.
     pub fn width_minus(&self, prefix_len: usize, min_width: usize) -> Result<usize, Error> {
         // SAFETY: as above.
         self.handle.ask(|it, answer| unsafe { sys::tbr_width_minus(it, prefix_len, min_width, answer) })
@@ -425,13 +426,13 @@ impl Renderer {
         self.handle.text(PREFIX_ROOM, |it, out, room, length| unsafe { sys::tbr_quote_prefix(it, out, room, length) })
     }
 
-    /// What comes before the first line of an item of a list, as `* `. Before the others come as many spaces.
+    /// What comes before the first line of an item of a list, as `* `. As many spaces come before the other lines.
     pub fn unordered_item_prefix(&self) -> Result<String, Error> {
         // SAFETY: as above.
         self.handle.text(PREFIX_ROOM, |it, out, room, length| unsafe { sys::tbr_item_prefix(it, out, room, length) })
     }
 
-    /// The same of the item of a list that has a number, as `3. `.
+    /// What comes before the first line of an item with this number, as `3. `.
     pub fn ordered_item_prefix(&self, number: i64) -> Result<String, Error> {
         // SAFETY: as above.
         self.handle.text(PREFIX_ROOM, |it, out, room, length| unsafe {
@@ -440,7 +441,7 @@ impl Renderer {
     }
 }
 
-/// The bytes that most prefixes have at most.
+/// The bytes that are enough for most prefixes.
 const PREFIX_ROOM: usize = 24;
 
 impl fmt::Debug for Renderer {

@@ -10,7 +10,7 @@ use std::fmt;
 pub struct ScriptError {
     /// The number of the line at fault, from 1, if one is.
     pub line: Option<usize>,
-    /// What is the matter with it.
+    /// What is wrong with it.
     pub error: Error,
 }
 
@@ -35,8 +35,8 @@ impl From<Error> for ScriptError {
     }
 }
 
-/// The text of a script, whose language `docs/SCRIPT.md` teaches. Any bytes may come. No control character comes out but
-/// the newlines that end lines.
+/// The text of a script, in the language that `docs/SCRIPT.md` teaches. Any bytes may come. No control characters come
+/// out except the newlines that end lines.
 ///
 /// ```
 /// let text = text_block_renderer::render_script(b"new 8 plain\ntext Hello, world.\n")?;
@@ -49,8 +49,8 @@ pub fn render_script(script: &[u8]) -> Result<String, ScriptError> {
     rendered(sys::tbr_render, script)
 }
 
-/// The same, where control characters of prefixes, and of the targets that footnotes list, come out as they went in. It
-/// is the text of the program `blockrender`.
+/// The text of a script, where control characters of prefixes, and of the targets in footnotes, come out as they went
+/// in. It is the text of the program `blockrender`.
 ///
 /// ```
 /// let text = text_block_renderer::render_script_raw(b"new 8 plain\nsub 3\ntext a\nappend \\u{1b} | \n")?;

@@ -2,7 +2,7 @@
 
 use std::ffi::c_char;
 
-/// A renderer of the library's, had by pointers alone.
+/// A renderer of the library. Only pointers to it exist.
 #[repr(C)]
 pub struct Renderer {
     _opaque: [u8; 0],

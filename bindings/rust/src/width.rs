@@ -1,8 +1,8 @@
 use crate::sys;
 use crate::Error;
 
-/// The columns of a text: those of its characters together, as a renderer counts them. Control characters, as a tab or
-/// a newline, take none. It refuses with `OutOfMemory` where the columns pass `usize`, and takes no memory.
+/// The columns of a text: the sum over its characters, as a renderer counts them. Control characters, as a tab or a
+/// newline, take none. It refuses with `OutOfMemory` if the columns pass `usize`, and takes no memory.
 ///
 /// ```
 /// assert_eq!(text_block_renderer::text_width("cafe\u{301} 漢字")?, 9);

@@ -101,7 +101,7 @@ fn fill_one(r: &mut Renderer, kind: Kind, inside: &[Node]) -> Result<(), Error> 
     }
 }
 
-/// The same as lines of a script, in so many columns.
+/// These calls as lines of a script, in this many columns.
 fn script(nodes: &[Node], columns: usize) -> String {
     nodes
         .iter()

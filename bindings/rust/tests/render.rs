@@ -14,7 +14,7 @@ fn rendered(options: Options, calls: impl FnOnce(&mut Renderer) -> Tested) -> Re
     renderer.into_string()
 }
 
-/// The same, as lines.
+/// What calls on a renderer give, as lines.
 fn lines(options: Options, calls: impl FnOnce(&mut Renderer) -> Tested) -> Result<Vec<TaggedLine>, Error> {
     let mut renderer = Renderer::new(&options)?;
     calls(&mut renderer)?;

@@ -7,9 +7,9 @@ use text_block_renderer::{text_width, CellAlign, Error};
 pub struct Column {
     /// The columns of its longest field.
     pub most: usize,
-    /// Those of its longest word.
+    /// The columns of its longest word.
     pub least: usize,
-    /// At the right, where all fields but that of the heading are numbers.
+    /// At the right if all fields except the heading are numbers.
     pub align: CellAlign,
 }
 
@@ -34,8 +34,8 @@ fn is_number(field: &str) -> bool {
     field.contains(|c: char| c.is_ascii_digit()) && field.chars().all(|c| c.is_ascii_digit() || "+-.,%".contains(c))
 }
 
-/// As many columns for each as fit a width, with a space between two: the widest give way first, but none cuts a word.
-/// `None` where they don't fit so.
+/// As many columns for each as fit a width, with a space between two. The widest become narrower first, but no word is
+/// cut. `None` if they don't fit.
 pub fn widths(columns: &[Column], width: usize) -> Option<Vec<usize>> {
     let mut widths: Vec<usize> = columns.iter().map(|column| column.most).collect();
     let room = width.checked_sub(widths.len().saturating_sub(1))?;

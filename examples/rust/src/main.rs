@@ -42,7 +42,7 @@ fn run() -> Result<String, Box<dyn Error>> {
     Ok(report::report(&title, &records, given.width)?)
 }
 
-/// The arguments, where they are right.
+/// The arguments, if they are right.
 fn arguments(mut words: impl Iterator<Item = String>) -> Option<Given> {
     let mut width = 72;
     let mut file = None;

@@ -24,7 +24,7 @@ pub enum Command {
 }
 
 impl Command {
-    /// What a line asks for; `None` where it is no command.
+    /// What a line asks for; `None` if it isn't a command.
     pub fn parse(line: &str) -> Option<Command> {
         match line.split_once(' ') {
             Some((word, argument)) => Command::with_argument(word, argument),
@@ -127,7 +127,7 @@ fn cell(argument: &str) -> Option<Cell> {
     }))
 }
 
-/// What the first command of a script asks for; `None` where the line is none.
+/// What the first command of a script asks for; `None` if the line isn't one.
 pub fn opening(line: &str) -> Option<Options> {
     let mut words = line.strip_prefix("new ")?.split(' ');
     let width = size(words.next()?)?;

@@ -14,8 +14,8 @@ pub enum Refusal {
 }
 
 impl Refusal {
-    /// The refusal of a call for the line of this number. A line that closes something where more is open inside it is
-    /// no command of the language.
+    /// The refusal of a call for the line of this number. A line that closes something while more is open inside it
+    /// isn't a command of the language.
     pub fn at(number: usize, error: Error) -> Refusal {
         match error {
             Error::TooNarrow => Refusal::TooNarrow,

@@ -18,7 +18,7 @@ pub fn text_of(script: &[u8]) -> Result<String, Refusal> {
     renderer.into_string().map_err(|error| Refusal::at(end, error))
 }
 
-/// What a line is parsed as. One that isn't UTF-8 is no command.
+/// What a line is parsed as. One that isn't UTF-8 isn't a command.
 fn parsed<T>(number: usize, line: &[u8], parse: fn(&str) -> Option<T>) -> Result<T, Refusal> {
     str::from_utf8(line).ok().and_then(parse).ok_or(Refusal::NotACommand(number))
 }

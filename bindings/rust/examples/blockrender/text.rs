@@ -43,7 +43,7 @@ pub fn two_texts(writing: &str) -> Option<(String, String)> {
     Some((text(one)?, text(other)?))
 }
 
-/// A number in decimal digits alone.
+/// A number in decimal digits, and nothing else.
 pub fn number(digits: &str) -> Option<usize> {
     digits.bytes().all(|digit| digit.is_ascii_digit()).then(|| digits.parse().ok())?
 }
