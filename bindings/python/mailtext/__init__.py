@@ -9,10 +9,10 @@ __all__ = ["html_text", "mail_text"]
 
 
 def html_text(html: str | bytes, width: int = 72, links: str = "cut", format: str = "text") -> str:
-    """An HTML document in lines of so many columns. Bytes are read by the charset that they name.
+    """An HTML document in lines of `width` columns. Bytes are read by the charset that they name.
 
-    links: `whole`, `cut`, `inline` or `none`, as the command has them. format: `text`, `ansi` or `html`.
-    `ValueError` for another one, and at a width of 0.
+    links: `whole`, `cut`, `inline` or `none`, as the command has them. format: `text`, `ansi` or `html`. `ValueError`
+        for any other, and for a width of 0.
     """
     from .options import Options
     from .show import html_shown
@@ -21,9 +21,9 @@ def html_text(html: str | bytes, width: int = 72, links: str = "cut", format: st
 
 
 def mail_text(mail: bytes, width: int = 72, links: str = "cut", format: str = "text") -> str:
-    """A mail in lines of so many columns: its headers, what it says and what is attached. Refuses as `html_text` does.
+    """A mail in lines of `width` columns: its headers, its text and what is attached. It refuses as `html_text` does.
 
-    Any bytes may come: what isn't understood is told in the text.
+    Any bytes may come: the text says what isn't understood.
     """
     from .options import Options
     from .show import mail_shown

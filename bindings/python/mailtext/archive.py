@@ -26,7 +26,7 @@ SECONDS = 0.2
 def write_archive(mailbox: str, out: str, options: Options, workers: int | None, cluster: str | None) -> int:
     """Writes the text of each mail of a mailbox below a folder, if it isn't there, and answers the command's status.
 
-    A mail without a text is copied aside, and told. `NoMailbox` or `OSError` where nothing can be read or written.
+    A mail without a text is copied aside, and reported. `NoMailbox` or `OSError` if nothing can be read or written.
     """
     mails = {mail.name: mail for mail in mails_of(mailbox)}
     archive = Archive(out, options)
@@ -55,7 +55,7 @@ class Archive:
         return os.path.exists(self._path(mail.name))
 
     def batches(self, mails: list[Mail], progress: Progress) -> Iterator[Batch]:
-        """The bytes of mails. One that can't be read is told."""
+        """The bytes of mails. One that can't be read is reported."""
         batch: Batch = []
         for mail in mails:
             try:
@@ -69,7 +69,7 @@ class Archive:
             yield batch
 
     def take(self, read: Read, mail: Mail, progress: Progress) -> None:
-        """Writes the text of a mail, or else a copy of the mail aside."""
+        """Writes the text of a mail, or a copy of the mail aside."""
         aside = os.path.join(self._aside, f"{mail.name}.eml")
         if read.text is None:
             os.makedirs(self._aside, exist_ok=True)
@@ -86,7 +86,7 @@ class Archive:
 
 
 def write(path: str, data: bytes) -> None:
-    """Writes a file, which is there whole or not at all."""
+    """Writes a file, whole or not at all."""
     part = f"{path}.part"
     with open(part, "wb") as file:
         file.write(data)
@@ -94,7 +94,7 @@ def write(path: str, data: bytes) -> None:
 
 
 class Progress:
-    """How many mails have their texts, told on standard error: a bar on a terminal, and a line at the end."""
+    """Reports on standard error how many mails have their texts: by a bar on a terminal, and by a line at the end."""
 
     def __init__(self, total: int, before: int) -> None:
         self.done = before
@@ -105,7 +105,7 @@ class Progress:
         self._has_bar = sys.stderr.isatty()
 
     def tell(self, text: str) -> None:
-        """Tells of a mail that isn't shown."""
+        """Reports a mail that isn't shown."""
         from .command import tell
 
         self._unread += 1
@@ -126,7 +126,7 @@ class Progress:
             )
 
     def end(self) -> int:
-        """Tells what was done, and answers the command's status."""
+        """Reports what was done, and answers the command's status."""
         self._clear()
         new = self.done - self._before
         told = f"{new} mails in {time.monotonic() - self._begun:.1f} s, {self._speed():.0f} a second"

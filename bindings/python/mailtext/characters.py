@@ -40,7 +40,7 @@ BEGINNING = 4096
 
 
 def clean(text: str) -> str:
-    """A text without control characters but tabs and newlines, which end its lines."""
+    """A text without control characters except tabs and newlines, which end its lines."""
     for end in ENDS:
         text = text.replace(end, "\n")
     return CONTROLS.sub("", text)
@@ -52,7 +52,7 @@ def one_line(text: str) -> str:
 
 
 def decoded(data: bytes, charset: str | None) -> str:
-    """The text of bytes in this charset. Where none is known it is UTF-8, or else that of most old mails."""
+    """The text of bytes in this charset. If none is known, it is UTF-8, or that of most old mails."""
     for mark, name in MARKS.items():
         if data.startswith(mark):
             return data.decode(name, "replace")
@@ -78,7 +78,7 @@ def known(charset: str | None) -> str | None:
 
 
 def declared(html: bytes) -> str | None:
-    """The charset that an HTML document names at its beginning. None that has no ASCII can be named there."""
+    """The charset that an HTML document names at its beginning. A charset without ASCII can't be named there."""
     begin = html[:BEGINNING].lower()
     found = re.search(DECLARATION, begin) if b"charset" in begin or b"encoding" in begin else None
     name = found[1].decode().lower() if found else ""

@@ -59,7 +59,7 @@ def parser() -> argparse.ArgumentParser:
 
 
 class Help(argparse.RawDescriptionHelpFormatter):
-    """Help in lines of a width that needn't be looked for."""
+    """Help in lines of a fixed width."""
 
     def __init__(self, prog: str) -> None:
         super().__init__(prog, width=HELP_COLUMNS)
@@ -87,7 +87,7 @@ def number(text: str, most: int) -> int:
 
 
 def shown_files(files: list[str], given: argparse.Namespace, options: Options) -> tuple[str, int]:
-    """What is shown of files, and the greatest status. What can't be read is told."""
+    """What is shown of files, and the greatest status. What can't be read is reported."""
     shown: list[str] = []
     status = 0
     for file in files:
@@ -122,7 +122,7 @@ def why_unread(error: OSError) -> str:
 
 
 def shown_bytes(data: bytes, given: argparse.Namespace, options: Options) -> str:
-    """What is shown of a mail, or of HTML alone."""
+    """What is shown of a mail, or of HTML without a mail around it."""
     from .show import html_shown, mail_shown
 
     if given.html or not is_mail(data):
@@ -131,7 +131,7 @@ def shown_bytes(data: bytes, given: argparse.Namespace, options: Options) -> str
 
 
 def is_mail(data: bytes) -> bool:
-    """Whether the bytes are a mail, and not HTML alone."""
+    """Whether the bytes are a mail, and not HTML without a mail around it."""
     from .kinds import is_mail as begins_as_mail
 
     return begins_as_mail(data)
@@ -164,6 +164,6 @@ def written(text: str) -> int:
 
 
 def tell(text: str) -> None:
-    """Says on standard error what is wrong, with control characters as escapes."""
+    """Reports on standard error what is wrong, with control characters as escapes."""
     shown = "".join(c if c.isprintable() else c.encode("unicode_escape").decode() for c in text)
     print(f"mailtext: {shown}", file=sys.stderr)

@@ -46,7 +46,7 @@ class Text:
         return self._parts[0]
 
     def is_blank(self) -> bool:
-        """Whether it takes no column but by white space."""
+        """Whether only its white space takes columns."""
         if self._is_blank is None:
             first = self.text.lstrip()[:1]
             self._is_blank = not first or (not " " < first < "\x7f" and not text_width("".join(self.text.split())))
@@ -78,7 +78,7 @@ class Element:
             self.children.append(Text(text))
 
     def is_blank(self) -> bool:
-        """Whether nothing is to be seen of it, once its children are there."""
+        """Whether nothing of it is visible, once its children are there."""
         if self._is_blank is None:
             self._is_blank = all(child.is_blank() for child in self.children)
         return self._is_blank
@@ -123,7 +123,7 @@ class Unseen(Element):
 
 
 class Stretch(Element):
-    """A stretch of text of some kind. In a text without other means it has marks at its ends, if it has no blocks."""
+    """A stretch of text of some kind. In a format without other means it has marks at its ends, if it has no blocks."""
 
     kind = ""
     mark = ""
@@ -156,7 +156,7 @@ class Strong(Stretch):
 
 
 class Strikeout(Stretch):
-    """Text that doesn't count any more."""
+    """Text that isn't valid any longer."""
 
     kind = "strikeout"
 
@@ -169,7 +169,7 @@ class Code(Stretch):
 
 
 class Superscript(Element):
-    """A superscript. One of digits alone is written by the characters for them."""
+    """A superscript. If it has only digits, it is written by the characters for them."""
 
     characters = SUPERSCRIPTS
     begin = "^{"
@@ -205,7 +205,7 @@ class Subscript(Superscript):
 
 
 class Link(Element):
-    """A link, which has its marks about its first and its last word."""
+    """A link, which has its marks around its first and its last word."""
 
     def __init__(self, attributes: dict[str, str]) -> None:
         super().__init__("a", attributes)
@@ -214,7 +214,7 @@ class Link(Element):
         self._after = ""
 
     def show(self, text: str) -> None:
-        """Shows a text, where nothing else is to be seen of it."""
+        """Shows a text, if nothing else of it is visible."""
         self.children.append(Text(text))
         self._is_blank = None
 
@@ -223,7 +223,7 @@ class Link(Element):
         return next((it for it in inside(self) if isinstance(it, Image) and not it.is_too_small()), None)
 
     def mark(self, before: str, after: str) -> None:
-        """Sets its marks. Where it has blocks in it, the second one goes into the last of them."""
+        """Sets its marks. If it has blocks in it, the second mark goes into the last of them."""
         self._before, self._after = before, after
         if self.has_blocks and (last := last_text(self)):
             last.add_after_word(after)
@@ -245,7 +245,7 @@ class Link(Element):
 
 
 class Image(Element):
-    """An image, of which the text in its place is shown."""
+    """An image, for which its text is shown."""
 
     @property
     def title(self) -> str:
@@ -253,7 +253,7 @@ class Image(Element):
         return (self.attributes.get("alt") or self.attributes.get("title") or "").strip()
 
     def is_too_small(self) -> bool:
-        """Whether it isn't there to be seen."""
+        """Whether it isn't meant to be seen."""
         sides = (
             whole(self.attributes.get(name, "").removesuffix("px"), LEAST_PIXELS, 0, 9999)
             for name in ("width", "height")
@@ -389,7 +389,7 @@ class Item(Division):
 
 
 class List(Element):
-    """A list. One inside of an item follows the item's text without an empty line."""
+    """A list. One inside an item follows the item's text without an empty line."""
 
     is_nested = False
 
@@ -398,7 +398,7 @@ class List(Element):
         return [page.item_prefix()] * len(items)
 
     def marked(self, page: Page) -> Iterator[tuple[str, Element | Text]]:
-        """What is in the list, each after its mark, or after spaces where it is no item."""
+        """What is in the list, each after its mark, or after spaces if it isn't an item."""
         items = [child for child in self.children if isinstance(child, Item)]
         marks = self.marks(page, items)
         columns = max(map(len, marks), default=len(page.item_prefix()))
@@ -443,7 +443,7 @@ class OrderedList(List):
 
 
 class Term(Division):
-    """What a definition is of."""
+    """The term of a definition."""
 
     def draw(self, page: Page) -> None:
         mark = "" if self.is_blank() or any(isinstance(it, Stretch) or it.has_blocks for it in inside(self)) else "*"
@@ -455,7 +455,7 @@ class Term(Division):
 
 
 class Definition(Element):
-    """What is said of a term, with two columns in front."""
+    """The definition of a term, with two columns in front."""
 
     def draw(self, page: Page) -> None:
         page.start_inside(2)

@@ -10,7 +10,7 @@ Line = tuple[int, str]
 
 
 def flowed(text: str, deletes_space: bool) -> Iterator[Line]:
-    """The paragraphs of text in which a line that ends in a space goes on in the next one, if that isn't empty.
+    """The paragraphs of text in which a line that ends in a space continues in the next one, if that isn't empty.
 
     deletes_space: the space isn't part of the text, as in languages without spaces between words.
     """

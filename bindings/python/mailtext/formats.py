@@ -1,5 +1,5 @@
-"""What a page holds as text, for a terminal, and as HTML. No control character comes out but newlines, and the escapes
-of a terminal's selections, none of which comes from a mail.
+"""What a page holds as text, for a terminal, and as HTML. No control characters come out except newlines, and the
+escapes for a terminal, none of which comes from a mail.
 """
 
 import html
@@ -19,7 +19,7 @@ ELEMENTS = {Kind.EMPHASIS: "em", Kind.STRONG: "strong", Kind.STRIKEOUT: "s", Kin
 
 
 def formatted(page: Page, kind: str) -> str:
-    """What a page holds, in a format. It can't be filled any more."""
+    """What a page holds, in a format. It can't be filled any longer."""
     if kind == "text":
         return CONTROLS.sub("", without_ends(page.into_string()))
     written = (in_ansi if kind == "ansi" else in_html)(page.into_lines())
@@ -46,7 +46,7 @@ def in_ansi(lines: Iterator[TaggedLine]) -> Iterator[str]:
 
 
 def ansi(text: str, annotations: tuple[Annotation, ...]) -> str:
-    """A piece of text for a terminal. All selections end with it, since some readers know no end of a single one."""
+    """A piece of text for a terminal. It ends all styles, since some readers can't end a single one."""
     numbers = dict.fromkeys(SELECTIONS[it.kind] for it in annotations if it.kind in SELECTIONS)
     if numbers:
         text = f"\x1b[{';'.join(map(str, numbers))}m{text}\x1b[0m"

@@ -1,7 +1,7 @@
 """The headers of a mail or of a part of it.
 
-Python's `email` is asked for parameters that are in pieces or in charsets of their own. It isn't for the rest: loading
-it takes longer than showing most mails, and it doesn't join a character that is in two encoded words.
+Python's `email` is used only for parameters that are in pieces or in charsets of their own. Loading it takes longer
+than showing most mails, and it doesn't join a character that is in two encoded words.
 """
 
 from __future__ import annotations
@@ -24,7 +24,7 @@ BETWEEN = r"(\?=)\s+(?==\?)"
 
 
 class Headers:
-    """The headers of these bytes, in order. What has no form of one is passed over."""
+    """The headers of these bytes, in order. Lines that aren't headers are skipped."""
 
     def __init__(self, head: bytes) -> None:
         fields: list[tuple[str, list[str]]] = []
@@ -82,7 +82,7 @@ def charset_of(word: tuple[str, str, str]) -> str:
 
 
 def word_data(kind: str, encoded: str) -> bytes:
-    """The bytes of an encoded word. One that isn't encoded as it says stays as it is."""
+    """The bytes of an encoded word. If it isn't encoded as it says, it stays as it is."""
     import binascii
 
     data = encoded.encode("utf-8", "replace")

@@ -1,4 +1,4 @@
-"""Whether bytes are a mail, or HTML alone."""
+"""Whether bytes are a mail, or HTML without a mail around it."""
 
 import re
 

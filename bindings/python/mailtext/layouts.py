@@ -1,9 +1,8 @@
-"""Which tables hold data, and which are there for the layout alone.
+"""Which tables hold data, and which are only for the layout.
 
 A table has data where the sender says so: by `border`, `rules`, `summary`, a caption, a head, or header cells beside
-others. It also has data where two rows have numbers in the same column, where cells side by side have borders by their
-styles, and where nothing is said of how it looks. All others are for the layout, and so is what has the role
-`presentation`.
+others. It also has data if two rows have numbers in the same column, if cells side by side have borders by their
+styles, or if nothing says how it looks. All others are for the layout, and so are tables of the role `presentation`.
 """
 
 from __future__ import annotations
@@ -30,7 +29,7 @@ NUMBER = r"(?:[A-Z]{3}|[^\w\s])?\s?[-+−]?\s?\d[\d.,:/'’\s-]*(?:[^\w\s]|[A-Za
 
 
 def is_layout(table: Table) -> bool:
-    """Whether a table is there for the layout alone, so that a browser draws no lines in it."""
+    """Whether a table is only for the layout, so that a browser draws no lines in it."""
     if table.attributes.get("role") in ("presentation", "none"):
         return True
     rows = table.cells()
@@ -65,7 +64,7 @@ def has_border(cell: Cell) -> bool:
 
 
 def is_bare(table: Table, rows: list[list[Cell]]) -> bool:
-    """Whether nothing is said of how a table looks."""
+    """Whether nothing says how a table looks."""
     cells = (cell.attributes.keys() for row in rows for cell in row)
     return table.attributes.keys() <= BARE_TABLE and all(names <= BARE_CELL for names in cells)
 
@@ -82,7 +81,7 @@ def known(told: tuple[bool | None, ...]) -> list[bool]:
 
 
 def is_number(cell: Cell) -> bool | None:
-    """Whether the text of a cell is a number, or None where it has none."""
+    """Whether the text of a cell is a number, or None if it has no text."""
     if cell.is_blank():
         return None
     text = ""

@@ -22,11 +22,11 @@ class Targets:
         self._numbers: dict[str, int] = {}
 
     def set_base(self, base: str) -> None:
-        """Says what addresses that aren't whole are below. The first one counts."""
+        """Sets the base of addresses that aren't whole. The first one counts."""
         self._base = self._base or shown(base)
 
     def number(self, links: list[Link]) -> None:
-        """Gives links their targets and marks, and a text to those that show a picture without any."""
+        """Gives links their targets and marks, and gives a text to those that show a picture without one."""
         for link in links:
             link.target = self._whole(shown(link.attributes["href"]))
             if link.is_blank() and (picture := link.picture()):
@@ -39,7 +39,7 @@ class Targets:
         return [(number, target) for target, number in self._numbers.items()]
 
     def _marks(self, target: str) -> tuple[str, str]:
-        """What a link to a target has before it and after it."""
+        """The marks before and after a link to a target."""
         if self._options.links == "none":
             return "", ""
         if self._options.links == "inline":
@@ -48,7 +48,7 @@ class Targets:
         return ("[", f"][{number}]") if self._options.format == "text" else ("", f"[{number}]")
 
     def _whole(self, target: str) -> str:
-        """A target, below the base where there is one."""
+        """A target, below the base if there is one."""
         if not self._base:
             return target
         from urllib.parse import urljoin
@@ -83,5 +83,5 @@ def name_of(source: str) -> str:
 
 
 def without_query(target: str) -> str:
-    """An address up to what is asked there."""
+    """An address up to its query."""
     return target.partition("?")[0]

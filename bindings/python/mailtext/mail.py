@@ -78,7 +78,7 @@ def shown(part: Part, options: Options, attached: list[Part]) -> Iterator[str]:
 
 
 def best(children: list[Part], options: Options, attached: list[Part]) -> Iterator[str]:
-    """The last of alternatives that people can read, if it says anything."""
+    """The last of the alternatives that people can read, if it has any text."""
     for child in reversed(children):
         if child.kind in NOT_FOR_PEOPLE:
             continue

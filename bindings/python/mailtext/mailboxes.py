@@ -17,7 +17,7 @@ LONGEST_NAME = 120
 
 
 class NoMailbox(Exception):
-    """What was named is no mailbox."""
+    """What was named isn't a mailbox."""
 
 
 class Mail(NamedTuple):
@@ -38,7 +38,7 @@ class Mail(NamedTuple):
 
 
 def mails_of(path: str) -> list[Mail]:
-    """The mails of a mailbox, in order. `NoMailbox` where it is none, `OSError` where it isn't read."""
+    """The mails of a mailbox, in order. `NoMailbox` if it isn't one, `OSError` if it can't be read."""
     if os.path.isdir(path):
         return list(mails_of_maildir(path))
     with open(path, "rb") as file:
@@ -52,7 +52,7 @@ def mails_of(path: str) -> list[Mail]:
 
 
 def separators(data: mmap.mmap) -> Iterator[int]:
-    """Where the lines in front of mails begin, but for the first."""
+    """Where the lines in front of mails begin, except for the first."""
     at = data.find(b"\nFrom ")
     while at >= 0:
         after_empty_line = data[max(at - 2, 0) : at] in (b"\r\n", b"\n\r") or data[max(at - 1, 0) : at] == b"\n"

@@ -55,7 +55,7 @@ class Span(NamedTuple):
         return [*parts, Span(self.data, begin, self.end)] if begin >= 0 else parts
 
     def _is_line(self, at: int, after: int, line: int) -> bool:
-        """Whether what is there is a line of its own, but for white space at its end."""
+        """Whether what is there is a line of its own, except for white space at its end."""
         begins = at == self.begin or self.data[at - 1 : at] == b"\n"
         return begins and not self.data[after : min(line, after + 80)].strip()
 
@@ -102,7 +102,7 @@ class Part:
         return clean(decoded(self.data(), self.parameters.get("charset")))
 
     def children(self) -> list[Part]:
-        """The parts inside of it, or the mail that it forwards."""
+        """The parts inside it, or the mail that it forwards."""
         if self.depth >= DEEPEST_PART:
             return []
         if self.kind == "message/rfc822":
@@ -121,7 +121,7 @@ def mail_of(data: bytes, depth: int = 0) -> Part:
 
 
 def kind_of(value: str, usual: str) -> str:
-    """A type as `text/plain`. One without a form is text."""
+    """A type as `text/plain`. One that isn't well-formed is text."""
     kind = "".join(value.partition(";")[0].split()).lower()
     main, slash, sub = kind.partition("/")
     if not kind:

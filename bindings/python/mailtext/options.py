@@ -9,7 +9,7 @@ MOST_COLUMNS = 10_000
 
 
 class Options(NamedTuple):
-    """How a mail is shown: in how many columns, in which format, and what is told of the targets of links.
+    """How a mail is shown: in how many columns, in which format, and how the targets of links are shown.
 
     headers: None for those that readers show, or whether all are shown, or none.
     """
@@ -20,7 +20,7 @@ class Options(NamedTuple):
     headers: bool | None = None
 
     def checked(self) -> "Options":
-        """These options. `ValueError` where one isn't among its choices."""
+        """These options. `ValueError` if one isn't among its choices."""
         if not 1 <= self.width <= MOST_COLUMNS:
             raise ValueError(f"width must be from 1 to {MOST_COLUMNS}")
         if self.format not in FORMATS:

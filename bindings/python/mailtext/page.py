@@ -1,4 +1,4 @@
-"""A page on which a mail is drawn: a renderer, with what depends on the format and on how links are told."""
+"""A page on which a mail is drawn: a renderer, with what depends on the format and on how links are shown."""
 
 from collections.abc import Iterator
 from types import TracebackType
@@ -11,7 +11,7 @@ from .options import Options
 class Page:
     """Takes text and blocks as a renderer does. Stretches of text come to it in one, however many calls bring them.
 
-    A text has marks about emphasis and links, and the other formats have none, since they show them otherwise.
+    A text has marks around emphasis and links. The other formats have none, since they show these in other ways.
     """
 
     def __init__(self, options: Options) -> None:
@@ -36,12 +36,12 @@ class Page:
     # ---- what comes out of it
 
     def into_string(self) -> str:
-        """Its text. It can't be filled any more."""
+        """Its text. It can't be filled any longer."""
         self._flush()
         return self._renderer.into_string()
 
     def into_lines(self) -> Iterator[TaggedLine]:
-        """Its lines, one by one. It can't be filled any more."""
+        """Its lines, one by one. It can't be filled any longer."""
         self._flush()
         return self._renderer.into_lines()
 
@@ -66,9 +66,9 @@ class Page:
         self._renderer.pop_ws()
 
     def begin(self, kind: str, mark: str) -> None:
-        """Begins a stretch of text of a kind, which has a mark at its ends where the format has no other means.
+        """Begins a stretch of text of a kind, which has a mark at its ends if the format has no other means.
 
-        One inside of another of the same kind changes nothing.
+        One inside another of the same kind changes nothing.
         """
         if self._has_marks and kind != "strikeout":
             self._mark += mark
@@ -78,7 +78,7 @@ class Page:
             self._call(f"start_{kind}")
 
     def end(self, kind: str, mark: str) -> None:
-        """Ends a stretch of text that was begun so. Its mark goes after its last word."""
+        """Ends such a stretch of text. Its mark goes after its last word."""
         if not self._has_marks or kind == "strikeout":
             self._begun[kind] -= 1
             if not self._begun[kind]:
@@ -125,7 +125,7 @@ class Page:
         self._texts += [text, space]
 
     def _flush(self) -> None:
-        """Hands the text that came to the renderer."""
+        """Passes the text that came to the renderer."""
         if self._texts:
             text = "".join(self._texts)
             self._texts = []
@@ -200,7 +200,7 @@ class Page:
         self._renderer.end_quote()
 
     def start_inside(self, columns: int) -> None:
-        """Begins a block with so many columns in front of it."""
+        """Begins a block with this many columns in front of it."""
         self._flush()
         self._renderer.start_subrender(self._renderer.width_minus(columns, 1))
 
@@ -233,12 +233,12 @@ class Page:
         self._renderer.start_table()
 
     def add_horizontal_border_width(self, columns: int) -> None:
-        """Adds a border of so many columns."""
+        """Adds a border of this many columns."""
         self._flush()
         self._renderer.add_horizontal_border_width(columns)
 
     def start_cell(self, width: int, span: int = 1, align: CellAlign = CellAlign.LEFT) -> None:
-        """Begins a cell of so many columns and rows."""
+        """Begins a cell of this many columns and rows."""
         self._flush()
         self._renderer.start_cell(width, span, align)
 

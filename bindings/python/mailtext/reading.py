@@ -1,4 +1,4 @@
-"""What workers do: mails become texts, and none of them ends the work."""
+"""What workers do: they make texts of mails, and no mail stops the work."""
 
 from __future__ import annotations
 
@@ -27,7 +27,7 @@ def read_batch(batch: Batch, options: Options) -> list[Read]:
 
 
 def read_mail(name: str, data: bytes, options: Options) -> Read:
-    """The text of a mail. Whatever goes wrong in it is told."""
+    """The text of a mail. Whatever goes wrong in it is reported."""
     try:
         return Read(name, mail_shown(data, options))
     except Exception as error:
@@ -35,10 +35,10 @@ def read_mail(name: str, data: bytes, options: Options) -> Read:
 
 
 def lost(batch: Batch, why: str) -> list[Read]:
-    """What is told of mails whose worker ended."""
+    """What is reported of mails whose worker ended."""
     return [Read(name, None, why) for name, _ in batch]
 
 
 def alone(batches: Iterable[Batch]) -> list[Batch]:
-    """Each mail of batches by itself."""
+    """Each mail of the batches by itself."""
     return [[mail] for batch in batches for mail in batch]

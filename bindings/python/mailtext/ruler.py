@@ -17,17 +17,17 @@ BREAKS = re.compile("[^\\S\u00a0]+|\u200b")
 
 
 class Size(NamedTuple):
-    """The columns that a content takes: `most` where no line is wrapped, `least` where no word is cut."""
+    """The columns that a content takes: `most` if no line is wrapped, `least` if no word is cut."""
 
     most: int = 0
     least: int = 0
 
     def widest(self, other: "Size") -> "Size":
-        """That of both, one below the other."""
+        """The size of both, one below the other."""
         return Size(max(self.most, other.most), max(self.least, other.least))
 
     def beside(self, columns: int) -> "Size":
-        """That of the content beside something of so many columns."""
+        """The size of the content beside something of this many columns."""
         return Size(self.most + columns, self.least + columns)
 
 

@@ -15,12 +15,12 @@ Draws = Callable[[Page], None]
 
 
 def html_shown(html: str | bytes, options: Options, charset: str | None = None) -> str:
-    """An HTML document, in a document of its own where the format is HTML."""
+    """An HTML document, in a document of its own if the format is HTML."""
     return whole(html_part(html, charset, options), options)
 
 
 def mail_shown(mail: bytes, options: Options) -> str:
-    """A mail, in a document of its own where the format is HTML."""
+    """A mail, in a document of its own if the format is HTML."""
     from .mail import mail_parts
 
     return whole(mail_parts(mail, options), options)
@@ -48,7 +48,7 @@ def drawn(draw: Draws, options: Options) -> str:
 
 
 def footnotes(notes: list[tuple[int, str]], options: Options) -> str:
-    """The targets of links by their numbers, after an empty line. Those that are whole are on lines as wide as they."""
+    """The targets of links by their numbers, after an empty line. Whole targets are on lines as wide as they are."""
     if not notes:
         return ""
     if options.links == "whole":

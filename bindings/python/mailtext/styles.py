@@ -38,7 +38,7 @@ def hides(style: str) -> bool:
 
 @lru_cache(1024)
 def font_size(style: str) -> str | None:
-    """The size that a style gives text: `zero` or `some`, or None where it says nothing."""
+    """The size that a style gives text: `zero` or `some`, or None if it gives none."""
     size = properties(style).get("font-size")
     return None if not size else "zero" if is_zero(size) else "some"
 
@@ -53,7 +53,7 @@ class StyleSheets:
         return bool(self._hiding)
 
     def read(self, sheet: str) -> None:
-        """Adds the rules of a sheet, but those for some media alone."""
+        """Adds the rules of a sheet, except those only for some media."""
         for rule in outside_media(without_comments(sheet)).split("}")[:MOST_RULES]:
             selectors, _, body = rule.partition("{")
             if "display" in body.lower() and properties(body).get("display") == "none":
@@ -75,7 +75,7 @@ def without_comments(sheet: str) -> str:
 
 
 def outside_media(sheet: str) -> str:
-    """A sheet without what is inside of rules as `@media`."""
+    """A sheet without what is inside rules as `@media`."""
     kept: list[str] = []
     depth = 0
     for part in re.split(BRACE, sheet):

@@ -116,7 +116,8 @@ class Grid:
         return (place for number in range(len(self.rows)) for place in self.row(number) if place.row == number)
 
     def sizes(self, page: Page) -> list[Size]:
-        """Those of the columns, at least 1 each. What a cell takes beyond the columns it spans is shared by these."""
+        """The sizes of the columns, at least 1 each. What a cell takes beyond the columns that it spans is shared by
+        these."""
         sizes = [Size(1, 1)] * len(self.rows[0])
         for place in sorted(self.places(), key=lambda place: place.columns):
             spanned = slice(place.column, place.column + place.columns)
@@ -125,7 +126,7 @@ class Grid:
 
 
 def moved(place: Place, rows: list[int], columns: list[int]) -> Place:
-    """The place where only these rows and columns are left."""
+    """The place if only these rows and columns are left."""
     row, column = bisect_left(rows, place.row), bisect_left(columns, place.column)
     return place._replace(
         row=row,
@@ -151,9 +152,9 @@ def shared(columns: int, weights: list[int]) -> list[int]:
 
 
 def widths(width: int, sizes: list[Size]) -> list[int] | None:
-    """How wide columns of these sizes are in so many columns, or None where they don't fit beside one another.
+    """How wide columns of these sizes are in this many columns, or None if they don't fit beside one another.
 
-    What is left beyond the longest words goes to the columns by what they could use, as in a browser.
+    The room that the longest words leave goes to the columns by what they could use, as in a browser.
     """
     room = width - sum(size.least for size in sizes) - (len(sizes) - 1)
     wanted = [size.most - size.least for size in sizes]
@@ -163,9 +164,9 @@ def widths(width: int, sizes: list[Size]) -> list[int] | None:
 
 
 class Table(Element):
-    """A table. Where its columns don't fit beside one another, the cells of each row come one below another.
+    """A table. If its columns don't fit beside one another, the cells of each row come one below another.
 
-    One that is there for the layout alone has no lines, and each cell is on lines of its own.
+    A table that is only for the layout has no lines, and each cell is on lines of its own.
     """
 
     has_head = False
@@ -185,7 +186,7 @@ class Table(Element):
 
     @cached_property
     def is_layout(self) -> bool:
-        """Whether it is there for the layout alone."""
+        """Whether it is only for the layout."""
         return not self.parts(Caption) and is_layout(self)
 
     def draw(self, page: Page) -> None:
@@ -240,7 +241,7 @@ class Table(Element):
 
 
 def within(table: Element) -> Iterator[Element]:
-    """The elements of a table that aren't inside of a cell of it, or of another table."""
+    """The elements of a table that aren't inside a cell of it, or inside another table."""
     for child in table.children:
         if isinstance(child, Element):
             yield child

@@ -90,7 +90,7 @@ class Tokens:
         self.text(unescaped(text) if "&" in text else text)
 
     def _declaration(self, name: str) -> None:
-        """Passes a comment, or what has the form of a tag and is none."""
+        """Passes over a comment, or something that looks like a tag and isn't one."""
         end = self._find("-->") if name == "!--" else -1
         length = 3
         if end < 0:
@@ -117,7 +117,7 @@ class Tokens:
         return found.end() if found else begin
 
     def _raw(self, name: str) -> None:
-        """Passes over the content of an element that isn't HTML, where it has an end."""
+        """Passes over the content of an element that isn't HTML, if it has an end."""
         if name in self._missing:
             return
         found = re.compile(f"</{name}(?=[\\s/>])", re.I).search(self._html, self._at)

@@ -103,7 +103,7 @@ def parse(text: str, targets: Targets) -> Element:
 
 
 class Open:
-    """A tag that is open: its element, or the one around it where it is no element of its own."""
+    """A tag that is open: its element, or the one around it if it isn't an element of its own."""
 
     __slots__ = ("element", "is_inline", "is_sized", "tag")
 
@@ -115,7 +115,7 @@ class Open:
 
 
 class TreeBuilder(Tokens):
-    """Builds the tree of a text. Missing and crossed tags are mended much as browsers mend them."""
+    """Builds the tree of a text. Missing and crossed tags are corrected much as in browsers."""
 
     def __init__(self, text: str, targets: Targets) -> None:
         super().__init__(text)
@@ -156,7 +156,7 @@ class TreeBuilder(Tokens):
         parent.add_text(text if inner.is_sized else " ")
 
     def _open_cell_for(self, tag: str) -> None:
-        """Opens what comes where a table has none: a row for a cell, and a cell for all but parts of tables."""
+        """Opens what is missing in a table: a row for a cell, and a cell for all except parts of tables."""
         if tag not in OUTSIDE_CELLS:
             self.start("td", "")
         elif tag in CELLS and tag != "caption" and self._open[-1].tag != "tr":
@@ -184,7 +184,7 @@ class TreeBuilder(Tokens):
             self._open.append(Open(tag, element, outer.is_sized if size is None else size == "some"))
 
     def _element(self, tag: str, attributes: dict[str, str], outer: Element) -> Element:
-        """The element of a tag, of the kind that it is with these attributes, or else the one around it."""
+        """The element of a tag, of the kind that it is with these attributes, or the one around it."""
         if (attributes and self._is_hidden(tag, attributes)) or isinstance(outer, Unseen):
             return Unseen(tag, attributes)
         if tag == "a" and "href" in attributes:
@@ -203,7 +203,7 @@ class TreeBuilder(Tokens):
         return "hidden" in attributes or hides(attributes.get("style", "")) or self._sheets.hide(tag, attributes)
 
     def _tell(self, element: Element) -> None:
-        """Tells elements around a new one what they have in them."""
+        """Tells the elements around a new one that they have blocks in them."""
         if isinstance(element, INLINE):
             return
         if isinstance(element, List):
@@ -215,7 +215,7 @@ class TreeBuilder(Tokens):
                 return
 
     def _end(self, tags: frozenset[str], bounds: frozenset[str], is_outermost: bool) -> None:
-        """Ends the outermost or innermost open element of these tags inside of the bounds, and all inside of it."""
+        """Ends the outermost or innermost open element of these tags inside the bounds, and all inside it."""
         found = 0
         for depth in range(len(self._open) - 1, 0, -1):
             tag = self._open[depth].tag

@@ -38,13 +38,13 @@ class Worker:
         end.close()
 
     def begin(self, batch: Batch) -> None:
-        """Gives it a batch. That it has ended shows when an answer is taken."""
+        """Gives it a batch. Whether it has ended is seen when an answer is taken."""
         self.batch = batch
         with suppress(OSError):
             self.pipe.send(batch)
 
     def take(self) -> list[Read] | None:
-        """The texts of its batch, or None where it has ended."""
+        """The texts of its batch, or None if it has ended."""
         try:
             read: list[Read] = self.pipe.recv()
         except (EOFError, OSError):
@@ -70,7 +70,7 @@ def serve(pipe: Any, options: Options, others: list[Any]) -> None:
 
 
 class Pool:
-    """So many workers. Batches of those that end are read again, each mail alone."""
+    """This many workers. Batches of those that end are read again, each mail by itself."""
 
     def __init__(self, options: Options, count: int) -> None:
         self._options = options
@@ -105,7 +105,7 @@ class Pool:
         return any(worker.batch for worker in self._workers)
 
     def _ended(self, worker: Worker) -> list[Read]:
-        """What is told of the batch of a worker that has ended: nothing yet, where it has several mails."""
+        """What is reported of the batch of a worker that has ended: nothing yet, if it has several mails."""
         self._workers.remove(worker)
         worker.end()
         if len(worker.batch) == 1:
@@ -115,7 +115,7 @@ class Pool:
 
 
 def by_processes(batches: Iterator[Batch], options: Options, count: int | None) -> Iterator[list[Read]]:
-    """The texts of batches, by so many processes, or one for each core. They come in any order."""
+    """The texts of batches, by this many processes, or one for each core. They come in any order."""
     pool = Pool(options, count or len(os.sched_getaffinity(0)))
     try:
         yield from pool.read(batches)
@@ -124,7 +124,7 @@ def by_processes(batches: Iterator[Batch], options: Options, count: int | None) 
 
 
 def loaded() -> Any:
-    """Dask's module. `NoCluster` where it isn't installed."""
+    """Dask's module. `NoCluster` if it isn't installed."""
     try:
         return import_module("distributed")
     except ImportError as error:
@@ -132,7 +132,7 @@ def loaded() -> Any:
 
 
 def by_cluster(batches: Iterator[Batch], options: Options, address: str) -> Iterator[list[Read]]:
-    """The texts of batches, by the workers of Dask's scheduler at an address. `NoCluster` where none answers."""
+    """The texts of batches, by the workers of Dask's scheduler at an address. `NoCluster` if none answers."""
     dask = loaded()
     try:
         connected = dask.Client(address, timeout=SECONDS, set_as_default=False)
