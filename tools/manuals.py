@@ -28,11 +28,11 @@ blockrender \- renders a script of text blocks as text
 <
 .I SCRIPT
 .SH DESCRIPTION
-Reads a script on standard input up to its end, and writes its text on standard output: blocks, links, and rows of cells
-in lines of the width that the script names. It takes no arguments. Nothing is written where the script is refused. The
-text is written as it comes, control characters among it;
+Reads a script from standard input up to its end, and writes its text to standard output: blocks, links, and rows of
+cells in lines of the width that the script names. It takes no arguments. If the script is refused, nothing is written.
+Control characters of prefixes and targets are written as they come;
 .BR blockview (1)
-leaves them out.
+can leave them out.
 .SH EXIT STATUS
 .TP
 .B 0

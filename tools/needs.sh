@@ -10,7 +10,7 @@ needs() {
     for word; do
         case $word in
         rt) [ -x /opt/rattle/bin/rt ] || command -v rt >/dev/null || lack rt "the command of the Rattle kit, on the path or in /opt/rattle/bin" ;;
-        python3) command -v python3 >/dev/null || lack python3 "Python 3.8 or later, on Debian the package python3" ;;
+        python3) command -v python3 >/dev/null || lack python3 "Python 3.9 or later, on Debian the package python3" ;;
         c++) command -v c++ >/dev/null || lack c++ "a C++ compiler, on Debian the package g++" ;;
         cargo) command -v cargo >/dev/null || lack cargo "the package manager of Rust, on Debian the package cargo" ;;
         abidiff) command -v abidiff >/dev/null || lack abidiff "what compares binary interfaces, on Debian the package abigail-tools" ;;

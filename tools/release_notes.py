@@ -22,7 +22,7 @@ PROVED = """\
 {claim}
 """
 CLAIM = """\
-Each function of the programs, and of the library but for `text_block_renderer.c`, is proved to meet its contract.
+Each function of the programs, and of the library except for `text_block_renderer.c`, is proved to meet its contract.
 
 ## The laws
 
