@@ -36,8 +36,9 @@
  * VERSIONS. Each call is a symbol of the shared library, with the version that it came in. docs/versions.md says what
  * may change when.
  *
- * WHAT C CAN'T STOP, and the library can't see, is undefined behaviour: a call with a renderer after tbr_free, a second
- * tbr_free, a pointer that tbr_new didn't give, fewer bytes than their number says, and an out pointer that is NULL.
+ * WHAT C CAN'T STOP, and the library can't see, is undefined behaviour. Don't call with a renderer after tbr_free, or
+ * with a pointer that tbr_new didn't give. Don't free a renderer twice. Don't pass fewer bytes than their number says, or
+ * an out pointer that is NULL.
  */
 #ifndef TEXT_BLOCK_RENDERER_H
 #define TEXT_BLOCK_RENDERER_H
@@ -75,8 +76,8 @@ typedef enum tbr_status {
     TBR_NOT_UTF8 = 6,
     /* A width of 0 columns. */
     TBR_BAD_WIDTH = 7,
-    /* A number that isn't a value of its enum, as a decorator 9; a span of 0 rows; NULL for a text that has bytes; or
-       options whose size the library doesn't know. */
+    /* A number that isn't a value of its enum, as a decorator 9. A span of 0 rows. NULL for a text that has bytes.
+       Options whose size the library doesn't know. */
     TBR_BAD_ARGUMENT = 8,
     /* Inside what the call would end, a level is open, or cells wait for a row. */
     TBR_STILL_OPEN = 9,

@@ -36,8 +36,8 @@ class Renderer:
     word `TooNarrowError`.
 
     A call checks its arguments before it does anything. It raises `TypeError` if a text isn't a `str`, a number isn't
-    whole, or a choice isn't a member of its enum, and `ValueError` if a number is out of bounds. Flags count by their
-    truth.
+    whole, or a choice isn't a member of its enum. It raises `ValueError` if a number is out of bounds. Flags count by
+    their truth.
 
     A renderer may move from thread to thread; a call waits while another thread is in one. Use it by `with`, or `close`
     it.

@@ -21,8 +21,8 @@ pub fn annotations_change_no_layout<A, B>()
         IsBest width slots lines → IsBest width (map_slots f slots) (map_layout f lines) }
 {}
 
-/// If the annotations of a run are replaced by what a function makes of them, the block goes on in the same way, and the
-/// annotations in what it leaves are replaced so.
+/// If a function replaces the annotations of a run, the block goes on in the same way, and the annotations in what it
+/// leaves are replaced so.
 #[tactic(auto, using(crate::proofs::maps::Rule::rule_maps))]
 pub fn annotations_change_no_progress<A, B>()
     ensures progress { (f : A → B) (columns : ℕ → Option ℕ) (width : ℕ) (es : List (Event A)) →

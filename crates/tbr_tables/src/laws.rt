@@ -38,8 +38,8 @@ pub fn no_word_is_cut()
         All WordsFit (shapes_of columns wrap steps) }
 {}
 
-/// Where columns are given widths, the cells of each full row and a line between two of them take just the columns and
-/// the lines between these: the width of the table.
+/// If columns are given widths, each full row is as wide as the table: its cells, with a line between two of them, take
+/// the columns and the lines between these.
 pub fn rows_take_the_width()
     ensures { (t : Table) (room any : ℕ) (ws : List ℕ) (row : List Spot) → widths t room ≡ Some ws →
         Tiles 0 row t.columns → sum_by (width_at ws any) row + (length row - 1) ≡ sum ws + (t.columns - 1) }
