@@ -37,8 +37,8 @@
  * may change when.
  *
  * WHAT C CAN'T STOP, and the library can't see, is undefined behaviour. Don't call with a renderer after tbr_free, or
- * with a pointer that tbr_new didn't give. Don't free a renderer twice. Don't pass fewer bytes than their number says, or
- * an out pointer that is NULL.
+ * with a pointer that tbr_new didn't give. Don't free a renderer twice. Don't pass fewer bytes than their number says,
+ * or an out pointer that is NULL.
  */
 #ifndef TEXT_BLOCK_RENDERER_H
 #define TEXT_BLOCK_RENDERER_H
