@@ -1,5 +1,5 @@
 -- The decorators that a script may name.
-use Rattle.std.specs.Prelude.{true, false, None, Some, []}
+use Rattle.std.specs.Prelude.{true, false, None, Some, [], refl}
 use Rattle.tbr_decor.specs.Decoration.{Decoration}
 use Rattle.tbr_decor.specs.Plain as plain
 use Rattle.tbr_decor.specs.Trivial as trivial
@@ -16,7 +16,7 @@ use Rattle.tbr_decor.specs.declared.RichDecorator.{RichDecorator}
 abbrev pub plain_decoration : Decoration PlainDecorator (Unit {0})
 plain_decoration = record {
   same = λ _ _. true;
-  tells = usual.all_same;
+  tells = λ _ _. (λ _. refl, λ _. refl);
   start_text = λ _. plain.start_text;
   annotation = λ _ _. tt;
   end_text = λ _. plain.end_text;
@@ -33,7 +33,7 @@ plain_decoration = record {
 abbrev pub trivial_decoration : Decoration TrivialDecorator (Unit {0})
 trivial_decoration = record {
   same = λ _ _. true;
-  tells = usual.all_same;
+  tells = λ _ _. (λ _. refl, λ _. refl);
   start_text = λ _. trivial.start_text;
   annotation = λ _ _. tt;
   end_text = λ _. trivial.end_text;

@@ -3,15 +3,15 @@ ghost use Rattle.std.specs.Prelude.{◌≡◌, None, Err, map, IfOk, string_byte
 ghost use Rattle.tbr_tagged.specs.View.{chars_of};
 ghost use Rattle.tbr_tagged.specs.declared.Error.TheVariants as E;
 ghost use Rattle.tbr_decor.specs.Decoration.{decoration_of};
-ghost use Rattle.text_block_renderer.specs.Tags.{tag_meant};
-ghost use Rattle.text_block_renderer.specs.Meant.{map_line, meant};
 ghost use Rattle.text_block_renderer.specs.Line.{line_seen};
 ghost use Rattle.tbr_tagged.specs.Outcome.{done, refused};
 ghost use Rattle.text_block_renderer.specs.Appended.{handed_out};
 ghost use Rattle.tbr_program.specs.Closing.{closed, closed_text};
+ghost use Rattle.tbr_program.specs.Safe as model;
 
 use tbr_decor::TextDecorator;
-use tbr_lines::{CharWidth, Error, RenderLine};
+use tbr_lines::{CharWidth, Error, OutOfMemory, RenderLine};
+use tbr_safe::escape_all;
 use text_block_renderer::{Annotations, Renderer, SubRenderer};
 
 /// The text of a renderer whose links have these targets: its lines, and after them the footnotes as a block of their
@@ -23,11 +23,11 @@ pub fn close<D: TextDecorator, W: CharWidth>(
 ) -> Result<String, Error>
     requires { renderer.failure ≡ None }
     ensures text { let links = map chars_of targets.items in
-        IfOk result (λ text. closed_text W.columns (decoration_of D.TextDecorator) links (meant D.meaning renderer)
+        IfOk result (λ text. closed_text W.columns (decoration_of D.TextDecorator D.Annotation.tells) links renderer
         ≡ done (string_bytes text)) }
     ensures too_narrow { let links = map chars_of targets.items in
         result ≡ Err E.TooNarrow →
-        closed_text W.columns (decoration_of D.TextDecorator) links (meant D.meaning renderer)
+        closed_text W.columns (decoration_of D.TextDecorator D.Annotation.tells) links renderer
         ≡ refused E.TooNarrow }
 {
     with_footnotes(renderer, targets)?.into_string()
@@ -40,11 +40,11 @@ pub fn close_lines<D: TextDecorator, W: CharWidth>(
 ) -> Result<Vec<RenderLine<Annotations<D::Annotation>>>, Error>
     requires { renderer.failure ≡ None }
     ensures lines { let links = map chars_of targets.items in
-        IfOk result (λ lines. closed W.columns (decoration_of D.TextDecorator) links (meant D.meaning renderer)
-        ≡ done (map (map_line (tag_meant D.meaning)) (map line_seen lines.items))) }
+        IfOk result (λ lines. closed W.columns (decoration_of D.TextDecorator D.Annotation.tells) links renderer
+        ≡ done (map line_seen lines.items)) }
     ensures too_narrow { let links = map chars_of targets.items in
         result ≡ Err E.TooNarrow →
-        closed W.columns (decoration_of D.TextDecorator) links (meant D.meaning renderer) ≡ refused E.TooNarrow }
+        closed W.columns (decoration_of D.TextDecorator D.Annotation.tells) links renderer ≡ refused E.TooNarrow }
 {
     with_footnotes(renderer, targets)?.into_shared_lines()
 }
@@ -56,12 +56,12 @@ fn with_footnotes<D: TextDecorator, W: CharWidth>(
 ) -> Result<SubRenderer<D, W>, Error>
     requires { renderer.failure ≡ None }
     ensures noted { let links = map chars_of targets.items in
-        IfOk result (λ noted. handed_out W.columns (meant D.meaning noted)
-        ≡ closed W.columns (decoration_of D.TextDecorator) links (meant D.meaning renderer)) }
+        IfOk result (λ noted. handed_out W.columns noted
+        ≡ closed W.columns (decoration_of D.TextDecorator D.Annotation.tells) links renderer) }
     ensures live { IfOk result (λ noted. noted.failure ≡ None) }
     ensures too_narrow { let links = map chars_of targets.items in
         result ≡ Err E.TooNarrow →
-        closed W.columns (decoration_of D.TextDecorator) links (meant D.meaning renderer) ≡ refused E.TooNarrow }
+        closed W.columns (decoration_of D.TextDecorator D.Annotation.tells) links renderer ≡ refused E.TooNarrow }
 {
     let footnotes = renderer.finalise(targets)?;
     if footnotes.is_empty() {
@@ -70,4 +70,15 @@ fn with_footnotes<D: TextDecorator, W: CharWidth>(
     renderer.start_block()?;
     renderer.fmt_links(footnotes)?;
     Ok(renderer)
+}
+
+/// The targets of links as footnotes list them: as they came if they are to be `raw`, else without control characters.
+/// It refuses only where memory is refused.
+pub fn listed(targets: Vec<String>, raw: bool) -> Result<Vec<String>, OutOfMemory>
+    ensures { IfOk result (λ shown. map chars_of shown.items ≡ model.listed raw (map chars_of targets.items)) }
+{
+    if raw {
+        return Ok(targets);
+    }
+    escape_all(targets)
 }

@@ -7,14 +7,13 @@ use tbr_annotations::{Annotations, OpenAnnotations, written_out};
 use tbr_lines::{
     BorderHoriz, OutOfMemory, RenderLine, TaggedLine, TaggedLineElement, TaggedString,
 };
-use test_support::texts::Voice;
 
 /// The list has these annotations.
 fn expect(
     rt: &impl Abort,
     alloc: Global,
-    list: &Annotations<Voice>,
-    expected: &[Voice],
+    list: &Annotations<char>,
+    expected: &[char],
 ) -> Result<(), OutOfMemory> {
     let copies = list.to_vec(alloc)?;
     assert!(rt; copies.as_slice() == expected);
@@ -26,15 +25,15 @@ fn expect(
 fn what_opens_and_closes_leaves_other_lists_as_they_are(rt: HostRuntime) -> Result<(), Fail> {
     let alloc = rt.alloc();
     let mut open = OpenAnnotations::new();
-    open.push(alloc, Voice::First)?;
+    open.push(alloc, 'a')?;
     let outer = open.list()?;
-    open.push(alloc, Voice::Second)?;
+    open.push(alloc, 'b')?;
     let inner = open.list()?;
     open.pop();
-    open.push(alloc, Voice::First)?;
-    expect(&rt, alloc, &open.list()?, &[Voice::First, Voice::First])?;
-    expect(&rt, alloc, &inner, &[Voice::First, Voice::Second])?;
-    expect(&rt, alloc, &outer, &[Voice::First])?;
+    open.push(alloc, 'a')?;
+    expect(&rt, alloc, &open.list()?, &['a', 'a'])?;
+    expect(&rt, alloc, &inner, &['a', 'b'])?;
+    expect(&rt, alloc, &outer, &['a'])?;
     Ok(())
 }
 
@@ -43,14 +42,14 @@ fn what_opens_again_is_an_equal_list(rt: HostRuntime) -> Result<(), Fail> {
     let alloc = rt.alloc();
     let mut open = OpenAnnotations::new();
     open.pop();
-    open.push(alloc, Voice::First)?;
-    open.push(alloc, Voice::Second)?;
+    open.push(alloc, 'a')?;
+    open.push(alloc, 'b')?;
     let inner = open.list()?;
     open.pop();
-    open.push(alloc, Voice::Second)?;
+    open.push(alloc, 'b')?;
     assert!(rt; open.list()? == inner);
     open.pop();
-    open.push(alloc, Voice::First)?;
+    open.push(alloc, 'a')?;
     assert!(rt; open.list()? != inner);
     Ok(())
 }
@@ -60,14 +59,14 @@ fn a_long_list_is_dropped_in_little_stack(rt: HostRuntime) -> Result<(), Fail> {
     let alloc = rt.alloc();
     let mut open = OpenAnnotations::new();
     for _ in 0..1_000_000 {
-        open.push(alloc, Voice::First)?;
+        open.push(alloc, 'a')?;
     }
     counts(&rt, open.list()?.len(), 1_000_000);
     Ok(())
 }
 
 /// The list of these two annotations.
-fn list_of(alloc: Global, first: Voice, second: Voice) -> Result<Annotations<Voice>, OutOfMemory> {
+fn list_of(alloc: Global, first: char, second: char) -> Result<Annotations<char>, OutOfMemory> {
     Annotations::new().with(alloc, first)?.with(alloc, second)
 }
 
@@ -84,10 +83,10 @@ fn line_under<T: Eq + Drop>(alloc: Global, ab: T, c: T) -> Result<TaggedLine<T>,
 
 /// A line of text is written out, and a border.
 fn write_out(rt: &impl Abort, alloc: Global) -> Result<(), OutOfMemory> {
-    let one = list_of(alloc, Voice::First, Voice::Second)?;
-    let other = list_of(alloc, Voice::Second, Voice::Second)?;
+    let one = list_of(alloc, 'a', 'b')?;
+    let other = list_of(alloc, 'b', 'b')?;
     let expected = line_under(alloc, one.to_vec(alloc)?, other.to_vec(alloc)?)?;
-    let border = BorderHoriz::new(alloc, 3, list_of(alloc, Voice::First, Voice::First)?)?;
+    let border = BorderHoriz::new(alloc, 3, list_of(alloc, 'a', 'a')?)?;
     match written_out(alloc, RenderLine::Text(line_under(alloc, one, other)?))? {
         RenderLine::Text(line) => assert!(rt; line == expected),
         RenderLine::Line(_) => assert!(rt; false),
