@@ -30,3 +30,7 @@ pub mod Headline
 pub mod EndedEntries
 pub mod SoundRenderers
 pub mod ActSteps
+pub mod LineCharacters
+pub mod CallCharacters
+pub mod RowCharacters
+pub mod ControlCharacters
