@@ -2,7 +2,7 @@ use Rattle.std.proofs.Common.{[], refl, ap, ◌∙◌, sym, rules}
 use Rattle.tbr_tagged.proofs.Outcomes.{answers_ok}
 use Rattle.tbr_wrap.specs.Block.{settings_of}
 use Rattle.tbr_wrap.proofs.runs.Blocks.{grown_on, text_done}
-use Rattle.tbr_wrap.proofs.block.WrappedBlock.add_text.Goals as goal
+use Rattle.tbr_wrap.proofs.block.WrappedBlock.add_whole.Goals as goal
 
 pub loop-rest-init : goal.loop-rest-init
 loop-rest-init g c = record { utf8 = c.utf8.text; grown = record { front = []; split = refl; is = c.begin_call.ensures.begun }; allowed = c.begin_call.ensures.allowed }

@@ -8,9 +8,9 @@ use Rattle.tbr_wrap.specs.Held.{HoldsRun, block_of}
 use Rattle.tbr_wrap.proofs.runs.HeldRuns.{holds_flushed}
 use Rattle.tbr_wrap.proofs.runs.Blocks.{led_on, settings_kept, fit_allows, if_allowed, if_not_allowed, not_allowed}
 use Rattle.tbr_wrap.proofs.runs.BlockLaws.{flush_best}
-use Rattle.tbr_wrap.proofs.block.WrappedBlock.flush.Given.{Over}
-use Rattle.tbr_wrap.proofs.block.WrappedBlock.flush.Goals.{After-keep}
-use Rattle.tbr_wrap.proofs.block.WrappedBlock.flush.Goals as goal
+use Rattle.tbr_wrap.proofs.block.WrappedBlock.end_run.Given.{Over}
+use Rattle.tbr_wrap.proofs.block.WrappedBlock.end_run.Goals.{After-keep}
+use Rattle.tbr_wrap.proofs.block.WrappedBlock.end_run.Goals as goal
 
 -- a line has at least a column
 wide : (g : Over) (c : After-keep g) → 0 < c.args.self.now.width
