@@ -132,8 +132,8 @@ pub fn put_str_in_front<T: Eq + Drop>(
     elements.insert_front(TaggedLineElement::Str(TaggedString { s, tag }))
 }
 
-/// Puts the empty text in front, unless it extends the first piece. Where memory is refused nothing changes. Where there
-/// is no element it takes none.
+/// Puts the empty text in front, unless it extends the first piece. Where memory is refused nothing changes. Where no
+/// element is it takes none.
 fn put_none_in_front<T: Eq + Drop>(elements: &mut ElementList<T>, tag: T) -> Result<(), OutOfMemory>
     ensures ok { OnOk result (elements_of (stored elements.new)
         ≡ insert_text T.eq (elements_of (stored elements.old)) [] tag) }

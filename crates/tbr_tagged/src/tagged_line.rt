@@ -195,7 +195,8 @@ impl<T: Eq> TaggedLine<T> {
 impl<T: Eq + Drop> TaggedLine<T> {
     /// Appends an element. Text is appended as by [`TaggedLine::push_str`], and a marker comes after what the line has.
     ///
-    /// Where memory is refused the line stays as it was, and the element is dropped. A piece of the empty text takes none.
+    /// Where memory is refused the line stays as it was, and the element is dropped. A piece of the empty text takes
+    /// none.
     pub fn push(&mut self, element: TaggedLineElement<T>) -> Result<(), OutOfMemory>
         ensures ok { OnOk result (self.new ≡ push_element T.eq self.old (element_of element)) }
         ensures items { OnOk result

@@ -200,8 +200,8 @@ impl<T: Drop> EndedLines<T> {
 }
 
 impl<T: Eq + Clone + Drop> EndedLines<T> {
-    /// Moves the first line, if one is left, to the end of another. Where memory is refused that one stays as it was, and
-    /// lines may be lost.
+    /// Moves the first line, if one is left, to the end of another. Where memory is refused that one stays as it was,
+    /// and lines may be lost.
     pub fn move_line(&mut self, line: &mut TaggedLine<T>) -> Result<(), OutOfMemory>
         requires { CopiesAreEqual T.is_clone T.eq }
         ensures items { (is : List (Item T)) (rest : List (List (Item T))) → self.old ≡ is ∷ rest →

@@ -233,8 +233,8 @@ impl<T: Eq + Clone + Drop> Wrapper<T> {
         Ok(())
     }
 
-    /// Puts the word, before which nothing is pending, on the open line and the next ones. Where no line may be wider, and
-    /// the word's first item is, it answers `TooNarrow` in any case. What calls it may have asked for memory before.
+    /// Puts the word, before which nothing is pending, on the open line and the next ones. Where no line may be wider,
+    /// and the word's first item is, it answers `TooNarrow` in any case. What calls it may have asked for memory before.
     fn put_fresh<W: CharWidth>(&mut self) -> Result<(), Error>
         ensures put { WrapperFollows W.columns T.eq self.old self.new result (λ p.
             record p { laid = put_items W.columns self.old.lines.width p.laid p.word; word = [] }) }
