@@ -6,6 +6,7 @@ ghost use Rattle.tbr_model.specs.Run.{Item, glyph, items_width};
 ghost use Rattle.tbr_model.specs.Entry.{is_glyph};
 ghost use Rattle.tbr_model.specs.Rule.{spaces, without_leading, without_trailing};
 ghost use Rattle.tbr_tagged.specs.Elements.{items_of, text_items, SameItems, IsMerged};
+ghost use Rattle.tbr_tagged.specs.Grown.{HasGrown};
 ghost use Rattle.tbr_tagged.specs.View.{chars_of};
 ghost use Rattle.tbr_tagged.specs.Walks.{item_characters};
 
@@ -268,6 +269,7 @@ impl<T: Eq + Clone + Drop> Characters<T> {
             SameItems T.eq (items_of line.new) (items_of line.old ++ take n self.old.placed)) }
         ensures merged { IsMerged T.eq line.old → OnOk result (IsMerged T.eq line.new) }
         ensures rest { IfOk result (λ n. self.new ≡ record self.old { placed = drop n self.old.placed }) }
+        ensures grown { HasGrown line.old line.new }
     {
         let (count, tag) = self.tags.take(most)?;
         match self.placed.move_under(count, tag, line) {

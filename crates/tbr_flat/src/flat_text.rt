@@ -1,10 +1,11 @@
 //! Characters under tags and markers.
-ghost use Rattle.std.specs.Prelude.{◌≡◌, ◌<◌, ◌≤◌, ◌+◌, ◌++◌, ◌∷◌, [], true, false, List, length, map, take, drop, chars, string_bytes, MatchOption, OnOk, IfOk, IsTrue, ◌↔◌};
+ghost use Rattle.std.specs.Prelude.{◌≡◌, ◌<◌, ◌≤◌, ◌+◌, ◌++◌, ◌∷◌, [], true, false, List, length, map, take, drop, chars, string_bytes, MatchOption, OnOk, OnErr, IfOk, IsTrue, ◌↔◌};
 ghost use Rattle.tbr_tagged.specs.Copies.{CopiesAreEqual};
 ghost use Rattle.tbr_model.specs.Run.{Item, glyph, marker, item_width, items_width, has_character};
 ghost use Rattle.tbr_model.specs.Rule.{spaces, without_leading, without_trailing};
 ghost use Rattle.tbr_model.specs.Markers.{names_in_items};
 ghost use Rattle.tbr_tagged.specs.Elements.{SameItems, IsMerged, items_of, marker_element, text_items};
+ghost use Rattle.tbr_tagged.specs.Grown.{HasGrown};
 ghost use Rattle.tbr_tagged.specs.View.{chars_of, element_of};
 ghost use Rattle.tbr_tagged.specs.Walks.{item_characters};
 ghost use Rattle.tbr_flat.specs.Walk.{character_in};
@@ -414,6 +415,8 @@ impl<T: Eq + Clone + Drop> FlatText<T> {
     }
 
     /// Moves the first `items` placed items to the end of a line. It takes the time of their number.
+    ///
+    /// Where memory is refused the line stays as it was, and the items may be lost.
     pub fn move_line(&mut self, items: usize, line: &mut TaggedLine<T>) -> Result<(), OutOfMemory>
         requires faithful { CopiesAreEqual T.is_clone T.eq }
         requires placed { items ≤ length self.old.placed }
@@ -421,6 +424,26 @@ impl<T: Eq + Clone + Drop> FlatText<T> {
             (SameItems T.eq (items_of line.new) (items_of line.old ++ take items self.old.placed)) }
         ensures merged { IsMerged T.eq line.old → OnOk result (IsMerged T.eq line.new) }
         ensures rest { OnOk result (self.new ≡ record self.old { placed = drop items self.old.placed }) }
+        ensures err { OnErr result (line.new ≡ line.old) }
+    {
+        let end = line.end();
+        let moved = self.move_elements(items, line);
+        if moved.is_err() {
+            line.cut_back(end);
+        }
+        moved
+    }
+
+    /// Moves the first `items` placed items to the end of a line. Where memory is refused part of them may have been
+    /// moved.
+    fn move_elements(&mut self, items: usize, line: &mut TaggedLine<T>) -> Result<(), OutOfMemory>
+        requires faithful { CopiesAreEqual T.is_clone T.eq }
+        requires placed { items ≤ length self.old.placed }
+        ensures items { OnOk result
+            (SameItems T.eq (items_of line.new) (items_of line.old ++ take items self.old.placed)) }
+        ensures merged { IsMerged T.eq line.old → OnOk result (IsMerged T.eq line.new) }
+        ensures rest { OnOk result (self.new ≡ record self.old { placed = drop items self.old.placed }) }
+        ensures grown { HasGrown line.old line.new }
     {
         let mut left = items;
         while left > 0 {
@@ -440,6 +463,7 @@ impl<T: Eq + Clone + Drop> FlatText<T> {
             SameItems T.eq (items_of line.new) (items_of line.old ++ take n self.old.placed)) }
         ensures merged { IsMerged T.eq line.old → OnOk result (IsMerged T.eq line.new) }
         ensures rest { IfOk result (λ n. self.new ≡ record self.old { placed = drop n self.old.placed }) }
+        ensures grown { HasGrown line.old line.new }
     {
         if let Some(name) = self.placed.pop_first() {
             line.push(TaggedLineElement::FragmentStart(name))?;

@@ -5,6 +5,7 @@ ghost use Rattle.std.specs.Char.{is_whitespace};
 ghost use Rattle.std.specs.List.{AllByRecursion as Each};
 ghost use Rattle.tbr_model.specs.Width.{width_of_text};
 ghost use Rattle.tbr_tagged.specs.Elements.{items_of, text_items, SameItems, IsMerged};
+ghost use Rattle.tbr_tagged.specs.Grown.{HasGrown};
 ghost use Rattle.tbr_tagged.specs.View.{chars_of};
 
 use std::alloc::Global;
@@ -192,6 +193,7 @@ impl TextQueue {
         ensures merged { IsMerged T.eq line.old → OnOk result (IsMerged T.eq line.new) }
         ensures rest { OnOk result (self.new ≡ drop count self.old) }
         ensures err { OnErr result ((self.new ≡ self.old) × (line.new ≡ line.old)) }
+        ensures grown { HasGrown line.old line.new }
     {
         let left = self.as_str();
         let bytes = self.front_bytes(count);

@@ -4,7 +4,7 @@
 pub use tbr_border::{BorderHoriz, BorderSegHoriz, RenderLine};
 pub use tbr_model::{CharWidth, WhiteSpace};
 pub use tbr_tagged::{
-    CellAlign, Chars, Error, IntoIter, Iter, OutOfMemory, TaggedLine, TaggedLineElement,
+    CellAlign, Chars, Error, IntoIter, Iter, LineEnd, OutOfMemory, TaggedLine, TaggedLineElement,
     TaggedString, TaggedStrings, TooNarrow, UnicodeColumns, always_takes_space, append_spaces,
     is_wordbreak_point, spaces, text_width,
 };

@@ -3,6 +3,7 @@ pub mod Outcomes
 pub mod Copies
 pub mod ElementLoops
 pub mod EqualLines
+pub mod GrownLines
 pub mod LineWalks
 pub mod MappedTags
 pub mod PaddedLines

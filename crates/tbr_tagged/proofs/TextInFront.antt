@@ -1,7 +1,8 @@
 -- Text in front of a line of pieces.
 use Rattle.std.proofs.lemmas.List.{map-append}
-use Rattle.std.proofs.Common.{◌≡◌, ℕ, ◌<◌, Bool, true, false, Some, List, [], ◌∷◌, ◌++◌, length, ◌∙◌, arith, append_assoc}
+use Rattle.std.proofs.Common.{◌≡◌, ℕ, ◌<◌, Bool, true, false, Some, List, [], ◌∷◌, ◌++◌, length, refl, ap, ◌∙◌, arith, append_assoc}
 use Rattle.std.specs.Cmp.{IsEquivalence}
+use Rattle.std.specs.List.{slice_get}
 use Rattle.std.proofs.lemmas.Bool.{cond_both}
 use Rattle.tbr_tagged.specs.Elements.{Element, piece, marker_element, element_items, text_items, items_of, SameItems, is_piece_under, text_before, insert_text, HasText, AreParted, IsPartedFrom, IsMerged}
 use Rattle.tbr_tagged.proofs.SameItems.{same_items, same_items_append, same_from_path, same_items_trans, same_texts}
@@ -49,3 +50,17 @@ module _ {A : Type 0} (eq : A → A → Bool) (laws : IsEquivalence eq) where
   pub merged_inserted : (es : List (Element A)) (cs : List ℕ) (a : A) → 0 < length cs → IsMerged eq es → IsMerged eq (insert_text eq es cs a)
   merged_inserted [] cs a some h = (has_text cs a some, tt, tt)
   merged_inserted (e ∷ es) cs a some h = grind (arith, cond_both, before_has_text, before_parted_from, has_text, new_parted)
+
+-- ---- the empty text in front
+
+text_none : {A : Type 0} (e : Element A) → text_before [] e ≡ e
+text_none (piece ds b) = refl
+text_none (marker_element m) = refl
+
+pub none_extends : {A : Type 0} (eq : A → A → Bool) (es : List (Element A)) (a : A) → is_piece_under eq (slice_get es 0) a ≡ true → es ≡ insert_text eq es [] a
+none_extends eq [] a under = cc
+none_extends eq (e ∷ es) a under = rw (under, text_none) refl
+
+pub none_inserted : {A : Type 0} (eq : A → A → Bool) (es : List (Element A)) (cs : List ℕ) (a : A) → cs ≡ [] → is_piece_under eq (slice_get es 0) a ≡ false → piece cs a ∷ es ≡ insert_text eq es [] a
+none_inserted eq [] cs a none under = ap (λ ds. piece ds a ∷ []) none
+none_inserted eq (e ∷ es) cs a none under = rw (under, none) refl

@@ -6,6 +6,7 @@ pub mod Stored
 pub mod Mapped
 pub mod Walks
 pub mod Restored
+pub mod Grown
 pub mod Equal
 pub mod Padding
 pub mod Sums

@@ -1,8 +1,9 @@
 //! Text in front of a line's elements and after them.
-ghost use Rattle.std.specs.Prelude.{◌≡◌, ◌<◌, ◌∷◌, [], chars, length, string_len, IfOk, OnOk, OnErr};
+ghost use Rattle.std.specs.Prelude.{◌≡◌, ◌<◌, ◌∷◌, ◌⊎◌, [], false, chars, length, string_len, IfOk, OnOk, OnErr};
+ghost use Rattle.std.specs.List.{slice_get};
 ghost use Rattle.std.specs.Option.{option_map};
 ghost use Rattle.tbr_tagged.specs.Copies.{CopiesAreEqual};
-ghost use Rattle.tbr_tagged.specs.Elements.{push_text, insert_text, SameElements};
+ghost use Rattle.tbr_tagged.specs.Elements.{is_piece_under, push_text, insert_text, SameElements};
 ghost use Rattle.tbr_tagged.specs.Restored.{restored};
 ghost use Rattle.tbr_tagged.specs.Stored.{stored};
 ghost use Rattle.tbr_tagged.specs.View.{chars_of, elements_of};
@@ -90,7 +91,26 @@ pub fn put_in_front<T: Eq + Drop>(
 }
 
 /// Puts text in front, which extends the first piece where that is under an equal tag. Where memory is refused nothing
-/// changes.
+/// changes, and the text is dropped. The empty text takes none where it extends that piece, or there is no element.
+pub fn put_text_in_front<T: Eq + Drop>(
+    elements: &mut ElementList<T>,
+    ts: TaggedString<T>,
+) -> Result<(), OutOfMemory>
+    ensures ok { OnOk result (elements_of (stored elements.new)
+        ≡ insert_text T.eq (elements_of (stored elements.old)) (chars_of ts.s) ts.tag) }
+    ensures err { OnErr result (elements_of (stored elements.new) ≡ elements_of (stored elements.old)) }
+    ensures some { OnErr result (0 < string_len ts.s ⊎ (0 < length (elements_of (stored elements.old)))
+        × (is_piece_under T.eq (slice_get (elements_of (stored elements.old)) 0) ts.tag ≡ false)) }
+{
+    if ts.s.is_empty() {
+        return put_none_in_front(elements, ts.tag);
+    }
+    put_in_front(elements, ts)?;
+    Ok(())
+}
+
+/// Puts text in front, which extends the first piece where that is under an equal tag. Where memory is refused nothing
+/// changes. The empty text takes none where it extends that piece, or there is no element.
 pub fn put_str_in_front<T: Eq + Drop>(
     elements: &mut ElementList<T>,
     text: &str,
@@ -99,11 +119,32 @@ pub fn put_str_in_front<T: Eq + Drop>(
     ensures ok { OnOk result (elements_of (stored elements.new)
         ≡ insert_text T.eq (elements_of (stored elements.old)) (chars text.now) tag) }
     ensures err { OnErr result (elements_of (stored elements.new) ≡ elements_of (stored elements.old)) }
+    ensures some { OnErr result (0 < length text.now ⊎ (0 < length (elements_of (stored elements.old)))
+        × (is_piece_under T.eq (slice_get (elements_of (stored elements.old)) 0) tag ≡ false)) }
 {
+    if text.is_empty() {
+        return put_none_in_front(elements, tag);
+    }
     if elements.begins_under(&tag) {
         return elements.prepend_first(text);
     }
     let s = String::from_str(elements.allocator(), text)?;
+    elements.insert_front(TaggedLineElement::Str(TaggedString { s, tag }))
+}
+
+/// Puts the empty text in front, unless it extends the first piece. Where memory is refused nothing changes. Where no
+/// element is it takes none.
+fn put_none_in_front<T: Eq + Drop>(elements: &mut ElementList<T>, tag: T) -> Result<(), OutOfMemory>
+    ensures ok { OnOk result (elements_of (stored elements.new)
+        ≡ insert_text T.eq (elements_of (stored elements.old)) [] tag) }
+    ensures err { OnErr result (elements_of (stored elements.new) ≡ elements_of (stored elements.old)) }
+    ensures some { OnErr result ((0 < length (elements_of (stored elements.old)))
+        × (is_piece_under T.eq (slice_get (elements_of (stored elements.old)) 0) tag ≡ false)) }
+{
+    if elements.begins_under(&tag) {
+        return Ok(());
+    }
+    let s = String::new(elements.allocator());
     elements.insert_front(TaggedLineElement::Str(TaggedString { s, tag }))
 }
 

@@ -1,10 +1,11 @@
 //! Pieces of text and markers, one by one.
-ghost use Rattle.std.specs.Prelude.{◌≡◌, ℕ, ◌∷◌, [], true, Option, chars, string_bytes, IfOk, OnOk, OnErr};
+ghost use Rattle.std.specs.Prelude.{◌≡◌, ℕ, ◌∷◌, [], true, List, Option, chars, string_bytes, IfOk, OnOk, OnErr};
 ghost use Rattle.std.specs.Option.{option_copied, option_map};
 ghost use Rattle.tbr_tagged.specs.Copies.{CopiesAreEqual};
 ghost use Rattle.tbr_model.specs.Width.{width_of_text};
-ghost use Rattle.tbr_tagged.specs.Elements.{piece, element_width, element_characters, is_piece_under, with_text, text_before, SameElement};
+ghost use Rattle.tbr_tagged.specs.Elements.{Element, piece, element_width, element_characters, is_piece_under, with_text, text_before, SameElement};
 ghost use Rattle.tbr_tagged.specs.Elements as model;
+ghost use Rattle.tbr_tagged.specs.Grown.{last_bytes, text_bytes};
 ghost use Rattle.tbr_tagged.specs.Mapped.{MapsElement};
 ghost use Rattle.tbr_tagged.specs.Padding as padding;
 ghost use Rattle.tbr_tagged.specs.Restored.{with_characters};
@@ -12,7 +13,7 @@ ghost use Rattle.tbr_tagged.specs.Sums.{GivesSum};
 ghost use Rattle.tbr_tagged.specs.View.{chars_of, element_of};
 
 use crate::error::OutOfMemory;
-use crate::space::append_spaces;
+use crate::space::{append_spaces, cut};
 use crate::width::text_width;
 use std::alloc::Global;
 use std::mem;
@@ -194,6 +195,26 @@ pub fn make_room<T>(element: &mut TaggedLineElement<T>, bytes: usize)
 {
     if let TaggedLineElement::Str(piece) = element {
         let _ = piece.s.reserve(bytes.saturating_sub(piece.s.len()));
+    }
+}
+
+/// How many bytes an element's text takes; without an element 0.
+pub fn text_len<T>(element: Option<&TaggedLineElement<T>>) -> usize
+    ensures { result ≡ last_bytes (option_map element_of (option_copied element.entry)) }
+{
+    match element {
+        Some(element) => element.as_str().len(),
+        None => 0,
+    }
+}
+
+/// Takes off what a piece's text has after so many bytes; a marker stays.
+pub fn cut_text<T>(element: &mut TaggedLineElement<T>, bytes: usize)
+    ensures { (e : Element T) (cs : List ℕ) → text_bytes e ≡ bytes → element_of element.old ≡ with_text e cs →
+        element_of element.new ≡ e }
+{
+    if let TaggedLineElement::Str(piece) = element {
+        cut(&mut piece.s, bytes);
     }
 }
 

@@ -1,9 +1,10 @@
 //! The elements of a line, as they are stored.
-ghost use Rattle.std.specs.Prelude.{◌≡◌, ◌==◌, ◌++◌, ◌∷◌, [], Some, chars, drop, length, slice_get, IfOk, OnOk, OnErr};
+ghost use Rattle.std.specs.Prelude.{◌≡◌, ◌==◌, ◌++◌, ◌∷◌, ◌<◌, [], List, Some, chars, drop, length, slice_get, IfOk, OnOk, OnErr};
 ghost use Rattle.tbr_tagged.specs.Copies.{CopiesAreEqual};
-ghost use Rattle.tbr_tagged.specs.Elements.{characters, is_piece_under, last_of, line_width, SameElements};
+ghost use Rattle.tbr_tagged.specs.Elements.{Element, characters, is_piece_under, last_of, line_width, SameElements};
 ghost use Rattle.tbr_tagged.specs.Elements as model;
 ghost use Rattle.tbr_tagged.specs.Equal.{equal_lines};
+ghost use Rattle.tbr_tagged.specs.Grown.{HasGrown, last_bytes};
 ghost use Rattle.tbr_tagged.specs.Mapped.{MapsElements};
 ghost use Rattle.tbr_tagged.specs.Padding as padding;
 ghost use Rattle.tbr_tagged.specs.Restored.{restored};
@@ -13,8 +14,8 @@ ghost use Rattle.tbr_tagged.specs.View.{chars_of, elements_of};
 ghost use Rattle.tbr_tagged.specs.Walks.{elements_left, elements_to_come};
 
 use crate::element::{
-    TaggedLineElement, extend, extend_by_char, extend_by_spaces, extend_front, is_under, make_room,
-    prepend, set_text,
+    TaggedLineElement, cut_text, extend, extend_by_char, extend_by_spaces, extend_front, is_under,
+    make_room, prepend, set_text, text_len,
 };
 use crate::elements;
 use crate::error::OutOfMemory;
@@ -55,6 +56,26 @@ impl<T> ElementList<T> {
         match self {
             ElementList::Alone(_) => false,
             ElementList::Listed(list) => list.is_empty(),
+        }
+    }
+
+    /// How many elements there are.
+    pub fn len(&self) -> usize
+        ensures { result ≡ length (stored self.now) }
+    {
+        match self {
+            ElementList::Alone(_) => 1,
+            ElementList::Listed(list) => list.len(),
+        }
+    }
+
+    /// How many bytes the last element's text takes.
+    pub fn last_len(&self) -> usize
+        ensures { result ≡ last_bytes (last_of (elements_of (stored self.now))) }
+    {
+        match self {
+            ElementList::Alone(element) => text_len(Some(element)),
+            ElementList::Listed(list) => text_len(list.last()),
         }
     }
 
@@ -270,10 +291,11 @@ impl<T: Drop> ElementList<T> {
         Ok(())
     }
 
-    /// Puts an element in front. Where memory is refused nothing changes.
+    /// Puts an element in front, which takes no memory where there is none. Where memory is refused nothing changes.
     pub fn insert_front(&mut self, element: TaggedLineElement<T>) -> Result<(), OutOfMemory>
         ensures ok { OnOk result (stored self.new ≡ element ∷ stored self.old) }
         ensures err { OnErr result (stored self.new ≡ stored self.old) }
+        ensures some { OnErr result (0 < length (stored self.old)) }
     {
         if self.is_empty() {
             *self = ElementList::Alone(element);
@@ -303,6 +325,20 @@ impl<T: Drop> ElementList<T> {
                 Ok(list)
             }
             ElementList::Listed(list) => Ok(list),
+        }
+    }
+
+    /// Takes off all but the first `count` elements, and what the last of these has after so many bytes.
+    pub fn cut_back(&mut self, count: usize, bytes: usize)
+        ensures { (es : List (Element T)) → length es ≡ count → last_bytes (last_of es) ≡ bytes →
+            HasGrown es (elements_of (stored self.old)) → elements_of (stored self.new) ≡ es }
+    {
+        match self {
+            ElementList::Alone(element) if count == 0 => {
+                *self = ElementList::new(element.allocator());
+            }
+            ElementList::Alone(element) => cut_text(element, bytes),
+            ElementList::Listed(list) => elements::cut_back(list, count, bytes),
         }
     }
 

@@ -1,8 +1,9 @@
 //! Lists of pieces and markers.
-ghost use Rattle.std.specs.Prelude.{◌≡◌, ◌++◌, ◌∷◌, [], Some, chars, IfOk, OnOk, OnErr};
+ghost use Rattle.std.specs.Prelude.{◌≡◌, ℕ, ◌++◌, ◌∷◌, [], Some, List, chars, length, IfOk, OnOk, OnErr};
 ghost use Rattle.tbr_tagged.specs.Copies.{CopiesAreEqual};
-ghost use Rattle.tbr_tagged.specs.Elements.{line_width, characters, SameElements};
+ghost use Rattle.tbr_tagged.specs.Elements.{Element, last_of, line_width, characters, SameElements};
 ghost use Rattle.tbr_tagged.specs.Elements as model;
+ghost use Rattle.tbr_tagged.specs.Grown.{HasGrown, last_bytes};
 ghost use Rattle.tbr_tagged.specs.Mapped.{MapsElements};
 ghost use Rattle.tbr_tagged.specs.Padding as padding;
 ghost use Rattle.tbr_tagged.specs.Restored.{restored};
@@ -10,7 +11,8 @@ ghost use Rattle.tbr_tagged.specs.Sums.{GivesSum};
 ghost use Rattle.tbr_tagged.specs.View.{chars_of, elements_of};
 
 use crate::element::{
-    TaggedLineElement, extend, extend_by_char, extend_by_spaces, extend_front, prepend, set_text,
+    TaggedLineElement, cut_text, extend, extend_by_char, extend_by_spaces, extend_front, prepend,
+    set_text,
 };
 use crate::error::OutOfMemory;
 use crate::width::text_width;
@@ -149,6 +151,19 @@ pub fn set_first_text<T>(elements: &mut Vec<TaggedLineElement<T>>, text: String)
     if !elements.is_empty() {
         set_text(&mut elements[0], text);
     }
+}
+
+/// Takes off all but the first `count` elements, and what the last of these has after so many bytes.
+pub fn cut_back<T: Drop>(elements: &mut Vec<TaggedLineElement<T>>, count: usize, bytes: usize)
+    ensures { (es : List (Element T)) → length es ≡ count → last_bytes (last_of es) ≡ bytes →
+        HasGrown es (elements_of elements.old.items) → elements_of elements.new.items ≡ es }
+{
+    elements.truncate(count);
+    if elements.is_empty() {
+        return;
+    }
+    let end = elements.len() - 1;
+    cut_text(&mut elements[end], bytes);
 }
 
 /// The elements with each tag replaced by what `f` makes of it. It refuses only where memory is refused.

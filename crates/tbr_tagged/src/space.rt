@@ -1,5 +1,5 @@
 //! White space.
-ghost use Rattle.std.specs.Prelude.{◌≡◌, ◌++◌, string_bytes, IfOk, OnOk, OnErr};
+ghost use Rattle.std.specs.Prelude.{◌≡◌, ℕ, ◌++◌, List, length, encode_utf8_all, string_bytes, IfOk, OnOk, OnErr};
 ghost use Rattle.tbr_model.specs.Run as model;
 ghost use Rattle.tbr_tagged.specs.Padding as padding;
 ghost use Rattle.tbr_tagged.specs.View.{chars_of};
@@ -25,6 +25,16 @@ pub fn is_wordbreak_point(c: char) -> bool
     ensures { result ≡ model.is_break c }
 {
     c <= LAST_SPACE && (c == '\u{200b}' || (c.is_whitespace() && c != '\u{a0}'))
+}
+
+/// Takes off what a text has after its first characters, of so many bytes.
+pub fn cut(text: &mut String, bytes: usize)
+    ensures { (cs ds : List ℕ) → length (encode_utf8_all cs) ≡ bytes → chars_of text.old ≡ cs ++ ds →
+        chars_of text.new ≡ cs }
+{
+    if text.is_char_boundary(bytes) {
+        text.truncate(bytes);
+    }
 }
 
 /// A text of `count` spaces. It refuses only where memory is refused.

@@ -1,21 +1,24 @@
 //! Lines of text under tags.
-ghost use Rattle.std.specs.Prelude.{◌≡◌, ℕ, ◌^◌, ◌≤◌, ◌<◌, ◌++◌, ◌∷◌, ◌⊎◌, [], true, max, not, Option, chars, fold, map, length, string_len, IfOk, OnOk, OnErr};
+ghost use Rattle.std.specs.Prelude.{◌≡◌, ℕ, ◌^◌, ◌≤◌, ◌<◌, ◌++◌, ◌∷◌, ◌⊎◌, [], true, false, max, not, List, Option, chars, fold, map, length, string_len, IfOk, OnOk, OnErr};
 ghost use Rattle.tbr_tagged.specs.Copies.{CopiesAreEqual};
 ghost use Rattle.tbr_model.specs.Run.{glyph};
-ghost use Rattle.tbr_tagged.specs.Elements.{items_of, line_width, element_items, characters, piece, push_text, push_element, insert_text, text_items, SameItems, SameElements, IsMerged};
+ghost use Rattle.std.specs.List.{slice_get};
+ghost use Rattle.tbr_tagged.specs.Elements.{Element, items_of, line_width, element_items, is_piece_under, last_of, characters, piece, push_text, push_element, insert_text, text_items, SameItems, SameElements, IsMerged};
 ghost use Rattle.tbr_tagged.specs.Elements as model;
 ghost use Rattle.tbr_tagged.specs.Equal.{equal_lines};
+ghost use Rattle.tbr_tagged.specs.Grown.{HasGrown, last_bytes};
 ghost use Rattle.tbr_tagged.specs.Mapped.{MapsElements};
 ghost use Rattle.tbr_tagged.specs.Padding.{spaces, columns_missing, aligned, aligned_items};
 ghost use Rattle.tbr_tagged.specs.Sums.{GivesSum};
 ghost use Rattle.tbr_tagged.specs.View.{chars_of, element_of, elements_of};
 ghost use Rattle.tbr_tagged.specs.Walks.{elements_left, strings_left, characters_left, pieces_of, piece_of, item_characters};
 
-use crate::edits::{push_copy, push_glyph, push_piece, put_in_front, put_str_in_front};
+use crate::edits::{push_copy, push_glyph, push_piece, put_str_in_front, put_text_in_front};
 use crate::element::{TaggedLineElement, TaggedString};
 use crate::element_list::ElementList;
 use crate::error::OutOfMemory;
 use crate::iterators::{Chars, IntoIter, Iter, TaggedStrings};
+use crate::line_end::LineEnd;
 use crate::padding::{CellAlign, columns_in_front, pad, push_spaces};
 use std::alloc::Global;
 use std::marker::Model;
@@ -192,13 +195,15 @@ impl<T: Eq> TaggedLine<T> {
 impl<T: Eq + Drop> TaggedLine<T> {
     /// Appends an element. Text is appended as by [`TaggedLine::push_str`], and a marker comes after what the line has.
     ///
-    /// Where memory is refused the line stays as it was, and the element is dropped.
+    /// Where memory is refused the line stays as it was, and the element is dropped. A piece of the empty text takes
+    /// none.
     pub fn push(&mut self, element: TaggedLineElement<T>) -> Result<(), OutOfMemory>
         ensures ok { OnOk result (self.new ≡ push_element T.eq self.old (element_of element)) }
         ensures items { OnOk result
             (SameItems T.eq (items_of self.new) (items_of self.old ++ element_items (element_of element))) }
         ensures merged { IsMerged T.eq self.old → OnOk result (IsMerged T.eq self.new) }
         ensures err { OnErr result (self.new ≡ self.old) }
+        ensures some { OnErr result (0 < length (element_items (element_of element))) }
     {
         match element {
             TaggedLineElement::Str(ts) => self.push_str(ts),
@@ -210,14 +215,21 @@ impl<T: Eq + Drop> TaggedLine<T> {
 
     /// Appends the elements of another line, each as [`TaggedLine::push`] does.
     ///
-    /// Where memory is refused part of them may have been appended, and the others are dropped.
+    /// Where memory is refused the line stays as it was, and the other one is dropped. A line without characters and
+    /// markers takes none.
     pub fn append(&mut self, other: TaggedLine<T>) -> Result<(), OutOfMemory>
         ensures ok { OnOk result (self.new ≡ fold (push_element T.eq) self.old other) }
         ensures items { OnOk result (SameItems T.eq (items_of self.new) (items_of self.old ++ items_of other)) }
         ensures merged { IsMerged T.eq self.old → OnOk result (IsMerged T.eq self.new) }
+        ensures err { OnErr result (self.new ≡ self.old) }
+        ensures some { OnErr result (0 < length (items_of other)) }
     {
+        let end = self.end();
         for element in other {
-            self.push(element)?;
+            if let Err(e) = self.push(element) {
+                self.cut_back(end);
+                return Err(e);
+            }
         }
         Ok(())
     }
@@ -227,28 +239,34 @@ impl<T: Eq + Drop> TaggedLine<T> {
     ///
     /// A call goes over what the line has. A line that is built by such calls alone takes quadratic time.
     ///
-    /// Where memory is refused the line stays as it was, and the text is dropped.
+    /// Where memory is refused the line stays as it was, and the text is dropped. The empty text takes none where it
+    /// extends the first piece, or is all that the line then has.
     pub fn insert_front(&mut self, ts: TaggedString<T>) -> Result<(), OutOfMemory>
         ensures ok { OnOk result (self.new ≡ insert_text T.eq self.old (chars_of ts.s) ts.tag) }
         ensures items { OnOk result
             (SameItems T.eq (items_of self.new) (text_items (chars_of ts.s) ts.tag ++ items_of self.old)) }
         ensures merged { 0 < string_len ts.s → IsMerged T.eq self.old → OnOk result (IsMerged T.eq self.new) }
         ensures err { OnErr result (self.new ≡ self.old) }
+        ensures some { OnErr result (0 < string_len ts.s
+            ⊎ (0 < length self.old) × (is_piece_under T.eq (slice_get self.old 0) ts.tag ≡ false)) }
     {
-        put_in_front(&mut self.elements, ts)?;
+        put_text_in_front(&mut self.elements, ts)?;
         Ok(())
     }
 
     /// Puts text in front, as [`insert_front`](TaggedLine::insert_front) does. Where it extends the first piece, it
     /// mostly takes no memory.
     ///
-    /// Where memory is refused the line stays as it was.
+    /// Where memory is refused the line stays as it was. The empty text takes none where it extends the first piece, or
+    /// is all that the line then has.
     pub fn insert_front_str(&mut self, text: &str, tag: T) -> Result<(), OutOfMemory>
         ensures ok { OnOk result (self.new ≡ insert_text T.eq self.old (chars text.now) tag) }
         ensures items { OnOk result
             (SameItems T.eq (items_of self.new) (text_items (chars text.now) tag ++ items_of self.old)) }
         ensures merged { 0 < length text.now → IsMerged T.eq self.old → OnOk result (IsMerged T.eq self.new) }
         ensures err { OnErr result (self.new ≡ self.old) }
+        ensures some { OnErr result (0 < length text.now
+            ⊎ (0 < length self.old) × (is_piece_under T.eq (slice_get self.old 0) tag ≡ false)) }
     {
         put_str_in_front(&mut self.elements, text, tag)?;
         Ok(())
@@ -259,7 +277,7 @@ impl<T: Eq + Clone + Drop> TaggedLine<T> {
     /// Appends `count` spaces. They extend the last piece if that is under an equal tag, and else begin a piece under a
     /// copy of the tag.
     ///
-    /// Where memory is refused the line stays as it was.
+    /// Where memory is refused the line stays as it was. No spaces take none.
     pub fn push_spaces(&mut self, count: usize, tag: &T) -> Result<(), OutOfMemory>
         requires { CopiesAreEqual T.is_clone T.eq }
         ensures ok { OnOk result (SameElements T.eq self.new (push_text T.eq self.old (spaces count) tag.now)) }
@@ -267,6 +285,7 @@ impl<T: Eq + Clone + Drop> TaggedLine<T> {
             (SameItems T.eq (items_of self.new) (items_of self.old ++ text_items (spaces count) tag.now)) }
         ensures merged { IsMerged T.eq self.old → OnOk result (IsMerged T.eq self.new) }
         ensures err { OnErr result (self.new ≡ self.old) }
+        ensures some { OnErr result (0 < count) }
     {
         push_spaces(&mut self.elements, count, tag)
     }
@@ -323,6 +342,27 @@ impl<T: Eq + Clone + Drop> TaggedLine<T> {
 }
 
 impl<T> TaggedLine<T> {
+    /// Where the line ends, so that [`cut_back`](TaggedLine::cut_back) can take off what comes after that.
+    pub fn end(&self) -> LineEnd
+        ensures elements { result.elements ≡ length self.now }
+        ensures bytes { result.bytes ≡ last_bytes (last_of self.now) }
+    {
+        LineEnd {
+            elements: self.elements.len(),
+            bytes: self.elements.last_len(),
+        }
+    }
+
+    /// Takes off what came to the line's end since it ended there: elements, and text of the piece that was the last.
+    pub fn cut_back(&mut self, end: LineEnd)
+    where
+        T: Drop,
+        ensures { (es : List (Element T)) → length es ≡ end.elements → last_bytes (last_of es) ≡ end.bytes →
+            HasGrown es self.old → self.new ≡ es }
+    {
+        self.elements.cut_back(end.elements, end.bytes);
+    }
+
     /// The elements of the line, in order.
     pub fn iter(&self) -> Iter<'_, T>
         ensures elements { elements_of (elements_left result) ≡ self.now }

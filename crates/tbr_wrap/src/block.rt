@@ -1,5 +1,5 @@
 //! A block of wrapped text.
-ghost use Rattle.std.specs.Prelude.{◌≡◌, ℕ, ◌<◌, ◌++◌, ◌∷◌, [], not, ◌&&◌, nat_lt, is_none, is_some, if◌then◌else◌, None, Some, List, OnOk, IfOk, IfErr, IsErr, IsSomeAnd, MatchResult, Err, Ok, true, chars, string_bytes, length, map, IsTrue};
+ghost use Rattle.std.specs.Prelude.{◌≡◌, ◌≢◌, ℕ, ◌≤◌, ◌<◌, ◌++◌, ◌∷◌, [], not, ◌&&◌, nat_lt, is_none, is_some, if◌then◌else◌, None, Some, List, OnOk, IfOk, IfErr, IsErr, IsSomeAnd, MatchResult, Err, Ok, true, chars, string_bytes, length, map, IsTrue};
 ghost use Rattle.std.specs.List.{AllZip};
 ghost use Rattle.std.specs.Str.{IsUtf8};
 ghost use Rattle.tbr_model.specs.Run.{Item};
@@ -213,10 +213,29 @@ impl<T: Eq + Clone, W: CharWidth> WrappedBlock<T, W> {
     /// The text joins the run, in the given mode. Each character is under a copy of the main tag, or of the wrap tag
     /// where its hard line goes on after a full line.
     ///
-    /// A word that ends is placed. `TooNarrow` never comes where lines may be wider. In a `Normal` run it comes exactly
-    /// where a break point of the text ends a word of the run that has a character wider than the block. In any other
-    /// run it comes only where the run has such a character. `OutOfMemory` comes only where memory is refused.
+    /// A word that ends is placed. `TooNarrow` never comes in two columns or more, nor where lines may be wider. In a
+    /// `Normal` run it comes exactly where a break point of the text ends a word of the run that has a character wider
+    /// than the block. In any other run it comes only where the run has such a character. `OutOfMemory` comes only
+    /// where memory is refused.
     pub fn add_text(
+        &mut self,
+        text: &str,
+        ws_mode: WhiteSpace,
+        main_tag: &T,
+        wrap_tag: &T,
+    ) -> Result<(), Error>
+    where
+        T: Drop,
+        requires { CopiesAreEqual T.is_clone T.eq }
+        ensures answers { let after = after_text W.columns (chars text.now) main_tag.now wrap_tag.now ws_mode in
+            Answers failure_of settings_of (after self.old) self.old result self.new }
+        ensures two_columns { self.old.failure ≡ None → 2 ≤ self.old.width → result ≢ Err E.TooNarrow }
+    {
+        self.add_whole(text, ws_mode, main_tag, wrap_tag)
+    }
+
+    /// Adds a text to the run, as much at once as can be.
+    fn add_whole(
         &mut self,
         text: &str,
         ws_mode: WhiteSpace,
@@ -298,11 +317,24 @@ impl<T: Eq + Clone, W: CharWidth> WrappedBlock<T, W> {
     /// Ends the run. Its last word is placed, and its lines join the ended ones. Markers that are on none of them
     /// begin the next run; [`take_trailing_fragments`](WrappedBlock::take_trailing_fragments) takes them.
     ///
-    /// `TooNarrow` never comes where lines may be wider. In a `Normal` run it comes exactly where a word of the run has
-    /// a character wider than the block. In any other run it comes only where the run has such a character, and always
-    /// where that is visible. `OutOfMemory` comes only where memory is refused. Where open line and word hold no
-    /// character, no line ends.
+    /// `TooNarrow` never comes in two columns or more, nor where lines may be wider. In a `Normal` run it comes exactly
+    /// where a word of the run has a character wider than the block. In any other run it comes only where the run has
+    /// such a character, and always where that is visible. `OutOfMemory` comes only where memory is refused. Where open
+    /// line and word hold no character, no line ends.
     pub fn flush(&mut self) -> Result<(), Error>
+    where
+        T: Drop,
+        requires { CopiesAreEqual T.is_clone T.eq }
+        ensures answers { Answers failure_of settings_of (after_flush W.columns self.old) self.old result self.new }
+        ensures best { let run = run_of self.old.events in WrapsNormally self.old →
+            OnOk result (HasBestLines W.columns self.old.width run (all_lines W.columns self.old)) }
+        ensures two_columns { self.old.failure ≡ None → 2 ≤ self.old.width → result ≢ Err E.TooNarrow }
+    {
+        self.end_run()
+    }
+
+    /// Ends the run.
+    fn end_run(&mut self) -> Result<(), Error>
     where
         T: Drop,
         requires { CopiesAreEqual T.is_clone T.eq }
@@ -380,7 +412,8 @@ impl<T: Eq + Clone, W: CharWidth> WrappedBlock<T, W> {
         line.pad_to::<W>(self.wrapper.lines.width, &self.default_tag)
     }
 
-    /// Ends the run, and hands out all lines that aren't handed out yet.
+    /// Ends the run, and hands out all lines that aren't handed out yet. After any number of lines of a `Normal` run,
+    /// where none may be wider than the block, no legal layout has placed more of it.
     ///
     /// It refuses as [`flush`](WrappedBlock::flush) does, and where memory is refused.
     pub fn into_lines(mut self) -> Result<Vec<TaggedLine<T>>, Error>
@@ -389,7 +422,10 @@ impl<T: Eq + Clone, W: CharWidth> WrappedBlock<T, W> {
         requires { CopiesAreEqual T.is_clone T.eq }
         ensures gives { IfOk result (λ lines. (s : Block T) × (after_flush W.columns self ≡ done s)
             × AllZip (ShowsText W.columns T.eq self.padding self.width) lines.items s.ended) }
+        ensures best { let run = run_of self.events in WrapsNormally self →
+            OnOk result (HasBestLines W.columns self.width run (all_lines W.columns self)) }
         ensures refuses { result ≡ Err E.TooNarrow → after_flush W.columns self ≡ refused E.TooNarrow }
+        ensures two_columns { self.failure ≡ None → 2 ≤ self.width → result ≢ Err E.TooNarrow }
         ensures kept { (e : _) → self.failure ≡ Some e → result ≡ Err e }
     {
         self.flush()?;

@@ -1,5 +1,5 @@
 //! Lines that a block has ended, in one text.
-ghost use Rattle.std.specs.Prelude.{◌≡◌, ◌==◌, ◌-◌, ◌++◌, ◌∷◌, [], chars, List, None, Ok, OnOk, IfOk, IsSomeAnd, length, map, drop};
+ghost use Rattle.std.specs.Prelude.{◌≡◌, ◌==◌, ◌-◌, ◌++◌, ◌∷◌, [], chars, List, None, Ok, OnOk, OnErr, IfOk, IsSomeAnd, length, map, drop};
 ghost use Rattle.std.specs.List.{list_any};
 ghost use Rattle.std.specs.VecDeque.{deque_len};
 ghost use Rattle.tbr_model.specs.Run.{Item, has_character, items_width};
@@ -200,7 +200,8 @@ impl<T: Drop> EndedLines<T> {
 }
 
 impl<T: Eq + Clone + Drop> EndedLines<T> {
-    /// Moves the first line, if one is left, to the end of another. Where memory is refused lines may be lost.
+    /// Moves the first line, if one is left, to the end of another. Where memory is refused that one stays as it was,
+    /// and lines may be lost.
     pub fn move_line(&mut self, line: &mut TaggedLine<T>) -> Result<(), OutOfMemory>
         requires { CopiesAreEqual T.is_clone T.eq }
         ensures items { (is : List (Item T)) (rest : List (List (Item T))) → self.old ≡ is ∷ rest →
@@ -208,6 +209,7 @@ impl<T: Eq + Clone + Drop> EndedLines<T> {
         ensures merged { IsMerged T.eq line.old → OnOk result (IsMerged T.eq line.new) }
         ensures rest { OnOk result (self.new ≡ drop 1 self.old) }
         ensures none { self.old ≡ [] → OnOk result (line.new ≡ line.old) }
+        ensures err { OnErr result (line.new ≡ line.old) }
     {
         let Some(len) = self.lens.pop_front() else {
             return Ok(());

@@ -146,13 +146,14 @@ impl<T: Eq + Clone + Drop> LaidLines<T> {
     }
 
     /// Puts the word's first item, of `width` columns, which is wider than a line: after items of no width, on a line
-    /// that is ended at once.
+    /// that is ended at once. Where no line may be wider it answers `TooNarrow` in any case.
     fn put_wide<W: CharWidth>(&mut self, width: usize) -> Result<(), Error>
         requires some { 0 < length self.old.flat.word }
         requires width { width ≡ items_width W.columns (take 1 self.old.flat.word) }
         requires wide { self.old.width < width }
         ensures put { PutsFront W.columns T.eq self.old self.new result }
         ensures too_narrow { result ≡ Err E.TooNarrow → self.old.may_overflow ≡ false }
+        ensures narrow { self.old.may_overflow ≡ false → result ≡ Err E.TooNarrow }
         ensures limits { KeepsLimits self.old self.new }
     {
         if !self.may_overflow {
@@ -183,12 +184,13 @@ impl<T: Eq + Clone + Drop> LaidLines<T> {
     }
 
     /// Puts items that the word begins with on the open line, or on a fresh one where the first, of `width` columns,
-    /// doesn't fit.
+    /// doesn't fit. Where no line may be wider, and the first item is, it answers `TooNarrow` in any case.
     fn put_front<W: CharWidth>(&mut self, width: usize) -> Result<(), Error>
         requires some { 0 < length self.old.flat.word }
         requires width { width ≡ items_width W.columns (take 1 self.old.flat.word) }
         ensures put { PutsFront W.columns T.eq self.old self.new result }
         ensures too_narrow { result ≡ Err E.TooNarrow → (self.old.may_overflow ≡ false) × (self.old.width < width) }
+        ensures narrow { self.old.may_overflow ≡ false → self.old.width < width → result ≡ Err E.TooNarrow }
         ensures limits { KeepsLimits self.old self.new }
     {
         if width > self.width {
@@ -201,13 +203,16 @@ impl<T: Eq + Clone + Drop> LaidLines<T> {
         Ok(())
     }
 
-    /// Puts the items of a word, line by line.
+    /// Puts the items of a word, line by line. Where no line may be wider, and the word's first item is, it answers
+    /// `TooNarrow` in any case: no memory is asked for before that.
     pub fn put_word<W: CharWidth>(&mut self) -> Result<(), Error>
         ensures put { (js : List (Item T)) → SameItems T.eq self.old.flat.word js →
             LinesFollow W.columns T.eq self.old self.new result (λ r. put_items W.columns self.old.width r js) }
         ensures word { OnOk result (self.new.flat.word ≡ []) }
         ensures too_narrow { result ≡ Err E.TooNarrow →
             (self.old.may_overflow ≡ false) × ¬ (IsNarrow W.columns self.old.width self.old.flat.word) }
+        ensures narrow { self.old.may_overflow ≡ false →
+            self.old.width < items_width W.columns (take 1 self.old.flat.word) → result ≡ Err E.TooNarrow }
         ensures limits { KeepsLimits self.old self.new }
     {
         while let Some(width) = self.flat.first_width::<W>() {

@@ -15,7 +15,7 @@
 ghost use Rattle.std.specs.Prelude.{◌≡◌, ◌≤◌, ◌<◌, ◌+◌, ◌&&◌, ◌↔◌, [], ℕ, List, fold, length, take, map, chars, string_bytes, Bool, if◌then◌else◌, IsTrue, Option, None, Some, true, false, OnOk, IfOk, IfSome, Err};
 ghost use Rattle.tbr_tagged.specs.Copies.{CopiesAreEqual};
 ghost use Rattle.tbr_model.specs.Width.{width_of_text};
-ghost use Rattle.tbr_model.specs.Run.{Item, character, marker_entry, has_character, is_break};
+ghost use Rattle.tbr_model.specs.Run.{Item, items_width, character, marker_entry, has_character, is_break};
 ghost use Rattle.tbr_model.specs.Laid.{extended, put_items};
 ghost use Rattle.tbr_model.specs.Rule as model;
 ghost use Rattle.tbr_model.specs.Rule.{Progress, space_text, pending_width, put_pending, lay_here, lay_fresh, wrap_space_by, wrap_space, lay, flush_word, break_word, join};
@@ -233,12 +233,15 @@ impl<T: Eq + Clone + Drop> Wrapper<T> {
         Ok(())
     }
 
-    /// Puts the word, before which nothing is pending, on the open line and the next ones.
+    /// Puts the word, before which nothing is pending, on the open line and the next ones. Where no line may be wider,
+    /// and the word's first item is, it answers `TooNarrow` in any case. What calls it may have asked for memory before.
     fn put_fresh<W: CharWidth>(&mut self) -> Result<(), Error>
         ensures put { WrapperFollows W.columns T.eq self.old self.new result (λ p.
             record p { laid = put_items W.columns self.old.lines.width p.laid p.word; word = [] }) }
         ensures too_narrow { result ≡ Err E.TooNarrow → Wherever W.columns T.eq self.old (λ p.
             (self.old.lines.may_overflow ≡ false) × ¬ (IsNarrow W.columns self.old.lines.width p.word)) }
+        ensures narrow { self.old.lines.may_overflow ≡ false → self.old.lines.width < self.old.word_width →
+            self.old.lines.width < items_width W.columns (take 1 self.old.lines.flat.word) → result ≡ Err E.TooNarrow }
         ensures limits { KeepsLimits self.old.lines self.new.lines }
     {
         let width = mem::replace(&mut self.word_width, 0);

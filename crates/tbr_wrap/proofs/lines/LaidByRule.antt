@@ -117,6 +117,9 @@ pub none_first : {A : Type 0} (columns : ℕ → Option ℕ) (o : Option ℕ) (w
 none_first columns None word h not = h
 none_first columns (Some n) word h not = absurd (not n refl)
 
+pub first_columns : {A : Type 0} (columns : ℕ → Option ℕ) (n : ℕ) (word : List (Item A)) → (i : Item A) × (rest : List (Item A)) × (word ≡ i ∷ rest) × (n ≡ item_width columns i) → n ≡ items_width columns (take 1 word)
+first_columns columns n word (i, rest, is, width) = rw is (omega (arith, width))
+
 -- ---- items that a word begins with are put
 
 module _ {A E F : Type 0} (columns : ℕ → Option ℕ) (eq : A → A → Bool) (laws : IsEquivalence eq) (b mid c : LaidLines A) (f : PutsFront {E = E} columns eq mid c (Ok tt)) where

@@ -1,5 +1,4 @@
 use Rattle.std.proofs.Common.{rules}
-use Rattle.tbr_wrap.specs.Plain.{stretch_width}
 use Rattle.tbr_wrap.proofs.words.PlainText.{plain_more}
 use Rattle.tbr_wrap.proofs.plain.plain_in_front.Goals as goal
 

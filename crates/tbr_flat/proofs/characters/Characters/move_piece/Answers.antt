@@ -1,5 +1,6 @@
 use Rattle.std.proofs.Common.{◌≤◌, length, arith}
 use Rattle.tbr_tagged.specs.Elements.{items_of}
+use Rattle.tbr_tagged.proofs.GrownLines.{grown_same}
 use Rattle.tbr_flat.proofs.TaggedCharacters.{placed_len, taken_fits, flat_take, piece_moved}
 use Rattle.tbr_flat.proofs.characters.Characters.move_piece.Goals as goal
 
@@ -25,3 +26,6 @@ pub returns-in-Ok-clause-rest : goal.returns-in-Ok-clause-rest
 returns-in-Ok-clause-rest g c =
     let within : c.in_ok-count.count ≤ length c.self.inside.placed = omega (arith, placed_len _ _ _ _ c.self.invariant c.self.view_is, c.requires.placed, c.in_ok-count.ensures.count.1) in
     rw (← c.self.view_is, c.in-Ok.ensures.rest, c.in_ok-count.ensures.rest) (flat_take c.self.inside.placed c.self.inside.word c.self.inside.tags c.in_ok-count.count within)
+
+pub returns-in_err-count-clause-grown : goal.returns-in_err-count-clause-grown
+returns-in_err-count-clause-grown g c = grown_same c.args.line.now

@@ -1,5 +1,9 @@
 use Rattle.std.proofs.Common.{◌≤◌, ◌++◌, sym, subst, ap, ◌∙◌, refl, arith}
 use Rattle.tbr_tagged.specs.Elements.{items_of, SameItems}
+use Rattle.tbr_tagged.specs.Grown.{HasGrown}
+use Rattle.tbr_tagged.specs.declared.element.TaggedLineElement.TheVariants.{FragmentStart}
+use Rattle.tbr_tagged.specs.View.{element_of}
+use Rattle.tbr_tagged.proofs.GrownLines.{grown_same, grown_by_element}
 use Rattle.tbr_flat.specs.Flat.{MarkerPlaces, before_first, shortened}
 use Rattle.tbr_flat.proofs.MarkedItems.{marked_shortened, taken_front}
 use Rattle.tbr_flat.proofs.MarkedText.{character_first}
@@ -23,3 +27,10 @@ returns-in-Ok-clause-rest g c =
     let within : count ≤ before_first c.self.inside.placed = omega (arith, c.in-Ok.ensures.some.1, c.min.ensures, c.before-2.ensures, ap before_first c.in_default.ensures.0) in
     let shorter = c.remove_first.ensures ∙ ap (λ (m : MarkerPlaces). shortened count m) c.in_default.ensures.0 in
     rw (← c.self.view_is, c.in-Ok.ensures.rest, shorter, marked_shortened c.self.inside.text.placed c.self.inside.placed count within c.self.invariant.0) refl
+
+pub returns-in_err-push-clause-grown : goal.returns-in_err-push-clause-grown
+returns-in_err-push-clause-grown g c = subst (HasGrown c.args.line.now) (sym c.in_err-push.ensures.err) (grown_same c.args.line.now)
+
+pub returns-in-Some-clause-grown : goal.returns-in-Some-clause-grown
+returns-in-Some-clause-grown g c =
+    subst (HasGrown c.args.line.now) (sym c.in_ok-push.ensures.ok) (grown_by_element g.T.PartialEq.eq c.args.line.now (element_of (FragmentStart c.in-Some.name)))

@@ -1,11 +1,12 @@
 use Rattle.std.proofs.Common.{◌∙◌, ap, map}
 use Rattle.std.proofs.lemmas.List.{map_push}
-use Rattle.std.proofs.lemmas.Result.{on_ok_weaker}
+use Rattle.std.proofs.lemmas.Result.{on_ok_weaker, on_err_weaker}
 use Rattle.std.specs.String.{string_bytes}
 use Rattle.tbr_tagged.specs.declared.element.TaggedLineElement.TheVariants.{FragmentStart}
 use Rattle.tbr_tagged.specs.Elements.{marker_element}
 use Rattle.tbr_tagged.specs.Stored.{stored}
 use Rattle.tbr_tagged.specs.View.{element_of}
+use Rattle.tbr_tagged.proofs.GrownLines.{text_has_items}
 use Rattle.tbr_tagged.proofs.TextAfter.{merged_element}
 use Rattle.tbr_tagged.proofs.SameItems.{element_pushed}
 use Rattle.tbr_tagged.proofs.tagged_line.TaggedLine.push.Goals as goal
@@ -27,3 +28,7 @@ returns-in-FragmentStart-clause-merged g c = λ merged.
     on_ok_weaker c.push.result (λ h.
     let pushed = ap (map element_of) h ∙ map_push element_of (stored c.self.inside.elements) (FragmentStart name) in
     rw pushed (merged_element g.T.PartialEq.eq es (marker_element (string_bytes name)) before)) c.push.ensures.ok
+
+pub returns-in-Str-clause-some : goal.returns-in-Str-clause-some
+returns-in-Str-clause-some g c =
+    rw c.in-Str.is (on_err_weaker c.push_str.result (text_has_items c.in-Str.ts.s c.in-Str.ts.tag) c.push_str.ensures.some)

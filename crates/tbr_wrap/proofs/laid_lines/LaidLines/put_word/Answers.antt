@@ -1,8 +1,9 @@
-use Rattle.std.proofs.Common.{◌≡◌, [], take, drop, ◌∙◌}
+use Rattle.std.proofs.Common.{◌≡◌, ◌<◌, false, List, [], take, drop, ap, ◌∙◌, arith}
+use Rattle.tbr_model.specs.Run.{Item, items_width}
 use Rattle.tbr_model.specs.Laid.{put_items}
 use Rattle.tbr_flat.proofs.MarkedItems.{same_drop}
 use Rattle.tbr_wrap.proofs.lines.HeldLines.{keeps_trans}
-use Rattle.tbr_wrap.proofs.lines.LaidByRule.{none_same, put_parts, narrow_rest, none_first}
+use Rattle.tbr_wrap.proofs.lines.LaidByRule.{none_same, put_parts, narrow_rest, none_first, first_columns}
 use Rattle.tbr_wrap.proofs.laid_lines.LaidLines.put_word.Goals as goal
 
 pub loop-width-preserved : goal.loop-width-preserved
@@ -21,6 +22,13 @@ loop-width-preserved g c =
             n.4 ∙ put_parts columns width n.0 f.count n.1,
           );
       back = λ k. rw f.word (narrow_rest columns width f.count now.flat.word (inv.back k));
+      narrow = λ may wide.
+          let first : c.in-Some.width ≡ items_width columns (take 1 now.flat.word) = first_columns columns c.in-Some.width now.flat.word c.in-Some.ensures in
+          let wider : now.width < c.in-Some.width = omega (arith, wide, first, ap (λ (is : List (Item g.row.T.Denot)). items_width columns (take 1 is)) (inv.narrow may wide), inv.limits.width) in
+          let narrow : now.may_overflow ≡ false = cc (inv.limits.may_overflow, may) in
+          let is = c.put_front.ensures.narrow narrow wider in
+          let was = c.in_ok-put_front.was in
+          cc;
       limits = keeps_trans c.args.self.now now new inv.limits c.in_ok-put_front.ensures.limits;
     }
 

@@ -1,5 +1,5 @@
-use Rattle.std.proofs.Common.{◌≡◌, List, length}
-use Rattle.tbr_model.specs.Run.{Item}
+use Rattle.std.proofs.Common.{◌≡◌, ◌<◌, false, List, length, take}
+use Rattle.tbr_model.specs.Run.{Item, items_width}
 use Rattle.tbr_model.specs.Greedy.{IsNarrow}
 use Rattle.tbr_model.specs.Laid.{Laid, put_items}
 use Rattle.tbr_tagged.specs.Elements.{SameItems}
@@ -12,6 +12,7 @@ invariant-loop-width g l = record {
       (q : Laid g.row.T.Denot) × (ks : List (Item g.row.T.Denot)) × HoldsRule g.W.CharWidth.columns g.T.PartialEq.eq l.self before given q × SameItems g.T.PartialEq.eq l.self.flat.word ks
       × (put_items g.W.CharWidth.columns l.fn.self.width r js ≡ put_items g.W.CharWidth.columns l.fn.self.width q ks);
   back : IsNarrow g.W.CharWidth.columns l.fn.self.width l.fn.self.flat.word → IsNarrow g.W.CharWidth.columns l.fn.self.width l.self.flat.word;
+  narrow : l.fn.self.may_overflow ≡ false → l.fn.self.width < items_width g.W.CharWidth.columns (take 1 l.fn.self.flat.word) → l.self.flat.word ≡ l.fn.self.flat.word;
   limits : KeepsLimits l.fn.self l.self;
 }
 

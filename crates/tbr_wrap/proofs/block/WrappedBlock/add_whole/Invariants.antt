@@ -3,7 +3,7 @@ use denote.Shadow.{shadow}
 use denote.Text.{Utf8}
 use Rattle.tbr_model.specs.Rule.{call}
 use Rattle.tbr_wrap.specs.Block.{HasGrown, lines, allows}
-use Rattle.tbr_wrap.proofs.block.WrappedBlock.add_text.Given as goal
+use Rattle.tbr_wrap.proofs.block.WrappedBlock.add_whole.Given as goal
 
 abbrev pub invariant-loop-rest : goal.invariant-loop-rest
 invariant-loop-rest g l = record {

@@ -1,0 +1,8 @@
+use Rattle.std.proofs.Common.{refl}
+use Rattle.tbr_tagged.specs.View.{element_of}
+use Rattle.tbr_tagged.proofs.TextAfter.{last_of-map}
+use Rattle.tbr_tagged.proofs.element_list.ElementList.last_len.Goals as goal
+
+pub returns-in-Listed : goal.returns-in-Listed
+returns-in-Listed g c =
+    rw (c.in-Listed.is, last_of-map element_of c.in-Listed.list.items, c.text_len-in-Listed.ensures, c.last.ensures.value, c.deref.ensures.value) refl
