@@ -10,6 +10,7 @@ pub mod help_page;
 pub mod letter;
 pub mod line_by_line;
 pub mod numbers;
+pub mod pages;
 pub mod report;
 pub mod stars;
 pub mod two_tags;

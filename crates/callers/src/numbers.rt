@@ -1,7 +1,5 @@
 //! The number of each link as its annotation.
-ghost use Rattle.std.specs.Prelude.{◌+◌, ◌==◌, None, false, []};
-ghost use Rattle.std.proofs.Common.{rules};
-ghost use Rattle.std.proofs.lemmas.Bool.{eqb-true, eq-eqb};
+ghost use Rattle.std.specs.Prelude.{◌+◌, None, false, []};
 ghost use Rattle.tbr_decor.specs.Start as start;
 ghost use Rattle.tbr_decor.specs.Change as change;
 ghost use Rattle.tbr_decor.specs.Trivial as trivial;
@@ -20,16 +18,6 @@ pub struct NumberDecorator {
 
 impl TextDecorator for NumberDecorator {
     type Annotation = usize;
-
-    ghost use Rattle.std.specs.Prelude.{ℕ};
-
-    ghost Meaning = { ℕ };
-
-    ghost meaning = { λ number. number };
-
-    ghost same = { λ m n. m == n };
-
-    ghost tells = { λ m n. (eqb-true m n, eq-eqb m n) };
 
     ghost start_text = { λ _. trivial.start_text };
 
@@ -171,8 +159,4 @@ impl TextDecorator for NumberDecorator {
     ) -> Result<Vec<TaggedLine<usize>>, OutOfMemory> {
         usual::finalise(alloc, urls)
     }
-
-    ghost equal_by_meaning = { λ a b. (eqb-true a b, eq-eqb a b) };
-
-    ghost copies_equal = { Prim.search rules };
 }

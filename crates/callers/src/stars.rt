@@ -16,14 +16,6 @@ pub struct StarDecorator {}
 impl TextDecorator for StarDecorator {
     type Annotation = ();
 
-    ghost Meaning = { Unit {0} };
-
-    ghost meaning = { λ a. a };
-
-    ghost same = { λ _ _. true };
-
-    ghost tells = { usual.all_same };
-
     ghost start_text = { λ _. elim [
       | start.emphasis ↦ codes "*"
       | start.superscript ↦ usual.superscript_start
@@ -165,8 +157,4 @@ impl TextDecorator for StarDecorator {
     ) -> Result<Vec<TaggedLine<()>>, OutOfMemory> {
         usual::finalise(alloc, urls)
     }
-
-    ghost equal_by_meaning = { Prim.search rules };
-
-    ghost copies_equal = { λ _ _ _. refl };
 }

@@ -1,3 +1,4 @@
 pub mod Chains
 pub mod WrittenLines
 pub mod MappedBorders
+pub mod Told

@@ -2,6 +2,6 @@
 use Rattle.std.specs.Prelude.{Bool, List}
 use Rattle.std.specs.Cmp.Lexicographic.{pointwise}
 
--- as many annotations, equal in order
-abbrev pub equal_annotations : {A : Type 0} → (A → A → Bool) → List A → List A → Bool
-equal_annotations eq = pointwise eq
+-- as many annotations, which mean the same in order
+abbrev pub same_annotations : {M : Type 0} → (M → M → Bool) → List M → List M → Bool
+same_annotations same = pointwise same

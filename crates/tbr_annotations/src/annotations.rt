@@ -1,32 +1,32 @@
 //! Lists of annotations, as texts are under them.
-ghost use Rattle.std.specs.Prelude.{◌≡◌, ◌-◌, ◌++◌, ◌∷◌, [], length, take, IfOk};
-ghost use Rattle.std.specs.List.{AllZip};
+ghost use Rattle.std.specs.Prelude.{◌≡◌, ◌-◌, ◌++◌, ◌∷◌, [], length, take, map, IfOk};
 
 use crate::chain::{Chain, equal_chains};
 use std::alloc::{AllocError, Global};
 use std::fmt;
 use std::marker::Model;
 use tbr_tagged::OutOfMemory;
+use tbr_tags::{Meanings, Tag};
 
 /// A list of annotations. Its copies and the lists that are made from it share what they have in common, so that many
-/// lists of many annotations take little memory. A contract sees the list.
+/// lists of many annotations take little memory. A contract sees the list of what they mean.
 #[derive(Drop)]
-pub struct Annotations<A> {
+pub struct Annotations<A: Tag> {
     chain: Chain<A>,
 }
 
-impl<A> Model for Annotations<A> {
-    ghost use Rattle.std.specs.Prelude.{List};
+impl<A: Tag> Model for Annotations<A> {
+    ghost use Rattle.std.specs.Prelude.{List, map};
     ghost use Rattle.tbr_annotations.specs.Chain.{annotations_of, CountsWell};
 
-    ghost Value = { List A };
+    ghost Value = { List A.Meaning };
 
-    ghost view = { λ a. annotations_of a.chain };
+    ghost view = { λ a. map A.meaning (annotations_of a.chain) };
 
     ghost invariant = { λ a. CountsWell a.chain };
 }
 
-impl<A> Annotations<A> {
+impl<A: Tag> Annotations<A> {
     /// No annotation. It takes no memory.
     pub fn new() -> Annotations<A>
         ensures { result ≡ [] }
@@ -43,20 +43,16 @@ impl<A> Annotations<A> {
 
     /// Copies of the annotations. It refuses only where memory is refused.
     pub fn to_vec(&self, alloc: Global) -> Result<Vec<A>, OutOfMemory>
-    where
-        A: Clone + Drop,
-        ensures { IfOk result (λ copies. AllZip A.is_clone self.now copies.items) }
+        ensures { IfOk result (λ copies. map A.meaning copies.items ≡ self.now) }
     {
         let mut copies = self.chain.copied_down(alloc)?;
         copies.reverse();
         Ok(copies)
     }
-}
 
-impl<A: Drop> Annotations<A> {
     /// The same annotations, and one more. It refuses only where memory is refused.
     pub fn with(&self, alloc: Global, annotation: A) -> Result<Annotations<A>, OutOfMemory>
-        ensures { IfOk result (λ more. more ≡ self.now ++ annotation ∷ []) }
+        ensures { IfOk result (λ more. more ≡ self.now ++ A.meaning annotation ∷ []) }
     {
         let chain = self.chain.share()?.push(alloc, annotation)?;
         Ok(Annotations { chain })
@@ -73,7 +69,7 @@ impl<A: Drop> Annotations<A> {
 }
 
 /// A copy shares all annotations, and takes no memory.
-impl<A: Drop> Clone for Annotations<A> {
+impl<A: Tag> Clone for Annotations<A> {
     ghost use Rattle.std.specs.Prelude.{◌≡◌};
 
     ghost is_clone = { λ annotations copy. copy ≡ annotations };
@@ -86,28 +82,45 @@ impl<A: Drop> Clone for Annotations<A> {
 
 /// Two lists are equal where they have as many annotations, equal in order. Lists of one length are compared from
 /// their last annotations on.
-impl<A: PartialEq> PartialEq for Annotations<A> {
-    ghost use Rattle.std.specs.Cmp.Lexicographic.{lists_per};
-    ghost use Rattle.tbr_annotations.specs.Annotations.{equal_annotations};
+impl<A: Tag> PartialEq for Annotations<A> {
+    ghost use Rattle.tbr_annotations.specs.Annotations.{same_annotations};
+    ghost use Rattle.tbr_tags.specs.Tells.{told_per, lists_tell};
 
-    ghost eq = { equal_annotations A.eq };
+    ghost eq = { same_annotations A.same };
 
-    ghost laws = { lists_per A.laws };
+    ghost laws = { told_per (same_annotations A.same) (lists_tell A.same A.tells) };
 
-    #[tactic(auto, using(crate::proofs::Chains::down_is_up))]
     fn eq(&self, other: &Annotations<A>) -> bool {
         self.len() == other.len() && equal_chains(&self.chain, &other.chain)
     }
 }
 
-impl<A: Eq> Eq for Annotations<A> {
-    ghost use Rattle.std.specs.Cmp.Lexicographic.{lists_equiv};
+impl<A: Tag> Eq for Annotations<A> {
+    ghost use Rattle.tbr_annotations.specs.Annotations.{same_annotations};
+    ghost use Rattle.tbr_tags.specs.Tells.{told_equiv, lists_tell};
 
-    ghost laws = { lists_equiv A.Eq.laws };
+    ghost laws = { told_equiv (same_annotations A.same) (lists_tell A.same A.tells) };
+}
+
+impl<A: Tag> Tag for Annotations<A> {
+    ghost use Rattle.tbr_annotations.specs.Annotations.{same_annotations};
+    ghost use Rattle.tbr_tags.specs.Tells.{lists_tell, equal_itself};
+
+    type Meaning = Meanings<A::Meaning>;
+
+    ghost meaning = { λ annotations. annotations };
+
+    ghost same = { same_annotations A.same };
+
+    ghost tells = { lists_tell A.same A.tells };
+
+    ghost equal_by_meaning = { lists_tell A.same A.tells };
+
+    ghost copies_equal = { equal_itself (same_annotations A.same) (lists_tell A.same A.tells) };
 }
 
 /// The annotations, the last one first.
-impl<A: fmt::Debug> fmt::Debug for Annotations<A> {
+impl<A: Tag + fmt::Debug> fmt::Debug for Annotations<A> {
     fn fmt<F: fmt::Write>(&self, f: &mut fmt::Formatter<F>) -> fmt::Result {
         let mut list = f.debug_list();
         let mut chain = &self.chain;

@@ -6,25 +6,26 @@ use std::alloc::Global;
 use std::fmt;
 use std::marker::Model;
 use tbr_tagged::OutOfMemory;
+use tbr_tags::Tag;
 
 /// The annotations of text that comes, to which one is added or from which the last one is taken. A contract sees the
-/// list.
+/// list of what they mean.
 #[derive(Drop)]
-pub struct OpenAnnotations<A> {
+pub struct OpenAnnotations<A: Tag> {
     list: Annotations<A>,
     /// How many of the last ones are closed already: none, unless the others couldn't be shared once more.
     closed: usize,
 }
 
-impl<A> Model for OpenAnnotations<A> {
+impl<A: Tag> Model for OpenAnnotations<A> {
     ghost use Rattle.std.specs.Prelude.{List, ◌-◌, length, take};
 
-    ghost Value = { List A };
+    ghost Value = { List A.Meaning };
 
     ghost view = { λ a. take (length a.list - a.closed) a.list };
 }
 
-impl<A> OpenAnnotations<A> {
+impl<A: Tag> OpenAnnotations<A> {
     /// No annotation. It takes no memory.
     pub fn new() -> OpenAnnotations<A>
         ensures { result ≡ [] }
@@ -38,9 +39,7 @@ impl<A> OpenAnnotations<A> {
     {
         OpenAnnotations { list, closed: 0 }
     }
-}
 
-impl<A: Drop> OpenAnnotations<A> {
     /// The annotations. It takes no memory, and refuses only where as many lists as `usize` counts share them.
     pub fn list(&self) -> Result<Annotations<A>, OutOfMemory>
         ensures { IfOk result (λ list. list ≡ self.now) }
@@ -50,7 +49,7 @@ impl<A: Drop> OpenAnnotations<A> {
 
     /// Adds an annotation. Where memory is refused nothing changes.
     pub fn push(&mut self, alloc: Global, annotation: A) -> Result<(), OutOfMemory>
-        ensures ok { OnOk result (self.new ≡ self.old ++ annotation ∷ []) }
+        ensures ok { OnOk result (self.new ≡ self.old ++ A.meaning annotation ∷ []) }
         ensures err { OnErr result (self.new ≡ self.old) }
     {
         let list = self.list()?.with(alloc, annotation)?;
@@ -79,7 +78,7 @@ impl<A: Drop> OpenAnnotations<A> {
 }
 
 /// The annotations, the last one first.
-impl<A: fmt::Debug> fmt::Debug for OpenAnnotations<A> {
+impl<A: Tag + fmt::Debug> fmt::Debug for OpenAnnotations<A> {
     fn fmt<F: fmt::Write>(&self, f: &mut fmt::Formatter<F>) -> fmt::Result {
         fmt::Debug::fmt(&self.list, f)
     }

@@ -1,6 +1,6 @@
 //! Lines as they are handed out, each list of annotations as a vector.
 ghost use Rattle.std.specs.Prelude.{IfOk};
-ghost use Rattle.tbr_tagged.specs.Copies.{CopiesAreEqual, equal_lists};
+ghost use Rattle.tbr_tagged.specs.Copies.{equal_lists};
 ghost use Rattle.tbr_tagged.specs.Elements.{IsMerged};
 ghost use Rattle.tbr_tagged.specs.Mapped.{MapsElement};
 ghost use Rattle.tbr_tagged.specs.View.{element_of};
@@ -12,14 +12,14 @@ use crate::annotations::Annotations;
 use std::alloc::Global;
 use tbr_border::{BorderHoriz, RenderLine};
 use tbr_tagged::{OutOfMemory, TaggedLine, TaggedLineElement, TaggedString};
+use tbr_tags::Tag;
 
 /// The same line, each list of annotations as a vector of copies. It refuses only where memory is refused.
-pub fn written_out<A: Eq + Clone + Drop>(
+pub fn written_out<A: Tag>(
     alloc: Global,
     line: RenderLine<Annotations<A>>,
 ) -> Result<RenderLine<Vec<A>>, OutOfMemory>
-    requires { CopiesAreEqual A.is_clone A.eq }
-    ensures written { IfOk result (λ out. WritesOut A.eq line out) }
+    ensures written { IfOk result (λ out. WritesOut A.meaning line out) }
     ensures merged { IfOk result (λ out. IsMergedText (equal_lists A.eq) out) }
 {
     Ok(match line {
@@ -29,12 +29,11 @@ pub fn written_out<A: Eq + Clone + Drop>(
 }
 
 /// The same line of text. Its pieces are the longest stretches under equal vectors.
-fn written_line<A: Eq + Clone + Drop>(
+fn written_line<A: Tag>(
     alloc: Global,
     line: TaggedLine<Annotations<A>>,
 ) -> Result<TaggedLine<Vec<A>>, OutOfMemory>
-    requires { CopiesAreEqual A.is_clone A.eq }
-    ensures items { IfOk result (λ out. WritesItems A.eq line out) }
+    ensures items { IfOk result (λ out. WritesItems A.meaning line out) }
     ensures merged { IfOk result (λ out. IsMerged (equal_lists A.eq) out) }
 {
     let mut out = TaggedLine::new(alloc);
@@ -45,12 +44,11 @@ fn written_line<A: Eq + Clone + Drop>(
 }
 
 /// The same element. A piece is under a vector of copies.
-fn written_element<A: Eq + Clone + Drop>(
+fn written_element<A: Tag>(
     alloc: Global,
     element: TaggedLineElement<Annotations<A>>,
 ) -> Result<TaggedLineElement<Vec<A>>, OutOfMemory>
-    requires { CopiesAreEqual A.is_clone A.eq }
-    ensures { IfOk result (λ out. MapsElement (Holds A.eq) (element_of element) (element_of out)) }
+    ensures { IfOk result (λ out. MapsElement (Holds A.meaning) (element_of element) (element_of out)) }
 {
     match element {
         TaggedLineElement::Str(TaggedString { s, tag }) => {
@@ -62,23 +60,21 @@ fn written_element<A: Eq + Clone + Drop>(
 }
 
 /// The same border, its cells and what is in front of them under vectors of copies.
-fn written_border<A: Eq + Clone + Drop>(
+fn written_border<A: Tag>(
     alloc: Global,
     border: BorderHoriz<Annotations<A>>,
 ) -> Result<BorderHoriz<Vec<A>>, OutOfMemory>
-    requires { CopiesAreEqual A.is_clone A.eq }
-    ensures { IfOk result (λ out. MapsBorder (Holds A.eq) border out) }
+    ensures { IfOk result (λ out. MapsBorder (Holds A.meaning) border out) }
 {
     border.try_map_tag(&|list: Annotations<A>| written_list(alloc, &list))
 }
 
 /// A list as a vector of copies.
-fn written_list<A: Eq + Clone + Drop>(
+fn written_list<A: Tag>(
     alloc: Global,
     list: &Annotations<A>,
 ) -> Result<Vec<A>, OutOfMemory>
-    requires { CopiesAreEqual A.is_clone A.eq }
-    ensures { IfOk result (λ copies. Holds A.eq list.now copies) }
+    ensures { IfOk result (λ copies. Holds A.meaning list.now copies) }
 {
     list.to_vec(alloc)
 }

@@ -9,8 +9,9 @@ use Rattle.tbr_border.specs.declared.RenderLine.{RenderLine}
 use Rattle.tbr_border.specs.RenderLine.{SameLine}
 use Rattle.tbr_decor.specs.declared.annotation.RichAnnotation.{RichAnnotation}
 use Rattle.tbr_decor.specs.contracts.annotation.RichAnnotationPartialEq.TheImpl as rich
-use Rattle.tbr_annotations.specs.Annotations.{equal_annotations}
+use Rattle.tbr_annotations.specs.Annotations.{same_annotations}
 use Rattle.tbr_annotations.specs.Written.{IsWrittenOut}
+use Rattle.tbr_decor.specs.Style.{style_of, same_style}
 use Rattle.tbr_show.specs.Ansi as ansi
 use Rattle.tbr_show.specs.Html as html
 use Rattle.tbr_show.specs.Ndjson as json
@@ -59,11 +60,11 @@ module _ (is_bare : Bool) where
 -- ---- lines
 
 -- A line of a renderer in a format, with a newline: as C sees a copy of it that is written out.
-abbrev pub ShowsLine : {A : Type 0} → (A → A → Bool) → (A → RichAnnotation) → Bool → Format → RenderLine (List A) →
-    List ℕ → Type 0
-ShowsLine {A} eq shown is_bare format line cs =
-    (copy : RenderLine (List A)) × (out : RenderLine (Vec A)) × (seen : Line)
-    × SameLine (equal_annotations eq) copy line × IsWrittenOut eq copy out × IsSeenAs eq shown out seen
+abbrev pub ShowsLine : {A M : Type 0} → (A → M) → (M → M → Bool) → (A → A → Bool) → (A → RichAnnotation) → Bool →
+    Format → RenderLine (List M) → List ℕ → Type 0
+ShowsLine {A} {M} meaning same eq shown is_bare format line cs =
+    (copy : RenderLine (List M)) × (out : RenderLine (Vec A)) × (seen : Line)
+    × SameLine (same_annotations same) copy line × IsWrittenOut meaning eq copy out × IsSeenAs eq shown out seen
     × (cs ≡ line_as is_bare format seen ++ newline_character ∷ [])
 
 -- and lines one after another
@@ -74,8 +75,8 @@ AreShown Shows (line ∷ lines) cs =
 
 -- those that weren't taken
 abbrev pub ShowsRest : Format → Rest → List ℕ → Type 0
-ShowsRest format (Bare lines) cs = AreShown (ShowsLine equal_bare bare true format) lines.items cs
-ShowsRest format (Rich lines) cs = AreShown (ShowsLine rich.ghosts.eq itself false format) lines.items cs
+ShowsRest format (Bare lines) cs = AreShown (ShowsLine (λ a. a) equal_bare equal_bare bare true format) lines.items cs
+ShowsRest format (Rich lines) cs = AreShown (ShowsLine style_of same_style rich.ghosts.eq itself false format) lines.items cs
 ShowsRest format (Text text) cs = ⊥
 
 -- lines that a format can show; a text alone has none

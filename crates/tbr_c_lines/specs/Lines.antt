@@ -10,6 +10,7 @@ use Rattle.tbr_decor.specs.declared.annotation.RichAnnotation.{RichAnnotation}
 use Rattle.tbr_decor.specs.declared.annotation.RichAnnotation.TheVariants.{Default}
 use Rattle.tbr_decor.specs.contracts.annotation.RichAnnotationPartialEq.TheImpl as rich
 use Rattle.tbr_annotations.specs.Written.{IsWrittenOut}
+use Rattle.tbr_decor.specs.Style.{style_of}
 use Rattle.tbr_c_lines.specs.Line.{Line, IsSeenAs}
 use Rattle.tbr_c_lines.specs.declared.lines.Rest.{Rest}
 use Rattle.tbr_c_lines.specs.declared.lines.Rest.TheVariants.{Bare, Rich, Text}
@@ -49,15 +50,15 @@ abbrev pub itself : RichAnnotation → RichAnnotation
 itself annotation = annotation
 
 -- The first of some lines, written out, is seen as this one, and these are left.
-abbrev pub Takes : {A : Type 0} → (A → A → Bool) → (A → RichAnnotation) → List (RenderLine (List A)) → Line → List (RenderLine (List A)) → Type 0
-Takes {A} eq shown lines seen rest =
-    (line : RenderLine (List A)) × (out : RenderLine (Vec A)) × (lines ≡ line ∷ rest) × IsWrittenOut eq line out
+abbrev pub Takes : {A M : Type 0} → (A → M) → (A → A → Bool) → (A → RichAnnotation) → List (RenderLine (List M)) →
+    Line → List (RenderLine (List M)) → Type 0
+Takes {A} {M} meaning eq shown lines seen rest =
+    (line : RenderLine (List M)) × (out : RenderLine (Vec A)) × (lines ≡ line ∷ rest) × IsWrittenOut meaning eq line out
     × IsSeenAs eq shown out seen
 
 abbrev pub TakesFirst : Rest → Line → Rest → Type 0
-TakesFirst (Bare lines) seen (Bare rest) = Takes equal_bare bare lines.items seen rest.items
-TakesFirst (Rich lines) seen (Rich rest) =
-    Takes rich.ghosts.eq itself lines.items seen rest.items
+TakesFirst (Bare lines) seen (Bare rest) = Takes (λ a. a) equal_bare bare lines.items seen rest.items
+TakesFirst (Rich lines) seen (Rich rest) = Takes style_of rich.ghosts.eq itself lines.items seen rest.items
 TakesFirst (Bare lines) seen other = ⊥
 TakesFirst (Rich lines) seen other = ⊥
 TakesFirst (Text text) seen other = ⊥

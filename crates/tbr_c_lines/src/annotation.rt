@@ -1,28 +1,24 @@
 //! Annotations under any decorator.
-ghost use Rattle.std.specs.Prelude.{◌≡◌, true, refl, IfOk, map};
-ghost use Rattle.tbr_decor.specs.RichLaws.{copies_equal};
+ghost use Rattle.std.specs.Prelude.{◌≡◌, IfOk, map};
 ghost use Rattle.tbr_decor.specs.declared.annotation.RichAnnotation.{RichAnnotation as Rich};
 ghost use Rattle.tbr_c_lines.specs.Lines.{bare, itself};
 
 use std::alloc::{AllocError, Global};
 use tbr_decor::RichAnnotation;
+use tbr_tags::Tag;
 
 /// What text of some decorator is annotated with, and what C sees of it.
-pub trait Annotation: Eq + Clone + Drop {
+pub trait Annotation: Tag {
     // What C sees of one.
     ghost shown: { Self → Rich };
 
     /// The same annotations as C sees them.
     fn show(alloc: Global, annotations: Vec<Self>) -> Result<Vec<RichAnnotation>, AllocError>
         ensures { IfOk result (λ shown. shown.items ≡ map Self.shown annotations.items) };
-
-    ghost copies_equal: { (a b : Self) → Self.is_clone a b → Self.eq a b ≡ true };
 }
 
 impl Annotation for () {
     ghost shown = { bare };
-
-    ghost copies_equal = { λ _ _ _. refl };
 
     fn show(alloc: Global, annotations: Vec<()>) -> Result<Vec<RichAnnotation>, AllocError>
         ensures { IfOk result (λ shown. shown.items ≡ map bare annotations.items) }
@@ -37,8 +33,6 @@ impl Annotation for () {
 
 impl Annotation for RichAnnotation {
     ghost shown = { itself };
-
-    ghost copies_equal = { copies_equal };
 
     fn show(
         _alloc: Global,

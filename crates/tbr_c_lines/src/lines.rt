@@ -201,7 +201,7 @@ fn first_of<A: Annotation>(
     lines: &mut VecDeque<RenderLine<Annotations<A>>>,
 ) -> Result<Option<Line>, OutOfMemory>
     ensures taken { IfOk result (λ found. IfSome found (λ line.
-        left.Takes A.eq A.shown lines.old.items line lines.new.items)) }
+        left.Takes A.meaning A.eq A.shown lines.old.items line lines.new.items)) }
     ensures none { result ≡ Ok None → (lines.old.items ≡ []) × (lines.new ≡ lines.old) }
 {
     if lines.is_empty() {
@@ -247,10 +247,10 @@ fn shown_in<A: Annotation>(
     is_bare: bool,
 ) -> Result<String, OutOfMemory>
     requires { IfSome kept.old (λ s.
-        AreShown (ShowsLine A.eq A.shown is_bare s.format) lines.now.items (chars_of s.text)) }
+        AreShown (ShowsLine A.meaning A.same A.eq A.shown is_bare s.format) lines.now.items (chars_of s.text)) }
     ensures kept { kept.new ≡ None }
     ensures shown { IfOk result (λ text.
-        AreShown (ShowsLine A.eq A.shown is_bare format) lines.now.items (chars_of text)) }
+        AreShown (ShowsLine A.meaning A.same A.eq A.shown is_bare format) lines.now.items (chars_of text)) }
 {
     match kept.take() {
         Some(shown) if shown.format == format => Ok(shown.text),
@@ -284,7 +284,7 @@ fn shown_anew<A: Annotation>(
     format: Format,
     is_bare: bool,
 ) -> Result<String, OutOfMemory>
-    ensures { IfOk result (λ text. AreShown (ShowsLine A.eq A.shown is_bare format) lines.now.items (chars_of text)) }
+    ensures { IfOk result (λ text. AreShown (ShowsLine A.meaning A.same A.eq A.shown is_bare format) lines.now.items (chars_of text)) }
 {
     let mut text = String::new(alloc);
     for line in lines {
@@ -301,7 +301,7 @@ fn append_shown<A: Annotation>(
     format: Format,
     is_bare: bool,
 ) -> Result<(), OutOfMemory>
-    ensures { OnOk result ((cs : List ℕ) × ShowsLine A.eq A.shown is_bare format line.now cs
+    ensures { OnOk result ((cs : List ℕ) × ShowsLine A.meaning A.same A.eq A.shown is_bare format line.now cs
         × (chars_of text.new ≡ chars_of text.old ++ cs)) }
 {
     let out = written_out(alloc, line.clone()?)?;

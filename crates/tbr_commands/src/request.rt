@@ -4,7 +4,6 @@ ghost use Rattle.std.specs.Option.{option_map};
 ghost use Rattle.tbr_tagged.specs.declared.Error.TheVariants as E;
 ghost use Rattle.tbr_decor.specs.Decoration.{decoration_of};
 ghost use Rattle.tbr_renderer.specs.Calls.{Does, IsTooNarrow};
-ghost use Rattle.tbr_renderer.specs.Meant.{meant};
 ghost use Rattle.tbr_script.specs.Read.{number_read};
 ghost use Rattle.tbr_commands.specs.declared.request.beginning.Beginning.TheVariants as beginning;
 ghost use Rattle.tbr_commands.specs.declared.request.kind.Kind.TheVariants as kind;
@@ -108,11 +107,11 @@ impl Request {
         requires strikeouts { request_of self.now ≡ asked.end kind.Strikeout →
             renderer.old.options.use_unicode_strikeout ≡ true → 0 < renderer.old.strikeouts }
         ensures ok { let asks = call_of renderer.old.width (request_of self.now) in
-            OnOk result (Does W.columns (decoration_of D.TextDecorator) asks (meant D.meaning renderer.old)
-            (meant D.meaning renderer.new)) }
+            OnOk result (Does W.columns (decoration_of D.TextDecorator D.Annotation.tells) asks renderer.old
+            renderer.new) }
         ensures too_narrow { let asks = call_of renderer.old.width (request_of self.now) in
             result ≡ Err E.TooNarrow →
-            IsTooNarrow W.columns (decoration_of D.TextDecorator) asks (meant D.meaning renderer.old) }
+            IsTooNarrow W.columns (decoration_of D.TextDecorator D.Annotation.tells) asks renderer.old }
         ensures free { takes_no_memory (request_of self.now) ≡ true → IsOk result }
     {
         match self {

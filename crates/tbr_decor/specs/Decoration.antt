@@ -24,11 +24,12 @@ pub record Decoration (D M : Type 0) : Type 0 where
   pub footnotes : D → List (List ℕ) → List (List (Element M))
   pub after : D → Change → D
 
--- what a decorator says of its own calls
-abbrev pub decoration_of : {D A : Type 0} → (decorator : Ghosts D A) → Decoration D decorator.Meaning
-decoration_of decorator = record {
-  same = decorator.same;
-  tells = decorator.tells;
+-- what a decorator says of its own calls, and how meanings of its annotations are told apart
+abbrev pub decoration_of : {D A M : Type 0} → Ghosts D A M → {same : M → M → Bool} →
+    ((a b : M) → IsTrue (same a b) ↔ (a ≡ b)) → Decoration D M
+decoration_of decorator {same} tells = record {
+  same = same;
+  tells = tells;
   start_text = decorator.start_text;
   annotation = decorator.annotation;
   end_text = decorator.end_text;

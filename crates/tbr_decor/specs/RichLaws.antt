@@ -2,12 +2,10 @@
 use Rattle.std.specs.Prelude.{◌≡◌, ℕ, Bool, true, false, ◌&&◌, ◌==◌, nat_eq, List, [], String, chars, string_bytes, IsTrue, ◌↔◌, refl}
 use Rattle.std.proofs.Common.{sym, ap, ◌∙◌, subst}
 use Rattle.std.proofs.lemmas.Bool.{eqb-true, eq-eqb, false≢true}
-use Rattle.std.specs.Cmp.Lexicographic.{pointwise, same_text}
-use Rattle.std.proofs.lemmas.Cmp.{nat_list_eq_equiv}
+use Rattle.std.specs.Cmp.Lexicographic.{pointwise}
 use Rattle.std.proofs.Math.Bool.{beq}
-use Rattle.std.specs.String.{string_eq, string_eq_equiv}
-use Rattle.std.proofs.lemmas.Str.{encodes-chars, IsUtf8-string_bytes}
-use Rattle.std.specs.Str.{encode_utf8_all}
+use Rattle.tbr_tags.specs.Tells.{lists_tell, numbers_tell, same_flag, one_flag, flags_tell, flags_equal}
+use Rattle.tbr_tags.specs.Texts.{same_characters, equal_text}
 use Rattle.tbr_decor.specs.contracts.annotation.RichAnnotationPartialEq.TheImpl as annotation
 use Rattle.tbr_decor.specs.contracts.annotation.RichAnnotationClone.TheImpl as copy
 use Rattle.tbr_decor.specs.declared.annotation.RichAnnotation.{RichAnnotation}
@@ -16,26 +14,6 @@ use Rattle.tbr_decor.specs.contracts.colour.ColourPartialEq.TheImpl as colour
 use Rattle.tbr_decor.specs.declared.colour.Colour.{Colour}
 use Rattle.tbr_decor.specs.Style as style
 use Rattle.tbr_decor.specs.Style.{Style, style_of, one_colour, same_style}
-
-same_characters : {Z : Type 0} (s t : String Z) → IsTrue (string_eq s t) → chars (string_bytes s) ≡ chars (string_bytes t)
-same_characters s t h = ap chars (same_text (string_bytes s) (string_bytes t) (sym h))
-
-equal_text : {Z : Type 0} (s t : String Z) → chars (string_bytes s) ≡ chars (string_bytes t) → IsTrue (string_eq s t)
-equal_text s t e =
-    let bytes : string_bytes s ≡ string_bytes t =
-    sym (encodes-chars (string_bytes s) (IsUtf8-string_bytes s)) ∙ ap encode_utf8_all e
-    ∙ encodes-chars (string_bytes t) (IsUtf8-string_bytes t) in
-    subst (λ (bs : List ℕ). pointwise nat_eq (string_bytes s) bs ≡ true) bytes (string_eq_equiv.refl s)
-
-same_flag : (x y : Bool) → IsTrue (beq x y) → x ≡ y
-same_flag true true h = refl
-same_flag false false h = refl
-same_flag true false h = cc
-same_flag false true h = cc
-
-equal_flag : (x : Bool) → IsTrue (beq x x)
-equal_flag true = refl
-equal_flag false = refl
 
 all_three : (p q r : Bool) → (p && (q && r)) ≡ true → (p ≡ true) × (q ≡ true) × (r ≡ true)
 all_three true true true h = (refl, refl, refl)
@@ -84,7 +62,7 @@ equal_by_style rich.Strikeout rich.Strikeout = (λ _. refl, λ _. refl)
 equal_by_style rich.Code rich.Code = (λ _. refl, λ _. refl)
 equal_by_style (rich.Preformat x) (rich.Preformat y) = (
   λ h. ap style.preformatted (same_flag x y h),
-  λ h. let e : x ≡ y = cc in subst (λ (b : Bool). IsTrue (beq x b)) e (equal_flag x),
+  λ h. one_flag x y (let e : x ≡ y = cc in e),
 )
 equal_by_style (rich.Colour x) (rich.Colour y) = (
   λ h. ap style.colour (same_colour x y h),
@@ -96,18 +74,12 @@ equal_by_style (rich.BgColour x) (rich.BgColour y) = (
 )
 equal_by_style a b = (λ h. absurd (false≢true h), λ e. absurd (of_one_kind (style_of a) (style_of b) refl e))
 
-texts_apart : (s t : List ℕ) → IsTrue (pointwise nat_eq s t) ↔ (s ≡ t)
-texts_apart s t = (λ h. same_text s t (sym h), λ e. subst (λ (u : List ℕ). pointwise nat_eq s u ≡ true) e (nat_list_eq_equiv.refl s))
-
 -- where what a style is made of is told apart, styles of one kind are
 parts_apart : {X : Type 0} (make : X → Style) (part : Style → X) → ((x : X) → part (make x) ≡ x) → (same : X → X → Bool) → ((x y : X) → IsTrue (same x y) ↔ (x ≡ y)) → (x y : X) → IsTrue (same x y) ↔ (make x ≡ make y)
 parts_apart make part is same apart x y = (
   λ h. ap make ((apart x y).0 h),
   λ e. (apart x y).1 (sym (is x) ∙ ap part e ∙ is y),
 )
-
-flags_apart : (x y : Bool) → IsTrue (beq x y) ↔ (x ≡ y)
-flags_apart x y = (same_flag x y, λ e. subst (λ (b : Bool). IsTrue (beq x b)) e (equal_flag x))
 
 colours_apart : (x y : Colour) → IsTrue (one_colour x y) ↔ (x ≡ y)
 colours_apart x y = (same_colour x y, λ e. subst (λ (c : Colour). IsTrue (one_colour x c)) e (equal_colour x))
@@ -130,13 +102,13 @@ colour_in s = record { r = 0; g = 0; b = 0 }
 pub styles_apart : (s t : Style) → IsTrue (same_style s t) ↔ (s ≡ t)
 unfolding kind text_in flag_in colour_in
 styles_apart style.plain style.plain = (λ _. refl, λ _. refl)
-styles_apart (style.link s) (style.link t) = parts_apart style.link text_in (λ _. refl) (pointwise nat_eq) texts_apart s t
-styles_apart (style.image s) (style.image t) = parts_apart style.image text_in (λ _. refl) (pointwise nat_eq) texts_apart s t
+styles_apart (style.link s) (style.link t) = parts_apart style.link text_in (λ _. refl) (pointwise nat_eq) (lists_tell nat_eq numbers_tell) s t
+styles_apart (style.image s) (style.image t) = parts_apart style.image text_in (λ _. refl) (pointwise nat_eq) (lists_tell nat_eq numbers_tell) s t
 styles_apart style.emphasis style.emphasis = (λ _. refl, λ _. refl)
 styles_apart style.strong style.strong = (λ _. refl, λ _. refl)
 styles_apart style.strikeout style.strikeout = (λ _. refl, λ _. refl)
 styles_apart style.code style.code = (λ _. refl, λ _. refl)
-styles_apart (style.preformatted x) (style.preformatted y) = parts_apart style.preformatted flag_in (λ _. refl) beq flags_apart x y
+styles_apart (style.preformatted x) (style.preformatted y) = parts_apart style.preformatted flag_in (λ _. refl) beq flags_tell x y
 styles_apart (style.colour x) (style.colour y) = parts_apart style.colour colour_in (λ _. refl) one_colour colours_apart x y
 styles_apart (style.background x) (style.background y) = parts_apart style.background colour_in (λ _. refl) one_colour colours_apart x y
 styles_apart s t = (λ h. absurd (false≢true h), λ e. absurd (of_one_kind s t refl e))
@@ -149,8 +121,7 @@ copies_equal rich.Emphasis rich.Emphasis h = refl
 copies_equal rich.Strong rich.Strong h = refl
 copies_equal rich.Strikeout rich.Strikeout h = refl
 copies_equal rich.Code rich.Code h = refl
-copies_equal (rich.Preformat x) (rich.Preformat y) h =
-    subst (λ (b : Bool). IsTrue (beq b y)) h (equal_flag y)
+copies_equal (rich.Preformat x) (rich.Preformat y) h = flags_equal x y h
 copies_equal (rich.Colour x) (rich.Colour y) h =
     subst (λ (c : Colour). IsTrue (colour.ghosts.eq c y)) h (equal_colour y)
 copies_equal (rich.BgColour x) (rich.BgColour y) h =

@@ -15,6 +15,7 @@ use crate::colour::Colour;
 use std::alloc::Global;
 use std::fmt::Debug;
 use tbr_tagged::{OutOfMemory, TaggedLine};
+use tbr_tags::Tag;
 
 /// Puts texts round parts of a document, such as `*` round emphasised text. It gives annotations of what is between,
 /// such as its colour.
@@ -33,36 +34,27 @@ use tbr_tagged::{OutOfMemory, TaggedLine};
 /// [`usual`](crate::usual).
 pub trait TextDecorator: Drop {
     /// What a stretch of text can be annotated with.
-    type Annotation: Eq + Debug + Clone + Default + Drop;
-
-    // What an annotation means, and whether two mean the same.
-    ghost Meaning: { Type 0 };
-
-    ghost meaning: { Self.Annotation → Self.Meaning };
-
-    ghost same: { Self.Meaning → Self.Meaning → Bool };
-
-    ghost tells: { (a b : Self.Meaning) → IsTrue (same a b) ↔ (a ≡ b) };
+    type Annotation: Tag + Debug + Default;
 
     // The text and the annotation of what is opened, and the text of what is closed.
     ghost start_text: { Self → start.Start → List ℕ };
 
-    ghost annotation: { Self → start.Start → Self.Meaning };
+    ghost annotation: { Self → start.Start → Self.Annotation.Meaning };
 
     ghost end_text: { Self → end.End → List ℕ };
 
     // The annotation of preformatted lines, and of the lines that continue them.
-    ghost preformatted: { Self → Bool → Self.Meaning };
+    ghost preformatted: { Self → Bool → Self.Annotation.Meaning };
 
     ghost prefix_text: { Self → prefix.Prefix → List ℕ };
 
     // The annotation of a colour, where it has one, and whether its end takes an annotation away.
-    ghost colour_annotation: { Self → ground.Ground → Colour → Option Self.Meaning };
+    ghost colour_annotation: { Self → ground.Ground → Colour → Option Self.Annotation.Meaning };
 
     ghost ends_colour: { Self → ground.Ground → Bool };
 
     // The lines after a document, by the targets of its links.
-    ghost footnotes: { Self → List (List ℕ) → List (List (Element Self.Meaning)) };
+    ghost footnotes: { Self → List (List ℕ) → List (List (Element Self.Annotation.Meaning)) };
 
     ghost subblock: { Self → Self };
 
@@ -76,7 +68,7 @@ pub trait TextDecorator: Drop {
         url: &str,
     ) -> Result<(String, Self::Annotation), OutOfMemory>
         ensures text { IfOk result (λ r. chars_of r.0 ≡ start_text self.old (start.link (chars url.now))) }
-        ensures annotation { IfOk result (λ r. meaning r.1 ≡ annotation self.old (start.link (chars url.now))) }
+        ensures annotation { IfOk result (λ r. Self.Annotation.meaning r.1 ≡ annotation self.old (start.link (chars url.now))) }
         ensures after { OnOk result (self.new ≡ after self.old (change.link_start (chars url.now))) }
         ensures err { OnErr result (self.new ≡ self.old) };
 
@@ -89,7 +81,7 @@ pub trait TextDecorator: Drop {
     /// The text before emphasised text, and its annotation.
     fn decorate_em_start(&self, alloc: Global) -> Result<(String, Self::Annotation), OutOfMemory>
         ensures text { IfOk result (λ r. chars_of r.0 ≡ start_text self.now start.emphasis) }
-        ensures annotation { IfOk result (λ r. meaning r.1 ≡ annotation self.now start.emphasis) };
+        ensures annotation { IfOk result (λ r. Self.Annotation.meaning r.1 ≡ annotation self.now start.emphasis) };
 
     /// The text after emphasised text.
     fn decorate_em_end(&self, alloc: Global) -> Result<String, OutOfMemory>
@@ -101,7 +93,7 @@ pub trait TextDecorator: Drop {
         alloc: Global,
     ) -> Result<(String, Self::Annotation), OutOfMemory>
         ensures text { IfOk result (λ r. chars_of r.0 ≡ start_text self.now start.strong) }
-        ensures annotation { IfOk result (λ r. meaning r.1 ≡ annotation self.now start.strong) };
+        ensures annotation { IfOk result (λ r. Self.Annotation.meaning r.1 ≡ annotation self.now start.strong) };
 
     /// The text after strong text.
     fn decorate_strong_end(&self, alloc: Global) -> Result<String, OutOfMemory>
@@ -113,7 +105,7 @@ pub trait TextDecorator: Drop {
         alloc: Global,
     ) -> Result<(String, Self::Annotation), OutOfMemory>
         ensures text { IfOk result (λ r. chars_of r.0 ≡ start_text self.now start.strikeout) }
-        ensures annotation { IfOk result (λ r. meaning r.1 ≡ annotation self.now start.strikeout) };
+        ensures annotation { IfOk result (λ r. Self.Annotation.meaning r.1 ≡ annotation self.now start.strikeout) };
 
     /// The text after struck out text.
     fn decorate_strikeout_end(&self, alloc: Global) -> Result<String, OutOfMemory>
@@ -122,7 +114,7 @@ pub trait TextDecorator: Drop {
     /// The text before code, and its annotation.
     fn decorate_code_start(&self, alloc: Global) -> Result<(String, Self::Annotation), OutOfMemory>
         ensures text { IfOk result (λ r. chars_of r.0 ≡ start_text self.now start.code) }
-        ensures annotation { IfOk result (λ r. meaning r.1 ≡ annotation self.now start.code) };
+        ensures annotation { IfOk result (λ r. Self.Annotation.meaning r.1 ≡ annotation self.now start.code) };
 
     /// The text after code.
     fn decorate_code_end(&self, alloc: Global) -> Result<String, OutOfMemory>
@@ -134,7 +126,7 @@ pub trait TextDecorator: Drop {
         alloc: Global,
     ) -> Result<(String, Self::Annotation), OutOfMemory>
         ensures text { IfOk result (λ r. chars_of r.0 ≡ start_text self.now start.superscript) }
-        ensures annotation { IfOk result (λ r. meaning r.1 ≡ annotation self.now start.superscript) };
+        ensures annotation { IfOk result (λ r. Self.Annotation.meaning r.1 ≡ annotation self.now start.superscript) };
 
     /// The text after a superscript.
     fn decorate_superscript_end(&self, alloc: Global) -> Result<String, OutOfMemory>
@@ -142,11 +134,11 @@ pub trait TextDecorator: Drop {
 
     /// The annotation of a preformatted line.
     fn decorate_preformat_first(&self, alloc: Global) -> Result<Self::Annotation, OutOfMemory>
-        ensures { IfOk result (λ a. meaning a ≡ preformatted self.now false) };
+        ensures { IfOk result (λ a. Self.Annotation.meaning a ≡ preformatted self.now false) };
 
     /// The annotation of a line that continues a preformatted line which was too long.
     fn decorate_preformat_cont(&self, alloc: Global) -> Result<Self::Annotation, OutOfMemory>
-        ensures { IfOk result (λ a. meaning a ≡ preformatted self.now true) };
+        ensures { IfOk result (λ a. Self.Annotation.meaning a ≡ preformatted self.now true) };
 
     /// The text that shows the image at `src`, and its annotation.
     fn decorate_image(
@@ -158,7 +150,7 @@ pub trait TextDecorator: Drop {
         ensures text { IfOk result (λ r.
             chars_of r.0 ≡ start_text self.old (start.image (chars src.now) (chars title.now))) }
         ensures annotation { IfOk result (λ r.
-            meaning r.1 ≡ annotation self.old (start.image (chars src.now) (chars title.now))) }
+            Self.Annotation.meaning r.1 ≡ annotation self.old (start.image (chars src.now) (chars title.now))) }
         ensures after { OnOk result (self.new ≡ after self.old (change.image (chars src.now) (chars title.now))) }
         ensures err { OnErr result (self.new ≡ self.old) };
 
@@ -188,7 +180,7 @@ pub trait TextDecorator: Drop {
         alloc: Global,
         colour: Colour,
     ) -> Result<Option<Self::Annotation>, OutOfMemory>
-        ensures annotation { IfOk result (λ a. option_map meaning a ≡ colour_annotation self.old ground.text colour) }
+        ensures annotation { IfOk result (λ a. option_map Self.Annotation.meaning a ≡ colour_annotation self.old ground.text colour) }
         ensures after { OnOk result (self.new ≡ after self.old (change.push_colour ground.text colour)) }
         ensures err { OnErr result (self.new ≡ self.old) };
 
@@ -204,7 +196,7 @@ pub trait TextDecorator: Drop {
         colour: Colour,
     ) -> Result<Option<Self::Annotation>, OutOfMemory>
         ensures annotation { IfOk result (λ a.
-            option_map meaning a ≡ colour_annotation self.old ground.background colour) }
+            option_map Self.Annotation.meaning a ≡ colour_annotation self.old ground.background colour) }
         ensures after { OnOk result (self.new ≡ after self.old (change.push_colour ground.background colour)) }
         ensures err { OnErr result (self.new ≡ self.old) };
 
@@ -220,11 +212,7 @@ pub trait TextDecorator: Drop {
         urls: Vec<String>,
     ) -> Result<Vec<TaggedLine<Self::Annotation>>, OutOfMemory>
         ensures lines { IfOk result (λ lines.
-            lines_meant meaning lines.items ≡ footnotes self.old (map chars_of urls.items)) }
+            lines_meant Self.Annotation.meaning lines.items ≡ footnotes self.old (map chars_of urls.items)) }
         ensures after { OnOk result (self.new ≡ after self.old (change.finalise (map chars_of urls.items))) }
         ensures err { OnErr result (self.new ≡ self.old) };
-
-    ghost equal_by_meaning: { (a b : Self.Annotation) → IsTrue (Self.Annotation.eq a b) ↔ (meaning a ≡ meaning b) };
-
-    ghost copies_equal: { (a b : Self.Annotation) → Self.Annotation.is_clone a b → Self.Annotation.eq a b ≡ true };
 }

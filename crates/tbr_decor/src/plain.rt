@@ -24,14 +24,6 @@ impl PlainDecorator {
 impl TextDecorator for PlainDecorator {
     type Annotation = ();
 
-    ghost Meaning = { Unit {0} };
-
-    ghost meaning = { λ a. a };
-
-    ghost same = { λ _ _. true };
-
-    ghost tells = { usual.all_same };
-
     ghost start_text = { λ _. plain.start_text };
 
     ghost annotation = { λ _ _. tt };
@@ -164,8 +156,4 @@ impl TextDecorator for PlainDecorator {
     ) -> Result<Vec<TaggedLine<()>>, OutOfMemory> {
         usual::finalise(alloc, urls)
     }
-
-    ghost equal_by_meaning = { Prim.search rules };
-
-    ghost copies_equal = { λ _ _ _. refl };
 }

@@ -30,14 +30,6 @@ impl RichDecorator {
 impl TextDecorator for RichDecorator {
     type Annotation = RichAnnotation;
 
-    ghost Meaning = { Style };
-
-    ghost meaning = { style_of };
-
-    ghost same = { same_style };
-
-    ghost tells = { styles_apart };
-
     ghost start_text = { λ _. trivial.start_text };
 
     ghost annotation = { λ _. rich.annotation };
@@ -192,8 +184,4 @@ impl TextDecorator for RichDecorator {
     ) -> Result<Vec<TaggedLine<RichAnnotation>>, OutOfMemory> {
         usual::finalise(alloc, urls)
     }
-
-    ghost equal_by_meaning = { equal_by_style };
-
-    ghost copies_equal = { copies_equal };
 }

@@ -25,14 +25,6 @@ impl TrivialDecorator {
 impl TextDecorator for TrivialDecorator {
     type Annotation = ();
 
-    ghost Meaning = { Unit {0} };
-
-    ghost meaning = { λ a. a };
-
-    ghost same = { λ _ _. true };
-
-    ghost tells = { usual.all_same };
-
     ghost start_text = { λ _. trivial.start_text };
 
     ghost annotation = { λ _ _. tt };
@@ -165,8 +157,4 @@ impl TextDecorator for TrivialDecorator {
     ) -> Result<Vec<TaggedLine<()>>, OutOfMemory> {
         usual::finalise(alloc, urls)
     }
-
-    ghost equal_by_meaning = { Prim.search rules };
-
-    ghost copies_equal = { λ _ _ _. refl };
 }

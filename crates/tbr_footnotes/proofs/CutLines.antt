@@ -1,26 +1,22 @@
 -- Footnotes that are cut into lines.
-use Rattle.std.proofs.Common.{◌≡◌, ◌≢◌, ℕ, ◌+◌, ◌≤◌, ◌==◌, Bool, true, false, if◌then◌else◌, Option, Some, None, List, [], ◌∷◌, ◌++◌, map, refl, ap, sym, ◌∙◌, append_assoc, append-nil, arith, rules}
+use Rattle.std.proofs.Common.{◌≡◌, ◌≢◌, ◌↔◌, IsTrue, ℕ, ◌+◌, ◌≤◌, ◌==◌, Bool, true, false, if◌then◌else◌, Option, Some, None, List, [], ◌∷◌, ◌++◌, map, refl, ap, sym, ◌∙◌, append_assoc, append-nil, arith, rules}
 use Rattle.std.proofs.lemmas.Bool.{cond_both, eqb-true, leb-true, le-leb}
 use Rattle.std.proofs.lemmas.List.{map-append}
 use Rattle.std.proofs.lemmas.Grind.{fold-append}
 use Rattle.tbr_model.specs.Codes.{newline_character}
 use Rattle.tbr_model.specs.Run.{Item, glyph, item_width}
-use Rattle.tbr_model.specs.Mapped.{map_item}
 use Rattle.tbr_model.specs.Width.{width_of_text}
 use Rattle.tbr_model.proofs.words.Items.{items_width-append}
-use Rattle.tbr_annotations.specs.Annotations.{equal_annotations}
+use Rattle.tbr_annotations.specs.Annotations.{same_annotations}
 use Rattle.tbr_tagged.specs.Elements.{Element, piece, marker_element, text_items, items_of, SameItems, IsMerged}
-use Rattle.tbr_tagged.specs.Mapped.{MeansEqual}
-use Rattle.tbr_tagged.proofs.MappedTags.{means_same_items}
+use Rattle.tbr_annotations.proofs.Told.{items_told}
 use Rattle.tbr_tagged.proofs.TextColumns.{items_width-text}
 use Rattle.tbr_tagged.specs.declared.TaggedLineElement.{TaggedLineElement}
 use Rattle.tbr_tagged.specs.View.{element_of}
 use Rattle.tbr_decor.specs.Meant.{meant as element_meant}
-use Rattle.tbr_footnotes.specs.Cutting.{Cutting, nothing_cut, line_ended, appended, extended, with_item, with_items, cut_meant, texts_meant, cutting_of, HoldsCutting}
+use Rattle.tbr_footnotes.specs.Cutting.{Cutting, nothing_cut, line_ended, appended, extended, with_item, with_items, cutting_of, HoldsCutting}
 use Rattle.tbr_footnotes.specs.Footnote.{unbroken, footnote_items, fits_after, cut_lines}
 use Rattle.tbr_footnotes.specs.declared.footnote_lines.FootnoteLines.TheInside.{Inside}
-use Rattle.tbr_footnotes.specs.Tags.{tag_meant, items_meant}
-use Rattle.tbr_footnotes.proofs.Tags.{text_items-map}
 
 -- ---- the characters of a footnote
 
@@ -110,29 +106,22 @@ module _ {A M : Type 0} (f : A → M) (columns : ℕ → Option ℕ) where
   elements_end c d es line so_far all = so_far ∙ ap (λ xs. with_items columns c (footnote_items (map (element_meant f) xs))) all
 
   -- the lines of a footnote, from the first character to the last
-  pub cut_whole : (width : Option ℕ) (c d : Cutting (List A)) (es : List (Element M)) (lines : List (List (Item (List M)))) → c ≡ nothing_cut width → cut_meant f d ≡ with_items columns (cut_meant f c) (footnote_items es) →
-      lines ≡ (line_ended (cut_meant f d)).ended → lines ≡ cut_lines columns width [] (footnote_items es)
+  pub cut_whole : (width : Option ℕ) (c d : Cutting (List M)) (es : List (Element M)) (lines : List (List (Item (List M)))) → c ≡ nothing_cut width → d ≡ with_items columns c (footnote_items es) →
+      lines ≡ (line_ended d).ended → lines ≡ cut_lines columns width [] (footnote_items es)
   cut_whole width c d es lines begun all last =
-      last ∙ ap (λ (x : Cutting (List M)). (line_ended x).ended) (all ∙ ap (λ (x : Cutting (List A)). with_items columns (cut_meant f x) (footnote_items es)) begun)
+      last ∙ ap (λ (x : Cutting (List M)). (line_ended x).ended) (all ∙ ap (λ (x : Cutting (List M)). with_items columns x (footnote_items es)) begun)
       ∙ cut_by_items columns (nothing_cut width) (footnote_items es)
 
 -- ---- what is in the fields
 
-module _ {A M : Type 0} (f : A → M) where
-  pub texts_are : (lines : List (List (Element (List A)))) → texts_meant f lines ≡ map (items_meant f) (map items_of lines)
-  texts_are [] = refl
-  texts_are (l ∷ lines) = ap (λ (ls : List (List (Item (List M)))). items_meant f (items_of l) ∷ ls) (texts_are lines)
+-- a text more in the open line
+module _ {M : Type 0} (widths : ℕ → Option ℕ) (same : M → M → Bool) (tells : (a b : M) → IsTrue (same a b) ↔ (a ≡ b)) {D W A : Type 0} (c : Inside D W A M) (new : List (Element (List M))) (cs : List ℕ) (tag : List M)
+    (is : SameItems (same_annotations same) (items_of new) (items_of c.held ++ text_items cs tag)) where
+  held_more : items_of new ≡ items_of c.held ++ text_items cs tag
+  held_more = items_told same tells (items_of new) (items_of c.held ++ text_items cs tag) is
 
-  -- a text more in the open line
-  module _ (widths : ℕ → Option ℕ) (eq : A → A → Bool) (agree : MeansEqual (tag_meant f) (equal_annotations eq)) {D W : Type 0} (c : Inside D W A) (new : List (Element (List A))) (cs : List ℕ) (tag : List A)
-      (same : SameItems (equal_annotations eq) (items_of new) (items_of c.held ++ text_items cs tag)) where
-    held_more : items_meant f (items_of new) ≡ items_meant f (items_of c.held) ++ text_items cs (tag_meant f tag)
-    held_more =
-        means_same_items (tag_meant f) (equal_annotations eq) agree (items_of new) (items_of c.held ++ text_items cs tag) same ∙ map-append (map_item (tag_meant f)) (items_of c.held) (text_items cs tag)
-        ∙ ap (λ is. items_meant f (items_of c.held) ++ is) (text_items-map (tag_meant f) cs tag)
+  pub line_extended : (p : Cutting (List M)) → cutting_of c ≡ p → record (cutting_of c) { held = items_of new } ≡ extended p (text_items cs tag)
+  line_extended p are = ap (λ (held : List (Item (List M))). record (cutting_of c) { held = held }) held_more ∙ ap (λ (q : Cutting (List M)). extended q (text_items cs tag)) are
 
-    pub line_extended : (p : Cutting (List A)) → cutting_of c ≡ p → cut_meant f (record (cutting_of c) { held = items_of new }) ≡ extended (cut_meant f p) (text_items cs (tag_meant f tag))
-    line_extended p is = ap (λ (held : List (Item (List M))). record (cut_meant f (cutting_of c)) { held = held }) held_more ∙ ap (λ (q : Cutting (List A)). extended (cut_meant f q) (text_items cs (tag_meant f tag))) is
-
-    pub holds_extended : (columns : ℕ) → HoldsCutting widths eq f c → columns ≡ c.columns + width_of_text widths cs → IsMerged (equal_annotations eq) new → HoldsCutting widths eq f (record c { held = new; columns = columns })
-    holds_extended columns h sum merged = search (rules, items_width-append, items_width-text, held_more)
+  pub holds_extended : (columns : ℕ) → HoldsCutting widths same c → columns ≡ c.columns + width_of_text widths cs → IsMerged (same_annotations same) new → HoldsCutting widths same (record c { held = new; columns = columns })
+  holds_extended columns h sum merged = search (rules, items_width-append, items_width-text, held_more)

@@ -1,2 +1,1 @@
-pub mod Tags
 pub mod CutLines

@@ -2,10 +2,9 @@
 use Rattle.std.specs.Prelude.{◌≡◌, ℕ, Bool, Option, if◌then◌else◌, List, [], ◌∷◌, ◌++◌, map, fold}
 use Rattle.std.specs.List.{AllByRecursion as Each}
 use Rattle.tbr_model.specs.Run.{Item, item_width, items_width}
-use Rattle.tbr_annotations.specs.Annotations.{equal_annotations}
-use Rattle.tbr_tagged.specs.Elements.{Element, items_of, IsMerged}
+use Rattle.tbr_annotations.specs.Annotations.{same_annotations}
+use Rattle.tbr_tagged.specs.Elements.{items_of, IsMerged}
 use Rattle.tbr_footnotes.specs.Footnote.{fits_after}
-use Rattle.tbr_footnotes.specs.Tags.{items_meant}
 use Rattle.tbr_footnotes.specs.declared.footnote_lines.FootnoteLines.TheInside.{Inside}
 
 -- The lines that have ended, and what the open one holds.
@@ -40,29 +39,15 @@ with_item columns c i =
 abbrev pub with_items : {T : Type 0} → (ℕ → Option ℕ) → Cutting T → List (Item T) → Cutting T
 with_items columns c is = fold (with_item columns) c is
 
--- ---- by what annotations mean
-
--- the same lines, each annotation as what it means
-abbrev pub cut_meant : {A M : Type 0} → (A → M) → Cutting (List A) → Cutting (List M)
-cut_meant meaning c = record {
-  width = c.width;
-  ended = map (items_meant meaning) c.ended;
-  held = items_meant meaning c.held;
-}
-
--- the items of lines
-abbrev pub texts_meant : {A M : Type 0} → (A → M) → List (List (Element (List A))) → List (List (Item (List M)))
-texts_meant meaning lines = map (λ line. items_meant meaning (items_of line)) lines
-
 -- ---- what a contract sees of the fields
 
 -- the items of the lines that have ended, and of the open one
-abbrev pub cutting_of : {D W A : Type 0} → Inside D W A → Cutting (List A)
+abbrev pub cutting_of : {D W A M : Type 0} → Inside D W A M → Cutting (List M)
 cutting_of c = record { width = c.width; ended = map items_of c.ended.items; held = items_of c.held }
 
 -- Pieces are the longest stretches under equal annotations, and the columns are those of the open line.
-pub record HoldsCutting {D W A M : Type 0} (widths : ℕ → Option ℕ) (eq : A → A → Bool) (meaning : A → M)
-    (c : Inside D W A) : Type 0 where
-  pub taken : c.columns ≡ items_width widths (items_meant meaning (items_of c.held))
-  pub merged : Each (IsMerged (equal_annotations eq)) c.ended.items
-  pub merged_held : IsMerged (equal_annotations eq) c.held
+pub record HoldsCutting {D W A M : Type 0} (widths : ℕ → Option ℕ) (same : M → M → Bool) (c : Inside D W A M) :
+    Type 0 where
+  pub taken : c.columns ≡ items_width widths (items_of c.held)
+  pub merged : Each (IsMerged (same_annotations same)) c.ended.items
+  pub merged_held : IsMerged (same_annotations same) c.held

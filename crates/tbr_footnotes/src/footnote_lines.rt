@@ -3,15 +3,14 @@ ghost use Rattle.std.specs.Prelude.{◌≡◌, ◌+◌, ◌∷◌, [], true, unw
 ghost use Rattle.std.specs.List.{AllByRecursion as Each};
 ghost use Rattle.tbr_model.specs.Run.{glyph, items_width};
 ghost use Rattle.tbr_model.specs.Width.{width_of_text};
-ghost use Rattle.tbr_annotations.specs.Annotations.{equal_annotations};
-ghost use Rattle.tbr_tagged.specs.Elements.{text_items, IsMerged};
+ghost use Rattle.tbr_annotations.specs.Annotations.{same_annotations};
+ghost use Rattle.tbr_tagged.specs.Elements.{items_of, text_items, IsMerged};
 ghost use Rattle.tbr_tagged.specs.View.{chars_of, element_of};
 ghost use Rattle.tbr_tagged.specs.Walks.{piece_of};
 ghost use Rattle.tbr_decor.specs.Meant.{meant};
-ghost use Rattle.tbr_footnotes.specs.Cutting.{nothing_cut, line_ended, appended, extended, with_item, with_items, cut_meant, texts_meant};
+ghost use Rattle.tbr_footnotes.specs.Cutting.{nothing_cut, line_ended, appended, extended, with_item, with_items};
 ghost use Rattle.tbr_footnotes.specs.Footnote as model;
 ghost use Rattle.tbr_footnotes.specs.Footnote.{footnote_items, fits_after};
-ghost use Rattle.tbr_footnotes.specs.Tags.{tag_meant};
 
 use std::alloc::Global;
 use std::marker::{Model, PhantomData};
@@ -39,11 +38,11 @@ impl<D: TextDecorator, W: CharWidth> Model for FootnoteLines<D, W> {
     ghost use Rattle.std.specs.Prelude.{List};
     ghost use Rattle.tbr_footnotes.specs.Cutting.{Cutting, cutting_of, HoldsCutting};
 
-    ghost Value = { Cutting (List D.Annotation) };
+    ghost Value = { Cutting (List D.Annotation.Meaning) };
 
     ghost view = { λ c. cutting_of c };
 
-    ghost invariant = { λ c. HoldsCutting W.columns D.Annotation.eq D.meaning c };
+    ghost invariant = { λ c. HoldsCutting W.columns D.Annotation.same c };
 }
 
 impl<D: TextDecorator, W: CharWidth> FootnoteLines<D, W> {
@@ -67,8 +66,8 @@ impl<D: TextDecorator, W: CharWidth> FootnoteLines<D, W> {
     ///
     /// It answers `OutOfMemory` too where the columns of a line pass `usize`. Characters are then lost.
     pub fn push_line(&mut self, line: TaggedLine<D::Annotation>) -> Result<(), OutOfMemory>
-        ensures { OnOk result (cut_meant D.meaning self.new
-            ≡ with_items W.columns (cut_meant D.meaning self.old) (footnote_items (map (meant D.meaning) line))) }
+        ensures { OnOk result (self.new
+            ≡ with_items W.columns self.old (footnote_items (map (meant D.Annotation.meaning) line))) }
     {
         for element in line {
             self.push_element(element)?;
@@ -80,8 +79,8 @@ impl<D: TextDecorator, W: CharWidth> FootnoteLines<D, W> {
     /// annotations. Where memory is refused all are lost.
     pub fn finish(mut self) -> Result<Vec<TaggedLine<Annotations<D::Annotation>>>, OutOfMemory>
         ensures lines { IfOk result (λ lines.
-            texts_meant D.meaning lines.items ≡ (line_ended (cut_meant D.meaning self)).ended) }
-        ensures merged { IfOk result (λ lines. Each (IsMerged (equal_annotations D.Annotation.eq)) lines.items) }
+            map items_of lines.items ≡ (line_ended self).ended) }
+        ensures merged { IfOk result (λ lines. Each (IsMerged (same_annotations D.Annotation.same)) lines.items) }
     {
         self.end_line()?;
         Ok(self.ended)
@@ -89,8 +88,8 @@ impl<D: TextDecorator, W: CharWidth> FootnoteLines<D, W> {
 
     /// Adds the characters of a piece, or drops a marker.
     fn push_element(&mut self, element: TaggedLineElement<D::Annotation>) -> Result<(), OutOfMemory>
-        ensures { OnOk result (cut_meant D.meaning self.new ≡ with_items W.columns (cut_meant D.meaning self.old)
-            (footnote_items (meant D.meaning (element_of element) ∷ []))) }
+        ensures { OnOk result (self.new ≡ with_items W.columns self.old
+            (footnote_items (meant D.Annotation.meaning (element_of element) ∷ []))) }
     {
         match element {
             TaggedLineElement::Str(piece) => self.push_piece(piece),
@@ -100,8 +99,8 @@ impl<D: TextDecorator, W: CharWidth> FootnoteLines<D, W> {
 
     /// Adds the characters of a piece: as it is where all of it fits, and else one by one.
     fn push_piece(&mut self, piece: TaggedString<D::Annotation>) -> Result<(), OutOfMemory>
-        ensures { OnOk result (cut_meant D.meaning self.new ≡ with_items W.columns (cut_meant D.meaning self.old)
-            (footnote_items (meant D.meaning (piece_of piece) ∷ []))) }
+        ensures { OnOk result (self.new ≡ with_items W.columns self.old
+            (footnote_items (meant D.Annotation.meaning (piece_of piece) ∷ []))) }
     {
         let tag = Annotations::new().with(self.alloc, piece.tag)?;
         match self.columns_with(piece.s.as_str()) {
@@ -112,9 +111,9 @@ impl<D: TextDecorator, W: CharWidth> FootnoteLines<D, W> {
 
     /// The columns of the open line with a text after it, where that has no newline and fits as a whole.
     fn columns_with(&self, text: &str) -> Option<usize>
-        ensures columns { let held = (cut_meant D.meaning self.now).held in IfSome result (λ columns.
+        ensures columns { let held = self.now.held in IfSome result (λ columns.
             columns ≡ items_width W.columns held + width_of_text W.columns (chars text.now)) }
-        ensures fits { let held = (cut_meant D.meaning self.now).held in IfSome result (λ _.
+        ensures fits { let held = self.now.held in IfSome result (λ _.
             fits_after W.columns self.now.width held (width_of_text W.columns (chars text.now)) ≡ true) }
         ensures unbroken { IfSome result (λ _. map model.unbroken (chars text.now) ≡ chars text.now) }
     {
@@ -131,10 +130,10 @@ impl<D: TextDecorator, W: CharWidth> FootnoteLines<D, W> {
         piece: TaggedString<Annotations<D::Annotation>>,
         columns: usize,
     ) -> Result<(), OutOfMemory>
-        requires { let held = (cut_meant D.meaning self.old).held in
+        requires { let held = self.old.held in
             columns ≡ items_width W.columns held + width_of_text W.columns (chars_of piece.s) }
-        ensures { OnOk result (cut_meant D.meaning self.new
-            ≡ extended (cut_meant D.meaning self.old) (text_items (chars_of piece.s) (tag_meant D.meaning piece.tag))) }
+        ensures { OnOk result (self.new
+            ≡ extended self.old (text_items (chars_of piece.s) piece.tag)) }
     {
         self.held.push_str(piece)?;
         self.columns = columns;
@@ -143,8 +142,8 @@ impl<D: TextDecorator, W: CharWidth> FootnoteLines<D, W> {
 
     /// Adds the characters of a text under these annotations.
     fn push_text(&mut self, text: &str, tag: &Annotations<D::Annotation>) -> Result<(), OutOfMemory>
-        ensures { OnOk result (cut_meant D.meaning self.new ≡ with_items W.columns (cut_meant D.meaning self.old)
-            (text_items (map model.unbroken (chars text.now)) (tag_meant D.meaning tag.now))) }
+        ensures { OnOk result (self.new ≡ with_items W.columns self.old
+            (text_items (map model.unbroken (chars text.now)) tag.now)) }
     {
         for c in text.chars() {
             self.push(unbroken(c), tag)?;
@@ -154,8 +153,8 @@ impl<D: TextDecorator, W: CharWidth> FootnoteLines<D, W> {
 
     /// Adds a character, on a fresh line where it doesn't fit after what the open one holds.
     fn push(&mut self, c: char, tag: &Annotations<D::Annotation>) -> Result<(), OutOfMemory>
-        ensures { OnOk result (cut_meant D.meaning self.new
-            ≡ with_item W.columns (cut_meant D.meaning self.old) (glyph c (tag_meant D.meaning tag.now))) }
+        ensures { OnOk result (self.new
+            ≡ with_item W.columns self.old (glyph c tag.now)) }
     {
         if !self.fits(c) {
             self.end_line()?;
@@ -166,7 +165,7 @@ impl<D: TextDecorator, W: CharWidth> FootnoteLines<D, W> {
     /// Whether a character fits after what the open line holds.
     fn fits(&self, c: char) -> bool
         ensures { result
-            ≡ fits_after W.columns self.now.width (cut_meant D.meaning self.now).held (unwrap_or (W.columns c) 0) }
+            ≡ fits_after W.columns self.now.width self.now.held (unwrap_or (W.columns c) 0) }
     {
         let Some(width) = self.width else {
             return true;
@@ -177,7 +176,7 @@ impl<D: TextDecorator, W: CharWidth> FootnoteLines<D, W> {
 
     /// Ends the open line.
     fn end_line(&mut self) -> Result<(), OutOfMemory>
-        ensures { OnOk result (cut_meant D.meaning self.new ≡ line_ended (cut_meant D.meaning self.old)) }
+        ensures { OnOk result (self.new ≡ line_ended self.old) }
     {
         self.columns = 0;
         let line = mem::replace(&mut self.held, TaggedLine::new(self.alloc));
@@ -187,8 +186,8 @@ impl<D: TextDecorator, W: CharWidth> FootnoteLines<D, W> {
 
     /// Adds a character to the open line. It refuses too where the line's columns pass `usize`.
     fn append(&mut self, c: char, tag: &Annotations<D::Annotation>) -> Result<(), OutOfMemory>
-        ensures { OnOk result (cut_meant D.meaning self.new
-            ≡ appended (cut_meant D.meaning self.old) (glyph c (tag_meant D.meaning tag.now))) }
+        ensures { OnOk result (self.new
+            ≡ appended self.old (glyph c tag.now)) }
     {
         let more = W::width(c).unwrap_or(0);
         let Some(columns) = self.columns.checked_add(more) else {

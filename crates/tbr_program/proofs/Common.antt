@@ -16,15 +16,13 @@ pub use Rattle.tbr_rows.specs.Cells.{row_fits, spots_from}
 pub use Rattle.tbr_renderer.specs.Outcomes.{and_then, changed, gathered, taking}
 pub use Rattle.tbr_stack.specs.Links.{after_end_with, after_link_end, after_link_start, link_number, open_in_first, open_links, opened, shown_number, with_link, without_open_link}
 pub use Rattle.tbr_stack.specs.Stack.{Level, Stack, below, first_renderer, in_first, pushed, top_of, with_top}
-pub use Rattle.tbr_stack.specs.Top.{in_top, level_meant, stack_meant}
+pub use Rattle.tbr_stack.specs.Top.{in_top}
 pub use Rattle.text_block_renderer.specs.Appended.{GivesFirst, handed_out, texts_of}
 pub use Rattle.text_block_renderer.specs.Calls.{Call, Does, IsTooNarrow, add_image, add_inline_text, after, append_subrender, append_vert_row, end_strikeout, finish, new_line, pop_colour, push_colour, start_block, start_strikeout}
 pub use Rattle.text_block_renderer.specs.Decorated.{coloured, sub_renderer, uncoloured}
 pub use Rattle.text_block_renderer.specs.Line.{Line, line_seen}
-pub use Rattle.text_block_renderer.specs.Meant.{map_line, meant}
 pub use Rattle.text_block_renderer.specs.Renderer.{Open, Renderer, Settings, settings_of, with_line}
-pub use Rattle.text_block_renderer.specs.Rows.{GivenCell, after_row, cells_given, cells_meant, looks, spots_of}
-pub use Rattle.text_block_renderer.specs.Tags.{tag_meant}
+pub use Rattle.text_block_renderer.specs.Rows.{GivenCell, after_row, cells_given, cells_handed_out, looks, spots_of}
 pub use Rattle.text_block_renderer.specs.Text.{lines_text}
 pub use Rattle.tbr_script.specs.declared.error.RunError.{RunError}
 pub use Rattle.tbr_script.specs.declared.error.RunError.TheVariants.{NotACommand, NothingToEnd, OutOfMemory, RowDoesNotFit}
@@ -35,6 +33,6 @@ pub use Rattle.tbr_commands.specs.declared.begun.Begun.{Begun}
 pub use Rattle.tbr_program.specs.Closing.{closed_text, finalised, footnotes_of, with_notes}
 pub use Rattle.tbr_program.specs.Commands.{Made, Place, Runs, Top, after_command, after_line, after_read, answered, block_joined, block_made, cells_waiting, ended, ended_as, if_some_are, joins, level_ended, level_opened, on_top, request_made, row_made, vertical_made, waits, with_stack}
 pub use Rattle.tbr_program.specs.Prefixes.{prefixes}
-pub use Rattle.tbr_program.specs.Progress.{AreLive, Closes, GoesOn, IsLive, Opened, Pending, Progress, begun_on_each, cell_meant, nothing_pending, opened_meant, opener, pending_meant, progress_meant, renderers_of, with_cell, without_cells}
+pub use Rattle.tbr_program.specs.Progress.{AreLive, Closes, GoesOn, IsLive, Opened, Pending, Progress, begun_on_each, nothing_pending, opener, renderers_of, with_cell, without_cells}
 pub use Rattle.tbr_program.specs.declared.opened.Opener.{Opener}
 pub use Rattle.tbr_program.specs.declared.opened.Opener.TheVariants.{Cell, Sub}

@@ -1,5 +1,5 @@
 -- Programs that go on after their commands.
-use Rattle.tbr_program.proofs.Common.{◌≡◌, ℕ, Option, Result, Ok, List, [], ◌∷◌, map, length, refl, ap, sym, subst, chars, arith, Outcome, done, gathered, Decoration, Renderer, append_subrender, append_vert_row, spots_of, handed_out, row_fits, RunError, NothingToEnd, RowDoesNotFit, Level, top_of, below, in_top, level_meant, open_links, Command, ask, link, end_link, sub, append, cell, end_cell, row, vertical_row, Begun, ends_nothing, counted, Opener, Sub, Cell, prefixes, Pending, Opened, Progress, renderers_of, without_cells, pending_meant, opened_meant, progress_meant, IsLive, begun_on_each, GoesOn, Runs, with_stack, level_opened, block_made, block_joined, request_made, cells_waiting, row_made, vertical_made, after_command}
+use Rattle.tbr_program.proofs.Common.{◌≡◌, ℕ, Option, Result, Ok, List, [], ◌∷◌, map, length, refl, ap, sym, subst, chars, arith, Outcome, done, gathered, Decoration, Renderer, append_subrender, append_vert_row, spots_of, handed_out, row_fits, RunError, NothingToEnd, RowDoesNotFit, Level, top_of, below, in_top, open_links, Command, ask, link, end_link, sub, append, cell, end_cell, row, vertical_row, Begun, ends_nothing, counted, Opener, Sub, Cell, prefixes, Pending, Opened, Progress, renderers_of, without_cells, IsLive, begun_on_each, GoesOn, Runs, with_stack, level_opened, block_made, block_joined, request_made, cells_waiting, row_made, vertical_made, after_command}
 use Rattle.tbr_stack.proofs.Tops.{top_changed}
 use Rattle.tbr_program.proofs.CommandParts.{one_ok, unless, if_so, some_are, of_top, stack_done, opens, Ends, block_ends, cell_ends}
 use Rattle.tbr_program.proofs.Levels.{Zipped, top_live, with_top_live, below_live}
@@ -56,35 +56,14 @@ module _ {D M : Type 0} (columns : ℕ → Option ℕ) (decoration : Decoration 
       top_goes_on p q live (without_cells p.pending) (vertical_made columns decoration p.pending)
       (taken_live columns decoration (gathered (handed_out columns) (renderers_of p.pending.cells)) _ p.pending.begun (λ cells r s here does. uncounted_live columns decoration (append_vert_row cells) r s p.pending.begun (λ x. refl) (λ n. refl) here does)) is
 
--- ---- by what annotations mean
 
-module _ {D A M : Type 0} (meaning : A → M) where
-  zipped_meant : (levels : List (Level (Renderer D A (List A)))) (begun : List Begun) → Zipped levels begun → Zipped (map (level_meant meaning) levels) begun
-  zipped_meant [] begun live = live
-  zipped_meant (level ∷ levels) [] live = live
-  zipped_meant (level ∷ levels) (b ∷ begun) live = (live.0, zipped_meant levels begun live.1)
-
-  zipped_told : (levels : List (Level (Renderer D A (List A)))) (begun : List Begun) → Zipped (map (level_meant meaning) levels) begun → Zipped levels begun
-  zipped_told [] begun live = live
-  zipped_told (level ∷ levels) [] live = live
-  zipped_told (level ∷ levels) (b ∷ begun) live = (live.0, zipped_told levels begun live.1)
-
-  begun_meant : (pending : Pending D A (List A)) (os : List (Opened D A (List A))) → begun_on_each (pending_meant meaning pending) (map (opened_meant meaning) os) ≡ begun_on_each pending os
-  begun_meant pending [] = refl
-  begun_meant pending (o ∷ os) = ap (λ bs. pending.begun ∷ bs) (begun_meant o.below os)
-
-  meant_live : (p : Progress D A (List A)) → GoesOn p → GoesOn (progress_meant meaning p)
-  meant_live p live = subst (Zipped (map (level_meant meaning) p.stack.levels)) (sym (begun_meant p.pending p.opened)) (zipped_meant p.stack.levels _ live)
-
-  told_live : (p : Progress D A (List A)) → GoesOn (progress_meant meaning p) → GoesOn p
-  told_live p live = zipped_told p.stack.levels _ (subst (Zipped (map (level_meant meaning) p.stack.levels)) (begun_meant p.pending p.opened) live)
-
-  module _ (columns : ℕ → Option ℕ) (decoration : Decoration D M) (number : ℕ) (command : Command) (old new : Progress D A (List A)) (live : GoesOn old) where
+module _ {D A : Type 0} where
+  module _ (columns : ℕ → Option ℕ) (decoration : Decoration D A) (number : ℕ) (command : Command) (old new : Progress D A (List A)) (live : GoesOn old) where
     -- a command that is done
-    pub command_done : {R : Type 0} (x : R) → after_command columns decoration number command (progress_meant meaning old) ≡ Ok (progress_meant meaning new) → Runs meaning (after_command columns decoration number command) old (Ok x) new
-    command_done x is = runs_done meaning (after_command columns decoration number command) old new x is (told_live new (goes_on columns decoration number command (progress_meant meaning old) (progress_meant meaning new) (meant_live old live) is))
+    pub command_done : {R : Type 0} (x : R) → after_command columns decoration number command old ≡ Ok new → Runs (after_command columns decoration number command) old (Ok x) new
+    command_done x is = runs_done (after_command columns decoration number command) old new x is (goes_on columns decoration number command old new live is)
 
-  module _ (columns : ℕ → Option ℕ) (decoration : Decoration D M) (by : Opener) (width : ℕ) (old new : Progress D A (List A)) (live : GoesOn old) where
+  module _ (columns : ℕ → Option ℕ) (decoration : Decoration D A) (by : Opener) (width : ℕ) (old new : Progress D A (List A)) (live : GoesOn old) where
     -- a level that is opened
-    pub opening_done : {R : Type 0} (x : R) → level_opened columns decoration by width (progress_meant meaning old) ≡ Ok (progress_meant meaning new) → Runs meaning (level_opened columns decoration by width) old (Ok x) new
-    opening_done x is = runs_done meaning (level_opened columns decoration by width) old new x is (told_live new (level_goes_on columns decoration (progress_meant meaning old) (progress_meant meaning new) (meant_live old live) by width is))
+    pub opening_done : {R : Type 0} (x : R) → level_opened columns decoration by width old ≡ Ok new → Runs (level_opened columns decoration by width) old (Ok x) new
+    opening_done x is = runs_done (level_opened columns decoration by width) old new x is (level_goes_on columns decoration old new live by width is)

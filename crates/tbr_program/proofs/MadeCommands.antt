@@ -1,11 +1,8 @@
 -- What commands make of a program, by what its renderers leave.
-use Rattle.tbr_program.proofs.Common.{◌≡◌, ◌≢◌, ◌⊎◌, ℕ, Bool, true, false, if◌then◌else◌, Option, None, Some, Result, Ok, Err, List, [], ◌∷◌, map, drop, length, chars, refl, sym, ap, ◌∙◌, arith, rules, pointwise, map-append, nil_from_length, CellAlign, Outcome, done, refused, row_fits, spots_from, Decoration, and_then, changed, taking, gathered, Renderer, Line, tag_meant, meant, sub_renderer, handed_out, new_line, append_vert_row, after, Does, IsTooNarrow, looks, spots_of, GivenCell, cells_given, cells_meant, after_row, RunError, NotACommand, NothingToEnd, RowDoesNotFit, Stack, Level, top_of, with_top, pushed, below, in_top, level_meant, stack_meant, open_in_first, open_links, after_link_start, after_link_end, Request, call_of, Command, ask, link, end_link, append, end_cell, row, vertical_row, ends_nothing, counted, Opener, Sub, Cell, closed_text, Pending, Opened, Progress, nothing_pending, opener, renderers_of, with_cell, without_cells, Closes, cell_meant, pending_meant, opened_meant, progress_meant, Top, Place, Made, answered, on_top, if_some_are, with_stack, level_opened, ended_as, level_ended, block_made, block_joined, joins, waits, request_made, row_made, vertical_made, after_command, ended}
+use Rattle.tbr_program.proofs.Common.{◌≡◌, ◌≢◌, ◌⊎◌, ℕ, Bool, true, false, if◌then◌else◌, Option, None, Some, Result, Ok, Err, List, [], ◌∷◌, map, drop, length, chars, refl, sym, ap, ◌∙◌, arith, rules, pointwise, map-append, nil_from_length, CellAlign, Outcome, done, refused, row_fits, spots_from, Decoration, and_then, changed, taking, gathered, Renderer, Line, sub_renderer, handed_out, new_line, append_vert_row, after, Does, IsTooNarrow, looks, spots_of, GivenCell, cells_handed_out, after_row, RunError, NotACommand, NothingToEnd, RowDoesNotFit, Stack, Level, top_of, with_top, pushed, below, in_top, open_links, after_link_start, after_link_end, Request, call_of, Command, ask, link, end_link, append, end_cell, row, vertical_row, ends_nothing, counted, Opener, Sub, Cell, closed_text, Pending, Opened, Progress, nothing_pending, opener, renderers_of, with_cell, without_cells, Closes, Top, Place, Made, answered, on_top, if_some_are, with_stack, level_opened, ended_as, level_ended, block_made, block_joined, joins, waits, request_made, row_made, vertical_made, after_command, ended}
 use Rattle.tbr_tagged.specs.declared.Error.TheVariants as E
-use Rattle.tbr_rows.specs.Meant.{map_cell}
-use Rattle.tbr_rows.proofs.MeantRows.{fits_mean}
-use Rattle.tbr_renderer.proofs.BlankRenderers.{blank_meant}
 use Rattle.tbr_script.specs.declared.error.RunError.TheVariants.{TooNarrow}
-use Rattle.tbr_stack.proofs.Tops.{top_meant, done_in, refused_in}
+use Rattle.tbr_stack.proofs.Tops.{done_in, refused_in}
 use Rattle.tbr_program.proofs.Levels.{below_top}
 
 -- ---- questions
@@ -43,69 +40,38 @@ module _ {D M : Type 0} (columns : ℕ → Option ℕ) (decoration : Decoration 
         ends (record { by = by; below = pending } ∷ others) ≡ make inside (record { stack = below p.stack; pending = pending; opened = others })
     ends_by inside pending others none top = grind (arith, ends_so, no_more)
 
--- what others give that are made of these
-gathered_over : {X Y Z : Type 0} (give : Y → Outcome Z) (make : X → Y) (xs : List X) → gathered (λ x. give (make x)) xs ≡ gathered give (map make xs)
-gathered_over give make [] = refl
-gathered_over give make (x ∷ xs) = ap (λ o. and_then (give (make x)) (λ z. changed (λ zs. z ∷ zs) o)) (gathered_over give make xs)
-
-module _ {D A M : Type 0} (meaning : A → M) where
-  -- ---- by what annotations mean
-
-  below_top_meant : (levels : List (Level (Renderer D A (List A)))) → map (level_meant meaning) (below_top levels) ≡ below_top (map (level_meant meaning) levels)
-  below_top_meant [] = refl
-  below_top_meant (level ∷ levels) = refl
-
-  opener_meant : (os : List (Opened D A (List A))) → opener (map (opened_meant meaning) os) ≡ opener os
-  opener_meant [] = refl
-  opener_meant (o ∷ os) = refl
-
-  no_cells : (cells : List (Renderer D A (List A) × ℕ)) → map (cell_meant meaning) cells ≡ [] → cells ≡ []
-  no_cells [] is = refl
-  no_cells (cell ∷ cells) is = cc
-
-  no_opened : (os : List (Opened D A (List A))) → map (opened_meant meaning) os ≡ [] → os ≡ []
-  no_opened [] is = refl
-  no_opened (o ∷ os) is = cc
-
-  renderers_meant : (cells : List (Renderer D A (List A) × ℕ)) → renderers_of (map (cell_meant meaning) cells) ≡ map (meant meaning) (renderers_of cells)
-  renderers_meant [] = refl
-  renderers_meant (cell ∷ cells) = ap (λ (rs : List (Renderer D M (List M))). meant meaning cell.0 ∷ rs) (renderers_meant cells)
-
-  places_meant : (levels : List (Level (Renderer D A (List A)))) → open_in_first (map (level_meant meaning) levels) ≡ open_in_first levels
-  places_meant [] = refl
-  places_meant (level ∷ levels) = refl
-
-  module _ (columns : ℕ → Option ℕ) (decoration : Decoration D M) (number : ℕ) (i p : Progress D A (List A)) (same : i ≡ p) where
+module _ {D M : Type 0} where
+  module _ (columns : ℕ → Option ℕ) (decoration : Decoration D M) (number : ℕ) (i p : Progress D M (List M)) (same : i ≡ p) where
     -- what the program would be with this stack
-    abbrev after_it : Stack (Renderer D A (List A)) → Pending D A (List A) → Made columns decoration
-    after_it stack pending = Ok (progress_meant meaning (record { stack = stack; pending = pending; opened = i.opened }))
+    abbrev after_it : Stack (Renderer D M (List M)) → Pending D M (List M) → Made columns decoration
+    after_it stack pending = Ok (record { stack = stack; pending = pending; opened = i.opened })
 
     abbrev makes : Command → Made columns decoration
-    makes command = after_command columns decoration number command (progress_meant meaning p)
+    makes command = after_command columns decoration number command p
 
-    here : (command : Command) → makes command ≡ after_command columns decoration number command (progress_meant meaning i)
-    here command = ap (λ (q : Progress D A (List A)). after_command columns decoration number command (progress_meant meaning q)) (sym same)
+    here : (command : Command) → makes command ≡ after_command columns decoration number command i
+    here command = ap (λ (q : Progress D M (List M)). after_command columns decoration number command q) (sym same)
 
     -- ---- links
 
-    pub link_done : (target : List ℕ) (next : Stack (Renderer D A (List A))) → after_link_start columns decoration (chars target) (stack_meant meaning i.stack) ≡ done (stack_meant meaning next) → makes (link target) ≡ after_it next i.pending
-    link_done target next h = here (link target) ∙ ap (with_stack columns decoration (progress_meant meaning i)) h
+    pub link_done : (target : List ℕ) (next : Stack (Renderer D M (List M))) → after_link_start columns decoration (chars target) i.stack ≡ done next → makes (link target) ≡ after_it next i.pending
+    link_done target next h = here (link target) ∙ ap (with_stack columns decoration i) h
 
-    pub link_narrow : (target : List ℕ) → after_link_start columns decoration (chars target) (stack_meant meaning i.stack) ≡ refused E.TooNarrow → makes (link target) ≡ Err TooNarrow
-    link_narrow target h = here (link target) ∙ ap (with_stack columns decoration (progress_meant meaning i)) h
+    pub link_narrow : (target : List ℕ) → after_link_start columns decoration (chars target) i.stack ≡ refused E.TooNarrow → makes (link target) ≡ Err TooNarrow
+    link_narrow target h = here (link target) ∙ ap (with_stack columns decoration i) h
 
     pub no_link : length (open_links i.stack) ≡ 0 → makes end_link ≡ Err (NothingToEnd number)
-    no_link none = here end_link ∙ no_more (open_links (stack_meant meaning i.stack)) _ _ (places_meant (let s = i.stack in s.levels) ∙ nil_from_length (open_links i.stack) none)
+    no_link none = here end_link ∙ no_more (open_links i.stack) _ _ (nil_from_length (open_links i.stack) none)
 
     module _ (some : length (open_links i.stack) ≢ 0) where
-      ending : makes end_link ≡ with_stack columns decoration (progress_meant meaning i) (after_link_end columns decoration (stack_meant meaning i.stack))
-      ending = here end_link ∙ still_some (open_links (stack_meant meaning i.stack)) _ _ (λ none. some (ap length (sym (places_meant (let s = i.stack in s.levels)) ∙ none)))
+      ending : makes end_link ≡ with_stack columns decoration i (after_link_end columns decoration i.stack)
+      ending = here end_link ∙ still_some (open_links i.stack) _ _ (λ none. some (ap length none))
 
-      pub end_done : (next : Stack (Renderer D A (List A))) → after_link_end columns decoration (stack_meant meaning i.stack) ≡ done (stack_meant meaning next) → makes end_link ≡ after_it next i.pending
-      end_done next h = ending ∙ ap (with_stack columns decoration (progress_meant meaning i)) h
+      pub end_done : (next : Stack (Renderer D M (List M))) → after_link_end columns decoration i.stack ≡ done next → makes end_link ≡ after_it next i.pending
+      end_done next h = ending ∙ ap (with_stack columns decoration i) h
 
-      pub end_narrow : after_link_end columns decoration (stack_meant meaning i.stack) ≡ refused E.TooNarrow → makes end_link ≡ Err TooNarrow
-      end_narrow h = ending ∙ ap (with_stack columns decoration (progress_meant meaning i)) h
+      pub end_narrow : after_link_end columns decoration i.stack ≡ refused E.TooNarrow → makes end_link ≡ Err TooNarrow
+      end_narrow h = ending ∙ ap (with_stack columns decoration i) h
 
     -- ---- requests that end nothing
 
@@ -114,117 +80,107 @@ module _ {D A M : Type 0} (meaning : A → M) where
 
     -- ---- the renderer on top
 
-    module _ (top : Renderer D A (List A)) (is_top : top_of i.stack ≡ Some top) where
+    module _ (top : Renderer D M (List M)) (is_top : top_of i.stack ≡ Some top) where
       abbrev in_it : Place columns decoration → (Top columns decoration → Outcome (Top columns decoration)) → Made columns decoration
-      in_it q make = with_stack columns decoration q (in_top make (stack_meant meaning i.stack))
+      in_it q make = with_stack columns decoration q (in_top make i.stack)
 
-      led : (q : Place columns decoration) (make : Top columns decoration → Outcome (Top columns decoration)) (s : Renderer D A (List A)) → make (meant meaning top) ≡ done (meant meaning s) → in_it q make ≡ Ok (record q { stack = stack_meant meaning (with_top i.stack s) })
-      led q make s h = ap (with_stack columns decoration q) (done_in meaning make i.stack top s is_top h)
+      led : (q : Place columns decoration) (make : Top columns decoration → Outcome (Top columns decoration)) (s : Renderer D M (List M)) → make top ≡ done s → in_it q make ≡ Ok (record q { stack = (with_top i.stack s) })
+      led q make s h = ap (with_stack columns decoration q) (done_in make i.stack top s is_top h)
 
-      not_led : (q : Place columns decoration) (make : Top columns decoration → Outcome (Top columns decoration)) → make (meant meaning top) ≡ refused E.TooNarrow → in_it q make ≡ Err TooNarrow
-      not_led q make h = ap (with_stack columns decoration q) (refused_in meaning make i.stack top E.TooNarrow is_top h)
+      not_led : (q : Place columns decoration) (make : Top columns decoration → Outcome (Top columns decoration)) → make top ≡ refused E.TooNarrow → in_it q make ≡ Err TooNarrow
+      not_led q make h = ap (with_stack columns decoration q) (refused_in make i.stack top E.TooNarrow is_top h)
 
       -- ---- requests
 
       module _ (request : Request) (some : ends_nothing i.pending.begun request ≡ false) where
-        abbrev noted : Pending D A (List A)
+        abbrev noted : Pending D M (List M)
         noted = record i.pending { begun = counted i.pending.begun request }
 
         abbrev noting : Place columns decoration
-        noting = record (progress_meant meaning i) { pending = pending_meant meaning noted }
+        noting = record i { pending = noted }
 
         asks : makes (ask request) ≡ in_it noting (request_made columns decoration request)
         asks = here (ask request) ∙ ap (λ b. if b then Err (NothingToEnd number) else in_it noting (request_made columns decoration request)) some
 
-        pub request_done : (s : Renderer D A (List A)) (pending : Pending D A (List A)) → pending ≡ noted → Does columns decoration (call_of top.width request) (meant meaning top) (meant meaning s) → makes (ask request) ≡ after_it (with_top i.stack s) pending
+        pub request_done : (s : Renderer D M (List M)) (pending : Pending D M (List M)) → pending ≡ noted → Does columns decoration (call_of top.width request) top s → makes (ask request) ≡ after_it (with_top i.stack s) pending
         request_done s pending counts does = asks ∙ led noting (request_made columns decoration request) s does ∙ ap (after_it (with_top i.stack s)) (sym counts)
 
-        pub request_narrow : IsTooNarrow columns decoration (call_of top.width request) (meant meaning top) → makes (ask request) ≡ Err TooNarrow
+        pub request_narrow : IsTooNarrow columns decoration (call_of top.width request) top → makes (ask request) ≡ Err TooNarrow
         request_narrow h = asks ∙ not_led noting (request_made columns decoration request) h
 
       -- ---- rows
 
       abbrev no_cell_waits : Place columns decoration
-      no_cell_waits = record (progress_meant meaning i) { pending = pending_meant meaning (without_cells i.pending) }
+      no_cell_waits = record i { pending = (without_cells i.pending) }
 
-      module _ (cols : List (Renderer D A (List A))) (are : cols ≡ renderers_of i.pending.cells) where
+      module _ (cols : List (Renderer D M (List M))) (are : cols ≡ renderers_of i.pending.cells) where
         abbrev stacked : Outcome (List (List (Line (List M)))) → Outcome (Top columns decoration)
-        stacked given = taking (after columns decoration new_line) given (λ cells. after columns decoration (append_vert_row cells)) (meant meaning top)
+        stacked given = taking (after columns decoration new_line) given (λ cells. after columns decoration (append_vert_row cells)) top
 
         abbrev all_given : Outcome (List (List (Line (List M))))
-        all_given = gathered (λ r. handed_out columns (meant meaning r)) cols
+        all_given = gathered (handed_out columns) cols
 
-        stacks : (o : Outcome (Top columns decoration)) → stacked all_given ≡ o → vertical_made columns decoration (pending_meant meaning i.pending) (meant meaning top) ≡ o
-        stacks o h =
-            ap stacked (ap (gathered (handed_out columns)) (renderers_meant i.pending.cells ∙ ap (map (meant meaning)) (sym are)) ∙ sym (gathered_over (handed_out columns) (meant meaning) cols)) ∙ h
+        stacks : (o : Outcome (Top columns decoration)) → stacked all_given ≡ o → vertical_made columns decoration i.pending top ≡ o
+        stacks o h = ap (λ rs. stacked (gathered (handed_out columns) rs)) (sym are) ∙ h
 
-        pub vertical_done : (s : Renderer D A (List A)) (pending : Pending D A (List A)) → pending ≡ without_cells i.pending → stacked all_given ≡ done (meant meaning s) → makes vertical_row ≡ after_it (with_top i.stack s) pending
+        pub vertical_done : (s : Renderer D M (List M)) (pending : Pending D M (List M)) → pending ≡ without_cells i.pending → stacked all_given ≡ done s → makes vertical_row ≡ after_it (with_top i.stack s) pending
         vertical_done s pending taken h =
-            here vertical_row ∙ led no_cell_waits (vertical_made columns decoration (pending_meant meaning i.pending)) s (stacks (done (meant meaning s)) h) ∙ ap (after_it (with_top i.stack s)) (sym taken)
+            here vertical_row ∙ led no_cell_waits (vertical_made columns decoration i.pending) s (stacks (done s) h) ∙ ap (after_it (with_top i.stack s)) (sym taken)
 
         pub vertical_narrow : stacked all_given ≡ refused E.TooNarrow → makes vertical_row ≡ Err TooNarrow
         vertical_narrow h = search (rules, here, not_led, stacks)
 
-      looks_meant : (cols : List (Renderer D A (List A) × ℕ)) → map (looks columns) (map (cell_meant meaning) cols) ≡ map (looks columns) cols
-      looks_meant [] = refl
-      looks_meant (col ∷ cols) = grind (arith, blank_meant, looks_meant cols)
-
-      come_meant : (cols : List (Renderer D A (List A) × ℕ)) (aligns : List CellAlign) → cells_given (λ r. r.width) (handed_out columns) (map (cell_meant meaning) cols) aligns ≡ cells_meant columns meaning cols aligns
-      come_meant [] aligns = refl
-      come_meant (col ∷ cols) aligns = grind (arith, come_meant cols (drop 1 aligns))
-
-      module _ (collapse : Bool) (seen : Renderer D A (List A)) (is_seen : top_of i.stack ≡ Some seen) (cols : List (Renderer D A (List A) × ℕ)) (are : cols ≡ i.pending.cells) where
+      module _ (collapse : Bool) (seen : Renderer D M (List M)) (is_seen : top_of i.stack ≡ Some seen) (cols : List (Renderer D M (List M) × ℕ)) (are : cols ≡ i.pending.cells) where
         abbrev laid : Made columns decoration
-        laid = in_it no_cell_waits (row_made columns decoration (pending_meant meaning i.pending) collapse)
+        laid = in_it no_cell_waits (row_made columns decoration i.pending collapse)
 
         lays : (fits : Bool) → row_fits seen.hanging (spots_of columns cols) ≡ fits → makes (row collapse) ≡ (if fits then laid else Err (RowDoesNotFit number))
         lays fits is =
             here (row collapse)
-            ∙ ap (λ o. on_top o (λ (r : Top columns decoration). if row_fits r.hanging (spots_of columns (map (cell_meant meaning) i.pending.cells)) then laid else Err (RowDoesNotFit number))) (top_meant meaning i.stack seen is_seen)
+            ∙ ap (λ o. on_top o (λ (r : Top columns decoration). if row_fits r.hanging (spots_of columns i.pending.cells) then laid else Err (RowDoesNotFit number))) is_seen
             ∙ ap (λ (b : Bool). if b then laid else Err (RowDoesNotFit number))
-            (ap (λ looked. row_fits (map (map_cell (tag_meant meaning)) seen.hanging) (spots_from 0 looked)) (looks_meant i.pending.cells) ∙ fits_mean (tag_meant meaning) seen.hanging (spots_of columns i.pending.cells)
-            ∙ ap (λ (cs : List (Renderer D A (List A) × ℕ)). row_fits seen.hanging (spots_of columns cs)) (sym are) ∙ is)
+            (ap (λ (cs : List (Renderer D M (List M) × ℕ)). row_fits seen.hanging (spots_of columns cs)) (sym are) ∙ is)
 
         pub row_unfit : row_fits seen.hanging (spots_of columns cols) ≡ false → makes (row collapse) ≡ Err (RowDoesNotFit number)
         row_unfit unfit = lays false unfit
 
-        module _ (fit : row_fits seen.hanging (spots_of columns cols) ≡ true) (taken : List (Renderer D A (List A) × ℕ)) (those : taken ≡ i.pending.cells) (aligns : List CellAlign) (these : aligns ≡ i.pending.aligns) where
+        module _ (fit : row_fits seen.hanging (spots_of columns cols) ≡ true) (taken : List (Renderer D M (List M) × ℕ)) (those : taken ≡ i.pending.cells) (aligns : List CellAlign) (these : aligns ≡ i.pending.aligns) where
           abbrev beside : Outcome (List (GivenCell (List M))) → Outcome (Top columns decoration)
-          beside given = taking (after columns decoration new_line) given (after_row (pointwise decoration.same) columns collapse) (meant meaning top)
+          beside given = taking (after columns decoration new_line) given (after_row (pointwise decoration.same) columns collapse) top
 
-          besides : (o : Outcome (Top columns decoration)) → beside (cells_meant columns meaning taken aligns) ≡ o → row_made columns decoration (pending_meant meaning i.pending) collapse (meant meaning top) ≡ o
-          besides o h = ap beside (come_meant i.pending.cells i.pending.aligns ∙ (λ j. cells_meant columns meaning (sym those j) (sym these j))) ∙ h
+          besides : (o : Outcome (Top columns decoration)) → beside (cells_handed_out columns taken aligns) ≡ o → row_made columns decoration i.pending collapse top ≡ o
+          besides o h = ap beside (λ j. cells_handed_out columns (sym those j) (sym these j)) ∙ h
 
-          pub row_done : (s : Renderer D A (List A)) (pending : Pending D A (List A)) → pending ≡ without_cells i.pending → beside (cells_meant columns meaning taken aligns) ≡ done (meant meaning s) → makes (row collapse) ≡ after_it (with_top i.stack s) pending
+          pub row_done : (s : Renderer D M (List M)) (pending : Pending D M (List M)) → pending ≡ without_cells i.pending → beside (cells_handed_out columns taken aligns) ≡ done s → makes (row collapse) ≡ after_it (with_top i.stack s) pending
           row_done s pending left h =
-              lays true fit ∙ led no_cell_waits (row_made columns decoration (pending_meant meaning i.pending) collapse) s (besides (done (meant meaning s)) h) ∙ ap (after_it (with_top i.stack s)) (sym left)
+              lays true fit ∙ led no_cell_waits (row_made columns decoration i.pending collapse) s (besides (done s) h) ∙ ap (after_it (with_top i.stack s)) (sym left)
 
-          pub row_narrow : beside (cells_meant columns meaning taken aligns) ≡ refused E.TooNarrow → makes (row collapse) ≡ Err TooNarrow
-          row_narrow h = lays true fit ∙ not_led no_cell_waits (row_made columns decoration (pending_meant meaning i.pending) collapse) (besides (refused E.TooNarrow) h)
+          pub row_narrow : beside (cells_handed_out columns taken aligns) ≡ refused E.TooNarrow → makes (row collapse) ≡ Err TooNarrow
+          row_narrow h = lays true fit ∙ not_led no_cell_waits (row_made columns decoration i.pending collapse) (besides (refused E.TooNarrow) h)
 
     -- ---- levels
 
-    pub level_opens : (by : Opener) (width : ℕ) (r inside : Renderer D A (List A)) (stack : Stack (Renderer D A (List A))) (pending : Pending D A (List A)) (opened : List (Opened D A (List A))) →
-        top_of i.stack ≡ Some r → meant meaning inside ≡ sub_renderer decoration width (meant meaning r) → stack ≡ pushed inside i.stack → pending ≡ nothing_pending → opened ≡ record { by = by; below = i.pending } ∷ i.opened →
-        level_opened columns decoration by width (progress_meant meaning p) ≡ Ok (progress_meant meaning (record { stack = stack; pending = pending; opened = opened }))
-    level_opens by width r inside stack pending opened top is pushes nothing opens = grind (arith, top_meant)
+    pub level_opens : (by : Opener) (width : ℕ) (r inside : Renderer D M (List M)) (stack : Stack (Renderer D M (List M))) (pending : Pending D M (List M)) (opened : List (Opened D M (List M))) →
+        top_of i.stack ≡ Some r → inside ≡ sub_renderer decoration width r → stack ≡ pushed inside i.stack → pending ≡ nothing_pending → opened ≡ record { by = by; below = i.pending } ∷ i.opened →
+        level_opened columns decoration by width p ≡ Ok (record { stack = stack; pending = pending; opened = opened })
+    level_opens by width r inside stack pending opened top is pushes nothing opens = grind (arith)
 
     module _ (end : Opener → Option (Top columns decoration → Place columns decoration → Made columns decoration)) where
       abbrev level_ends : Made columns decoration
-      level_ends = level_ended columns decoration number end (progress_meant meaning p) (map (opened_meant meaning) p.opened)
+      level_ends = level_ended columns decoration number end p p.opened
 
       none_ends : ((by : Opener) → opener i.opened ≡ Some by → end by ≡ None) → level_ends ≡ Err (NothingToEnd number)
-      none_ends none = grind (arith, ends_none, opener_meant)
+      none_ends none = grind (arith, ends_none)
 
       module _ (by : Opener) (make : Top columns decoration → Place columns decoration → Made columns decoration) (is : end by ≡ Some make) (this : opener i.opened ≡ Some by) where
         opened_by : opener p.opened ≡ Some by
-        opened_by = ap (λ (q : Progress D A (List A)). opener q.opened) (sym same) ∙ this
+        opened_by = ap (λ (q : Progress D M (List M)). opener q.opened) (sym same) ∙ this
 
         waits_still : i.pending.cells ≢ [] → level_ends ≡ Err (NotACommand number)
-        waits_still some = grind (arith, ends_waiting, opener_meant, opened_by, no_cells)
+        waits_still some = grind (arith, ends_waiting, opened_by)
 
-        closes : (inside : Renderer D A (List A)) (next : Progress D A (List A)) → i.pending.cells ≡ [] → Closes p inside next → level_ends ≡ make (meant meaning inside) (progress_meant meaning next)
-        closes inside next none c = grind (arith, opened_by, below_top_meant, ends_by, top_meant)
+        closes : (inside : Renderer D M (List M)) (next : Progress D M (List M)) → i.pending.cells ≡ [] → Closes p inside next → level_ends ≡ make inside next
+        closes inside next none c = grind (arith, opened_by, ends_by)
 
     -- ---- blocks that end
 
@@ -235,19 +191,19 @@ module _ {D A M : Type 0} (meaning : A → M) where
       pub block_waits : opener i.opened ≡ Some Sub → i.pending.cells ≢ [] → makes (append first others) ≡ Err (NotACommand number)
       block_waits is some = waits_still (joins columns decoration first others) Sub (block_joined columns decoration first others) refl is some
 
-      module _ (is : opener i.opened ≡ Some Sub) (none : i.pending.cells ≡ []) (inside : Renderer D A (List A)) (next j : Progress D A (List A)) (c : Closes p inside next) (left : j ≡ next) (top : Renderer D A (List A)) (is_top : top_of j.stack ≡ Some top) where
+      module _ (is : opener i.opened ≡ Some Sub) (none : i.pending.cells ≡ []) (inside : Renderer D M (List M)) (next j : Progress D M (List M)) (c : Closes p inside next) (left : j ≡ next) (top : Renderer D M (List M)) (is_top : top_of j.stack ≡ Some top) where
         abbrev joined : Top columns decoration → Outcome (Top columns decoration)
-        joined = block_made columns decoration first others (meant meaning inside)
+        joined = block_made columns decoration first others inside
 
-        joining : makes (append first others) ≡ with_stack columns decoration (progress_meant meaning j) (in_top joined (stack_meant meaning j.stack))
+        joining : makes (append first others) ≡ with_stack columns decoration j (in_top joined j.stack)
         joining = grind (arith, closes)
 
-        pub block_done : (s : Renderer D A (List A)) → joined (meant meaning top) ≡ done (meant meaning s) →
-            makes (append first others) ≡ Ok (progress_meant meaning (record { stack = with_top j.stack s; pending = j.pending; opened = j.opened }))
-        block_done s h = joining ∙ ap (with_stack columns decoration (progress_meant meaning j)) (done_in meaning joined j.stack top s is_top h)
+        pub block_done : (s : Renderer D M (List M)) → joined top ≡ done s →
+            makes (append first others) ≡ Ok (record { stack = with_top j.stack s; pending = j.pending; opened = j.opened })
+        block_done s h = joining ∙ ap (with_stack columns decoration j) (done_in joined j.stack top s is_top h)
 
-        pub block_narrow : joined (meant meaning top) ≡ refused E.TooNarrow → makes (append first others) ≡ Err TooNarrow
-        block_narrow h = joining ∙ ap (with_stack columns decoration (progress_meant meaning j)) (refused_in meaning joined j.stack top E.TooNarrow is_top h)
+        pub block_narrow : joined top ≡ refused E.TooNarrow → makes (append first others) ≡ Err TooNarrow
+        block_narrow h = joining ∙ ap (with_stack columns decoration j) (refused_in joined j.stack top E.TooNarrow is_top h)
 
     -- ---- cells that end
 
@@ -261,21 +217,21 @@ module _ {D A M : Type 0} (meaning : A → M) where
       pub cell_waits : i.pending.cells ≢ [] → makes end_cell ≡ Err (NotACommand number)
       cell_waits some = waits_still (waits columns decoration) (Cell span align) waiting refl is some
 
-      pub cell_done : i.pending.cells ≡ [] → (inside : Renderer D A (List A)) (next j : Progress D A (List A)) (pending : Pending D A (List A)) → Closes p inside next → j ≡ next → pending ≡ with_cell j.pending inside span align →
-          makes end_cell ≡ Ok (progress_meant meaning (record { stack = j.stack; pending = pending; opened = j.opened }))
+      pub cell_done : i.pending.cells ≡ [] → (inside : Renderer D M (List M)) (next j : Progress D M (List M)) (pending : Pending D M (List M)) → Closes p inside next → j ≡ next → pending ≡ with_cell j.pending inside span align →
+          makes end_cell ≡ Ok (record { stack = j.stack; pending = pending; opened = j.opened })
       cell_done none inside next j pending c left now = grind (arith, closes, map-append)
 
     -- ---- the end
 
     abbrev gives : Result (List ℕ) RunError
-    gives = ended columns decoration number (progress_meant meaning p)
+    gives = ended columns decoration number p
 
-    gives_here : gives ≡ ended columns decoration number (progress_meant meaning i)
-    gives_here = ap (λ (q : Progress D A (List A)). ended columns decoration number (progress_meant meaning q)) (sym same)
+    gives_here : gives ≡ ended columns decoration number i
+    gives_here = ap (λ (q : Progress D M (List M)). ended columns decoration number q) (sym same)
 
     pub still_open : (i.opened ≢ []) ⊎ (i.pending.cells ≢ []) → gives ≡ Err (NotACommand number)
-    still_open h = grind (arith, gives_here, still_some, no_opened, no_cells)
+    still_open h = grind (arith, gives_here, still_some)
 
-    pub text_given : (targets : List (List ℕ)) → targets ≡ (let s = i.stack in s.links) → (top : Renderer D A (List A)) → top_of i.stack ≡ Some top → i.opened ≡ [] → i.pending.cells ≡ [] → (o : Outcome (List ℕ)) →
-        closed_text columns decoration targets (meant meaning top) ≡ o → gives ≡ answered o
-    text_given targets are top is_top none_open none_wait o h = grind (arith, gives_here, no_more, top_meant)
+    pub text_given : (targets : List (List ℕ)) → targets ≡ (let s = i.stack in s.links) → (top : Renderer D M (List M)) → top_of i.stack ≡ Some top → i.opened ≡ [] → i.pending.cells ≡ [] → (o : Outcome (List ℕ)) →
+        closed_text columns decoration targets top ≡ o → gives ≡ answered o
+    text_given targets are top is_top none_open none_wait o h = grind (arith, gives_here, no_more)

@@ -1,5 +1,5 @@
 -- What results say, and what functions answer that run commands.
-use Rattle.tbr_program.proofs.Common.{◌≡◌, ◌≢◌, List, Result, Ok, Err, IfOk, IfErr, refl, sym, ◌∙◌, subst, Outcome, done, RunError, OutOfMemory, Progress, progress_meant, GoesOn, Runs}
+use Rattle.tbr_program.proofs.Common.{◌≡◌, ◌≢◌, List, Result, Ok, Err, IfOk, IfErr, refl, sym, ◌∙◌, subst, Outcome, done, RunError, OutOfMemory, Progress, GoesOn, Runs}
 use Rattle.std.specs.Result.{IsErrAnd}
 use Rattle.tbr_tagged.specs.declared.Error.{Error}
 use Rattle.tbr_tagged.specs.declared.Error.TheVariants as block
@@ -28,15 +28,15 @@ refused_by P (Err x) block.OutOfMemory is h = λ other. absurd (other is)
 
 -- ---- functions that run commands
 
-module _ {D A M R : Type 0} (meaning : A → M) (make : Progress D M (List M) → Result (Progress D M (List M)) RunError) (old new : Progress D A (List A)) where
+module _ {D A R : Type 0} (make : Progress D A (List A) → Result (Progress D A (List A)) RunError) (old new : Progress D A (List A)) where
   abbrev RunsSo : Result R RunError → Type 0
-  RunsSo result = Runs meaning make old result new
+  RunsSo result = Runs make old result new
 
-  pub runs_done : (x : R) → make (progress_meant meaning old) ≡ Ok (progress_meant meaning new) → GoesOn new → RunsSo (Ok x)
+  pub runs_done : (x : R) → make old ≡ Ok new → GoesOn new → RunsSo (Ok x)
   runs_done x is live = record { ok = is; goes_on = live; refused = tt; left = tt }
 
   -- a refusal before anything is done
-  pub runs_early : (e : RunError) → new ≡ old → make (progress_meant meaning old) ≡ Err e → RunsSo (Err e)
+  pub runs_early : (e : RunError) → new ≡ old → make old ≡ Err e → RunsSo (Err e)
   runs_early e same is = record { ok = tt; goes_on = tt; refused = λ _. is; left = λ _ _. same }
 
   -- memory is refused
@@ -45,12 +45,12 @@ module _ {D A M R : Type 0} (meaning : A → M) (make : Progress D M (List M) �
   runs_out (Err x) is = record { ok = tt; goes_on = tt; refused = λ other. absurd (other is); left = λ other _. absurd (other is) }
 
   -- a block refuses
-  pub runs_refused : (result : Result R RunError) (e : Error) → IsErrAnd result (λ x. x ≡ refusal_of e) → (e ≡ block.TooNarrow → make (progress_meant meaning old) ≡ Err TooNarrow) → RunsSo result
+  pub runs_refused : (result : Result R RunError) (e : Error) → IsErrAnd result (λ x. x ≡ refusal_of e) → (e ≡ block.TooNarrow → make old ≡ Err TooNarrow) → RunsSo result
   runs_refused (Ok x) e is h = absurd is
-  runs_refused (Err x) block.TooNarrow is h = record { ok = tt; goes_on = tt; refused = λ _. subst (λ y. make (progress_meant meaning old) ≡ Err y) (sym is) (h refl); left = λ _ other. absurd (other is) }
+  runs_refused (Err x) block.TooNarrow is h = record { ok = tt; goes_on = tt; refused = λ _. subst (λ y. make old ≡ Err y) (sym is) (h refl); left = λ _ other. absurd (other is) }
   runs_refused (Err x) block.OutOfMemory is h = runs_out (Err x) is
 
 -- what makes the same of a program is run too
-pub runs_as : {D A M R : Type 0} (meaning : A → M) (make other : Progress D M (List M) → Result (Progress D M (List M)) RunError) (old new : Progress D A (List A)) (result : Result R RunError) → make (progress_meant meaning old) ≡ other (progress_meant meaning old) → Runs meaning make old result new → Runs meaning other old result new
-runs_as meaning make other old new (Ok x) same runs = record { ok = sym same ∙ runs.ok; goes_on = runs.goes_on; refused = tt; left = tt }
-runs_as meaning make other old new (Err e) same runs = record { ok = tt; goes_on = tt; refused = λ some. sym same ∙ runs.refused some; left = runs.left }
+pub runs_as : {D A R : Type 0} (make other : Progress D A (List A) → Result (Progress D A (List A)) RunError) (old new : Progress D A (List A)) (result : Result R RunError) → make old ≡ other old → Runs make old result new → Runs other old result new
+runs_as make other old new (Ok x) same runs = record { ok = sym same ∙ runs.ok; goes_on = runs.goes_on; refused = tt; left = tt }
+runs_as make other old new (Err e) same runs = record { ok = tt; goes_on = tt; refused = λ some. sym same ∙ runs.refused some; left = runs.left }

@@ -24,18 +24,17 @@ use Rattle.tbr_commands.specs.Begun.{ends_nothing, counted}
 use Rattle.tbr_program.specs.declared.opened.Opener.{Opener}
 use Rattle.tbr_program.specs.declared.opened.Opener.TheVariants.{Sub, Cell}
 use Rattle.tbr_program.specs.Prefixes.{prefixes}
-use Rattle.tbr_program.specs.Progress.{Pending, Opened, Progress, nothing_pending, renderers_of, with_cell, without_cells, progress_meant, GoesOn}
+use Rattle.tbr_program.specs.Progress.{Pending, Opened, Progress, nothing_pending, renderers_of, with_cell, without_cells, GoesOn}
 use Rattle.tbr_program.specs.Closing.{closed_text}
 
--- What a function runs that makes this of a program, by what its annotations mean. It is `Ok` only where it leaves
--- that, and refused only with the refusal that this is, but where memory is refused. But for `TooNarrow` a refusal
--- leaves the program as it was, and else it goes on.
-pub record Runs {D A M R : Type 0} (meaning : A → M)
-    (make : Progress D M (List M) → Result (Progress D M (List M)) RunError) (old : Progress D A (List A))
-    (result : Result R RunError) (new : Progress D A (List A)) : Type 0 where
-  pub ok : OnOk result (make (progress_meant meaning old) ≡ Ok (progress_meant meaning new))
+-- What a function runs that makes this of a program. It is `Ok` only where it leaves that, and refused only with the
+-- refusal that this is, but where memory is refused. But for `TooNarrow` a refusal leaves the program as it was, and
+-- else it goes on.
+pub record Runs {D A R : Type 0} (make : Progress D A (List A) → Result (Progress D A (List A)) RunError)
+    (old : Progress D A (List A)) (result : Result R RunError) (new : Progress D A (List A)) : Type 0 where
+  pub ok : OnOk result (make old ≡ Ok new)
   pub goes_on : OnOk result (GoesOn new)
-  pub refused : IfErr result (λ e. e ≢ OutOfMemory → make (progress_meant meaning old) ≡ Err e)
+  pub refused : IfErr result (λ e. e ≢ OutOfMemory → make old ≡ Err e)
   pub left : IfErr result (λ e. e ≢ OutOfMemory → e ≢ TooNarrow → new ≡ old)
 
 -- ---- of what commands are made

@@ -3,9 +3,7 @@ use Rattle.std.specs.Prelude.{◌≡◌, ◌<◌, ℕ, true, Option, None, Some,
 use Rattle.std.specs.List.{AllZip}
 use Rattle.tbr_tagged.specs.declared.CellAlign.{CellAlign}
 use Rattle.text_block_renderer.specs.Renderer.{Renderer}
-use Rattle.text_block_renderer.specs.Meant.{meant}
 use Rattle.tbr_stack.specs.Stack.{Stack, top_of, below}
-use Rattle.tbr_stack.specs.Top.{stack_meant}
 use Rattle.tbr_commands.specs.Begun.{nothing_begun}
 use Rattle.tbr_commands.specs.declared.begun.Begun.{Begun}
 use Rattle.tbr_program.specs.declared.opened.Opener.{Opener}
@@ -69,29 +67,6 @@ pub record Closes {D A T : Type 0} (p : Progress D A T) (inside : Renderer D A T
 abbrev pub IsSpanned : Opener → Type 0
 IsSpanned Sub = Unit {0}
 IsSpanned (Cell span align) = 0 < span
-
--- ---- the same, each annotation as what it means
-
-module _ {D A M : Type 0} (meaning : A → M) where
-  -- a cell that waits, with its span
-  abbrev pub cell_meant : Renderer D A (List A) × ℕ → Renderer D M (List M) × ℕ
-  cell_meant cell = (meant meaning cell.0, cell.1)
-
-  -- what is pending on a renderer
-  abbrev pub pending_meant : Pending D A (List A) → Pending D M (List M)
-  pending_meant p = record { begun = p.begun; cells = map cell_meant p.cells; aligns = p.aligns }
-
-  -- a level that is open
-  abbrev pub opened_meant : Opened D A (List A) → Opened D M (List M)
-  opened_meant o = record { by = o.by; below = pending_meant o.below }
-
-  -- where a script is
-  abbrev pub progress_meant : Progress D A (List A) → Progress D M (List M)
-  progress_meant p = record {
-    stack = stack_meant meaning p.stack;
-    pending = pending_meant p.pending;
-    opened = map opened_meant p.opened;
-  }
 
 -- ---- programs that go on
 

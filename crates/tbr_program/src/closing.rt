@@ -3,8 +3,6 @@ ghost use Rattle.std.specs.Prelude.{◌≡◌, None, Err, map, IfOk, string_byte
 ghost use Rattle.tbr_tagged.specs.View.{chars_of};
 ghost use Rattle.tbr_tagged.specs.declared.Error.TheVariants as E;
 ghost use Rattle.tbr_decor.specs.Decoration.{decoration_of};
-ghost use Rattle.text_block_renderer.specs.Tags.{tag_meant};
-ghost use Rattle.text_block_renderer.specs.Meant.{map_line, meant};
 ghost use Rattle.text_block_renderer.specs.Line.{line_seen};
 ghost use Rattle.tbr_tagged.specs.Outcome.{done, refused};
 ghost use Rattle.text_block_renderer.specs.Appended.{handed_out};
@@ -23,11 +21,11 @@ pub fn close<D: TextDecorator, W: CharWidth>(
 ) -> Result<String, Error>
     requires { renderer.failure ≡ None }
     ensures text { let links = map chars_of targets.items in
-        IfOk result (λ text. closed_text W.columns (decoration_of D.TextDecorator) links (meant D.meaning renderer)
+        IfOk result (λ text. closed_text W.columns (decoration_of D.TextDecorator D.Annotation.tells) links renderer
         ≡ done (string_bytes text)) }
     ensures too_narrow { let links = map chars_of targets.items in
         result ≡ Err E.TooNarrow →
-        closed_text W.columns (decoration_of D.TextDecorator) links (meant D.meaning renderer)
+        closed_text W.columns (decoration_of D.TextDecorator D.Annotation.tells) links renderer
         ≡ refused E.TooNarrow }
 {
     with_footnotes(renderer, targets)?.into_string()
@@ -40,11 +38,11 @@ pub fn close_lines<D: TextDecorator, W: CharWidth>(
 ) -> Result<Vec<RenderLine<Annotations<D::Annotation>>>, Error>
     requires { renderer.failure ≡ None }
     ensures lines { let links = map chars_of targets.items in
-        IfOk result (λ lines. closed W.columns (decoration_of D.TextDecorator) links (meant D.meaning renderer)
-        ≡ done (map (map_line (tag_meant D.meaning)) (map line_seen lines.items))) }
+        IfOk result (λ lines. closed W.columns (decoration_of D.TextDecorator D.Annotation.tells) links renderer
+        ≡ done (map line_seen lines.items)) }
     ensures too_narrow { let links = map chars_of targets.items in
         result ≡ Err E.TooNarrow →
-        closed W.columns (decoration_of D.TextDecorator) links (meant D.meaning renderer) ≡ refused E.TooNarrow }
+        closed W.columns (decoration_of D.TextDecorator D.Annotation.tells) links renderer ≡ refused E.TooNarrow }
 {
     with_footnotes(renderer, targets)?.into_shared_lines()
 }
@@ -56,12 +54,12 @@ fn with_footnotes<D: TextDecorator, W: CharWidth>(
 ) -> Result<SubRenderer<D, W>, Error>
     requires { renderer.failure ≡ None }
     ensures noted { let links = map chars_of targets.items in
-        IfOk result (λ noted. handed_out W.columns (meant D.meaning noted)
-        ≡ closed W.columns (decoration_of D.TextDecorator) links (meant D.meaning renderer)) }
+        IfOk result (λ noted. handed_out W.columns noted
+        ≡ closed W.columns (decoration_of D.TextDecorator D.Annotation.tells) links renderer) }
     ensures live { IfOk result (λ noted. noted.failure ≡ None) }
     ensures too_narrow { let links = map chars_of targets.items in
         result ≡ Err E.TooNarrow →
-        closed W.columns (decoration_of D.TextDecorator) links (meant D.meaning renderer) ≡ refused E.TooNarrow }
+        closed W.columns (decoration_of D.TextDecorator D.Annotation.tells) links renderer ≡ refused E.TooNarrow }
 {
     let footnotes = renderer.finalise(targets)?;
     if footnotes.is_empty() {

@@ -36,7 +36,7 @@ impl<D: TextDecorator, W: CharWidth> Model for Opened<D, W> {
     ghost use Rattle.std.specs.Prelude.{List};
     ghost use Rattle.tbr_program.specs.Progress.{Opened};
 
-    ghost Value = { Opened D D.Annotation (List D.Annotation) };
+    ghost Value = { Opened D D.Annotation.Meaning (List D.Annotation.Meaning) };
 
     ghost view = { λ o. record { by = o.by; below = o.below } };
 }
@@ -52,7 +52,7 @@ impl<D: TextDecorator, W: CharWidth> Model for OpenLevels<D, W> {
     ghost use Rattle.std.specs.Prelude.{List, reverse};
     ghost use Rattle.tbr_program.specs.Progress.{Opened, IsSpanned};
 
-    ghost Value = { List (Opened D D.Annotation (List D.Annotation)) };
+    ghost Value = { List (Opened D D.Annotation.Meaning (List D.Annotation.Meaning)) };
 
     ghost use Rattle.std.specs.List.{AllByRecursion as Each};
 

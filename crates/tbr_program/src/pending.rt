@@ -27,7 +27,7 @@ impl<D: TextDecorator, W: CharWidth> Model for Pending<D, W> {
     ghost use Rattle.std.specs.Prelude.{◌≡◌, ◌<◌, List, length};
     ghost use Rattle.tbr_program.specs.Progress.{Pending};
 
-    ghost Value = { Pending D D.Annotation (List D.Annotation) };
+    ghost Value = { Pending D D.Annotation.Meaning (List D.Annotation.Meaning) };
 
     ghost view = { λ p. record { begun = p.begun; cells = p.cells.items; aligns = p.aligns.items } };
 

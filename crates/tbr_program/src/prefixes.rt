@@ -5,7 +5,6 @@ ghost use Rattle.tbr_tagged.specs.declared.Error.TheVariants as E;
 ghost use Rattle.tbr_decor.specs.Decoration.{decoration_of};
 ghost use Rattle.tbr_decor.specs.Prefix.{asked_prefix};
 ghost use Rattle.tbr_renderer.specs.Outcomes.{Tries};
-ghost use Rattle.text_block_renderer.specs.Meant.{meant};
 ghost use Rattle.tbr_program.specs.Commands.{block_made};
 
 use std::iter;
@@ -27,9 +26,9 @@ pub fn append_after<D: TextDecorator, W: CharWidth>(
     texts: &TextPair,
 ) -> Result<(), Error>
     requires { renderer.old.failure ≡ None }
-    ensures tries { let texts = block_made W.columns (decoration_of D.TextDecorator)
+    ensures tries { let texts = block_made W.columns (decoration_of D.TextDecorator D.Annotation.tells)
         (string_bytes texts.now.first) (string_bytes texts.now.second) in
-        Tries (meant D.meaning) (texts (meant D.meaning inside)) renderer.old result renderer.new }
+        Tries (texts inside) renderer.old result renderer.new }
 {
     let first = iter::once(texts.first.as_str());
     let others = iter::repeat_n(texts.second.as_str(), OTHERS);

@@ -6,8 +6,6 @@ ghost use Rattle.tbr_tagged.specs.declared.Error.TheVariants as Refusal;
 ghost use Rattle.tbr_decor.specs.Decoration.{decoration_of};
 ghost use Rattle.tbr_decor.specs.Prefix.{asked_prefix};
 ghost use Rattle.text_block_renderer.specs.Renderer.{new_renderer};
-ghost use Rattle.text_block_renderer.specs.Tags.{tag_meant};
-ghost use Rattle.text_block_renderer.specs.Meant.{map_line, meant};
 ghost use Rattle.text_block_renderer.specs.Line.{line_seen};
 ghost use Rattle.tbr_safe.specs.Escaped.{escaped_bytes};
 ghost use Rattle.tbr_script.specs.declared.error.RunError.TheVariants as E;
@@ -18,7 +16,7 @@ ghost use Rattle.tbr_commands.specs.Request.{request_of};
 ghost use Rattle.tbr_commands.specs.Request as requests;
 ghost use Rattle.tbr_commands.specs.Command.{command_of, IsSized};
 ghost use Rattle.tbr_commands.specs.Command as asked;
-ghost use Rattle.tbr_program.specs.Progress.{progress_meant, nothing_pending, opener, Closes, IsSpanned, GoesOn};
+ghost use Rattle.tbr_program.specs.Progress.{nothing_pending, opener, Closes, IsSpanned, GoesOn};
 ghost use Rattle.tbr_program.specs.Closing.{closed};
 ghost use Rattle.tbr_program.specs.Commands.{Runs, level_opened, after_command, after_line, ended};
 ghost use Rattle.tbr_program.specs.Safe.{safe_command, shown_command, shown_links, after_shown_line};
@@ -51,7 +49,7 @@ impl<D: TextDecorator, W: CharWidth> Model for Program<D, W> {
     ghost use Rattle.std.specs.Prelude.{List};
     ghost use Rattle.tbr_program.specs.Progress.{Progress};
 
-    ghost Value = { Progress D D.Annotation (List D.Annotation) };
+    ghost Value = { Progress D D.Annotation.Meaning (List D.Annotation.Meaning) };
 
     ghost view = { λ p. record { stack = p.renderers; pending = p.pending; opened = p.opened } };
 }
@@ -89,7 +87,7 @@ impl<D: TextDecorator, W: CharWidth> Program<D, W> {
     /// `TooNarrow` the program isn't to be used any more. Each other refusal leaves it as it was.
     pub fn run_line(&mut self, alloc: Global, number: usize, line: &[u8]) -> Result<(), RunError>
         requires { GoesOn self.old }
-        ensures runs { Runs D.meaning (after_line W.columns (decoration_of D.TextDecorator) number line.now)
+        ensures runs { Runs (after_line W.columns (decoration_of D.TextDecorator D.Annotation.tells) number line.now)
             self.old result self.new }
     {
         if line.is_empty() {
@@ -115,8 +113,8 @@ impl<D: TextDecorator, W: CharWidth> Program<D, W> {
         raw: bool,
     ) -> Result<(), RunError>
         requires { GoesOn self.old }
-        ensures runs { let make = after_shown_line W.columns (decoration_of D.TextDecorator) raw number line.now in
-            Runs D.meaning make self.old result self.new }
+        ensures runs { let make = after_shown_line W.columns (decoration_of D.TextDecorator D.Annotation.tells) raw number line.now in
+            Runs make self.old result self.new }
     {
         if line.is_empty() {
             return Ok(());
@@ -138,8 +136,8 @@ impl<D: TextDecorator, W: CharWidth> Program<D, W> {
     pub fn run(&mut self, alloc: Global, number: usize, command: &Command) -> Result<(), RunError>
         requires goes_on { GoesOn self.old }
         requires sized { IsSized (command_of command.now) }
-        ensures runs { let make = after_command W.columns (decoration_of D.TextDecorator) number in
-            Runs D.meaning (make (command_of command.now)) self.old result self.new }
+        ensures runs { let make = after_command W.columns (decoration_of D.TextDecorator D.Annotation.tells) number in
+            Runs (make (command_of command.now)) self.old result self.new }
     {
         match command {
             Command::Ask(request) => self.call(number, request),
@@ -168,8 +166,8 @@ impl<D: TextDecorator, W: CharWidth> Program<D, W> {
     ) -> Result<(), RunError>
         requires goes_on { GoesOn self.old }
         requires sized { IsSized (command_of command.now) }
-        ensures runs { let make = after_command W.columns (decoration_of D.TextDecorator) number in
-            Runs D.meaning (make (shown_command raw (command_of command.now))) self.old result self.new }
+        ensures runs { let make = after_command W.columns (decoration_of D.TextDecorator D.Annotation.tells) number in
+            Runs (make (shown_command raw (command_of command.now))) self.old result self.new }
     {
         if raw {
             return self.run(alloc, number, command);
@@ -186,8 +184,8 @@ impl<D: TextDecorator, W: CharWidth> Program<D, W> {
     ) -> Result<(), RunError>
         requires goes_on { GoesOn self.old }
         requires sized { IsSized (command_of command.now) }
-        ensures runs { let make = after_command W.columns (decoration_of D.TextDecorator) number in
-            Runs D.meaning (make (safe_command (command_of command.now))) self.old result self.new }
+        ensures runs { let make = after_command W.columns (decoration_of D.TextDecorator D.Annotation.tells) number in
+            Runs (make (safe_command (command_of command.now))) self.old result self.new }
     {
         match command {
             Command::Append(prefixes) => {
@@ -201,8 +199,8 @@ impl<D: TextDecorator, W: CharWidth> Program<D, W> {
     /// Adds a text to the renderer on top, as a line asks for it.
     fn add_text(&mut self, text: &str) -> Result<(), RunError>
         requires { GoesOn self.old }
-        ensures runs { (number : ℕ) → let make = after_command W.columns (decoration_of D.TextDecorator) number in
-            Runs D.meaning (make (asked.ask (requests.text text.now))) self.old result self.new }
+        ensures runs { (number : ℕ) → let make = after_command W.columns (decoration_of D.TextDecorator D.Annotation.tells) number in
+            Runs (make (asked.ask (requests.text text.now))) self.old result self.new }
     {
         self.renderers.top_mut().add_inline_text(text)?;
         Ok(())
@@ -211,8 +209,8 @@ impl<D: TextDecorator, W: CharWidth> Program<D, W> {
     /// Does what a request asks for, on the line of this number.
     fn call(&mut self, number: usize, request: &Request) -> Result<(), RunError>
         requires { GoesOn self.old }
-        ensures runs { let make = after_command W.columns (decoration_of D.TextDecorator) number in
-            Runs D.meaning (make (asked.ask (request_of request.now))) self.old result self.new }
+        ensures runs { let make = after_command W.columns (decoration_of D.TextDecorator D.Annotation.tells) number in
+            Runs (make (asked.ask (request_of request.now))) self.old result self.new }
     {
         if self.pending.lacks(request) {
             return Err(RunError::NothingToEnd(number));
@@ -226,8 +224,8 @@ impl<D: TextDecorator, W: CharWidth> Program<D, W> {
     /// Begins a link to a target.
     fn start_link(&mut self, target: &str) -> Result<(), RunError>
         requires { GoesOn self.old }
-        ensures runs { (number : ℕ) → let make = after_command W.columns (decoration_of D.TextDecorator) number in
-            Runs D.meaning (make (asked.link target.now)) self.old result self.new }
+        ensures runs { (number : ℕ) → let make = after_command W.columns (decoration_of D.TextDecorator D.Annotation.tells) number in
+            Runs (make (asked.link target.now)) self.old result self.new }
     {
         self.renderers.start_link(target)?;
         Ok(())
@@ -236,8 +234,8 @@ impl<D: TextDecorator, W: CharWidth> Program<D, W> {
     /// Ends the link that began last, on the line of this number.
     fn end_link(&mut self, number: usize) -> Result<(), RunError>
         requires { GoesOn self.old }
-        ensures runs { let make = after_command W.columns (decoration_of D.TextDecorator) number in
-            Runs D.meaning (make asked.end_link) self.old result self.new }
+        ensures runs { let make = after_command W.columns (decoration_of D.TextDecorator D.Annotation.tells) number in
+            Runs (make asked.end_link) self.old result self.new }
     {
         if self.renderers.open_links() == 0 {
             return Err(RunError::NothingToEnd(number));
@@ -251,8 +249,8 @@ impl<D: TextDecorator, W: CharWidth> Program<D, W> {
         requires goes_on { GoesOn self.old }
         requires width { 0 < width }
         requires spans { IsSpanned by }
-        ensures runs { let make = level_opened W.columns (decoration_of D.TextDecorator) by width in
-            Runs D.meaning make self.old result self.new }
+        ensures runs { let make = level_opened W.columns (decoration_of D.TextDecorator D.Annotation.tells) by width in
+            Runs make self.old result self.new }
     {
         let inside = self.renderers.top().new_sub_renderer(width)?;
         self.renderers.push(inside)?;
@@ -276,9 +274,9 @@ impl<D: TextDecorator, W: CharWidth> Program<D, W> {
     /// Closes the level that `sub` opened, on the line of this number: its lines join those below it.
     fn append(&mut self, number: usize, prefixes: &TextPair) -> Result<(), RunError>
         requires { GoesOn self.old }
-        ensures runs { let make = after_command W.columns (decoration_of D.TextDecorator) number in
+        ensures runs { let make = after_command W.columns (decoration_of D.TextDecorator D.Annotation.tells) number in
             let texts = asked.append (string_bytes prefixes.now.first) (string_bytes prefixes.now.second) in
-            Runs D.meaning (make texts) self.old result self.new }
+            Runs (make texts) self.old result self.new }
     {
         if !self.opened.is_sub() {
             return Err(RunError::NothingToEnd(number));
@@ -295,8 +293,8 @@ impl<D: TextDecorator, W: CharWidth> Program<D, W> {
     /// Closes the level that `cell` opened, on the line of this number: it waits below as a cell.
     fn end_cell(&mut self, number: usize) -> Result<(), RunError>
         requires { GoesOn self.old }
-        ensures runs { let make = after_command W.columns (decoration_of D.TextDecorator) number in
-            Runs D.meaning (make asked.end_cell) self.old result self.new }
+        ensures runs { let make = after_command W.columns (decoration_of D.TextDecorator D.Annotation.tells) number in
+            Runs (make asked.end_cell) self.old result self.new }
     {
         let Some((span, align)) = self.opened.cell() else {
             return Err(RunError::NothingToEnd(number));
@@ -312,8 +310,8 @@ impl<D: TextDecorator, W: CharWidth> Program<D, W> {
     /// Adds the waiting cells side by side, on the line of this number.
     fn add_row(&mut self, alloc: Global, number: usize, collapse: bool) -> Result<(), RunError>
         requires { GoesOn self.old }
-        ensures runs { let make = after_command W.columns (decoration_of D.TextDecorator) number in
-            Runs D.meaning (make (asked.row collapse)) self.old result self.new }
+        ensures runs { let make = after_command W.columns (decoration_of D.TextDecorator D.Annotation.tells) number in
+            Runs (make (asked.row collapse)) self.old result self.new }
     {
         if !self.renderers.top().row_fits(self.pending.cells()) {
             return Err(RunError::RowDoesNotFit(number));
@@ -327,8 +325,8 @@ impl<D: TextDecorator, W: CharWidth> Program<D, W> {
     /// Adds the waiting cells, one below another.
     fn add_vertical_row(&mut self, alloc: Global) -> Result<(), RunError>
         requires { GoesOn self.old }
-        ensures runs { (number : ℕ) → let make = after_command W.columns (decoration_of D.TextDecorator) number in
-            Runs D.meaning (make asked.vertical_row) self.old result self.new }
+        ensures runs { (number : ℕ) → let make = after_command W.columns (decoration_of D.TextDecorator D.Annotation.tells) number in
+            Runs (make asked.vertical_row) self.old result self.new }
     {
         let cells = self.pending.take_renderers(alloc)?;
         self.renderers.top_mut().append_vert_row(cells)?;
@@ -340,10 +338,10 @@ impl<D: TextDecorator, W: CharWidth> Program<D, W> {
     /// It refuses as the end of the script does, and with `OutOfMemory` only where memory is refused.
     pub fn finish(self, number: usize) -> Result<String, RunError>
         requires { GoesOn self }
-        ensures text { IfOk result (λ text. ended W.columns (decoration_of D.TextDecorator) number
-            (progress_meant D.meaning self) ≡ Ok (string_bytes text)) }
+        ensures text { IfOk result (λ text. ended W.columns (decoration_of D.TextDecorator D.Annotation.tells) number
+            self ≡ Ok (string_bytes text)) }
         ensures refused { IfErr result (λ e. e ≢ RunError.OutOfMemory →
-            ended W.columns (decoration_of D.TextDecorator) number (progress_meant D.meaning self) ≡ Err e) }
+            ended W.columns (decoration_of D.TextDecorator D.Annotation.tells) number self ≡ Err e) }
     {
         if !self.opened.is_empty() || self.pending.has_cells() {
             return Err(RunError::NotACommand(number));
@@ -356,11 +354,11 @@ impl<D: TextDecorator, W: CharWidth> Program<D, W> {
     /// they are to be `raw`.
     pub fn finish_shown(self, number: usize, raw: bool) -> Result<String, RunError>
         requires { GoesOn self }
-        ensures text { IfOk result (λ text. ended W.columns (decoration_of D.TextDecorator) number
-            (shown_links raw (progress_meant D.meaning self)) ≡ Ok (string_bytes text)) }
+        ensures text { IfOk result (λ text. ended W.columns (decoration_of D.TextDecorator D.Annotation.tells) number
+            (shown_links raw self) ≡ Ok (string_bytes text)) }
         ensures refused { IfErr result (λ e. e ≢ RunError.OutOfMemory →
-            ended W.columns (decoration_of D.TextDecorator) number
-            (shown_links raw (progress_meant D.meaning self)) ≡ Err e) }
+            ended W.columns (decoration_of D.TextDecorator D.Annotation.tells) number
+            (shown_links raw self) ≡ Err e) }
     {
         if raw {
             return self.finish(number);
@@ -371,11 +369,11 @@ impl<D: TextDecorator, W: CharWidth> Program<D, W> {
     /// The text of the script, the targets of links listed without control characters.
     fn finish_safely(self, number: usize) -> Result<String, RunError>
         requires { GoesOn self }
-        ensures text { IfOk result (λ text. ended W.columns (decoration_of D.TextDecorator) number
-            (shown_links false (progress_meant D.meaning self)) ≡ Ok (string_bytes text)) }
+        ensures text { IfOk result (λ text. ended W.columns (decoration_of D.TextDecorator D.Annotation.tells) number
+            (shown_links false self) ≡ Ok (string_bytes text)) }
         ensures refused { IfErr result (λ e. e ≢ RunError.OutOfMemory →
-            ended W.columns (decoration_of D.TextDecorator) number
-            (shown_links false (progress_meant D.meaning self)) ≡ Err e) }
+            ended W.columns (decoration_of D.TextDecorator D.Annotation.tells) number
+            (shown_links false self) ≡ Err e) }
     {
         if !self.opened.is_empty() || self.pending.has_cells() {
             return Err(RunError::NotACommand(number));
@@ -392,10 +390,10 @@ impl<D: TextDecorator, W: CharWidth> Program<D, W> {
         requires opened { self.opened ≡ [] }
         requires cells { self.pending.cells ≡ [] }
         ensures lines { IfOk result (λ lines. OfTop (λ r.
-            closed W.columns (decoration_of D.TextDecorator) self.stack.links (meant D.meaning r)
-            ≡ done (map (map_line (tag_meant D.meaning)) (map line_seen lines.items))) self.stack) }
+            closed W.columns (decoration_of D.TextDecorator D.Annotation.tells) self.stack.links r
+            ≡ done (map line_seen lines.items)) self.stack) }
         ensures too_narrow { result ≡ Err Refusal.TooNarrow → OfTop (λ r.
-            closed W.columns (decoration_of D.TextDecorator) self.stack.links (meant D.meaning r)
+            closed W.columns (decoration_of D.TextDecorator D.Annotation.tells) self.stack.links r
             ≡ refused Refusal.TooNarrow) self.stack }
     {
         let (renderer, targets) = self.renderers.into_inner();
@@ -412,10 +410,10 @@ impl<D: TextDecorator, W: CharWidth> Program<D, W> {
         requires opened { self.opened ≡ [] }
         requires cells { self.pending.cells ≡ [] }
         ensures lines { let shown = shown_links raw self in IfOk result (λ lines. OfTop (λ r.
-            closed W.columns (decoration_of D.TextDecorator) shown.stack.links (meant D.meaning r)
-            ≡ done (map (map_line (tag_meant D.meaning)) (map line_seen lines.items))) self.stack) }
+            closed W.columns (decoration_of D.TextDecorator D.Annotation.tells) shown.stack.links r
+            ≡ done (map line_seen lines.items)) self.stack) }
         ensures too_narrow { let shown = shown_links raw self in result ≡ Err Refusal.TooNarrow → OfTop (λ r.
-            closed W.columns (decoration_of D.TextDecorator) shown.stack.links (meant D.meaning r)
+            closed W.columns (decoration_of D.TextDecorator D.Annotation.tells) shown.stack.links r
             ≡ refused Refusal.TooNarrow) self.stack }
     {
         if raw {

@@ -13,29 +13,11 @@ use Rattle.tbr_renderer.specs.Appended.{handed_out}
 use Rattle.tbr_renderer.specs.Flush.{block_in, lines_at_end, after_block}
 use Rattle.tbr_renderer.proofs.OutcomeParts.{one_done, done_before}
 use Rattle.tbr_renderer.proofs.FlushedBlocks.{block_ended}
-use Rattle.tbr_footnotes.specs.Tags.{tag_meant}
-use Rattle.tbr_renderer.specs.Meant.{map_line, map_open, meant}
 use Rattle.tbr_renderer.specs.Rows.{block_is_blank, is_blank}
-use Rattle.tbr_renderer.proofs.MappedBlocks.{some-map, any_line-map, has_no_character-map}
 
 none_of_not : {X : Type 0} (xs : List X) → not (is_some_list xs) ≡ true → xs ≡ []
 none_of_not [] h = refl
 none_of_not (x ∷ xs) h = cc
-
--- ---- what its annotations mean doesn't matter
-
-module _ {D A M : Type 0} (f : A → M) (columns : ℕ → Option ℕ) (r : Renderer D A (List A)) where
-  block-map : (o : Option (Open (List A))) → block_is_blank columns (meant f r) (option_map (map_open (tag_meant f)) o) ≡ block_is_blank columns r o
-  block-map None = refl
-  block-map (Some b) =
-      let s = block_in r b in
-      ap (λ any. not any && has_no_character columns (block_in (meant f r) (map_open (tag_meant f) b))) (any_line-map (tag_meant f) columns s)
-      ∙ ap (λ none. not (any_line columns s) && none) (has_no_character-map (tag_meant f) columns s)
-
-  pub blank_meant : is_blank columns (meant f r) ≡ is_blank columns r
-  blank_meant =
-      ap (λ block. is_none r.failure && (block && not (is_some_list (map (map_line (tag_meant f)) r.lines)))) (block-map r.block)
-      ∙ ap (λ some. is_none r.failure && (block_is_blank columns r r.block && not some)) (some-map (map_line (tag_meant f)) r.lines)
 
 -- ---- it hands out no line
 

@@ -1,12 +1,8 @@
 -- Lines of a block that join those of a renderer.
-use Rattle.std.proofs.Common.{◌≡◌, ℕ, Bool, true, Option, None, Some, List, [], ◌∷◌, ◌++◌, map, fold, drop, refl, ap, sym, ◌∙◌, subst, append_assoc, arith}
+use Rattle.std.proofs.Common.{◌≡◌, ◌↔◌, IsTrue, ℕ, Bool, true, Option, None, Some, List, [], ◌∷◌, ◌++◌, map, fold, drop, refl, ap, sym, ◌∙◌, subst, append_assoc, arith}
 use Rattle.std.proofs.lemmas.List.{map-append}
-use Rattle.std.proofs.lemmas.Simd.{map-map}
 use Rattle.std.proofs.lemmas.Grind.{fold-append}
-use Rattle.std.specs.Option.{option_map}
 use Rattle.tbr_model.specs.Run.{Item}
-use Rattle.tbr_model.specs.Mapped.{map_item, map_lines}
-use Rattle.tbr_annotations.specs.Annotations.{equal_annotations}
 use Rattle.tbr_tagged.specs.Elements.{Element, marker_element, items_of}
 use Rattle.tbr_wrap.specs.Block.{Block, Settings, settings_of as block_settings, all_lines, left, loose, flushed, without_loose, after_flush, after_taking}
 use Rattle.tbr_tagged.specs.Outcome.{done, refused}
@@ -15,55 +11,45 @@ use Rattle.tbr_tagged.specs.declared.Error.TheVariants as E
 use Rattle.tbr_wrap.proofs.runs.LinesLeft.{handed_keeps, left_after}
 use Rattle.tbr_wrap.proofs.runs.BlockLaws.{HandsOne, flush_allowed, flush_leaves, taking_leaves, left_taken, left_flushed, waiting_loose}
 use Rattle.tbr_renderer.specs.Renderer.{KeepsSettings, settings_of, Open, Renderer, with_line, block_width, may_overflow}
-use Rattle.tbr_footnotes.specs.Tags.{tag_meant, items_meant}
-use Rattle.tbr_renderer.specs.Meant.{map_open, meant}
-use Rattle.tbr_renderer.specs.View.{block_seen, block_meant, names_of, AreMarkers, IsFresh}
-use Rattle.tbr_renderer.specs.Flush.{line_meant, block_lines, lines_at_end, fits_at_end, after_block}
+use Rattle.tbr_renderer.specs.View.{block_seen, open_seen, names_of, AreMarkers, IsFresh}
+use Rattle.tbr_renderer.specs.Flush.{filled_line, block_lines, lines_at_end, fits_at_end, after_block}
 use Rattle.tbr_renderer.specs.Flush as flush
-use Rattle.tbr_tagged.proofs.MappedTags.{means_same_items}
-use Rattle.tbr_renderer.proofs.MappedBlocks.{lines_meant, names_meant, fits_meant, flush_narrow}
-use Rattle.tbr_renderer.proofs.MeantLines.{padding-map}
+use Rattle.tbr_annotations.specs.Annotations.{same_annotations}
+use Rattle.tbr_annotations.proofs.Told.{items_told}
+use Rattle.tbr_renderer.proofs.OpenBlocks.{lines_seen, names_seen, fits_seen, flush_narrow}
 use Rattle.tbr_renderer.proofs.OutcomeParts.{fitting, not_fitting}
 
 -- The lines of a block that a renderer has: given ones, and the block has the others left.
-pub record HasLines {D A M : Type 0} (f : A → M) (columns : ℕ → Option ℕ) (first old : Block (List A)) (r q : Renderer D A (List A)) : Type 0 where
+pub record HasLines {D A : Type 0} (columns : ℕ → Option ℕ) (first old : Block (List A)) (r q : Renderer D A (List A)) : Type 0 where
   pub unfailed : q.failure ≡ None
   pub live : old.failure ≡ None
   pub same : block_settings old ≡ block_settings first
   pub given : List (List (Item (List A)))
   pub parts : left columns first ≡ given ++ left columns old
-  pub meaning : meant f q ≡ fold (with_line columns) (meant f r) (map (line_meant columns f first) given)
-  pub settings : KeepsSettings (meant f r) (meant f q)
+  pub added : q ≡ fold (with_line columns) r (map (filled_line columns first) given)
+  pub settings : KeepsSettings r q
 
-module _ {D A M : Type 0} (eq : A → A → Bool) (f : A → M) (agree : (v w : List A) → equal_annotations eq v w ≡ true → tag_meant f v ≡ tag_meant f w) (columns : ℕ → Option ℕ) where
-  pub one_line_more : (first old new : Block (List A)) (r q s : Renderer D A (List A)) (line : List (Element (List A))) → HasLines f columns first old r q → HandsOne columns (equal_annotations eq) old line new →
-      meant f s ≡ with_line columns (meant f q) (items_meant f (items_of line)) → HasLines f columns first new r s
+module _ {D A : Type 0} (same : A → A → Bool) (tells : (a b : A) → IsTrue (same a b) ↔ (a ≡ b)) (columns : ℕ → Option ℕ) where
+  pub one_line_more : (first old new : Block (List A)) (r q s : Renderer D A (List A)) (line : List (Element (List A))) → HasLines columns first old r q → HandsOne columns (same_annotations same) old line new →
+      s ≡ with_line columns q (items_of line) → HasLines columns first new r s
   one_line_more first old new r q s line h one added =
-      let same : items_meant f (items_of line) ≡ line_meant columns f first one.text =
-      means_same_items (tag_meant f) (equal_annotations eq) agree (items_of line) (one.text ++ padding_of columns old.padding old.width one.text) one.shows.items
-      ∙ ap (λ (k : Settings (List A)). items_meant f (one.text ++ padding_of columns k.padding k.width one.text)) h.same in
+      let shown : items_of line ≡ filled_line columns first one.text =
+      items_told same tells (items_of line) (one.text ++ padding_of columns old.padding old.width one.text) one.shows.items
+      ∙ ap (λ (k : Settings (List A)). one.text ++ padding_of columns k.padding k.width one.text) h.same in
       let last : left columns new ≡ one.rest = ap (left columns) one.leaves ∙ left_after old columns ∙ ap (drop 1) one.left_is in
       record {
-        unfailed = ap (λ (m : Renderer D M (List M)). m.failure) added ∙ h.unfailed;
+        unfailed = ap (λ (m : Renderer D A (List A)). m.failure) added ∙ h.unfailed;
         live = ap (λ (b : Block (List A)). b.failure) one.leaves ∙ (handed_keeps old).0 ∙ h.live;
         same = ap (λ (b : Block (List A)). block_settings b) one.leaves ∙ (handed_keeps old).1 ∙ h.same;
         given = h.given ++ one.text ∷ [];
         settings = ap settings_of added ∙ h.settings;
         parts = h.parts ∙ ap (λ ls. h.given ++ ls) one.left_is ∙ ap (λ ls. h.given ++ one.text ∷ ls) (sym last) ∙ sym (append_assoc h.given (one.text ∷ []) (left columns new));
-        meaning = added ∙ ap (with_line columns (meant f q)) same ∙ ap (λ (m : Renderer D M (List M)). with_line columns m (line_meant columns f first one.text)) h.meaning
-            ∙ sym (fold-append (with_line columns) (meant f r) (map (line_meant columns f first) h.given) (line_meant columns f first one.text ∷ []))
-            ∙ ap (fold (with_line columns) (meant f r)) (sym (map-append (line_meant columns f first) h.given (one.text ∷ [])));
+        added = added ∙ ap (with_line columns q) shown ∙ ap (λ (m : Renderer D A (List A)). with_line columns m (filled_line columns first one.text)) h.added
+            ∙ sym (fold-append (with_line columns) r (map (filled_line columns first) h.given) (filled_line columns first one.text ∷ []))
+            ∙ ap (fold (with_line columns) r) (sym (map-append (filled_line columns first) h.given (one.text ∷ [])));
       }
 
 -- ---- the end of a run
-
-module _ {A M : Type 0} (f : A → M) (columns : ℕ → Option ℕ) where
-  line-map : (b : Block (List A)) (is : List (Item (List A))) → line_meant columns f b is ≡ items_meant f is ++ padding_of columns (option_map (tag_meant f) b.padding) b.width (items_meant f is)
-  line-map b is = map-append (map_item (tag_meant f)) is (padding_of columns b.padding b.width is) ∙ ap (λ js. items_meant f is ++ js) (padding-map f columns b.padding b.width is)
-
-  lines-map : (b : Block (List A)) (texts : List (List (Item (List A)))) →
-      map (line_meant columns f b) texts ≡ map (λ is. is ++ padding_of columns (option_map (tag_meant f) b.padding) b.width is) (map_lines (tag_meant f) texts)
-  lines-map b texts = grind (arith, line-map, map-map)
 
 names_of_markers : (T : Type 0) (names : List (List ℕ)) → names_of (map (λ n. let e : Element T = marker_element n in e) names) ≡ names
 names_of_markers T [] = refl
@@ -75,7 +61,7 @@ markers_named {T} es names e = ap names_of e ∙ names_of_markers T names
 pub are_markers : {T : Type 0} (es : List (Element T)) (names : List (List ℕ)) → es ≡ map marker_element names → AreMarkers es
 are_markers {T} es names e = ap (map (λ n. let x : Element T = marker_element n in x)) (markers_named es names e) ∙ sym e
 
-module _ {D A M : Type 0} (f : A → M) (columns : ℕ → Option ℕ) (r : Renderer D A (List A)) (b : Block (List A)) (seen : block_seen (Some b) ≡ r.block) (fresh : IsFresh columns (block_width r) (may_overflow r) b) where
+module _ {D A : Type 0} (columns : ℕ → Option ℕ) (r : Renderer D A (List A)) (b : Block (List A)) (seen : block_seen (Some b) ≡ r.block) (fresh : IsFresh columns (block_width r) (may_overflow r) b) where
   -- what a block that was flushed, and that handed its markers out, has left
   module _ (after taken_from : Block (List A)) (e : after_flush columns b ≡ done after) (taken : after_taking columns after ≡ done taken_from) where
     after_is : taken_from ≡ without_loose columns (flushed columns b)
@@ -86,22 +72,22 @@ module _ {D A M : Type 0} (f : A → M) (columns : ℕ → Option ℕ) (r : Rend
 
     -- a flush where a block is open
     pub block_flushed : (waiting : List (List ℕ)) (s0 s1 s2 : Renderer D A (List A)) → s0 ≡ record r { block = None } →
-        meant f s1 ≡ fold (with_line columns) (meant f s0) (map (line_meant columns f taken_from) (left columns taken_from)) → waiting ≡ loose columns after → s2 ≡ record s1 { waiting = s1.waiting ++ waiting } → flush.after_flush columns (meant f r) ≡ done (meant f s2)
+        s1 ≡ fold (with_line columns) s0 (map (filled_line columns taken_from) (left columns taken_from)) → waiting ≡ loose columns after → s2 ≡ record s1 { waiting = s1.waiting ++ waiting } → flush.after_flush columns r ≡ done s2
     block_flushed waiting s0 s1 s2 emptied lines names_are waits =
-        let opened : Open (List M) = block_meant f b in
+        let opened : Open (List A) = open_seen b in
         let kept = ap (λ (s : Block (List A)). block_settings s) after_is ∙ ap (λ (s : Block (List A)). block_settings s) fresh.is in
-        let here : map (line_meant columns f taken_from) (left columns taken_from) ≡ block_lines columns (meant f r) opened (lines_at_end columns (meant f r) opened) =
-        ap (map (line_meant columns f taken_from)) all_left ∙ lines-map f columns taken_from (all_lines columns b)
-        ∙ (λ i. map (λ is. is ++ padding_of columns (option_map (tag_meant f) (kept i).padding) (kept i).width is) (sym (lines_meant f columns r b fresh) i)) in
-        let after_lines : meant f s1 ≡ fold (with_line columns) (record (meant f r) { block = None }) (block_lines columns (meant f r) opened (lines_at_end columns (meant f r) opened)) =
-        lines ∙ (λ i. fold (with_line columns) (meant f (emptied i)) (here i)) in
-        let names = names_are ∙ waiting_loose columns b after e ∙ sym (names_meant f columns r b fresh) in
-        subst (λ (o : Option (Open (List A))). after_block columns (meant f r) (option_map (map_open (tag_meant f)) o) ≡ done (meant f s2)) seen
-        (fitting (fits_at_end columns (meant f r) opened) _ (fits_meant f columns r b fresh ∙ flush_allowed columns b after e)
-        ∙ sym (ap (λ m. done m) (ap (meant f) waits ∙ (λ i. record (after_lines i) { waiting = (after_lines i).waiting ++ names i }))))
+        let here : map (filled_line columns taken_from) (left columns taken_from) ≡ block_lines columns r opened (lines_at_end columns r opened) =
+        ap (map (filled_line columns taken_from)) all_left
+        ∙ (λ i. map (λ is. is ++ padding_of columns (kept i).padding (kept i).width is) (sym (lines_seen columns r b fresh) i)) in
+        let after_lines : s1 ≡ fold (with_line columns) (record r { block = None }) (block_lines columns r opened (lines_at_end columns r opened)) =
+        lines ∙ (λ i. fold (with_line columns) (emptied i) (here i)) in
+        let names = names_are ∙ waiting_loose columns b after e ∙ sym (names_seen columns r b fresh) in
+        subst (λ (o : Option (Open (List A))). after_block columns r o ≡ done s2) seen
+        (fitting (fits_at_end columns r opened) _ (fits_seen columns r b fresh ∙ flush_allowed columns b after e)
+        ∙ sym (ap (λ m. done m) (waits ∙ (λ i. record (after_lines i) { waiting = (after_lines i).waiting ++ names i }))))
 
   -- and where it is refused
-  pub block_refused : after_flush columns b ≡ refused E.TooNarrow → flush.after_flush columns (meant f r) ≡ refused E.TooNarrow
+  pub block_refused : after_flush columns b ≡ refused E.TooNarrow → flush.after_flush columns r ≡ refused E.TooNarrow
   block_refused e =
-      subst (λ (o : Option (Open (List A))). after_block columns (meant f r) (option_map (map_open (tag_meant f)) o) ≡ refused E.TooNarrow) seen
-      (not_fitting (fits_at_end columns (meant f r) (block_meant f b)) _ (fits_meant f columns r b fresh ∙ flush_narrow columns b (ap (λ (s : Block (List A)). s.failure) fresh.is) e))
+      subst (λ (o : Option (Open (List A))). after_block columns r o ≡ refused E.TooNarrow) seen
+      (not_fitting (fits_at_end columns r (open_seen b)) _ (fits_seen columns r b fresh ∙ flush_narrow columns b (ap (λ (s : Block (List A)). s.failure) fresh.is) e))

@@ -3,7 +3,6 @@ use Rattle.std.proofs.Common.{◌≡◌, ◌↔◌, ℕ, ◌+◌, Bool, Option, 
 use Rattle.std.specs.Option.{option_map}
 use Rattle.std.specs.List.{AllZip}
 use Rattle.std.proofs.lemmas.Option.{same_Some}
-use Rattle.std.proofs.lemmas.List.{map-id}
 use Rattle.std.specs.Cmp.Lexicographic.{pointwise}
 use Rattle.tbr_tagged.specs.declared.CellAlign.{CellAlign}
 use Rattle.tbr_border.specs.declared.RenderLine.{RenderLine}
@@ -15,7 +14,7 @@ use Rattle.tbr_rows.specs.Computed.{TellsApart, row_of}
 use Rattle.tbr_rows.specs.declared.LineSet.{LineSet as Cell}
 use Rattle.tbr_rows.proofs.OneRow.{longest_same}
 use Rattle.tbr_rows.proofs.ComputedRow.{longest_items, longest_are, computed}
-use Rattle.tbr_footnotes.proofs.Tags.{lists_mean, copies_are_equal}
+use Rattle.tbr_tags.specs.Tells.{lists_tell}
 use Rattle.tbr_kept_lines.specs.Line.{Line, text, border}
 use Rattle.tbr_kept_lines.specs.LastBorder.{last_border}
 use Rattle.tbr_renderer.specs.Renderer.{Renderer}
@@ -28,10 +27,7 @@ use Rattle.tbr_renderer.proofs.OutcomeParts.{one_done, done_first}
 
 -- where tags can be told apart, lists of them can
 pub lists_apart : {A : Type 0} (same : A → A → Bool) → TellsApart same → TellsApart (pointwise same)
-lists_apart same tells xs ys = (
-  λ h. sym (map-id xs) ∙ lists_mean same (λ x. x) tells xs ys h ∙ map-id ys,
-  λ e. copies_are_equal same (λ x. x) tells xs ys (sym e),
-)
+lists_apart = lists_tell
 
 -- ---- the same cells
 

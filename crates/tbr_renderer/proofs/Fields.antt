@@ -20,7 +20,7 @@ names_append (marker_element name ∷ es) fs = ap (λ ns. name ∷ ns) (names_ap
 pub markers_append : {T : Type 0} (es fs : List (Element T)) → AreMarkers es → AreMarkers fs → AreMarkers (es ++ fs)
 markers_append {T} es fs h k = grind (arith, names_append, map-append)
 
-module _ {D W A : Type 0} (columns : ℕ → Option ℕ) (r : Inside D W A) (more : List (TaggedLineElement (List A))) (waiting : Vec (TaggedLineElement (List A))) (is : waiting.items ≡ r.waiting.items ++ more) where
+module _ {D W A M : Type 0} (columns : ℕ → Option ℕ) (r : Inside D W A M) (more : List (TaggedLineElement (List M))) (waiting : Vec (TaggedLineElement (List M))) (is : waiting.items ≡ r.waiting.items ++ more) where
   elements : map element_of waiting.items ≡ map element_of r.waiting.items ++ map element_of more
   elements = ap (map element_of) is ∙ map-append element_of r.waiting.items more
 
@@ -28,13 +28,13 @@ module _ {D W A : Type 0} (columns : ℕ → Option ℕ) (r : Inside D W A) (mor
   pub holds_waiting : HoldsRenderer columns r → AreMarkers (map element_of more) → HoldsRenderer columns (record r { waiting = waiting })
   holds_waiting h markers = grind (arith, elements, markers_append)
 
-  pub waiting_seen : (s : Renderer D A (List A)) → renderer_of r ≡ s → renderer_of (record r { waiting = waiting }) ≡ record s { waiting = s.waiting ++ names_of (map element_of more) }
+  pub waiting_seen : (s : Renderer D M (List M)) → renderer_of r ≡ s → renderer_of (record r { waiting = waiting }) ≡ record s { waiting = s.waiting ++ names_of (map element_of more) }
   waiting_seen s view = grind (arith, elements, names_append)
 
 -- ---- the open block
 
 -- the block that is in the box is the open one, and fresh
-pub boxed_opens : {D W A : Type 0} (columns : ℕ → Option ℕ) (inside : Inside D W A) (r : Renderer D A (List A)) (boxed : Box (Block (List A))) →
+pub boxed_opens : {D W A M : Type 0} (columns : ℕ → Option ℕ) (inside : Inside D W A M) (r : Renderer D M (List M)) (boxed : Box (Block (List M))) →
     HoldsRenderer columns inside → renderer_of inside ≡ r → r.failure ≡ None → inside.wrapping ≡ Some boxed →
     (block_seen (Some boxed.value) ≡ r.block) × IsFresh columns (block_width r) (may_overflow r) boxed.value
-boxed_opens {D} {W} {A} columns inside r boxed holds view live is = grind arith
+boxed_opens {D} {W} {A} {M} columns inside r boxed holds view live is = grind arith

@@ -7,7 +7,7 @@ use Rattle.tbr_tagged.specs.Outcome.{done}
 use Rattle.tbr_renderer.specs.Renderer.{Open, Renderer, block_width, may_overflow, IsSound}
 use Rattle.tbr_renderer.specs.Flush.{block_lines, lines_at_end, names_at_end, fits_at_end, flushed, after_block, after_flush}
 use Rattle.tbr_renderer.proofs.OutcomeParts.{one_done, if_fits}
-use Rattle.tbr_renderer.proofs.MappedBlocks.{end_promised}
+use Rattle.tbr_renderer.proofs.OpenBlocks.{end_promised}
 
 -- The end of a block: its lines fit, are what a block promises of its run's, and join the others.
 pub record EndsBlock {D A : Type 0} (columns : ℕ → Option ℕ) (r : Renderer D A (List A)) (b : Open (List A)) (s : Renderer D A (List A)) : Type 0 where

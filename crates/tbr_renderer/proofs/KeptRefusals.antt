@@ -7,7 +7,6 @@ use Rattle.tbr_tagged.specs.declared.Error.TheVariants as E
 use Rattle.tbr_tagged.specs.Outcome.{Outcome, done, refused}
 use Rattle.tbr_tagged.proofs.Outcomes.{live_goes}
 use Rattle.tbr_decor.specs.Decoration.{Decoration}
-use Rattle.tbr_renderer.specs.Meant.{meant}
 use Rattle.tbr_renderer.specs.Flush.{after_flush}
 use Rattle.tbr_renderer.specs.Renderer.{Renderer, KeepsSettings, kept_of, block_width}
 use Rattle.tbr_renderer.specs.Outcomes.{and_then, taking}
@@ -23,11 +22,11 @@ kept_ok P {r = Ok x} {tried = Ok y} old new e h k = subst P (sym h) k
 kept_ok P {r = Ok x} {tried = Err y} old new e h k = cc
 kept_ok P {r = Err x} old new e h k = tt
 
-module _ {D A M R : Type 0} (f : A → M) (columns : ℕ → Option ℕ) (decoration : Decoration D M) where
+module _ {D A R : Type 0} (columns : ℕ → Option ℕ) (decoration : Decoration D A) where
   -- what a live renderer that refuses leaves, once the refusal is kept
   pub kept_fails : {old new : Renderer D A (List A)} (mid : Renderer D A (List A)) {result tried : Result R Error} → old.failure ≡ None → result ≡ tried →
       IfErr result (λ e. (new.failure ≡ Some e) × (kept_of new ≡ kept_of mid)) → OnErr tried (kept_of mid ≡ kept_of old) →
-      Fails (calls_by columns decoration f) old result new
+      Fails (calls_by columns decoration) old result new
   kept_fails mid {result = Ok x} live same failed stay = record { refusal = (tt, λ e was. absurd (let n : None ≡ Some e = sym live ∙ was in cc)); kept = tt }
   kept_fails {old = old} mid {result = Err x} live same failed stay = record {
     refusal = (failed.0, λ e was. absurd (let n : None ≡ Some e = sym live ∙ was in cc));
@@ -37,10 +36,10 @@ module _ {D A M R : Type 0} (f : A → M) (columns : ℕ → Option ℕ) (decora
   module _ {old new : Renderer D A (List A)} (mid : Renderer D A (List A)) {result tried : Result R Error} (live : old.failure ≡ None) (same : result ≡ tried)
       (is : OnOk result (new ≡ mid)) (failed : IfErr result (λ e. (new.failure ≡ Some e) × (kept_of new ≡ kept_of mid))) where
     -- and so where it takes what others give
-    pub settled_takes : {X : Type 0} {given : Outcome X} {wide : Type 0} {take : X → Renderer D M (List M) → Outcome (Renderer D M (List M))}
-        (make : X → Renderer D M (List M) → Outcome (Renderer D M (List M))) → ((x : X) → take x (meant f old) ≡ make x (meant f old)) →
-        OnOk tried (taking (after_flush columns) given make (meant f old) ≡ done (meant f mid)) →
-        (tried ≡ Err E.TooNarrow → and_then (after_flush columns (meant f old)) (λ _. given) ≡ refused E.TooNarrow) →
-        (2 ≤ block_width old → wide → tried ≢ Err E.TooNarrow) → KeepsSettings (meant f old) (meant f mid) →
-        Takes (calls_by columns decoration f) given wide take old result new
+    pub settled_takes : {X : Type 0} {given : Outcome X} {wide : Type 0} {take : X → Renderer D A (List A) → Outcome (Renderer D A (List A))}
+        (make : X → Renderer D A (List A) → Outcome (Renderer D A (List A))) → ((x : X) → take x old ≡ make x old) →
+        OnOk tried (taking (after_flush columns) given make old ≡ done mid) →
+        (tried ≡ Err E.TooNarrow → and_then (after_flush columns old) (λ _. given) ≡ refused E.TooNarrow) →
+        (2 ≤ block_width old → wide → tried ≢ Err E.TooNarrow) → KeepsSettings old mid →
+        Takes (calls_by columns decoration) given wide take old result new
     settled_takes {X} {given} {wide} {take} make alike ok narrow two settings = grind (arith, live_goes, kept_ok, on_ok_weaker, taking_none, kept_fails, on_err)

@@ -64,11 +64,11 @@ pub never_narrow : {X : Type 0} {result : Result X Error} → IfErr result (λ e
 never_narrow {result = Ok x} memory is = cc
 never_narrow {result = Err e} memory is = let same : e ≡ E.OutOfMemory = memory in cc
 
-module _ {S V R : Type 0} (state : S → V) (make : V → Outcome V) (old new : S) where
-  pub tries_ok : (x : R) → make (state old) ≡ done (state new) → Tries state make old (Ok x) new
+module _ {S R : Type 0} (make : S → Outcome S) (old new : S) where
+  pub tries_ok : (x : R) → make old ≡ done new → Tries make old (Ok x) new
   tries_ok x is = record { ok = is; too_narrow = λ e. absurd (let no : ⊥ = cc in no) }
 
-  pub tries_err : (result : Result R Error) (e : Error) → IsErrAnd result (λ x. x ≡ e) → (e ≡ E.TooNarrow → make (state old) ≡ refused E.TooNarrow) → Tries state make old result new
+  pub tries_err : (result : Result R Error) (e : Error) → IsErrAnd result (λ x. x ≡ e) → (e ≡ E.TooNarrow → make old ≡ refused E.TooNarrow) → Tries make old result new
   tries_err (Ok x) e is narrow = absurd is
   tries_err (Err x) e is narrow = record { ok = tt; too_narrow = λ same. narrow (let one : x ≡ e = is in cc) }
 

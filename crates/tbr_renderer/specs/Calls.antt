@@ -19,7 +19,6 @@ use Rattle.tbr_renderer.specs.Renderer.{Renderer, Kept, kept_of, block_columns, 
 use Rattle.tbr_kept_lines.specs.LastBorder.{without_last}
 use Rattle.tbr_tagged.specs.Outcome.{Outcome, done, refused, if_live}
 use Rattle.std.specs.Cmp.Lexicographic.{pointwise}
-use Rattle.tbr_renderer.specs.Meant.{meant}
 use Rattle.tbr_renderer.specs.Outcomes.{and_then, run, taking, told}
 use Rattle.tbr_renderer.specs.Flush.{after_flush}
 use Rattle.tbr_renderer.specs.Steps.{after_empty_line, after_block_start, after_break, after_text}
@@ -193,11 +192,11 @@ Leads calls call r s = calls.after call (calls.state r) ≡ done (calls.state s)
 abbrev pub TakesNone : {T S V X : Type 0} → CallsOf T S V → Outcome X → S → Type 0
 TakesNone calls given r = and_then (calls.after new_line (calls.state r)) (λ _. given) ≡ refused E.TooNarrow
 
--- the calls of a renderer, by what its annotations mean
-abbrev pub calls_by : {D A M : Type 0} → (ℕ → Option ℕ) → Decoration D M → (A → M) →
-    CallsOf (List M) (Renderer D A (List A)) (Renderer D M (List M))
-calls_by columns decoration meaning = record {
-  state = meant meaning;
+-- the calls of a renderer
+abbrev pub calls_by : {D M : Type 0} → (ℕ → Option ℕ) → Decoration D M →
+    CallsOf (List M) (Renderer D M (List M)) (Renderer D M (List M))
+calls_by columns decoration = record {
+  state = λ r. r;
   after = after columns decoration;
   after_row = after_row (pointwise decoration.same) columns;
   failure = λ r. r.failure;

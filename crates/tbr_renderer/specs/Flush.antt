@@ -7,7 +7,6 @@ use Rattle.tbr_wrap.specs.Block as block
 use Rattle.tbr_wrap.specs.Wrapped.{padding_of}
 use Rattle.tbr_tagged.specs.Outcome.{Outcome, done, refused}
 use Rattle.tbr_tagged.specs.declared.Error.TheVariants.{TooNarrow}
-use Rattle.tbr_footnotes.specs.Tags.{items_meant}
 use Rattle.tbr_renderer.specs.Renderer.{Open, Renderer, with_line, block_width, may_overflow}
 
 -- ---- the open block by its rule
@@ -38,10 +37,9 @@ abbrev pub block_lines : {D A : Type 0} →
     (ℕ → Option ℕ) → Renderer D A (List A) → Open (List A) → List (List (Item (List A))) → List (List (Item (List A)))
 block_lines columns r b texts = map (λ is. is ++ padding_of columns b.padding (block_width r) is) texts
 
--- a line of a block with its padding, by what it means
-abbrev pub line_meant : {A M : Type 0} →
-    (ℕ → Option ℕ) → (A → M) → Block (List A) → List (Item (List A)) → List (Item (List M))
-line_meant columns meaning b is = items_meant meaning (is ++ padding_of columns b.padding b.width is)
+-- a line of a block with its padding
+abbrev pub filled_line : {A : Type 0} → (ℕ → Option ℕ) → Block (List A) → List (Item (List A)) → List (Item (List A))
+filled_line columns b is = is ++ padding_of columns b.padding b.width is
 
 -- A block's lines come as they are: neither padded, nor after markers that wait.
 pub record AddsAsIs {D A : Type 0} (r : Renderer D A (List A)) (b : Block (List A)) : Type 0 where

@@ -1,7 +1,7 @@
 pub mod Options
 pub mod Outcomes
 pub mod Renderer
-pub mod Meant
+pub mod Mapped
 pub mod View
 pub mod Flush
 pub mod Steps

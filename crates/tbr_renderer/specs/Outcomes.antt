@@ -41,7 +41,6 @@ gathered give (x ∷ xs) = and_then (give x) (λ y. changed (λ ys. y ∷ ys) (g
 
 -- What a function tries that makes this of a state: it is `Ok` only where it leaves that, and `TooNarrow` only where
 -- that is the outcome. Else it is `OutOfMemory`.
-pub record Tries {S V R : Type 0} (state : S → V) (make : V → Outcome V) (old : S) (result : Result R Error) (new : S) :
-    Type 0 where
-  pub ok : OnOk result (make (state old) ≡ done (state new))
-  pub too_narrow : result ≡ Err E.TooNarrow → make (state old) ≡ refused E.TooNarrow
+pub record Tries {S R : Type 0} (make : S → Outcome S) (old : S) (result : Result R Error) (new : S) : Type 0 where
+  pub ok : OnOk result (make old ≡ done new)
+  pub too_narrow : result ≡ Err E.TooNarrow → make old ≡ refused E.TooNarrow

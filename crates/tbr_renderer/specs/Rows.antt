@@ -17,11 +17,11 @@ use Rattle.tbr_rows.specs.Meant.{AreLongest, SeenRow, MeansRow}
 use Rattle.tbr_rows.specs.Computed.{row_of}
 use Rattle.tbr_rows.specs.Stretches.{longest}
 use Rattle.tbr_rows.specs.declared.LineSet.{LineSet as Cell}
+use Rattle.tbr_rows.specs.declared.Row.{Row}
 use Rattle.tbr_rows.specs.declared.RowStyle.{RowStyle}
 use Rattle.tbr_kept_lines.specs.LastBorder.{last_border, before_border}
 use Rattle.tbr_kept_lines.specs.Line.{Line, text, border}
 use Rattle.tbr_renderer.specs.Renderer.{Open, Renderer, with_line}
-use Rattle.tbr_renderer.specs.Meant.{meant}
 use Rattle.tbr_renderer.specs.Flush.{block_in, after_flush}
 use Rattle.tbr_tagged.specs.Outcome.{Outcome, done, refused, if_live}
 use Rattle.tbr_tagged.specs.declared.Error.TheVariants as E
@@ -98,11 +98,10 @@ module _ {S T : Type 0} (columns_of : S → ℕ) (hand_out : S → Outcome (List
       let others = cells_given cols (drop 1 aligns) in
       and_then (cell_given col (next_align aligns)) (λ cell. changed (λ cells. cell ∷ cells) others)
 
--- the same of renderers by what their annotations mean
-abbrev pub cells_meant : {D A M : Type 0} → (ℕ → Option ℕ) → (A → M) → List (Renderer D A (List A) × ℕ) →
-    List CellAlign → Outcome (List (GivenCell (List M)))
-cells_meant columns meaning cols aligns =
-    cells_given (λ r. r.width) (λ r. handed_out columns (meant meaning r)) cols aligns
+-- the same of renderers
+abbrev pub cells_handed_out : {D A : Type 0} → (ℕ → Option ℕ) → List (Renderer D A (List A) × ℕ) → List CellAlign →
+    Outcome (List (GivenCell (List A)))
+cells_handed_out columns cols aligns = cells_given (λ r. r.width) (λ r. handed_out columns r) cols aligns
 
 -- the cell in the row
 abbrev pub ComesAs : {A : Type 0} → (ℕ → Option ℕ) → A → GivenCell A → Cell A → Type 0
@@ -122,6 +121,15 @@ border_lines (Some b) = border b ∷ []
 -- how a renderer draws a row: with borders, if its options say so, and collapsing or not
 abbrev pub style_in : {D A T : Type 0} → Renderer D A T → Bool → RowStyle
 style_in r collapses = record { draws_borders = r.options.draw_borders; collapses = collapses }
+
+-- a row as it is seen
+abbrev pub row_seen : {T : Type 0} → Row T → SeenRow T
+row_seen row = record {
+  above = row.above;
+  lines = map items_of row.lines.items;
+  next = row.next;
+  overhang = row.overhang;
+}
 
 -- a border more, if there is one
 abbrev pub with_next : {D A : Type 0} →

@@ -6,8 +6,6 @@ use Rattle.tbr_model.specs.Rule.{Event}
 use Rattle.tbr_tagged.specs.View.{element_of}
 use Rattle.tbr_tagged.specs.declared.Error.{Error}
 use Rattle.tbr_tagged.specs.declared.Error.TheVariants.{TooNarrow}
-use Rattle.tbr_footnotes.specs.Tags.{tag_meant}
-use Rattle.tbr_renderer.specs.Meant.{map_open}
 use Rattle.tbr_renderer.specs.declared.sub.SubRenderer.TheInside.{Inside}
 use Rattle.tbr_tagged.specs.Elements.{Element, piece, marker_element}
 use Rattle.tbr_wrap.specs.Block.{Block, new_block, IsSound}
@@ -35,10 +33,6 @@ unboxed boxed = option_map (λ b. b.value) boxed
 abbrev pub block_seen : {T : Type 0} → Option (Block T) → Option (Open T)
 block_seen block = option_map open_seen block
 
--- a block by what its tags mean
-abbrev pub block_meant : {A M : Type 0} → (A → M) → Block (List A) → Open (List M)
-block_meant meaning b = map_open (tag_meant meaning) (open_seen b)
-
 -- the names of markers
 abbrev pub names_of : {T : Type 0} → List (Element T) → List (List ℕ)
 names_of [] = []
@@ -55,11 +49,11 @@ pub record IsFresh {T : Type 0} (columns : ℕ → Option ℕ) (width : ℕ) (ov
   pub sound : IsSound columns b
 
 -- What writing into a block does: these events join its run, unless a line that has ended is too wide then.
-pub record Writes {D A M R : Type 0} (meaning : A → M) (columns : ℕ → Option ℕ) (r : Renderer D M (List M))
-    (es : List (Event (List M))) (old : Block (List A)) (result : Result R Error) (new : Block (List A)) : Type 0 where
-  pub written : OnOk result (block_meant meaning new ≡ with_more (block_meant meaning old) es)
-  pub goes_on : OnOk result (fits_grown columns r (block_meant meaning old) es ≡ true)
-  pub too_narrow : result ≡ Err TooNarrow → fits_grown columns r (block_meant meaning old) es ≡ false
+pub record Writes {D M R : Type 0} (columns : ℕ → Option ℕ) (r : Renderer D M (List M))
+    (es : List (Event (List M))) (old : Block (List M)) (result : Result R Error) (new : Block (List M)) : Type 0 where
+  pub written : OnOk result (open_seen new ≡ with_more (open_seen old) es)
+  pub goes_on : OnOk result (fits_grown columns r (open_seen old) es ≡ true)
+  pub too_narrow : result ≡ Err TooNarrow → fits_grown columns r (open_seen old) es ≡ false
 
 -- The open block is fresh, if there is one.
 abbrev pub IsOpened : {T : Type 0} → (ℕ → Option ℕ) → ℕ → Bool → Option (Block T) → Type 0
@@ -67,7 +61,7 @@ IsOpened columns width overflows None = ⊤
 IsOpened columns width overflows (Some b) = IsFresh columns width overflows b
 
 -- what a contract sees of the fields
-abbrev pub renderer_of : {D W A : Type 0} → Inside D W A → Renderer D A (List A)
+abbrev pub renderer_of : {D W A M : Type 0} → Inside D W A M → Renderer D M (List M)
 renderer_of r = record {
   width = r.width;
   options = r.options;
@@ -85,13 +79,13 @@ renderer_of r = record {
 }
 
 -- What the fields of a renderer that hasn't failed hold: a fresh block, if any, and markers that wait.
-pub record HoldsFresh {D W A : Type 0} (columns : ℕ → Option ℕ) (r : Inside D W A) : Type 0 where
+pub record HoldsFresh {D W A M : Type 0} (columns : ℕ → Option ℕ) (r : Inside D W A M) : Type 0 where
   pub opened : IsOpened columns (least r.width r.options.wrap_width)
       (overflows r.options (least r.width r.options.wrap_width)) (unboxed r.wrapping)
   pub markers : AreMarkers (map element_of r.waiting.items)
 
 -- and what those of any renderer do
-pub record HoldsRenderer {D W A : Type 0} (columns : ℕ → Option ℕ) (r : Inside D W A) : Type 0 where
+pub record HoldsRenderer {D W A M : Type 0} (columns : ℕ → Option ℕ) (r : Inside D W A M) : Type 0 where
   pub some : 0 < least r.width r.options.wrap_width
   pub fresh : r.failure ≡ None → HoldsFresh columns r
 

@@ -7,11 +7,9 @@ ghost use Rattle.tbr_renderer.specs.Renderer.{KeepsSettings, kept_of, new_render
 ghost use Rattle.tbr_kept_lines.specs.Line.{line_seen};
 ghost use Rattle.tbr_renderer.specs.View.{unboxed, block_seen, IsFresh, IsOpened, AreMarkers, names_of};
 ghost use Rattle.tbr_tagged.specs.View.{element_of};
-ghost use Rattle.tbr_annotations.specs.Annotations.{equal_annotations};
+ghost use Rattle.tbr_annotations.specs.Annotations.{same_annotations};
 ghost use Rattle.tbr_tagged.specs.Elements.{items_of, SameItems, IsMerged};
 ghost use Rattle.tbr_border.specs.RenderLine.{IsMergedText};
-ghost use Rattle.tbr_renderer.specs.Meant.{meant};
-ghost use Rattle.tbr_footnotes.specs.Tags.{items_meant};
 
 use crate::options::RenderOptions;
 use crate::renderer::Renderer;
@@ -68,7 +66,7 @@ impl<D: TextDecorator, W: CharWidth> Model for SubRenderer<D, W> {
     ghost use Rattle.std.specs.Prelude.{List};
     ghost use Rattle.tbr_renderer.specs.Renderer.{Renderer};
 
-    ghost Value = { Renderer D D.Annotation (List D.Annotation) };
+    ghost Value = { Renderer D D.Annotation.Meaning (List D.Annotation.Meaning) };
 
     ghost use Rattle.tbr_renderer.specs.View.{renderer_of, HoldsRenderer};
 
@@ -181,7 +179,7 @@ impl<D: TextDecorator, W: CharWidth> SubRenderer<D, W> {
         ensures ok { OnOk result (self.new ≡ self.old) }
         ensures failed { IfErr result (λ e. (self.new.failure ≡ Some e) × (kept_of self.new ≡ kept_of self.old)) }
         ensures left { IfErr result (λ e. self.new ≡ record self.old { failure = Some e }) }
-        ensures settings { KeepsSettings (meant D.meaning self.old) (meant D.meaning self.new) }
+        ensures settings { KeepsSettings self.old self.new }
     {
         if let Err(e) = done {
             self.failure = Some(e);
@@ -230,7 +228,7 @@ impl<D: TextDecorator, W: CharWidth> SubRenderer<D, W> {
         requires { AreMarkers (map element_of markers.items) }
         ensures waiting { OnOk result
             (self.new ≡ record self.old { waiting = self.old.waiting ++ names_of (map element_of markers.items) }) }
-        ensures settings { KeepsSettings (meant D.meaning self.old) (meant D.meaning self.new) }
+        ensures settings { KeepsSettings self.old self.new }
     {
         self.waiting.append(&mut markers)?;
         Ok(())
@@ -248,20 +246,20 @@ impl<D: TextDecorator, W: CharWidth> SubRenderer<D, W> {
 
     /// Adds a line as it is. Where memory is refused the line is lost.
     fn push_line(&mut self, line: RenderLine<Annotations<D::Annotation>>) -> Result<(), OutOfMemory>
-        requires { IsMergedText (equal_annotations D.Annotation.eq) line }
+        requires { IsMergedText (same_annotations D.Annotation.same) line }
         ensures line { OnOk result (self.new ≡ record self.old { lines = self.old.lines ++ line_seen line ∷ [] }) }
-        ensures settings { KeepsSettings (meant D.meaning self.old) (meant D.meaning self.new) }
+        ensures settings { KeepsSettings self.old self.new }
     {
         self.lines.push(line)
     }
 
     /// Fills a line up to the renderer's width, where lines are padded.
     fn fill(&self, line: &mut TaggedLine<Annotations<D::Annotation>>) -> Result<(), OutOfMemory>
-        ensures items { OnOk result (items_meant D.meaning (items_of line.new)
-            ≡ items_meant D.meaning (items_of line.old) ++ line_padding W.columns (meant D.meaning self.now)
-            (items_meant D.meaning (items_of line.old))) }
-        ensures merged { IsMerged (equal_annotations D.Annotation.eq) line.old →
-            OnOk result (IsMerged (equal_annotations D.Annotation.eq) line.new) }
+        ensures items { OnOk result ((items_of line.new)
+            ≡ (items_of line.old) ++ line_padding W.columns self.now
+            (items_of line.old)) }
+        ensures merged { IsMerged (same_annotations D.Annotation.same) line.old →
+            OnOk result (IsMerged (same_annotations D.Annotation.same) line.new) }
     {
         if !self.options.pad_block_width {
             return Ok(());
@@ -275,10 +273,10 @@ impl<D: TextDecorator, W: CharWidth> SubRenderer<D, W> {
     /// Where memory is refused the line is lost, and markers may be.
     fn add_line(&mut self, line: TaggedLine<Annotations<D::Annotation>>) -> Result<(), OutOfMemory>
         requires unfailed { self.old.failure ≡ None }
-        requires merged { IsMerged (equal_annotations D.Annotation.eq) line }
-        ensures line { OnOk result (meant D.meaning self.new
-            ≡ with_line W.columns (meant D.meaning self.old) (items_meant D.meaning (items_of line))) }
-        ensures settings { KeepsSettings (meant D.meaning self.old) (meant D.meaning self.new) }
+        requires merged { IsMerged (same_annotations D.Annotation.same) line }
+        ensures line { OnOk result (self.new
+            ≡ with_line W.columns self.old (items_of line)) }
+        ensures settings { KeepsSettings self.old self.new }
     {
         if self.waiting.is_empty() {
             return self.add_filled(line);
@@ -294,10 +292,10 @@ impl<D: TextDecorator, W: CharWidth> SubRenderer<D, W> {
         &mut self,
         mut line: TaggedLine<Annotations<D::Annotation>>,
     ) -> Result<(), OutOfMemory>
-        requires { IsMerged (equal_annotations D.Annotation.eq) line }
-        ensures line { OnOk result (meant D.meaning self.new
-            ≡ with_filled W.columns (meant D.meaning self.old) (items_meant D.meaning (items_of line))) }
-        ensures settings { KeepsSettings (meant D.meaning self.old) (meant D.meaning self.new) }
+        requires { IsMerged (same_annotations D.Annotation.same) line }
+        ensures line { OnOk result (self.new
+            ≡ with_filled W.columns self.old (items_of line)) }
+        ensures settings { KeepsSettings self.old self.new }
     {
         self.fill(&mut line)?;
         self.push_line(RenderLine::Text(line))

@@ -9,7 +9,7 @@ use Rattle.tbr_rows.specs.Rows.{cells_under, columns_shown, cells_left}
 use Rattle.tbr_rows.proofs.ColumnsOfRows.{column_of, columns_are, span_stays, lines_stay}
 use Rattle.tbr_rows.proofs.Among.{each_gives, each_drop}
 use Rattle.tbr_rows.proofs.CellsSeated.{each_seated}
-use Rattle.tbr_renderer.proofs.MeantRows.{flush_hangs}
+use Rattle.tbr_renderer.proofs.PutRows.{flush_hangs}
 use Rattle.text_block_renderer.specs.LastBorder.{last_border}
 use Rattle.text_block_renderer.proofs.Moves.{any, path_hanging}
 use Rattle.text_block_renderer.proofs.RowsOfCells.{row_beside}

@@ -5,7 +5,7 @@ ghost use Rattle.tbr_tagged.specs.UnicodeColumns.{unicode_columns};
 ghost use Rattle.tbr_script.specs.Streams.{AppendsBeginning};
 ghost use Rattle.tbr_decor.specs.Decoration.{decoration_of};
 ghost use Rattle.tbr_script.specs.Script.{lines_of};
-ghost use Rattle.tbr_program.specs.Progress.{progress_meant, GoesOn};
+ghost use Rattle.tbr_program.specs.Progress.{GoesOn};
 ghost use Rattle.tbr_program.specs.Commands.{ended, started};
 ghost use Rattle.tbr_program.specs.Safe.{shown_links};
 ghost use Rattle.tbr_runner.specs.Safe.{shown_on, shown_under, shown};
@@ -140,12 +140,12 @@ fn run_under<D: TextDecorator, W: CharWidth>(
     requires width { 0 < opening.width }
     requires wrap_width { opening.options.wrap_width ≢ Some 0 }
     requires number { number + length script.now < 2 ^ 64 }
-    ensures told { IfOk result (λ told. shown_on raw W.columns (decoration_of D.TextDecorator)
+    ensures told { IfOk result (λ told. shown_on raw W.columns (decoration_of D.TextDecorator D.Annotation.tells)
         number (lines_of script.now) (started opening decorator)
-        ≡ ended W.columns (decoration_of D.TextDecorator) told.1 (shown_links raw (progress_meant D.meaning told.0))) }
+        ≡ ended W.columns (decoration_of D.TextDecorator D.Annotation.tells) told.1 (shown_links raw told.0)) }
     ensures goes_on { IfOk result (λ told. GoesOn told.0) }
     ensures refusal { IfErr result (λ e. e ≢ RunError.OutOfMemory →
-        shown_on raw W.columns (decoration_of D.TextDecorator)
+        shown_on raw W.columns (decoration_of D.TextDecorator D.Annotation.tells)
         number (lines_of script.now) (started opening decorator) ≡ Err e) }
     ensures of_script { IfErr result (λ e. e ≢ RunError.OutOfMemory → IsOfScript e) }
 {
@@ -161,11 +161,11 @@ fn finish<D: TextDecorator, W: CharWidth, B: Drop>(
     raw: bool,
 ) -> Result<String, RunError>
     requires { GoesOn program }
-    ensures text { IfOk result (λ text. ended W.columns (decoration_of D.TextDecorator) number
-        (shown_links raw (progress_meant D.meaning program)) ≡ Ok (string_bytes text)) }
+    ensures text { IfOk result (λ text. ended W.columns (decoration_of D.TextDecorator D.Annotation.tells) number
+        (shown_links raw program) ≡ Ok (string_bytes text)) }
     ensures refused { IfErr result (λ e. e ≢ RunError.OutOfMemory →
-        ended W.columns (decoration_of D.TextDecorator) number
-        (shown_links raw (progress_meant D.meaning program)) ≡ Err e) }
+        ended W.columns (decoration_of D.TextDecorator D.Annotation.tells) number
+        (shown_links raw program) ≡ Err e) }
     ensures of_script { IfErr result (λ e. e ≢ RunError.OutOfMemory → IsOfScript e) }
 {
     drop(script);
@@ -209,13 +209,13 @@ fn run_lines<D: TextDecorator, W: CharWidth>(
 ) -> Result<(Program<D, W>, usize), RunError>
     requires goes_on { GoesOn program }
     requires number { number + length script.now < 2 ^ 64 }
-    ensures told { IfOk result (λ told. shown_on raw W.columns (decoration_of D.TextDecorator)
-        number (lines_of script.now) (progress_meant D.meaning program)
-        ≡ ended W.columns (decoration_of D.TextDecorator) told.1 (shown_links raw (progress_meant D.meaning told.0))) }
+    ensures told { IfOk result (λ told. shown_on raw W.columns (decoration_of D.TextDecorator D.Annotation.tells)
+        number (lines_of script.now) program
+        ≡ ended W.columns (decoration_of D.TextDecorator D.Annotation.tells) told.1 (shown_links raw told.0)) }
     ensures goes_on { IfOk result (λ told. GoesOn told.0) }
     ensures refusal { IfErr result (λ e. e ≢ RunError.OutOfMemory →
-        shown_on raw W.columns (decoration_of D.TextDecorator)
-        number (lines_of script.now) (progress_meant D.meaning program) ≡ Err e) }
+        shown_on raw W.columns (decoration_of D.TextDecorator D.Annotation.tells)
+        number (lines_of script.now) program ≡ Err e) }
     ensures of_script { IfErr result (λ e. e ≢ RunError.OutOfMemory → IsOfScript e) }
 {
     let mut program = program;

@@ -4,7 +4,6 @@ use Rattle.tbr_decor.specs.Decoration.{Decoration}
 use Rattle.tbr_decor.specs.End as end
 use Rattle.tbr_tagged.proofs.Outcomes.{live_done}
 use Rattle.tbr_renderer.specs.Calls.{finish, made, Does}
-use Rattle.tbr_renderer.specs.Meant.{meant}
 use Rattle.tbr_renderer.specs.Renderer.{Renderer, kept_of}
 use Rattle.tbr_renderer.proofs.SettingsStay.{Steady, closed_alike}
 
@@ -14,13 +13,12 @@ pub record Steadily {D A T : Type 0} (r q : Renderer D A T) : Type 0 where
   pub failure : q.failure ≡ None
   pub kept : kept_of q ≡ kept_of r
 
-module _ {D A M : Type 0} (f : A → M) where
-  pub ended : (columns : ℕ → Option ℕ) (decoration : Decoration D M) (r q : Renderer D A (List A)) → Does columns decoration (finish end.link) (meant f r) (meant f q) → Steadily r q
-  ended columns decoration r q h =
-      let (live, made_is) = live_done r.failure (made columns decoration (finish end.link) (meant f r)) (meant f q) h in
-      let same = closed_alike columns decoration end.link (meant f r) (meant f q) made_is in
-      record {
-        live = live;
-        failure = ap (λ (x : Steady D M). x.failure) same ∙ live;
-        kept = ap (λ (x : Steady D M). x.settings.kept) same;
-      }
+pub ended : {D A : Type 0} (columns : ℕ → Option ℕ) (decoration : Decoration D A) (r q : Renderer D A (List A)) → Does columns decoration (finish end.link) r q → Steadily r q
+ended {D} {A} columns decoration r q h =
+    let (live, made_is) = live_done r.failure (made columns decoration (finish end.link) r) q h in
+    let same = closed_alike columns decoration end.link r q made_is in
+    record {
+      live = live;
+      failure = ap (λ (x : Steady D A). x.failure) same ∙ live;
+      kept = ap (λ (x : Steady D A). x.settings.kept) same;
+    }

@@ -1,4 +1,4 @@
--- The top of a stack, and a stack by what its annotations mean.
+-- The top of a stack.
 use Rattle.std.proofs.Common.{◌≡◌, ℕ, List, [], ◌∷◌, ◌++◌, Some, map, Option, None, true, false, Result, Ok, Err, sym, subst, refl, ap, ◌∙◌}
 use Rattle.std.specs.Prelude.{OnOk, OnErr, is_ok}
 use Rattle.std.proofs.lemmas.Result.{on_ok_weaker}
@@ -8,9 +8,8 @@ use Rattle.tbr_renderer.proofs.OutcomeParts.{done_before}
 use Rattle.tbr_tagged.specs.declared.Error.{Error}
 use Rattle.tbr_renderer.specs.Outcomes.{changed, Tries}
 use Rattle.tbr_renderer.specs.Renderer.{Renderer}
-use Rattle.tbr_renderer.specs.Meant.{meant}
 use Rattle.tbr_stack.specs.Stack.{Level, Stack, first_renderer, top_of, in_first, with_top}
-use Rattle.tbr_stack.specs.Top.{failure_of_first, failure_of, in_top_of, in_top, ChangesTop, level_meant, stack_meant}
+use Rattle.tbr_stack.specs.Top.{failure_of_first, failure_of, in_top_of, in_top, ChangesTop}
 use Rattle.tbr_stack.specs.Links.{opened, with_link}
 
 -- ---- the top
@@ -38,77 +37,45 @@ top_changed {R = R} make s t h = go (top_of s) refl h
     go (Some r) is made = let (q, changes, same) = done_before (with_top s) (make r) t made in (r, q, is, changes, same)
 
 -- what is tried elsewhere
-tries_as : {S V X : Type 0} (state : S → V) (make other : V → Outcome V) (m old new : S) (result : Result X Error) → other (state old) ≡ make (state m) → Tries state make m result new → Tries state other old result new
-tries_as state make other m old new result same h = record {
+tries_as : {S X : Type 0} (make other : S → Outcome S) (m old new : S) (result : Result X Error) → other old ≡ make m → Tries make m result new → Tries other old result new
+tries_as make other m old new result same h = record {
   ok = on_ok_weaker result (λ is. same ∙ is) h.ok;
   too_narrow = λ e. same ∙ h.too_narrow e;
 }
 
--- ---- by what annotations mean
-
-module _ {D A M : Type 0} (f : A → M) where
-  first_meant : (levels : List (Level (Renderer D A (List A)))) (r : Renderer D A (List A)) → first_renderer levels ≡ Some r → first_renderer (map (level_meant f) levels) ≡ Some (meant f r)
-  first_meant [] r h = cc
-  first_meant (level ∷ levels) r h = let same : level.renderer ≡ r = cc in ap (λ q. Some (meant f q)) same
-
-  pub top_meant : (s : Stack (Renderer D A (List A))) (r : Renderer D A (List A)) → top_of s ≡ Some r → top_of (stack_meant f s) ≡ Some (meant f r)
-  top_meant s r h = first_meant s.levels r h
-
-  changed_meant : (change : Level (Renderer D A (List A)) → Level (Renderer D A (List A))) (other : Level (Renderer D M (List M)) → Level (Renderer D M (List M))) →
-      ((l : Level (Renderer D A (List A))) → level_meant f (change l) ≡ other (level_meant f l)) →
-      (levels : List (Level (Renderer D A (List A)))) → map (level_meant f) (in_first change levels) ≡ in_first other (map (level_meant f) levels)
-  changed_meant change other same [] = refl
-  changed_meant change other same (level ∷ levels) = ap (λ l. l ∷ map (level_meant f) levels) (same level)
-
-  pub linked_meant : (target : List ℕ) (s : Stack (Renderer D A (List A))) → stack_meant f (with_link target s) ≡ with_link target (stack_meant f s)
-  linked_meant target s =
-      ap (λ levels. record { levels = levels; links = s.links ++ target ∷ []; table_depth = s.table_depth }) (changed_meant (opened _) (opened _) (λ l. refl) s.levels)
-
-  pub with_top_meant : (s : Stack (Renderer D A (List A))) (q : Renderer D A (List A)) → stack_meant f (with_top s q) ≡ with_top (stack_meant f s) (meant f q)
-  with_top_meant s q =
-      ap (λ levels. record { levels = levels; links = s.links; table_depth = s.table_depth })
-      (changed_meant (λ l. record l { renderer = q }) (λ l. record l { renderer = meant f q }) (λ l. refl) s.levels)
-
-  module _ (Step : Renderer D M (List M) → Renderer D M (List M) → Type 0) where
+module _ {D A : Type 0} where
+  module _ (Step : Renderer D A (List A) → Renderer D A (List A) → Type 0) where
     -- the top makes a step
-    pub changes : (s : Stack (Renderer D A (List A))) (r q : Renderer D A (List A)) → top_of s ≡ Some r → Step (meant f r) (meant f q) → ChangesTop Step (stack_meant f s) (stack_meant f (with_top s q))
-    changes s r q top step = (meant f r, meant f q, top_meant s r top, step, with_top_meant s q)
+    pub changes : (s : Stack (Renderer D A (List A))) (r q : Renderer D A (List A)) → top_of s ≡ Some r → Step r q → ChangesTop Step s (with_top s q)
+    changes s r q top step = (r, q, top, step, refl)
 
     -- after the opening of a link
-    pub changes_linked : (target : List ℕ) (s l : Stack (Renderer D A (List A))) (r q : Renderer D A (List A)) → l ≡ with_link target s → top_of l ≡ Some r → Step (meant f r) (meant f q) →
-        ChangesTop Step (with_link target (stack_meant f s)) (stack_meant f (with_top l q))
-    changes_linked target s l r q is top step =
-        subst (λ u. ChangesTop Step u (stack_meant f (with_top l q))) (ap (λ u. stack_meant f u) is ∙ linked_meant target s) (changes l r q top step)
-
-    -- what holds of a step of the top
-    pub step_meant : (P : Renderer D A (List A) → Renderer D A (List A) → Type 0) → ((r q : Renderer D A (List A)) → P r q → Step (meant f r) (meant f q)) →
-        (s t : Stack (Renderer D A (List A))) → ChangesTop P s t → ChangesTop Step (stack_meant f s) (stack_meant f t)
-    step_meant P carry s t h = subst (λ u. ChangesTop Step (stack_meant f s) (stack_meant f u)) (sym h.4) (changes s h.0 h.1 h.2 (carry h.0 h.1 h.3))
+    pub changes_linked : (target : List ℕ) (s l : Stack (Renderer D A (List A))) (r q : Renderer D A (List A)) → l ≡ with_link target s → top_of l ≡ Some r → Step r q → ChangesTop Step (with_link target s) (with_top l q)
+    changes_linked target s l r q is top step = subst (λ u. ChangesTop Step u (with_top l q)) is (changes l r q top step)
 
   -- ---- what a call makes of the top
 
-  module _ (make : Renderer D M (List M) → Outcome (Renderer D M (List M))) where
-    pub made_in : (s : Stack (Renderer D A (List A))) (r : Renderer D A (List A)) → top_of s ≡ Some r → in_top make (stack_meant f s) ≡ changed (with_top (stack_meant f s)) (make (meant f r))
-    made_in s r top = ap (in_top_of make (stack_meant f s)) (top_meant s r top)
+  module _ (make : Renderer D A (List A) → Outcome (Renderer D A (List A))) where
+    pub made_in : (s : Stack (Renderer D A (List A))) (r : Renderer D A (List A)) → top_of s ≡ Some r → in_top make s ≡ changed (with_top s) (make r)
+    made_in s r top = ap (in_top_of make s) top
 
-    pub done_in : (s : Stack (Renderer D A (List A))) (r q : Renderer D A (List A)) → top_of s ≡ Some r → make (meant f r) ≡ done (meant f q) → in_top make (stack_meant f s) ≡ done (stack_meant f (with_top s q))
-    done_in s r q top is = made_in s r top ∙ ap (changed (with_top (stack_meant f s))) is ∙ ap (λ t. done t) (sym (with_top_meant s q))
+    pub done_in : (s : Stack (Renderer D A (List A))) (r q : Renderer D A (List A)) → top_of s ≡ Some r → make r ≡ done q → in_top make s ≡ done (with_top s q)
+    done_in s r q top is = made_in s r top ∙ ap (changed (with_top s)) is
 
-    pub refused_in : (s : Stack (Renderer D A (List A))) (r : Renderer D A (List A)) (e : Error) → top_of s ≡ Some r → make (meant f r) ≡ refused e → in_top make (stack_meant f s) ≡ refused e
-    refused_in s r e top is = made_in s r top ∙ ap (changed (with_top (stack_meant f s))) is
+    pub refused_in : (s : Stack (Renderer D A (List A))) (r : Renderer D A (List A)) (e : Error) → top_of s ≡ Some r → make r ≡ refused e → in_top make s ≡ refused e
+    refused_in s r e top is = made_in s r top ∙ ap (changed (with_top s)) is
 
-    pub tries_in : {X : Type 0} (s : Stack (Renderer D A (List A))) (r q : Renderer D A (List A)) (result : Result X Error) → top_of s ≡ Some r → Tries (meant f) make r result q → Tries (stack_meant f) (in_top make) s result (with_top s q)
+    pub tries_in : {X : Type 0} (s : Stack (Renderer D A (List A))) (r q : Renderer D A (List A)) (result : Result X Error) → top_of s ≡ Some r → Tries make r result q → Tries (in_top make) s result (with_top s q)
     tries_in s r q result top h = record {
       ok = on_ok_weaker result (λ is. done_in s r q top is) h.ok;
       too_narrow = λ e. refused_in s r TooNarrow top (h.too_narrow e);
     }
 
     -- after the opening of a link
-    pub tries_linked : {X : Type 0} (target : List ℕ) (s l : Stack (Renderer D A (List A))) (r q : Renderer D A (List A)) (result : Result X Error) → l ≡ with_link target s → top_of l ≡ Some r → Tries (meant f) make r result q →
-        Tries (stack_meant f) (λ t. in_top make (with_link target t)) s result (with_top l q)
+    pub tries_linked : {X : Type 0} (target : List ℕ) (s l : Stack (Renderer D A (List A))) (r q : Renderer D A (List A)) (result : Result X Error) → l ≡ with_link target s → top_of l ≡ Some r → Tries make r result q →
+        Tries (λ t. in_top make (with_link target t)) s result (with_top l q)
     tries_linked target s l r q result is top h =
-        tries_as (stack_meant f) (in_top make) (λ t. in_top make (with_link target t)) l s (with_top l q) result
-        (ap (in_top make) (sym (linked_meant target s) ∙ ap (λ u. stack_meant f u) (sym is))) (tries_in l r q result top h)
+        tries_as (in_top make) (λ t. in_top make (with_link target t)) l s (with_top l q) result (ap (in_top make) (sym is)) (tries_in l r q result top h)
 
 -- ---- refusals
 

@@ -5,7 +5,6 @@ use Rattle.tbr_tagged.specs.declared.Error.{Error}
 use Rattle.tbr_tagged.specs.declared.Error.TheVariants.{OutOfMemory}
 use Rattle.tbr_renderer.specs.Outcomes.{changed}
 use Rattle.tbr_renderer.specs.Renderer.{Renderer}
-use Rattle.tbr_renderer.specs.Meant.{meant}
 use Rattle.tbr_stack.specs.Stack.{Level, Stack, top_of, with_top}
 
 -- the kept refusal of the top
@@ -31,12 +30,3 @@ in_top change s = in_top_of change s (top_of s)
 -- Something holds of the top.
 abbrev pub OfTop : {R : Type 0} → (R → Type 0) → Stack R → Type 0
 OfTop {R} P s = (top : R) × (top_of s ≡ Some top) × P top
-
--- ---- a stack by what its annotations mean
-
-abbrev pub level_meant : {D A M : Type 0} → (A → M) → Level (Renderer D A (List A)) → Level (Renderer D M (List M))
-level_meant meaning level = record { renderer = meant meaning level.renderer; open_links = level.open_links }
-
-abbrev pub stack_meant : {D A M : Type 0} → (A → M) → Stack (Renderer D A (List A)) → Stack (Renderer D M (List M))
-stack_meant meaning s =
-    record { levels = map (level_meant meaning) s.levels; links = s.links; table_depth = s.table_depth }

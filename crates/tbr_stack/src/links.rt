@@ -7,9 +7,8 @@ ghost use Rattle.tbr_decor.specs.Start as start;
 ghost use Rattle.tbr_renderer.specs.Renderer.{block_width, kept_of};
 ghost use Rattle.tbr_renderer.specs.Outcomes.{Tries};
 ghost use Rattle.tbr_renderer.specs.Calls.{KeepsFailure, Fails, Answers, IsWide, calls_by};
-ghost use Rattle.tbr_renderer.specs.Meant.{meant};
 ghost use Rattle.tbr_renderer.specs.Calls as call;
-ghost use Rattle.tbr_stack.specs.Top.{failure_of, ChangesTop, OfTop, stack_meant};
+ghost use Rattle.tbr_stack.specs.Top.{failure_of, ChangesTop, OfTop};
 ghost use Rattle.tbr_stack.specs.Links.{link_number, open_links, shown_number, after_link_start, after_end_with, after_link_end, StopsToStart, StopsToEnd};
 
 use crate::stack::TextRenderer;
@@ -26,12 +25,12 @@ impl<D: TextDecorator, W: CharWidth> TextRenderer<D, W> {
     /// opened. Otherwise it is open, even where the top refuses.
     pub fn start_link(&mut self, target: &str) -> Result<(), Error>
         requires { 0 < length self.old.levels }
-        ensures tries { let make = after_link_start W.columns (decoration_of D.TextDecorator) (chars target.now) in
-            Tries (stack_meant D.meaning) make self.old result self.new }
+        ensures tries { let make = after_link_start W.columns (decoration_of D.TextDecorator D.Annotation.tells) (chars target.now) in
+            Tries make self.old result self.new }
         ensures two_columns { failure_of self.old ≡ None → OfTop (λ r. 2 ≤ block_width r) self.old →
             result ≢ Err E.TooNarrow }
         ensures left { failure_of self.old ≡ None → OnErr result
-            (StopsToStart (chars target.now) (stack_meant D.meaning self.old) (stack_meant D.meaning self.new)) }
+            (StopsToStart (chars target.now) self.old self.new) }
         ensures kept { KeepsFailure failure_of self.old result self.new }
     {
         self.refusal()?;
@@ -48,12 +47,12 @@ impl<D: TextDecorator, W: CharWidth> TextRenderer<D, W> {
     /// answers its refusal, and nothing changes.
     pub fn end_link(&mut self) -> Result<(), Error>
         requires { 0 < length self.old.levels }
-        ensures tries { let make = after_link_end W.columns (decoration_of D.TextDecorator) in
-            Tries (stack_meant D.meaning) make self.old result self.new }
+        ensures tries { let make = after_link_end W.columns (decoration_of D.TextDecorator D.Annotation.tells) in
+            Tries make self.old result self.new }
         ensures two_columns { failure_of self.old ≡ None → OfTop (λ r. 2 ≤ block_width r) self.old →
             result ≢ Err E.TooNarrow }
         ensures left { failure_of self.old ≡ None → OnErr result
-            (StopsToEnd (stack_meant D.meaning self.old) (stack_meant D.meaning self.new)) }
+            (StopsToEnd self.old self.new) }
         ensures kept { KeepsFailure failure_of self.old result self.new }
     {
         let number = self.shown_number();
@@ -109,11 +108,11 @@ fn end_with<D: TextDecorator, W: CharWidth>(
     alloc: Global,
     number: Option<usize>,
 ) -> Result<(), Error>
-    ensures tries { let make = after_end_with W.columns (decoration_of D.TextDecorator) number in
-        Tries (meant D.meaning) make renderer.old result renderer.new }
-    ensures two_columns { let calls = calls_by W.columns (decoration_of D.TextDecorator) D.meaning in
+    ensures tries { let make = after_end_with W.columns (decoration_of D.TextDecorator D.Annotation.tells) number in
+        Tries make renderer.old result renderer.new }
+    ensures two_columns { let calls = calls_by W.columns (decoration_of D.TextDecorator D.Annotation.tells) in
         IsWide calls renderer.old → result ≢ Err E.TooNarrow }
-    ensures fails { let calls = calls_by W.columns (decoration_of D.TextDecorator) D.meaning in
+    ensures fails { let calls = calls_by W.columns (decoration_of D.TextDecorator D.Annotation.tells) in
         Fails calls renderer.old result renderer.new }
 {
     renderer.end_link()?;
@@ -130,7 +129,7 @@ fn add_number<D: TextDecorator, W: CharWidth>(
     k: usize,
 ) -> Result<(), Error>
     requires { renderer.old.failure ≡ None }
-    ensures answers { let calls = calls_by W.columns (decoration_of D.TextDecorator) D.meaning in
+    ensures answers { let calls = calls_by W.columns (decoration_of D.TextDecorator D.Annotation.tells) in
         Answers calls (call.add_inline_text (link_number k)) renderer.old result renderer.new }
 {
     match number_text(alloc, k) {

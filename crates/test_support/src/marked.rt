@@ -1,7 +1,6 @@
 //! A decorator that marks what it is asked to, and has the usual answers for the rest.
 ghost use Rattle.std.specs.Prelude.{None, false, []};
 ghost use Rattle.std.proofs.Common.{rules};
-ghost use Rattle.test_support.specs.declared.marked.Mark.{Mark};
 ghost use Rattle.test_support.specs.declared.marked.Mark.TheVariants.{Nothing, Marked};
 ghost use Rattle.test_support.specs.Marks.{same_mark, marks_apart};
 ghost use Rattle.tbr_decor.specs.Start as start;
@@ -11,6 +10,7 @@ ghost use Rattle.tbr_decor.specs.Usual as usual;
 use std::alloc::Global;
 use tbr_decor::{Colour, TextDecorator, text, usual};
 use tbr_lines::{OutOfMemory, TaggedLine};
+use tbr_tags::Tag;
 
 /// Whether a piece of text is marked.
 #[derive(Clone, Copy, PartialEq, Eq, Debug, Default)]
@@ -18,6 +18,20 @@ pub enum Mark {
     #[default]
     Nothing,
     Marked,
+}
+
+impl Tag for Mark {
+    type Meaning = Mark;
+
+    ghost meaning = { λ m. m };
+
+    ghost same = { same_mark };
+
+    ghost tells = { marks_apart };
+
+    ghost equal_by_meaning = { Prim.search rules };
+
+    ghost copies_equal = { Prim.search rules };
 }
 
 /// It marks all but superscripts and plain text, and gives no texts of its own.
@@ -33,14 +47,6 @@ impl MarkedDecorator {
 
 impl TextDecorator for MarkedDecorator {
     type Annotation = Mark;
-
-    ghost Meaning = { Mark };
-
-    ghost meaning = { λ m. m };
-
-    ghost same = { same_mark };
-
-    ghost tells = { marks_apart };
 
     ghost start_text = { λ _. trivial.start_text };
 
@@ -178,8 +184,4 @@ impl TextDecorator for MarkedDecorator {
     ) -> Result<Vec<TaggedLine<Mark>>, OutOfMemory> {
         usual::finalise(alloc, urls)
     }
-
-    ghost equal_by_meaning = { Prim.search rules };
-
-    ghost copies_equal = { Prim.search rules };
 }

@@ -26,14 +26,6 @@ impl OddDecorator {
 impl TextDecorator for OddDecorator {
     type Annotation = RichAnnotation;
 
-    ghost Meaning = { Style };
-
-    ghost meaning = { style_of };
-
-    ghost same = { same_style };
-
-    ghost tells = { styles_apart };
-
     // U+000A and U+200B.
     ghost start_text = { λ _. elim [ start.link _ ↦ 10 ∷ [] | _ ↦ [] ] };
 
@@ -186,8 +178,4 @@ impl TextDecorator for OddDecorator {
     ) -> Result<Vec<TaggedLine<RichAnnotation>>, OutOfMemory> {
         usual::finalise(alloc, urls)
     }
-
-    ghost equal_by_meaning = { equal_by_style };
-
-    ghost copies_equal = { copies_equal };
 }

@@ -4,7 +4,7 @@ use Rattle.tbr_decor.specs.Start as start
 use Rattle.tbr_decor.specs.End as end
 use Rattle.tbr_tagged.specs.declared.Error.TheVariants.{TooNarrow}
 use Rattle.tbr_renderer.proofs.OutcomeParts.{refused_before, refused_first, refused_if_not}
-use Rattle.tbr_renderer.proofs.MappedBlocks.{end_wide, join_wide}
+use Rattle.tbr_renderer.proofs.OpenBlocks.{end_wide, join_wide}
 use Rattle.tbr_renderer.specs.Calls.{made}
 use Rattle.tbr_renderer.proofs.SettingsStay.{Steady, started_alike}
 

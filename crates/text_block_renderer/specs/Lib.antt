@@ -1,6 +1,5 @@
 pub use Rattle.tbr_footnotes.specs.Cutting
 pub use Rattle.tbr_footnotes.specs.Footnote
-pub use Rattle.tbr_footnotes.specs.Tags
 pub use Rattle.tbr_kept_lines.specs.LastBorder
 pub use Rattle.tbr_kept_lines.specs.Line
 pub use Rattle.tbr_kept_lines.specs.Text
@@ -8,7 +7,7 @@ pub use Rattle.tbr_renderer.specs.Calls
 pub use Rattle.tbr_renderer.specs.Decorated
 pub use Rattle.tbr_renderer.specs.Flush
 pub use Rattle.tbr_renderer.specs.Image
-pub use Rattle.tbr_renderer.specs.Meant
+pub use Rattle.tbr_renderer.specs.Mapped
 pub use Rattle.tbr_renderer.specs.Options
 pub use Rattle.tbr_renderer.specs.Outcomes
 pub use Rattle.tbr_renderer.specs.Renderer

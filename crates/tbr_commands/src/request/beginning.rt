@@ -3,7 +3,6 @@ ghost use Rattle.std.specs.Prelude.{◌≡◌, None, Err, OnOk};
 ghost use Rattle.tbr_tagged.specs.declared.Error.TheVariants as E;
 ghost use Rattle.tbr_decor.specs.Decoration.{decoration_of};
 ghost use Rattle.tbr_renderer.specs.Calls.{Does, IsTooNarrow};
-ghost use Rattle.tbr_renderer.specs.Meant.{meant};
 ghost use Rattle.tbr_commands.specs.Request.{begun_by};
 ghost use Rattle.tbr_commands.specs.Begun.{kind_of};
 
@@ -53,10 +52,10 @@ impl Beginning {
         renderer: &mut SubRenderer<D, W>,
     ) -> Result<(), Error>
         requires { renderer.old.failure ≡ None }
-        ensures ok { OnOk result (Does W.columns (decoration_of D.TextDecorator) (begun_by self)
-            (meant D.meaning renderer.old) (meant D.meaning renderer.new)) }
+        ensures ok { OnOk result (Does W.columns (decoration_of D.TextDecorator D.Annotation.tells) (begun_by self)
+            renderer.old renderer.new) }
         ensures too_narrow { result ≡ Err E.TooNarrow →
-            IsTooNarrow W.columns (decoration_of D.TextDecorator) (begun_by self) (meant D.meaning renderer.old) }
+            IsTooNarrow W.columns (decoration_of D.TextDecorator D.Annotation.tells) (begun_by self) renderer.old }
     {
         match self {
             Beginning::Mode(mode) => renderer.push_ws(mode),

@@ -3,7 +3,6 @@ ghost use Rattle.std.specs.Prelude.{◌≡◌, ◌<◌, true, None, Err, OnOk, I
 ghost use Rattle.tbr_tagged.specs.declared.Error.TheVariants as E;
 ghost use Rattle.tbr_decor.specs.Decoration.{decoration_of};
 ghost use Rattle.tbr_renderer.specs.Calls.{Does, IsTooNarrow};
-ghost use Rattle.tbr_renderer.specs.Meant.{meant};
 ghost use Rattle.tbr_commands.specs.declared.request.kind.Kind.TheVariants as kind;
 ghost use Rattle.tbr_commands.specs.Request.{end_of, ends_freely};
 
@@ -47,10 +46,10 @@ impl Kind {
         requires preformats { self ≡ kind.Preformat → 0 < renderer.old.preformatted }
         requires strikeouts { self ≡ kind.Strikeout → renderer.old.options.use_unicode_strikeout ≡ true →
             0 < renderer.old.strikeouts }
-        ensures ok { OnOk result (Does W.columns (decoration_of D.TextDecorator) (end_of self)
-            (meant D.meaning renderer.old) (meant D.meaning renderer.new)) }
+        ensures ok { OnOk result (Does W.columns (decoration_of D.TextDecorator D.Annotation.tells) (end_of self)
+            renderer.old renderer.new) }
         ensures too_narrow { result ≡ Err E.TooNarrow →
-            IsTooNarrow W.columns (decoration_of D.TextDecorator) (end_of self) (meant D.meaning renderer.old) }
+            IsTooNarrow W.columns (decoration_of D.TextDecorator D.Annotation.tells) (end_of self) renderer.old }
         ensures free { ends_freely self ≡ true → IsOk result }
     {
         match self {

@@ -3,7 +3,6 @@ ghost use Rattle.std.specs.Prelude.{◌≡◌, true, None, Err, OnOk, IsOk};
 ghost use Rattle.tbr_tagged.specs.declared.Error.TheVariants as E;
 ghost use Rattle.tbr_decor.specs.Decoration.{decoration_of};
 ghost use Rattle.tbr_renderer.specs.Calls.{Does, IsTooNarrow};
-ghost use Rattle.tbr_renderer.specs.Meant.{meant};
 ghost use Rattle.tbr_commands.specs.Request.{laid_out, lays_out_freely};
 
 use tbr_decor::TextDecorator;
@@ -35,10 +34,10 @@ impl Layout {
         renderer: &mut SubRenderer<D, W>,
     ) -> Result<(), Error>
         requires { renderer.old.failure ≡ None }
-        ensures ok { OnOk result (Does W.columns (decoration_of D.TextDecorator) (laid_out self)
-            (meant D.meaning renderer.old) (meant D.meaning renderer.new)) }
+        ensures ok { OnOk result (Does W.columns (decoration_of D.TextDecorator D.Annotation.tells) (laid_out self)
+            renderer.old renderer.new) }
         ensures too_narrow { result ≡ Err E.TooNarrow →
-            IsTooNarrow W.columns (decoration_of D.TextDecorator) (laid_out self) (meant D.meaning renderer.old) }
+            IsTooNarrow W.columns (decoration_of D.TextDecorator D.Annotation.tells) (laid_out self) renderer.old }
         ensures free { lays_out_freely self ≡ true → IsOk result }
     {
         match self {

@@ -2,15 +2,13 @@
 ghost use Rattle.std.specs.Prelude.{◌≡◌, ◌≢◌, ◌≤◌, ◌++◌, [], true, false, None, Some, Err, List, ℕ, length, replicate, map, fold, take, chars, OnOk, IfOk, IfSome};
 ghost use Rattle.std.specs.List.{AllByRecursion as Each};
 ghost use Rattle.std.specs.Vec.Iter.{into_iter_items};
-ghost use Rattle.tbr_annotations.specs.Annotations.{equal_annotations};
+ghost use Rattle.tbr_annotations.specs.Annotations.{same_annotations};
 ghost use Rattle.tbr_tagged.specs.Elements.{items_of, text_items, IsMerged};
 ghost use Rattle.tbr_border.specs.RenderLine.{IsMergedText};
 ghost use Rattle.tbr_tagged.specs.declared.Error.TheVariants as E;
 ghost use Rattle.tbr_kept_lines.specs.Line.{Line, line_seen};
 ghost use Rattle.tbr_kept_lines.specs.Prefixed.{as_text, prefixed_lines, Appends};
 ghost use Rattle.tbr_renderer.specs.Renderer.{KeepsSettings, with_line, block_width};
-ghost use Rattle.tbr_footnotes.specs.Tags.{tag_meant, items_meant};
-ghost use Rattle.tbr_renderer.specs.Meant.{map_line, meant};
 ghost use Rattle.tbr_tagged.specs.Outcome.{done, refused};
 ghost use Rattle.tbr_renderer.specs.Outcomes.{and_then, gathered, taking};
 ghost use Rattle.tbr_renderer.specs.Flush.{after_flush};
@@ -31,10 +29,10 @@ impl<D: TextDecorator, W: CharWidth> SubRenderer<D, W> {
         &self,
         line: RenderLine<Annotations<D::Annotation>>,
     ) -> Result<TaggedLine<Annotations<D::Annotation>>, OutOfMemory>
-        requires { IsMergedText (equal_annotations D.Annotation.eq) line }
-        ensures items { IfOk result (λ text. items_meant D.meaning (items_of text)
-            ≡ as_text (map D.meaning self.now.annotations) (map_line (tag_meant D.meaning) (line_seen line))) }
-        ensures merged { IfOk result (λ text. IsMerged (equal_annotations D.Annotation.eq) text) }
+        requires { IsMergedText (same_annotations D.Annotation.same) line }
+        ensures items { IfOk result (λ text. (items_of text)
+            ≡ as_text (self.now.annotations) (line_seen line)) }
+        ensures merged { IfOk result (λ text. IsMerged (same_annotations D.Annotation.same) text) }
     {
         let tag = self.tag()?;
         line.into_tagged_line_with(&tag)
@@ -46,11 +44,11 @@ impl<D: TextDecorator, W: CharWidth> SubRenderer<D, W> {
         text: &mut TaggedLine<Annotations<D::Annotation>>,
         prefix: &str,
     ) -> Result<(), OutOfMemory>
-        ensures items { OnOk result (items_meant D.meaning (items_of text.new)
-            ≡ text_items (chars prefix.now) (map D.meaning self.now.annotations)
-            ++ items_meant D.meaning (items_of text.old)) }
-        ensures merged { IsMerged (equal_annotations D.Annotation.eq) text.old →
-            OnOk result (IsMerged (equal_annotations D.Annotation.eq) text.new) }
+        ensures items { OnOk result ((items_of text.new)
+            ≡ text_items (chars prefix.now) (self.now.annotations)
+            ++ (items_of text.old)) }
+        ensures merged { IsMerged (same_annotations D.Annotation.same) text.old →
+            OnOk result (IsMerged (same_annotations D.Annotation.same) text.new) }
     {
         if prefix.is_empty() {
             return Ok(());
@@ -68,9 +66,9 @@ impl<D: TextDecorator, W: CharWidth> SubRenderer<D, W> {
         requires unfailed { self.old.failure ≡ None }
         requires prefixes { I.can_next prefixes }
         ensures lines { OnOk result ((given : List P) × GivesFirst I.next_gives (length lines) prefixes given
-            × (meant D.meaning self.new ≡ with_prefixed W.columns (meant D.meaning self.old) (texts_of P.text given)
-            (map (map_line (tag_meant D.meaning)) lines))) }
-        ensures settings { KeepsSettings (meant D.meaning self.old) (meant D.meaning self.new) }
+            × (self.new ≡ with_prefixed W.columns self.old (texts_of P.text given)
+            lines)) }
+        ensures settings { KeepsSettings self.old self.new }
     {
         let count = lines.len()?;
         let given = first_given(self.alloc, prefixes, count)?;
@@ -99,9 +97,9 @@ impl<D: TextDecorator, W: CharWidth> SubRenderer<D, W> {
     ) -> Result<(), OutOfMemory>
         requires { (self.old.options.pad_block_width ≡ false) × (self.old.waiting ≡ []) }
         ensures lines { (prefixes : List (List ℕ)) → AreAlike (chars first.now) (chars others.now) prefixes →
-            length prefixes ≡ length lines → let shown = map (map_line (tag_meant D.meaning)) lines in
-            OnOk result (meant D.meaning self.new ≡ with_prefixed W.columns (meant D.meaning self.old) prefixes shown) }
-        ensures settings { KeepsSettings (meant D.meaning self.old) (meant D.meaning self.new) }
+            length prefixes ≡ length lines → let shown = lines in
+            OnOk result (self.new ≡ with_prefixed W.columns self.old prefixes shown) }
+        ensures settings { KeepsSettings self.old self.new }
     {
         let tag = self.tag()?;
         self.append_kept(lines, first, others, &tag)
@@ -117,8 +115,8 @@ impl<D: TextDecorator, W: CharWidth> SubRenderer<D, W> {
     ) -> Result<(), OutOfMemory>
         ensures rest { OnOk result (self.new ≡ record self.old { lines = self.new.lines }) }
         ensures lines { let prefixed = prefixed_lines tag.now (chars first.now) (chars others.now) lines in
-            OnOk result (Appends (equal_annotations D.Annotation.eq) self.old.lines prefixed self.new.lines) }
-        ensures settings { KeepsSettings (meant D.meaning self.old) (meant D.meaning self.new) }
+            OnOk result (Appends (same_annotations D.Annotation.same) self.old.lines prefixed self.new.lines) }
+        ensures settings { KeepsSettings self.old self.new }
     {
         self.lines.append_prefixed(lines, first, others, tag)
     }
@@ -130,10 +128,10 @@ impl<D: TextDecorator, W: CharWidth> SubRenderer<D, W> {
         given: Vec<P>,
     ) -> Result<(), OutOfMemory>
         requires unfailed { self.old.failure ≡ None }
-        requires merged { Each (IsMergedText (equal_annotations D.Annotation.eq)) lines.items }
-        ensures lines { OnOk result (meant D.meaning self.new ≡ with_prefixed W.columns (meant D.meaning self.old)
-            (texts_of P.text given.items) (map (map_line (tag_meant D.meaning)) (map line_seen lines.items))) }
-        ensures settings { KeepsSettings (meant D.meaning self.old) (meant D.meaning self.new) }
+        requires merged { Each (IsMergedText (same_annotations D.Annotation.same)) lines.items }
+        ensures lines { OnOk result (self.new ≡ with_prefixed W.columns self.old
+            (texts_of P.text given.items) (map line_seen lines.items)) }
+        ensures settings { KeepsSettings self.old self.new }
     {
         let mut lines = lines.into_iter();
         for prefix in given {
@@ -153,11 +151,11 @@ impl<D: TextDecorator, W: CharWidth> SubRenderer<D, W> {
         lines: Vec<RenderLine<Annotations<D::Annotation>>>,
     ) -> Result<(), OutOfMemory>
         requires unfailed { self.old.failure ≡ None }
-        requires merged { Each (IsMergedText (equal_annotations D.Annotation.eq)) lines.items }
-        ensures lines { OnOk result (meant D.meaning self.new ≡ with_cell W.columns (meant D.meaning self.old)
-            (map (map_line (tag_meant D.meaning)) (map line_seen lines.items))) }
+        requires merged { Each (IsMergedText (same_annotations D.Annotation.same)) lines.items }
+        ensures lines { OnOk result (self.new ≡ with_cell W.columns self.old
+            (map line_seen lines.items)) }
         ensures unfailed { OnOk result (self.new.failure ≡ None) }
-        ensures settings { KeepsSettings (meant D.meaning self.old) (meant D.meaning self.new) }
+        ensures settings { KeepsSettings self.old self.new }
     {
         for line in lines {
             let text = self.as_text(line)?;
@@ -174,16 +172,16 @@ impl<D: TextDecorator, W: CharWidth> SubRenderer<D, W> {
     ) -> Result<(), Error>
         requires unfailed { self.old.failure ≡ None }
         requires prefixes { I.can_next prefixes }
-        ensures ok { OnOk result ((lines : List (Line (List D.Meaning))) × (given : List P)
-            × (handed_out W.columns (meant D.meaning other) ≡ done lines)
+        ensures ok { OnOk result ((lines : List (Line (List D.Annotation.Meaning))) × (given : List P)
+            × (handed_out W.columns other ≡ done lines)
             × GivesFirst I.next_gives (length lines) prefixes given
-            × (after_lines W.columns (texts_of P.text given) lines (meant D.meaning self.old)
-            ≡ done (meant D.meaning self.new))) }
-        ensures too_narrow { result ≡ Err E.TooNarrow → and_then (after_flush W.columns (meant D.meaning self.old))
-            (λ _. handed_out W.columns (meant D.meaning other)) ≡ refused E.TooNarrow }
+            × (after_lines W.columns (texts_of P.text given) lines self.old
+            ≡ done self.new)) }
+        ensures too_narrow { result ≡ Err E.TooNarrow → and_then (after_flush W.columns self.old)
+            (λ _. handed_out W.columns other) ≡ refused E.TooNarrow }
         ensures two_columns { 2 ≤ block_width self.old → other.failure ≡ None → 2 ≤ block_width other →
             result ≢ Err E.TooNarrow }
-        ensures settings { KeepsSettings (meant D.meaning self.old) (meant D.meaning self.new) }
+        ensures settings { KeepsSettings self.old self.new }
     {
         self.try_flush()?;
         let lines = other.into_kept()?;
@@ -195,14 +193,14 @@ impl<D: TextDecorator, W: CharWidth> SubRenderer<D, W> {
     /// them.
     pub(crate) fn try_append_vert_row(&mut self, cols: Vec<SubRenderer<D, W>>) -> Result<(), Error>
         requires { self.old.failure ≡ None }
-        ensures ok { let given = gathered (λ col. handed_out W.columns (meant D.meaning col)) cols.items in
+        ensures ok { let given = gathered (λ col. handed_out W.columns col) cols.items in
             let made = taking (after_flush W.columns) given (after_cells W.columns) in
-            OnOk result (made (meant D.meaning self.old) ≡ done (meant D.meaning self.new)) }
-        ensures too_narrow { result ≡ Err E.TooNarrow → and_then (after_flush W.columns (meant D.meaning self.old))
-            (λ _. gathered (λ col. handed_out W.columns (meant D.meaning col)) cols.items) ≡ refused E.TooNarrow }
+            OnOk result (made self.old ≡ done self.new) }
+        ensures too_narrow { result ≡ Err E.TooNarrow → and_then (after_flush W.columns self.old)
+            (λ _. gathered (λ col. handed_out W.columns col) cols.items) ≡ refused E.TooNarrow }
         ensures two_columns { 2 ≤ block_width self.old →
             Each (λ col. (col.failure ≡ None) × (2 ≤ block_width col)) cols.items → result ≢ Err E.TooNarrow }
-        ensures settings { KeepsSettings (meant D.meaning self.old) (meant D.meaning self.new) }
+        ensures settings { KeepsSettings self.old self.new }
     {
         self.try_flush()?;
         self.add_cells(cols)?;
@@ -213,15 +211,15 @@ impl<D: TextDecorator, W: CharWidth> SubRenderer<D, W> {
     /// Adds the lines of renderers, with a border of slashes between each two.
     fn add_cells(&mut self, cols: Vec<SubRenderer<D, W>>) -> Result<(), Error>
         requires { self.old.failure ≡ None }
-        ensures ok { OnOk result ((cells : List (List (Line (List D.Meaning))))
-            × (gathered (λ col. handed_out W.columns (meant D.meaning col)) cols.items ≡ done cells)
-            × (meant D.meaning self.new ≡ with_cells W.columns (meant D.meaning self.old) cells)) }
+        ensures ok { OnOk result ((cells : List (List (Line (List D.Annotation.Meaning))))
+            × (gathered (λ col. handed_out W.columns col) cols.items ≡ done cells)
+            × (self.new ≡ with_cells W.columns self.old cells)) }
         ensures too_narrow { result ≡ Err E.TooNarrow →
-            gathered (λ col. handed_out W.columns (meant D.meaning col)) cols.items ≡ refused E.TooNarrow }
+            gathered (λ col. handed_out W.columns col) cols.items ≡ refused E.TooNarrow }
         ensures two_columns { Each (λ col. (col.failure ≡ None) × (2 ≤ block_width col)) cols.items →
             result ≢ Err E.TooNarrow }
         ensures unfailed { OnOk result (self.new.failure ≡ None) }
-        ensures settings { KeepsSettings (meant D.meaning self.old) (meant D.meaning self.new) }
+        ensures settings { KeepsSettings self.old self.new }
     {
         let mut cols = cols.into_iter();
         let Some(first) = cols.next() else {
@@ -235,15 +233,15 @@ impl<D: TextDecorator, W: CharWidth> SubRenderer<D, W> {
     /// Adds the lines of each renderer below a border of slashes.
     fn add_cells_below(&mut self, cols: IntoIter<SubRenderer<D, W>>) -> Result<(), Error>
         requires { self.old.failure ≡ None }
-        ensures ok { OnOk result ((cells : List (List (Line (List D.Meaning))))
-            × (gathered (λ col. handed_out W.columns (meant D.meaning col)) (into_iter_items cols) ≡ done cells)
-            × (meant D.meaning self.new ≡ fold (with_cell_below W.columns) (meant D.meaning self.old) cells)) }
+        ensures ok { OnOk result ((cells : List (List (Line (List D.Annotation.Meaning))))
+            × (gathered (λ col. handed_out W.columns col) (into_iter_items cols) ≡ done cells)
+            × (self.new ≡ fold (with_cell_below W.columns) self.old cells)) }
         ensures too_narrow { result ≡ Err E.TooNarrow →
-            gathered (λ col. handed_out W.columns (meant D.meaning col)) (into_iter_items cols) ≡ refused E.TooNarrow }
+            gathered (λ col. handed_out W.columns col) (into_iter_items cols) ≡ refused E.TooNarrow }
         ensures two_columns { Each (λ col. (col.failure ≡ None) × (2 ≤ block_width col)) (into_iter_items cols) →
             result ≢ Err E.TooNarrow }
         ensures unfailed { OnOk result (self.new.failure ≡ None) }
-        ensures settings { KeepsSettings (meant D.meaning self.old) (meant D.meaning self.new) }
+        ensures settings { KeepsSettings self.old self.new }
     {
         for col in cols {
             self.add_divider(BorderSegHoriz::HorizVert)?;

@@ -5,8 +5,7 @@ ghost use Rattle.tbr_wrap.specs.Block.{has_no_character, left};
 ghost use Rattle.tbr_kept_lines.specs.Line.{text_lines};
 ghost use Rattle.tbr_tagged.specs.declared.Error.TheVariants as E;
 ghost use Rattle.tbr_renderer.specs.Renderer.{KeepsSettings, with_line, block_width};
-ghost use Rattle.tbr_renderer.specs.Meant.{meant};
-ghost use Rattle.tbr_renderer.specs.Flush.{line_meant, AddsAsIs, after_flush};
+ghost use Rattle.tbr_renderer.specs.Flush.{filled_line, AddsAsIs, after_flush};
 ghost use Rattle.tbr_renderer.specs.Outcomes.{Tries};
 ghost use Rattle.tbr_renderer.specs.Steps.{with_empty_line, after_empty_line, block_started, after_block_start, at_line_start, after_break};
 
@@ -27,11 +26,11 @@ impl<D: TextDecorator, W: CharWidth> SubRenderer<D, W> {
         requires unfailed { self.old.failure ≡ None }
         requires block { block.failure ≡ None }
         requires ended { has_no_character W.columns block ≡ true }
-        ensures lines { OnOk result (meant D.meaning self.new ≡ fold (with_line W.columns) (meant D.meaning self.old)
-            (map (line_meant W.columns D.meaning block) (left W.columns block))) }
+        ensures lines { OnOk result (self.new ≡ fold (with_line W.columns) self.old
+            (map (filled_line W.columns block) (left W.columns block))) }
         ensures unfailed { OnOk result (self.new.failure ≡ None) }
         ensures memory { IfErr result (λ e. e ≡ E.OutOfMemory) }
-        ensures settings { KeepsSettings (meant D.meaning self.old) (meant D.meaning self.new) }
+        ensures settings { KeepsSettings self.old self.new }
     {
         if block.lines_left() < MANY || !self.adds_as_is(&block) {
             return self.add_each_line_of(block);
@@ -47,7 +46,7 @@ impl<D: TextDecorator, W: CharWidth> SubRenderer<D, W> {
     ) -> Result<(), OutOfMemory>
         requires { is_some_list ended ≡ true }
         ensures lines { OnOk result (self.new ≡ record self.old { lines = self.old.lines ++ text_lines ended }) }
-        ensures settings { KeepsSettings (meant D.meaning self.old) (meant D.meaning self.new) }
+        ensures settings { KeepsSettings self.old self.new }
     {
         self.lines.push_ended(ended)
     }
@@ -66,11 +65,11 @@ impl<D: TextDecorator, W: CharWidth> SubRenderer<D, W> {
     ) -> Result<(), Error>
         requires unfailed { self.old.failure ≡ None }
         requires block { block.failure ≡ None }
-        ensures lines { OnOk result (meant D.meaning self.new ≡ fold (with_line W.columns) (meant D.meaning self.old)
-            (map (line_meant W.columns D.meaning block) (left W.columns block))) }
+        ensures lines { OnOk result (self.new ≡ fold (with_line W.columns) self.old
+            (map (filled_line W.columns block) (left W.columns block))) }
         ensures unfailed { OnOk result (self.new.failure ≡ None) }
         ensures memory { IfErr result (λ e. e ≡ E.OutOfMemory) }
-        ensures settings { KeepsSettings (meant D.meaning self.old) (meant D.meaning self.new) }
+        ensures settings { KeepsSettings self.old self.new }
     {
         while let Some(line) = block.next_line()? {
             self.add_line(line)?;
@@ -81,10 +80,10 @@ impl<D: TextDecorator, W: CharWidth> SubRenderer<D, W> {
     /// Ends the run of the open block, if there is one.
     pub(crate) fn try_flush(&mut self) -> Result<(), Error>
         requires { self.old.failure ≡ None }
-        ensures tries { Tries (meant D.meaning) (after_flush W.columns) self.old result self.new }
+        ensures tries { Tries (after_flush W.columns) self.old result self.new }
         ensures unfailed { OnOk result (self.new.failure ≡ None) }
         ensures two_columns { 2 ≤ block_width self.old → result ≢ Err E.TooNarrow }
-        ensures settings { KeepsSettings (meant D.meaning self.old) (meant D.meaning self.new) }
+        ensures settings { KeepsSettings self.old self.new }
     {
         let Some(boxed) = self.take_block() else {
             return Ok(());
@@ -100,9 +99,9 @@ impl<D: TextDecorator, W: CharWidth> SubRenderer<D, W> {
     /// Ends the run, and adds an empty line.
     pub(crate) fn try_add_empty_line(&mut self) -> Result<(), Error>
         requires { self.old.failure ≡ None }
-        ensures tries { Tries (meant D.meaning) (after_empty_line W.columns) self.old result self.new }
+        ensures tries { Tries (after_empty_line W.columns) self.old result self.new }
         ensures two_columns { 2 ≤ block_width self.old → result ≢ Err E.TooNarrow }
-        ensures settings { KeepsSettings (meant D.meaning self.old) (meant D.meaning self.new) }
+        ensures settings { KeepsSettings self.old self.new }
     {
         self.try_flush()?;
         self.put_empty_line()?;
@@ -112,9 +111,9 @@ impl<D: TextDecorator, W: CharWidth> SubRenderer<D, W> {
     /// Adds an empty line. Text that comes after it begins no block.
     fn put_empty_line(&mut self) -> Result<(), OutOfMemory>
         requires { self.old.failure ≡ None }
-        ensures line { OnOk result (meant D.meaning self.new ≡ with_empty_line W.columns (meant D.meaning self.old)) }
+        ensures line { OnOk result (self.new ≡ with_empty_line W.columns self.old) }
         ensures unfailed { OnOk result (self.new.failure ≡ None) }
-        ensures settings { KeepsSettings (meant D.meaning self.old) (meant D.meaning self.new) }
+        ensures settings { KeepsSettings self.old self.new }
     {
         self.add_line(TaggedLine::new(self.alloc))?;
         self.set_block_ended(false);
@@ -124,11 +123,11 @@ impl<D: TextDecorator, W: CharWidth> SubRenderer<D, W> {
     /// Ends the run, and begins a block.
     pub(crate) fn try_start_block(&mut self) -> Result<(), Error>
         requires { self.old.failure ≡ None }
-        ensures tries { Tries (meant D.meaning) (after_block_start W.columns) self.old result self.new }
+        ensures tries { Tries (after_block_start W.columns) self.old result self.new }
         ensures unfailed { OnOk result (self.new.failure ≡ None) }
         ensures columns { OnOk result (block_width self.new ≡ block_width self.old) }
         ensures two_columns { 2 ≤ block_width self.old → result ≢ Err E.TooNarrow }
-        ensures settings { KeepsSettings (meant D.meaning self.old) (meant D.meaning self.new) }
+        ensures settings { KeepsSettings self.old self.new }
     {
         self.try_flush()?;
         self.begin_block()?;
@@ -138,9 +137,9 @@ impl<D: TextDecorator, W: CharWidth> SubRenderer<D, W> {
     /// Begins a block, after an empty line where any line has content.
     fn begin_block(&mut self) -> Result<(), OutOfMemory>
         requires { self.old.failure ≡ None }
-        ensures begun { OnOk result (meant D.meaning self.new ≡ block_started W.columns (meant D.meaning self.old)) }
+        ensures begun { OnOk result (self.new ≡ block_started W.columns self.old) }
         ensures unfailed { OnOk result (self.new.failure ≡ None) }
-        ensures settings { KeepsSettings (meant D.meaning self.old) (meant D.meaning self.new) }
+        ensures settings { KeepsSettings self.old self.new }
     {
         if self.has_content() {
             return self.put_empty_line();
@@ -152,7 +151,7 @@ impl<D: TextDecorator, W: CharWidth> SubRenderer<D, W> {
     /// Whether no block is open, or its open line and word take no columns.
     fn is_at_line_start(&self) -> bool
         requires { self.now.failure ≡ None }
-        ensures { let r = meant D.meaning self.now in result ≡ at_line_start W.columns r r.block }
+        ensures { let r = self.now in result ≡ at_line_start W.columns r r.block }
     {
         match &self.wrapping {
             Some(block) => block.at_line_start(),
@@ -163,9 +162,9 @@ impl<D: TextDecorator, W: CharWidth> SubRenderer<D, W> {
     /// Ends the run. Where nothing is open that takes columns, it adds an empty line.
     pub(crate) fn try_break_line(&mut self) -> Result<(), Error>
         requires { self.old.failure ≡ None }
-        ensures tries { Tries (meant D.meaning) (after_break W.columns) self.old result self.new }
+        ensures tries { Tries (after_break W.columns) self.old result self.new }
         ensures two_columns { 2 ≤ block_width self.old → result ≢ Err E.TooNarrow }
-        ensures settings { KeepsSettings (meant D.meaning self.old) (meant D.meaning self.new) }
+        ensures settings { KeepsSettings self.old self.new }
     {
         if self.is_at_line_start() {
             return self.try_add_empty_line();

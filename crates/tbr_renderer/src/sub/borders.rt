@@ -4,8 +4,6 @@ ghost use Rattle.tbr_border.specs.Cell.{cell_of};
 ghost use Rattle.tbr_tagged.specs.declared.Error.TheVariants as E;
 ghost use Rattle.tbr_renderer.specs.Renderer.{KeepsSettings, block_width};
 ghost use Rattle.tbr_rows.specs.Meant.{map_border};
-ghost use Rattle.tbr_footnotes.specs.Tags.{tag_meant};
-ghost use Rattle.tbr_renderer.specs.Meant.{meant};
 ghost use Rattle.tbr_renderer.specs.Appended.{with_border, border_of_cells, with_divider, after_border};
 ghost use Rattle.tbr_renderer.specs.Outcomes.{Tries};
 
@@ -21,10 +19,10 @@ impl<D: TextDecorator, W: CharWidth> SubRenderer<D, W> {
         border: BorderHoriz<Annotations<D::Annotation>>,
     ) -> Result<(), OutOfMemory>
         requires { self.old.failure ≡ None }
-        ensures border { OnOk result (meant D.meaning self.new
-            ≡ with_border W.columns (meant D.meaning self.old) (map_border (tag_meant D.meaning) border)) }
+        ensures border { OnOk result (self.new
+            ≡ with_border W.columns self.old border) }
         ensures unfailed { OnOk result (self.new.failure ≡ None) }
-        ensures settings { KeepsSettings (meant D.meaning self.old) (meant D.meaning self.new) }
+        ensures settings { KeepsSettings self.old self.new }
     {
         if !self.options.pad_block_width {
             return self.push_line(RenderLine::Line(border));
@@ -40,8 +38,8 @@ impl<D: TextDecorator, W: CharWidth> SubRenderer<D, W> {
         width: usize,
         cell: BorderSegHoriz,
     ) -> Result<BorderHoriz<Annotations<D::Annotation>>, OutOfMemory>
-        ensures { IfOk result (λ border. map_border (tag_meant D.meaning) border
-            ≡ border_of_cells (cell_of cell) width (meant D.meaning self.now)) }
+        ensures { IfOk result (λ border. border
+            ≡ border_of_cells (cell_of cell) width self.now) }
     {
         BorderHoriz::new_type(self.alloc, width, cell, self.tag()?)
     }
@@ -49,9 +47,9 @@ impl<D: TextDecorator, W: CharWidth> SubRenderer<D, W> {
     /// Ends the run, and adds a border.
     pub(crate) fn try_add_border(&mut self, width: usize) -> Result<(), Error>
         requires { self.old.failure ≡ None }
-        ensures tries { Tries (meant D.meaning) (after_border W.columns width) self.old result self.new }
+        ensures tries { Tries (after_border W.columns width) self.old result self.new }
         ensures two_columns { 2 ≤ block_width self.old → result ≢ Err E.TooNarrow }
-        ensures settings { KeepsSettings (meant D.meaning self.old) (meant D.meaning self.new) }
+        ensures settings { KeepsSettings self.old self.new }
     {
         self.try_flush()?;
         let border = self.border_of(width, BorderSegHoriz::Horiz)?;
@@ -62,10 +60,10 @@ impl<D: TextDecorator, W: CharWidth> SubRenderer<D, W> {
     /// Adds a border of the renderer's width and of one kind of cell, where borders are drawn.
     pub(crate) fn add_divider(&mut self, cell: BorderSegHoriz) -> Result<(), OutOfMemory>
         requires { self.old.failure ≡ None }
-        ensures divider { OnOk result (meant D.meaning self.new
-            ≡ with_divider W.columns (cell_of cell) (meant D.meaning self.old)) }
+        ensures divider { OnOk result (self.new
+            ≡ with_divider W.columns (cell_of cell) self.old) }
         ensures unfailed { OnOk result (self.new.failure ≡ None) }
-        ensures settings { KeepsSettings (meant D.meaning self.old) (meant D.meaning self.new) }
+        ensures settings { KeepsSettings self.old self.new }
     {
         if !self.options.draw_borders {
             return Ok(());

@@ -3,8 +3,6 @@ ghost use Rattle.std.specs.Prelude.{◌≡◌, ◌<◌, ◌++◌, ◌∷◌, [],
 ghost use Rattle.tbr_tagged.specs.declared.Error.TheVariants as E;
 ghost use Rattle.tbr_renderer.specs.Renderer.{kept_of};
 ghost use Rattle.tbr_kept_lines.specs.LastBorder.{without_last};
-ghost use Rattle.tbr_renderer.specs.Meant.{meant};
-ghost use Rattle.tbr_footnotes.specs.Tags.{tag_meant};
 ghost use Rattle.tbr_renderer.specs.Steps.{block_is_empty, is_empty};
 ghost use Rattle.tbr_renderer.specs.Calls.{after, calls_by, IsWide, Takes};
 ghost use Rattle.tbr_renderer.specs.Calls as call;
@@ -12,7 +10,7 @@ ghost use Rattle.tbr_tagged.specs.Outcome.{done};
 ghost use Rattle.tbr_renderer.specs.Outcomes.{gathered};
 ghost use Rattle.tbr_renderer.specs.Appended.{handed_out};
 ghost use Rattle.tbr_rows.specs.Cells.{row_fits};
-ghost use Rattle.tbr_renderer.specs.Rows.{cells_meant, spots_of};
+ghost use Rattle.tbr_renderer.specs.Rows.{cells_handed_out, spots_of};
 ghost use Rattle.tbr_decor.specs.Decoration.{decoration_of};
 ghost use Rattle.std.specs.List.{AllByRecursion as Each};
 ghost use Rattle.tbr_wrap.specs.Runs.{is_some_list};
@@ -54,7 +52,7 @@ impl<D: TextDecorator, W: CharWidth> SubRenderer<D, W> {
     /// Whether no block is open, or the open one is empty.
     fn has_empty_block(&self) -> bool
         requires { self.now.failure ≡ None }
-        ensures { let r = meant D.meaning self.now in result ≡ block_is_empty W.columns r r.block }
+        ensures { let r = self.now in result ≡ block_is_empty W.columns r r.block }
     {
         match &self.wrapping {
             Some(block) => block.is_empty(),
@@ -64,8 +62,8 @@ impl<D: TextDecorator, W: CharWidth> SubRenderer<D, W> {
 
     /// Replaces the annotations of text that comes.
     fn set_annotations(&mut self, annotations: Annotations<D::Annotation>)
-        ensures { meant D.meaning self.new
-            ≡ record (meant D.meaning self.old) { annotations = tag_meant D.meaning annotations } }
+        ensures { self.new
+            ≡ record self.old { annotations = annotations } }
     {
         self.annotations = OpenAnnotations::of(annotations);
     }
@@ -87,8 +85,7 @@ impl<D: TextDecorator, W: CharWidth> SubRenderer<D, W> {
 
 impl<D: TextDecorator, W: CharWidth> Renderer for SubRenderer<D, W> {
     ghost use Rattle.tbr_renderer.specs.Renderer.{Renderer as Seen};
-    ghost use Rattle.tbr_renderer.specs.Meant.{meant};
-    ghost use Rattle.tbr_renderer.specs.Steps.{is_empty};
+        ghost use Rattle.tbr_renderer.specs.Steps.{is_empty};
     ghost use Rattle.tbr_renderer.specs.Appended.{handed_out};
     ghost use Rattle.tbr_decor.specs.Decoration.{decoration_of};
     ghost use Rattle.std.specs.Prelude.{◌≡◌, List, true};
@@ -97,21 +94,21 @@ impl<D: TextDecorator, W: CharWidth> Renderer for SubRenderer<D, W> {
     ghost use Rattle.tbr_renderer.specs.Decorated.{sub_renderer};
     ghost use Rattle.tbr_renderer.specs.Calls.{calls_by};
 
-    ghost Tag = { List D.Meaning };
+    ghost Tag = { List D.Annotation.Meaning };
 
-    ghost State = { Seen D D.Meaning (List D.Meaning) };
+    ghost State = { Seen D D.Annotation.Meaning (List D.Annotation.Meaning) };
 
-    ghost calls = { calls_by W.columns (decoration_of D.TextDecorator) D.meaning };
+    ghost calls = { calls_by W.columns (decoration_of D.TextDecorator D.Annotation.tells) };
 
-    ghost handed_out = { λ r. handed_out W.columns (meant D.meaning r) };
+    ghost handed_out = { λ r. handed_out W.columns r };
 
     ghost has_places_for = { λ r cols. row_fits r.hanging (spots_of W.columns cols) ≡ true };
 
     ghost prefix_text = { λ r prefix. D.prefix_text r.decorator prefix };
 
-    ghost sub_renderer = { λ width r. sub_renderer (decoration_of D.TextDecorator) width r };
+    ghost sub_renderer = { λ width r. sub_renderer (decoration_of D.TextDecorator D.Annotation.tells) width r };
 
-    ghost is_empty = { λ r. is_empty W.columns (meant D.meaning r) };
+    ghost is_empty = { λ r. is_empty W.columns r };
 
     fn add_empty_line(&mut self) -> Result<(), Error> {
         self.refusal()?;
@@ -262,8 +259,8 @@ impl<D: TextDecorator, W: CharWidth> Renderer for SubRenderer<D, W> {
     }
 
     fn append_vert_row(&mut self, cols: Vec<SubRenderer<D, W>>) -> Result<(), Error>
-        ensures takes { let calls = calls_by W.columns (decoration_of D.TextDecorator) D.meaning in
-            let given = gathered (λ col. handed_out W.columns (meant D.meaning col)) cols.items in
+        ensures takes { let calls = calls_by W.columns (decoration_of D.TextDecorator D.Annotation.tells) in
+            let given = gathered (λ col. handed_out W.columns col) cols.items in
             Takes calls given (Each (IsWide calls) cols.items) (λ cells. calls.after (call.append_vert_row cells))
             self.old result self.new }
     {
@@ -281,8 +278,8 @@ impl<D: TextDecorator, W: CharWidth> Renderer for SubRenderer<D, W> {
         requires spans { Each (λ col. 0 < col.1) cols.items }
         requires aligns { length aligns.now ≡ length cols.items }
         requires fits { row_fits self.old.hanging (spots_of W.columns cols.items) ≡ true }
-        ensures takes { let calls = calls_by W.columns (decoration_of D.TextDecorator) D.meaning in
-            let given = cells_meant W.columns D.meaning cols.items aligns.now in
+        ensures takes { let calls = calls_by W.columns (decoration_of D.TextDecorator D.Annotation.tells) in
+            let given = cells_handed_out W.columns cols.items aligns.now in
             Takes calls given (Each (λ col. IsWide calls col.0) cols.items) (calls.after_row collapse)
             self.old result self.new }
     {
@@ -298,8 +295,8 @@ impl<D: TextDecorator, W: CharWidth> Renderer for SubRenderer<D, W> {
     ) -> Result<(), Error>
         requires spans { Each (λ col. 0 < col.1) cols.items }
         requires fits { row_fits self.old.hanging (spots_of W.columns cols.items) ≡ true }
-        ensures takes { let calls = calls_by W.columns (decoration_of D.TextDecorator) D.meaning in
-            let given = cells_meant W.columns D.meaning cols.items [] in
+        ensures takes { let calls = calls_by W.columns (decoration_of D.TextDecorator D.Annotation.tells) in
+            let given = cells_handed_out W.columns cols.items [] in
             Takes calls given (Each (λ col. IsWide calls col.0) cols.items) (calls.after_row collapse)
             self.old result self.new }
     {

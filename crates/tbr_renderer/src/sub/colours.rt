@@ -4,7 +4,6 @@ ghost use Rattle.std.specs.Option.{option_map};
 ghost use Rattle.tbr_tagged.specs.declared.Error.TheVariants as E;
 ghost use Rattle.tbr_decor.specs.Decoration.{decoration_of};
 ghost use Rattle.tbr_renderer.specs.Renderer.{kept_of};
-ghost use Rattle.tbr_renderer.specs.Meant.{meant};
 ghost use Rattle.tbr_renderer.specs.View.{ground_of};
 ghost use Rattle.tbr_renderer.specs.Decorated.{asked_for_colour, asked_to_end, coloured, uncoloured};
 
@@ -27,9 +26,9 @@ impl<D: TextDecorator, W: CharWidth> SubRenderer<D, W> {
         colour: Colour,
     ) -> Result<Option<D::Annotation>, OutOfMemory>
         ensures annotation { IfOk result (λ a.
-            option_map D.meaning a ≡ D.colour_annotation self.old.decorator (ground_of ground) colour) }
-        ensures asked { OnOk result (meant D.meaning self.new
-            ≡ asked_for_colour (decoration_of D.TextDecorator) (ground_of ground) colour (meant D.meaning self.old)) }
+            option_map D.Annotation.meaning a ≡ D.colour_annotation self.old.decorator (ground_of ground) colour) }
+        ensures asked { OnOk result (self.new
+            ≡ asked_for_colour (decoration_of D.TextDecorator D.Annotation.tells) (ground_of ground) colour self.old) }
         ensures err { OnErr result (self.new ≡ self.old) }
     {
         match ground {
@@ -40,10 +39,10 @@ impl<D: TextDecorator, W: CharWidth> SubRenderer<D, W> {
 
     /// Adds the annotation of a colour, if it has one, to those of text that comes.
     pub(crate) fn try_push_colour(&mut self, ground: Ground, colour: Colour) -> Result<(), Error>
-        ensures ok { OnOk result (meant D.meaning self.new
-            ≡ coloured (decoration_of D.TextDecorator) (ground_of ground) colour (meant D.meaning self.old)) }
+        ensures ok { OnOk result (self.new
+            ≡ coloured (decoration_of D.TextDecorator D.Annotation.tells) (ground_of ground) colour self.old) }
         ensures memory { IfErr result (λ e. e ≡ E.OutOfMemory) }
-        ensures kept { kept_of (meant D.meaning self.new) ≡ kept_of (meant D.meaning self.old) }
+        ensures kept { kept_of self.new ≡ kept_of self.old }
     {
         if let Some(annotation) = self.ask_for_colour(ground, colour)? {
             self.push_annotation(annotation)?;
@@ -54,8 +53,8 @@ impl<D: TextDecorator, W: CharWidth> SubRenderer<D, W> {
     /// Whether the decorator says that the end of a colour takes an annotation.
     fn ask_to_end_colour(&mut self, ground: Ground) -> bool
         ensures taken { result ≡ D.ends_colour self.old.decorator (ground_of ground) }
-        ensures asked { meant D.meaning self.new
-            ≡ asked_to_end (decoration_of D.TextDecorator) (ground_of ground) (meant D.meaning self.old) }
+        ensures asked { self.new
+            ≡ asked_to_end (decoration_of D.TextDecorator D.Annotation.tells) (ground_of ground) self.old }
     {
         match ground {
             Ground::Text => self.decorator.pop_colour(),
@@ -65,8 +64,8 @@ impl<D: TextDecorator, W: CharWidth> SubRenderer<D, W> {
 
     /// Takes the last annotation where the decorator says that the end of a colour does.
     pub(crate) fn take_colour(&mut self, ground: Ground)
-        ensures { meant D.meaning self.new
-            ≡ uncoloured (decoration_of D.TextDecorator) (ground_of ground) (meant D.meaning self.old) }
+        ensures { self.new
+            ≡ uncoloured (decoration_of D.TextDecorator D.Annotation.tells) (ground_of ground) self.old }
     {
         if self.ask_to_end_colour(ground) {
             self.pop_annotation();

@@ -4,7 +4,6 @@ ghost use Rattle.tbr_tagged.specs.View.{chars_of};
 ghost use Rattle.tbr_tagged.specs.declared.Error.TheVariants as E;
 ghost use Rattle.tbr_decor.specs.Decoration.{decoration_of};
 ghost use Rattle.tbr_renderer.specs.Renderer.{kept_of, block_width, with_annotation, without_annotation};
-ghost use Rattle.tbr_renderer.specs.Meant.{meant};
 ghost use Rattle.tbr_renderer.specs.View.{start_of, end_of};
 ghost use Rattle.tbr_renderer.specs.Calls as call;
 ghost use Rattle.tbr_renderer.specs.Outcomes.{Tries};
@@ -44,9 +43,9 @@ impl<D: TextDecorator, W: CharWidth> SubRenderer<D, W> {
     fn ask_to_open(&mut self, start: Start) -> Result<(String, D::Annotation), OutOfMemory>
         ensures text { IfOk result (λ r. chars_of r.0 ≡ D.start_text self.old.decorator (start_of start.entry)) }
         ensures annotation { IfOk result (λ r.
-            D.meaning r.1 ≡ D.annotation self.old.decorator (start_of start.entry)) }
-        ensures asked { OnOk result (meant D.meaning self.new
-            ≡ asked_to_open (decoration_of D.TextDecorator) (start_of start.entry) (meant D.meaning self.old)) }
+            D.Annotation.meaning r.1 ≡ D.annotation self.old.decorator (start_of start.entry)) }
+        ensures asked { OnOk result (self.new
+            ≡ asked_to_open (decoration_of D.TextDecorator D.Annotation.tells) (start_of start.entry) self.old) }
         ensures failure { self.new.failure ≡ self.old.failure }
         ensures columns { block_width self.new ≡ block_width self.old }
         ensures err { OnErr result (self.new ≡ self.old) }
@@ -67,8 +66,8 @@ impl<D: TextDecorator, W: CharWidth> SubRenderer<D, W> {
     /// The decorator's text for what is closed.
     fn ask_to_close(&mut self, end: End) -> Result<String, OutOfMemory>
         ensures text { IfOk result (λ text. chars_of text ≡ D.end_text self.old.decorator (end_of end)) }
-        ensures asked { OnOk result (meant D.meaning self.new
-            ≡ asked_to_close (decoration_of D.TextDecorator) (end_of end) (meant D.meaning self.old)) }
+        ensures asked { OnOk result (self.new
+            ≡ asked_to_close (decoration_of D.TextDecorator D.Annotation.tells) (end_of end) self.old) }
         ensures failure { self.new.failure ≡ self.old.failure }
         ensures columns { block_width self.new ≡ block_width self.old }
         ensures err { OnErr result (self.new ≡ self.old) }
@@ -86,7 +85,7 @@ impl<D: TextDecorator, W: CharWidth> SubRenderer<D, W> {
     /// Adds an annotation to those of text that comes.
     pub(crate) fn push_annotation(&mut self, annotation: D::Annotation) -> Result<(), OutOfMemory>
         ensures ok { OnOk result
-            (meant D.meaning self.new ≡ with_annotation (meant D.meaning self.old) (D.meaning annotation)) }
+            (self.new ≡ with_annotation self.old (D.Annotation.meaning annotation)) }
         ensures failure { self.new.failure ≡ self.old.failure }
         ensures columns { block_width self.new ≡ block_width self.old }
         ensures err { OnErr result (self.new ≡ self.old) }
@@ -96,7 +95,7 @@ impl<D: TextDecorator, W: CharWidth> SubRenderer<D, W> {
 
     /// Takes the last annotation, if there is one.
     pub(crate) fn pop_annotation(&mut self)
-        ensures { meant D.meaning self.new ≡ without_annotation (meant D.meaning self.old) }
+        ensures { self.new ≡ without_annotation self.old }
     {
         self.annotations.pop();
     }
@@ -105,11 +104,11 @@ impl<D: TextDecorator, W: CharWidth> SubRenderer<D, W> {
     /// add.
     fn annotate(&mut self, start: Start) -> Result<String, OutOfMemory>
         ensures text { IfOk result (λ text. chars_of text ≡ D.start_text self.old.decorator (start_of start.entry)) }
-        ensures annotated { OnOk result (meant D.meaning self.new
-            ≡ annotated (decoration_of D.TextDecorator) (start_of start.entry) (meant D.meaning self.old)) }
+        ensures annotated { OnOk result (self.new
+            ≡ annotated (decoration_of D.TextDecorator D.Annotation.tells) (start_of start.entry) self.old) }
         ensures failure { self.new.failure ≡ self.old.failure }
         ensures columns { block_width self.new ≡ block_width self.old }
-        ensures kept { kept_of (meant D.meaning self.new) ≡ kept_of (meant D.meaning self.old) }
+        ensures kept { kept_of self.new ≡ kept_of self.old }
     {
         let (text, annotation) = self.ask_to_open(start)?;
         self.push_annotation(annotation)?;
@@ -119,10 +118,10 @@ impl<D: TextDecorator, W: CharWidth> SubRenderer<D, W> {
     /// Adds the decorator's text for what is opened, under its annotation.
     pub(crate) fn try_open(&mut self, start: Start) -> Result<(), Error>
         requires { self.old.failure ≡ None }
-        ensures tries { Tries (meant D.meaning)
-            (after_start W.columns (decoration_of D.TextDecorator) (start_of start.entry)) self.old result self.new }
+        ensures tries { Tries
+            (after_start W.columns (decoration_of D.TextDecorator D.Annotation.tells) (start_of start.entry)) self.old result self.new }
         ensures two_columns { 2 ≤ block_width self.old → result ≢ Err E.TooNarrow }
-        ensures kept { kept_of (meant D.meaning self.new) ≡ kept_of (meant D.meaning self.old) }
+        ensures kept { kept_of self.new ≡ kept_of self.old }
     {
         let text = self.annotate(start)?;
         self.try_add_text(text.as_str())
@@ -130,7 +129,7 @@ impl<D: TextDecorator, W: CharWidth> SubRenderer<D, W> {
 
     /// Opens decorated text, and keeps a refusal.
     pub(crate) fn begin(&mut self, start: Start) -> Result<(), Error>
-        ensures answers { Answers (calls_by W.columns (decoration_of D.TextDecorator) D.meaning)
+        ensures answers { Answers (calls_by W.columns (decoration_of D.TextDecorator D.Annotation.tells))
             (call.begin (start_of start.entry)) self.old result self.new }
     {
         self.refusal()?;
@@ -141,10 +140,10 @@ impl<D: TextDecorator, W: CharWidth> SubRenderer<D, W> {
     /// Adds the decorator's text for what is closed, and then takes the last annotation.
     pub(crate) fn try_close(&mut self, end: End) -> Result<(), Error>
         requires { self.old.failure ≡ None }
-        ensures tries { Tries (meant D.meaning)
-            (after_end W.columns (decoration_of D.TextDecorator) (end_of end)) self.old result self.new }
+        ensures tries { Tries
+            (after_end W.columns (decoration_of D.TextDecorator D.Annotation.tells) (end_of end)) self.old result self.new }
         ensures two_columns { 2 ≤ block_width self.old → result ≢ Err E.TooNarrow }
-        ensures kept { kept_of (meant D.meaning self.new) ≡ kept_of (meant D.meaning self.old) }
+        ensures kept { kept_of self.new ≡ kept_of self.old }
     {
         let text = self.ask_to_close(end)?;
         self.try_add_text(text.as_str())?;
@@ -154,7 +153,7 @@ impl<D: TextDecorator, W: CharWidth> SubRenderer<D, W> {
 
     /// Closes decorated text, and keeps a refusal.
     pub(crate) fn finish(&mut self, end: End) -> Result<(), Error>
-        ensures answers { Answers (calls_by W.columns (decoration_of D.TextDecorator) D.meaning)
+        ensures answers { Answers (calls_by W.columns (decoration_of D.TextDecorator D.Annotation.tells))
             (call.finish (end_of end)) self.old result self.new }
     {
         self.refusal()?;

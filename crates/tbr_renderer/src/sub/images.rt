@@ -3,7 +3,6 @@ ghost use Rattle.std.specs.Prelude.{◌≡◌, ◌≢◌, ◌≤◌, None, Err, 
 ghost use Rattle.tbr_tagged.specs.declared.Error.TheVariants as E;
 ghost use Rattle.tbr_decor.specs.Decoration.{decoration_of};
 ghost use Rattle.tbr_renderer.specs.Renderer.{kept_of, block_width};
-ghost use Rattle.tbr_renderer.specs.Meant.{meant};
 ghost use Rattle.tbr_renderer.specs.Decorated.{after_image};
 ghost use Rattle.tbr_renderer.specs.Outcomes.{Tries};
 
@@ -16,11 +15,11 @@ impl<D: TextDecorator, W: CharWidth> SubRenderer<D, W> {
     /// Adds the decorator's text for an image, if one is shown, under an annotation of its own.
     pub(crate) fn try_add_image(&mut self, src: &str, title: &str) -> Result<(), Error>
         requires { self.old.failure ≡ None }
-        ensures tries { Tries (meant D.meaning)
-            (after_image W.columns (decoration_of D.TextDecorator) (chars src.now) (chars title.now))
+        ensures tries { Tries
+            (after_image W.columns (decoration_of D.TextDecorator D.Annotation.tells) (chars src.now) (chars title.now))
             self.old result self.new }
         ensures two_columns { 2 ≤ block_width self.old → result ≢ Err E.TooNarrow }
-        ensures kept { kept_of (meant D.meaning self.new) ≡ kept_of (meant D.meaning self.old) }
+        ensures kept { kept_of self.new ≡ kept_of self.old }
     {
         let Some(title) = self.options.img_mode.shown_title(src, title) else {
             return Ok(());

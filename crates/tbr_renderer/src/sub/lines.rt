@@ -1,9 +1,9 @@
 //! Lines that are handed out.
 ghost use Rattle.std.specs.Prelude.{◌≡◌, ◌≢◌, ◌≤◌, None, Some, Err, true, [], ◌++◌, map, IfOk, OnOk, List};
 ghost use Rattle.std.specs.List.{AllZip, AllByRecursion as Each};
-ghost use Rattle.tbr_tagged.specs.Copies.{CopiesAreEqual, equal_lists};
-ghost use Rattle.tbr_annotations.specs.Annotations.{equal_annotations};
-ghost use Rattle.tbr_annotations.specs.Written.{WritesOut};
+ghost use Rattle.tbr_tagged.specs.Copies.{equal_lists};
+ghost use Rattle.tbr_annotations.specs.Annotations.{same_annotations};
+ghost use Rattle.tbr_annotations.specs.Written.{WritesOut, vector_meant};
 ghost use Rattle.tbr_border.specs.RenderLine.{IsMergedText};
 ghost use Rattle.tbr_tagged.specs.declared.Error.{Error as Refusal};
 ghost use Rattle.tbr_tagged.specs.declared.Error.TheVariants as E;
@@ -11,8 +11,7 @@ ghost use Rattle.tbr_renderer.specs.Renderer.{block_width};
 ghost use Rattle.tbr_kept_lines.specs.Line.{line_seen};
 ghost use Rattle.tbr_kept_lines.specs.Text.{line_text, lines_text};
 ghost use Rattle.tbr_tagged.specs.View.{chars_of};
-ghost use Rattle.tbr_footnotes.specs.Tags.{tag_meant, vector_meant};
-ghost use Rattle.tbr_renderer.specs.Meant.{map_line, meant};
+ghost use Rattle.tbr_renderer.specs.Mapped.{map_line};
 ghost use Rattle.tbr_tagged.specs.Outcome.{done, refused};
 ghost use Rattle.tbr_renderer.specs.Outcomes.{changed};
 ghost use Rattle.tbr_renderer.specs.Appended.{handed_out};
@@ -25,6 +24,7 @@ use tbr_annotations::{Annotations, written_out};
 use tbr_decor::TextDecorator;
 use tbr_kept_lines::KeptLines;
 use tbr_lines::{CharWidth, Error, OutOfMemory, RenderLine};
+use tbr_tags::Tag;
 
 impl<D: TextDecorator, W: CharWidth> SubRenderer<D, W> {
     /// Ends the open line, and hands out all lines. Their pieces are the longest stretches under equal annotations.
@@ -33,11 +33,11 @@ impl<D: TextDecorator, W: CharWidth> SubRenderer<D, W> {
     /// It refuses as `new_line` does. The list takes memory for each line, and each piece for its annotations: where
     /// many are open, [`into_shared_lines`](SubRenderer::into_shared_lines) takes little.
     pub fn into_lines(self) -> Result<LinkedList<RenderLine<Vec<D::Annotation>>>, Error>
-        ensures lines { IfOk result (λ lines. handed_out W.columns (meant D.meaning self)
-            ≡ done (map (map_line (vector_meant D.meaning)) (map line_seen lines))) }
+        ensures lines { IfOk result (λ lines. handed_out W.columns self
+            ≡ done (map (map_line (vector_meant D.Annotation.meaning)) (map line_seen lines))) }
         ensures merged { IfOk result (λ lines. Each (IsMergedText (equal_lists D.Annotation.eq)) lines) }
         ensures too_narrow { result ≡ Err E.TooNarrow →
-            handed_out W.columns (meant D.meaning self) ≡ refused E.TooNarrow }
+            handed_out W.columns self ≡ refused E.TooNarrow }
         ensures two_columns { self.failure ≡ None → 2 ≤ block_width self → result ≢ Err E.TooNarrow }
         ensures kept { (e : Refusal) → self.failure ≡ Some e → result ≡ Err e }
     {
@@ -51,11 +51,11 @@ impl<D: TextDecorator, W: CharWidth> SubRenderer<D, W> {
     ///
     /// It refuses as `new_line` does.
     pub fn into_shared_lines(self) -> Result<Vec<RenderLine<Annotations<D::Annotation>>>, Error>
-        ensures lines { IfOk result (λ lines. handed_out W.columns (meant D.meaning self)
-            ≡ done (map (map_line (tag_meant D.meaning)) (map line_seen lines.items))) }
-        ensures merged { IfOk result (λ lines. Each (IsMergedText (equal_annotations D.Annotation.eq)) lines.items) }
+        ensures lines { IfOk result (λ lines. handed_out W.columns self
+            ≡ done (map line_seen lines.items)) }
+        ensures merged { IfOk result (λ lines. Each (IsMergedText (same_annotations D.Annotation.same)) lines.items) }
         ensures too_narrow { result ≡ Err E.TooNarrow →
-            handed_out W.columns (meant D.meaning self) ≡ refused E.TooNarrow }
+            handed_out W.columns self ≡ refused E.TooNarrow }
         ensures two_columns { self.failure ≡ None → 2 ≤ block_width self → result ≢ Err E.TooNarrow }
         ensures kept { (e : Refusal) → self.failure ≡ Some e → result ≡ Err e }
     {
@@ -67,9 +67,9 @@ impl<D: TextDecorator, W: CharWidth> SubRenderer<D, W> {
     /// It refuses as `new_line` does.
     pub(crate) fn into_kept(mut self) -> Result<KeptLines<Annotations<D::Annotation>>, Error>
         ensures lines { IfOk result (λ lines.
-            handed_out W.columns (meant D.meaning self) ≡ done (map (map_line (tag_meant D.meaning)) lines)) }
+            handed_out W.columns self ≡ done lines) }
         ensures too_narrow { result ≡ Err E.TooNarrow →
-            handed_out W.columns (meant D.meaning self) ≡ refused E.TooNarrow }
+            handed_out W.columns self ≡ refused E.TooNarrow }
         ensures two_columns { self.failure ≡ None → 2 ≤ block_width self → result ≢ Err E.TooNarrow }
         ensures kept { (e : Refusal) → self.failure ≡ Some e → result ≡ Err e }
     {
@@ -83,9 +83,9 @@ impl<D: TextDecorator, W: CharWidth> SubRenderer<D, W> {
     /// It refuses as `new_line` does.
     pub fn into_string(self) -> Result<String, Error>
         ensures text { IfOk result (λ text.
-            changed lines_text (handed_out W.columns (meant D.meaning self)) ≡ done (chars_of text)) }
+            changed lines_text (handed_out W.columns self) ≡ done (chars_of text)) }
         ensures too_narrow { result ≡ Err E.TooNarrow →
-            handed_out W.columns (meant D.meaning self) ≡ refused E.TooNarrow }
+            handed_out W.columns self ≡ refused E.TooNarrow }
         ensures two_columns { self.failure ≡ None → 2 ≤ block_width self → result ≢ Err E.TooNarrow }
         ensures kept { (e : Refusal) → self.failure ≡ Some e → result ≡ Err e }
     {
@@ -101,12 +101,11 @@ impl<D: TextDecorator, W: CharWidth> SubRenderer<D, W> {
 }
 
 /// The same lines in a list, each list of annotations as a vector.
-fn all_written_out<A: Eq + Clone + Drop>(
+fn all_written_out<A: Tag>(
     alloc: Global,
     lines: Vec<RenderLine<Annotations<A>>>,
 ) -> Result<LinkedList<RenderLine<Vec<A>>>, OutOfMemory>
-    requires { CopiesAreEqual A.is_clone A.eq }
-    ensures written { IfOk result (λ list. AllZip (WritesOut A.eq) lines.items list) }
+    ensures written { IfOk result (λ list. AllZip (WritesOut A.meaning) lines.items list) }
     ensures merged { IfOk result (λ list. Each (IsMergedText (equal_lists A.eq)) list) }
 {
     let mut written = LinkedList::new(alloc);

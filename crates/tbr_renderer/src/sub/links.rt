@@ -1,8 +1,8 @@
 //! The targets of links, which are after a document.
 ghost use Rattle.std.specs.Prelude.{◌≡◌, ◌≢◌, None, Some, Err, map, IfOk, IfErr, OnOk, OnErr};
 ghost use Rattle.std.specs.List.{AllByRecursion as Each};
-ghost use Rattle.tbr_annotations.specs.Annotations.{equal_annotations};
-ghost use Rattle.tbr_tagged.specs.Elements.{IsMerged};
+ghost use Rattle.tbr_annotations.specs.Annotations.{same_annotations};
+ghost use Rattle.tbr_tagged.specs.Elements.{items_of, IsMerged};
 ghost use Rattle.tbr_tagged.specs.View.{chars_of};
 ghost use Rattle.tbr_tagged.specs.declared.Error.TheVariants as E;
 ghost use Rattle.tbr_decor.specs.Change as change;
@@ -10,10 +10,8 @@ ghost use Rattle.tbr_decor.specs.Meant.{lines_meant};
 ghost use Rattle.tbr_decor.specs.Meant as decor;
 ghost use Rattle.tbr_decor.specs.Decoration.{decoration_of};
 ghost use Rattle.tbr_renderer.specs.Calls.{calls_by, Fails};
-ghost use Rattle.tbr_footnotes.specs.Cutting.{texts_meant};
 ghost use Rattle.tbr_renderer.specs.Footnotes.{listed, with_footnotes};
 ghost use Rattle.tbr_renderer.specs.Footnotes as model;
-ghost use Rattle.tbr_renderer.specs.Meant.{meant};
 ghost use Rattle.tbr_renderer.specs.Renderer.{KeepsSettings, kept_of};
 
 use crate::sub::SubRenderer;
@@ -29,7 +27,7 @@ impl<D: TextDecorator, W: CharWidth> SubRenderer<D, W> {
     /// The only refusal of its own is `OutOfMemory`, after which the renderer has failed. One that had failed answers
     /// its refusal.
     pub fn finalise(&mut self, links: Vec<String>) -> Result<Vec<TaggedLine<D::Annotation>>, Error>
-        ensures lines { IfOk result (λ lines. lines_meant D.meaning lines.items
+        ensures lines { IfOk result (λ lines. lines_meant D.Annotation.meaning lines.items
             ≡ D.footnotes self.old.decorator (listed self.old.options (map chars_of links.items))) }
         ensures asked { let targets = listed self.old.options (map chars_of links.items) in
             OnOk result (self.new ≡ record self.old {
@@ -37,7 +35,7 @@ impl<D: TextDecorator, W: CharWidth> SubRenderer<D, W> {
             }) }
         ensures memory { self.old.failure ≡ None → result ≢ Err E.TooNarrow }
         ensures left { self.old.failure ≡ None → IfErr result (λ e. self.new ≡ record self.old { failure = Some e }) }
-        ensures fails { Fails (calls_by W.columns (decoration_of D.TextDecorator) D.meaning) self.old result self.new }
+        ensures fails { Fails (calls_by W.columns (decoration_of D.TextDecorator D.Annotation.tells)) self.old result self.new }
     {
         self.refusal()?;
         match self.footnotes(links) {
@@ -54,7 +52,7 @@ impl<D: TextDecorator, W: CharWidth> SubRenderer<D, W> {
         &mut self,
         links: Vec<String>,
     ) -> Result<Vec<TaggedLine<D::Annotation>>, OutOfMemory>
-        ensures lines { IfOk result (λ lines. lines_meant D.meaning lines.items
+        ensures lines { IfOk result (λ lines. lines_meant D.Annotation.meaning lines.items
             ≡ D.footnotes self.old.decorator (listed self.old.options (map chars_of links.items))) }
         ensures asked { let targets = listed self.old.options (map chars_of links.items) in
             OnOk result (self.new ≡ record self.old {
@@ -77,10 +75,10 @@ impl<D: TextDecorator, W: CharWidth> SubRenderer<D, W> {
     /// The only refusal of its own is `OutOfMemory`, which comes too where the columns of a line pass `usize`. The
     /// renderer has then failed. One that had failed answers its refusal.
     pub fn fmt_links(&mut self, links: Vec<TaggedLine<D::Annotation>>) -> Result<(), Error>
-        ensures ok { OnOk result (meant D.meaning self.new
-            ≡ with_footnotes W.columns (meant D.meaning self.old) (lines_meant D.meaning links.items)) }
+        ensures ok { OnOk result (self.new
+            ≡ with_footnotes W.columns self.old (lines_meant D.Annotation.meaning links.items)) }
         ensures memory { self.old.failure ≡ None → result ≢ Err E.TooNarrow }
-        ensures fails { Fails (calls_by W.columns (decoration_of D.TextDecorator) D.meaning) self.old result self.new }
+        ensures fails { Fails (calls_by W.columns (decoration_of D.TextDecorator D.Annotation.tells)) self.old result self.new }
     {
         self.refusal()?;
         let done = self.try_fmt_links(links);
@@ -90,10 +88,10 @@ impl<D: TextDecorator, W: CharWidth> SubRenderer<D, W> {
     /// Adds footnotes after the lines.
     fn try_fmt_links(&mut self, links: Vec<TaggedLine<D::Annotation>>) -> Result<(), Error>
         requires { self.old.failure ≡ None }
-        ensures ok { OnOk result (meant D.meaning self.new
-            ≡ with_footnotes W.columns (meant D.meaning self.old) (lines_meant D.meaning links.items)) }
+        ensures ok { OnOk result (self.new
+            ≡ with_footnotes W.columns self.old (lines_meant D.Annotation.meaning links.items)) }
         ensures memory { IfErr result (λ e. e ≡ E.OutOfMemory) }
-        ensures settings { KeepsSettings (meant D.meaning self.old) (meant D.meaning self.new) }
+        ensures settings { KeepsSettings self.old self.new }
     {
         for link in links {
             let lines = self.footnote_lines(link)?;
@@ -107,9 +105,9 @@ impl<D: TextDecorator, W: CharWidth> SubRenderer<D, W> {
         &self,
         link: TaggedLine<D::Annotation>,
     ) -> Result<Vec<TaggedLine<Annotations<D::Annotation>>>, OutOfMemory>
-        ensures lines { IfOk result (λ lines. texts_meant D.meaning lines.items
-            ≡ model.footnote_lines W.columns (meant D.meaning self.now) (map (decor.meant D.meaning) link)) }
-        ensures merged { IfOk result (λ lines. Each (IsMerged (equal_annotations D.Annotation.eq)) lines.items) }
+        ensures lines { IfOk result (λ lines. map items_of lines.items
+            ≡ model.footnote_lines W.columns self.now (map (decor.meant D.Annotation.meaning) link)) }
+        ensures merged { IfOk result (λ lines. Each (IsMerged (same_annotations D.Annotation.same)) lines.items) }
     {
         let mut lines = FootnoteLines::<D, W>::new(self.alloc, self.link_width());
         lines.push_line(link)?;

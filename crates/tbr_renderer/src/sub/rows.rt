@@ -3,23 +3,21 @@ ghost use Rattle.std.specs.Prelude.{◌≡◌, ◌≢◌, ◌≤◌, ◌==◌, �
 ghost use Rattle.std.specs.Option.{option_map};
 ghost use Rattle.std.specs.Cmp.Lexicographic.{pointwise};
 ghost use Rattle.std.specs.List.{AllZip, AllByRecursion as Each, list_any};
-ghost use Rattle.tbr_annotations.specs.Annotations.{equal_annotations};
+ghost use Rattle.tbr_annotations.specs.Annotations.{same_annotations};
 ghost use Rattle.tbr_border.specs.declared.RenderLine.{RenderLine};
 ghost use Rattle.tbr_tagged.specs.Copies.{CopiesAreEqual};
 ghost use Rattle.tbr_tagged.specs.Elements.{items_of, IsMerged};
 ghost use Rattle.tbr_rows.specs.Filled.{cell_after};
 ghost use Rattle.tbr_tagged.specs.declared.Error.TheVariants as E;
 ghost use Rattle.tbr_rows.specs.Cells.{AreSideBySide, has_lines, row_fits, spot_of};
-ghost use Rattle.tbr_rows.specs.Meant.{map_border, map_cell, row_meant, MeansRow, SeenRow};
+ghost use Rattle.tbr_rows.specs.Meant.{MeansRow, SeenRow};
 ghost use Rattle.tbr_renderer.specs.Renderer.{KeepsSettings, with_line, block_width};
-ghost use Rattle.tbr_footnotes.specs.Tags.{tag_meant, items_meant};
-ghost use Rattle.tbr_renderer.specs.Meant.{meant};
 ghost use Rattle.tbr_tagged.specs.Outcome.{done, refused};
 ghost use Rattle.tbr_renderer.specs.Outcomes.{and_then, taking};
 ghost use Rattle.tbr_renderer.specs.Flush.{after_flush};
 ghost use Rattle.tbr_kept_lines.specs.LastBorder.{last_border, before_border};
 ghost use Rattle.tbr_renderer.specs.Rows as model;
-ghost use Rattle.tbr_renderer.specs.Rows.{GivenCell, ComesAs, cells_meant, after_row};
+ghost use Rattle.tbr_renderer.specs.Rows.{GivenCell, ComesAs, cells_handed_out, after_row, row_seen};
 
 use crate::renderer::Renderer;
 use crate::sub::SubRenderer;
@@ -88,14 +86,14 @@ impl<D: TextDecorator, W: CharWidth> SubRenderer<D, W> {
     ) -> Result<(), Error>
         requires unfailed { self.old.failure ≡ None }
         requires fits { row_fits self.old.hanging (model.spots_of W.columns cols.items) ≡ true }
-        ensures ok { let given = cells_meant W.columns D.meaning cols.items aligns.now in
-            let made = taking (after_flush W.columns) given (after_row (pointwise D.same) W.columns collapses) in
-            OnOk result (made (meant D.meaning self.old) ≡ done (meant D.meaning self.new)) }
-        ensures too_narrow { result ≡ Err E.TooNarrow → and_then (after_flush W.columns (meant D.meaning self.old))
-            (λ _. cells_meant W.columns D.meaning cols.items aligns.now) ≡ refused E.TooNarrow }
+        ensures ok { let given = cells_handed_out W.columns cols.items aligns.now in
+            let made = taking (after_flush W.columns) given (after_row (pointwise D.Annotation.same) W.columns collapses) in
+            OnOk result (made self.old ≡ done self.new) }
+        ensures too_narrow { result ≡ Err E.TooNarrow → and_then (after_flush W.columns self.old)
+            (λ _. cells_handed_out W.columns cols.items aligns.now) ≡ refused E.TooNarrow }
         ensures two_columns { 2 ≤ block_width self.old →
             Each (λ col. (col.0.failure ≡ None) × (2 ≤ block_width col.0)) cols.items → result ≢ Err E.TooNarrow }
-        ensures settings { KeepsSettings (meant D.meaning self.old) (meant D.meaning self.new) }
+        ensures settings { KeepsSettings self.old self.new }
     {
         self.try_flush()?;
         let columns = self.columns_of(cols, aligns)?;
@@ -109,14 +107,14 @@ impl<D: TextDecorator, W: CharWidth> SubRenderer<D, W> {
         cols: Vec<(SubRenderer<D, W>, usize)>,
         aligns: &[CellAlign],
     ) -> Result<Columns<Annotations<D::Annotation>>, Error>
-        ensures cells { IfOk result (λ columns. (cells : List (GivenCell (List D.Meaning)))
-            × (cells_meant W.columns D.meaning cols.items aligns.now ≡ done cells)
-            × AllZip (ComesAs W.columns (map D.meaning self.now.annotations)) cells
-            (map (map_cell (tag_meant D.meaning)) columns)) }
+        ensures cells { IfOk result (λ columns. (cells : List (GivenCell (List D.Annotation.Meaning)))
+            × (cells_handed_out W.columns cols.items aligns.now ≡ done cells)
+            × AllZip (ComesAs W.columns (self.now.annotations)) cells
+            columns) }
         ensures free { IfOk result (λ columns. AllZip (model.LeavesFree W.columns) cols.items columns) }
         ensures side_by_side { IfOk result (λ columns. AreSideBySide 0 columns) }
         ensures too_narrow { result ≡ Err E.TooNarrow →
-            cells_meant W.columns D.meaning cols.items aligns.now ≡ refused E.TooNarrow }
+            cells_handed_out W.columns cols.items aligns.now ≡ refused E.TooNarrow }
         ensures two_columns { Each (λ col. (col.0.failure ≡ None) × (2 ≤ block_width col.0)) cols.items →
             result ≢ Err E.TooNarrow }
     {
@@ -140,12 +138,12 @@ impl<D: TextDecorator, W: CharWidth> SubRenderer<D, W> {
     ) -> Result<(), OutOfMemory>
         requires unfailed { self.old.failure ≡ None }
         requires fits { row_fits self.old.hanging (map spot_of columns) ≡ true }
-        ensures row { OnOk result ((row : SeenRow (List D.Meaning))
-            × MeansRow W.columns (model.style_in self.old collapses) (map D.meaning self.old.annotations)
-            (meant D.meaning self.old).hanging (map (map_cell (tag_meant D.meaning)) columns)
-            (last_border (meant D.meaning self.old).lines) row
-            × (meant D.meaning self.new ≡ model.with_row W.columns (meant D.meaning self.old) row)) }
-        ensures settings { KeepsSettings (meant D.meaning self.old) (meant D.meaning self.new) }
+        ensures row { OnOk result ((row : SeenRow (List D.Annotation.Meaning))
+            × MeansRow W.columns (model.style_in self.old collapses) (self.old.annotations)
+            self.old.hanging columns
+            (last_border self.old.lines) row
+            × (self.new ≡ model.with_row W.columns self.old row)) }
+        ensures settings { KeepsSettings self.old self.new }
     {
         let style = RowStyle {
             draws_borders: self.options.draw_borders,
@@ -178,10 +176,10 @@ impl<D: TextDecorator, W: CharWidth> SubRenderer<D, W> {
     /// Adds a row that is laid out. Where memory is refused it is lost.
     fn put_row(&mut self, row: Row<Annotations<D::Annotation>>) -> Result<(), OutOfMemory>
         requires unfailed { self.old.failure ≡ None }
-        requires merged { Each (IsMerged (equal_annotations D.Annotation.eq)) row.lines.items }
-        ensures row { OnOk result (meant D.meaning self.new
-            ≡ model.with_row_after W.columns (meant D.meaning self.old) (row_meant (tag_meant D.meaning) row)) }
-        ensures settings { KeepsSettings (meant D.meaning self.old) (meant D.meaning self.new) }
+        requires merged { Each (IsMerged (same_annotations D.Annotation.same)) row.lines.items }
+        ensures row { OnOk result (self.new
+            ≡ model.with_row_after W.columns self.old (row_seen row)) }
+        ensures settings { KeepsSettings self.old self.new }
     {
         self.put_back(row.above)?;
         self.hang(row.overhang);
@@ -197,7 +195,7 @@ impl<D: TextDecorator, W: CharWidth> SubRenderer<D, W> {
         requires { self.old.failure ≡ None }
         ensures border { OnOk result
             (self.new ≡ record self.old { lines = self.old.lines ++ model.border_lines border }) }
-        ensures settings { KeepsSettings (meant D.meaning self.old) (meant D.meaning self.new) }
+        ensures settings { KeepsSettings self.old self.new }
     {
         match border {
             Some(border) => self.push_line(RenderLine::Line(border)),
@@ -218,11 +216,11 @@ impl<D: TextDecorator, W: CharWidth> SubRenderer<D, W> {
         texts: Vec<TaggedLine<Annotations<D::Annotation>>>,
     ) -> Result<(), OutOfMemory>
         requires unfailed { self.old.failure ≡ None }
-        requires merged { Each (IsMerged (equal_annotations D.Annotation.eq)) texts.items }
-        ensures lines { OnOk result (meant D.meaning self.new ≡ fold (with_line W.columns) (meant D.meaning self.old)
-            (map (λ text. items_meant D.meaning (items_of text)) texts.items)) }
+        requires merged { Each (IsMerged (same_annotations D.Annotation.same)) texts.items }
+        ensures lines { OnOk result (self.new ≡ fold (with_line W.columns) self.old
+            (map items_of texts.items)) }
         ensures unfailed { OnOk result (self.new.failure ≡ None) }
-        ensures settings { KeepsSettings (meant D.meaning self.old) (meant D.meaning self.new) }
+        ensures settings { KeepsSettings self.old self.new }
     {
         for text in texts {
             self.add_line(text)?;
@@ -236,9 +234,9 @@ impl<D: TextDecorator, W: CharWidth> SubRenderer<D, W> {
         border: Option<BorderHoriz<Annotations<D::Annotation>>>,
     ) -> Result<(), OutOfMemory>
         requires { self.old.failure ≡ None }
-        ensures border { let next = option_map (map_border (tag_meant D.meaning)) border in
-            OnOk result (meant D.meaning self.new ≡ model.with_next W.columns (meant D.meaning self.old) next) }
-        ensures settings { KeepsSettings (meant D.meaning self.old) (meant D.meaning self.new) }
+        ensures border { let next = border in
+            OnOk result (self.new ≡ model.with_next W.columns self.old next) }
+        ensures settings { KeepsSettings self.old self.new }
     {
         match border {
             Some(border) => self.add_border(border),

@@ -3,7 +3,6 @@ ghost use Rattle.std.specs.Prelude.{◌≡◌, ◌≢◌, ◌<◌, ◌≤◌, tr
 ghost use Rattle.tbr_tagged.specs.declared.Error.TheVariants as E;
 ghost use Rattle.tbr_decor.specs.Decoration.{decoration_of};
 ghost use Rattle.tbr_renderer.specs.Renderer.{kept_of, block_width};
-ghost use Rattle.tbr_renderer.specs.Meant.{meant};
 ghost use Rattle.tbr_renderer.specs.Decorated.{struck_from, struck_until, after_strikeout_start, after_strikeout_end};
 ghost use Rattle.tbr_renderer.specs.Outcomes.{Tries};
 
@@ -15,7 +14,7 @@ use tbr_lines::{CharWidth, Error};
 impl<D: TextDecorator, W: CharWidth> SubRenderer<D, W> {
     /// Text that comes has one stroke more, if the options ask for strokes.
     fn strike(&mut self) -> Result<(), Error>
-        ensures ok { OnOk result (meant D.meaning self.new ≡ struck_from (meant D.meaning self.old)) }
+        ensures ok { OnOk result (self.new ≡ struck_from self.old) }
         ensures memory { IfErr result (λ e. e ≡ E.OutOfMemory) }
         ensures err { OnErr result (self.new ≡ self.old) }
     {
@@ -32,7 +31,7 @@ impl<D: TextDecorator, W: CharWidth> SubRenderer<D, W> {
     /// Text that comes has one stroke less, if the options ask for strokes.
     fn end_strike(&mut self)
         requires { self.old.options.use_unicode_strikeout ≡ true → 0 < self.old.strikeouts }
-        ensures ended { meant D.meaning self.new ≡ struck_until (meant D.meaning self.old) }
+        ensures ended { self.new ≡ struck_until self.old }
         ensures failure { self.new.failure ≡ self.old.failure }
         ensures columns { block_width self.new ≡ block_width self.old }
     {
@@ -51,10 +50,10 @@ impl<D: TextDecorator, W: CharWidth> SubRenderer<D, W> {
     /// Opens a strikeout, after whose own text characters have strokes.
     pub(crate) fn try_start_strikeout(&mut self) -> Result<(), Error>
         requires { self.old.failure ≡ None }
-        ensures tries { Tries (meant D.meaning)
-            (after_strikeout_start W.columns (decoration_of D.TextDecorator)) self.old result self.new }
+        ensures tries { Tries
+            (after_strikeout_start W.columns (decoration_of D.TextDecorator D.Annotation.tells)) self.old result self.new }
         ensures two_columns { 2 ≤ block_width self.old → result ≢ Err E.TooNarrow }
-        ensures kept { OnErr result (kept_of (meant D.meaning self.new) ≡ kept_of (meant D.meaning self.old)) }
+        ensures kept { OnErr result (kept_of self.new ≡ kept_of self.old) }
     {
         self.try_open(Start::Strikeout)?;
         self.strike()
@@ -64,10 +63,10 @@ impl<D: TextDecorator, W: CharWidth> SubRenderer<D, W> {
     pub(crate) fn try_end_strikeout(&mut self) -> Result<(), Error>
         requires unfailed { self.old.failure ≡ None }
         requires open { self.old.options.use_unicode_strikeout ≡ true → 0 < self.old.strikeouts }
-        ensures tries { Tries (meant D.meaning)
-            (after_strikeout_end W.columns (decoration_of D.TextDecorator)) self.old result self.new }
+        ensures tries { Tries
+            (after_strikeout_end W.columns (decoration_of D.TextDecorator D.Annotation.tells)) self.old result self.new }
         ensures two_columns { 2 ≤ block_width self.old → result ≢ Err E.TooNarrow }
-        ensures kept { OnErr result (kept_of (meant D.meaning self.new) ≡ kept_of (meant D.meaning self.old)) }
+        ensures kept { OnErr result (kept_of self.new ≡ kept_of self.old) }
     {
         let depth = self.strikeouts;
         self.end_strike();

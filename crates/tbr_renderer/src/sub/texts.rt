@@ -3,9 +3,7 @@ ghost use Rattle.std.specs.Prelude.{◌≡◌, ◌≢◌, ◌≤◌, ◌++◌, �
 ghost use Rattle.tbr_tagged.specs.View.{chars_of};
 ghost use Rattle.tbr_tagged.specs.declared.Error.TheVariants as E;
 ghost use Rattle.tbr_renderer.specs.Renderer.{KeepsSettings, block_width, may_overflow, last_mode, struck, struck_character, open_block, new_block, stroke, text_annotations, entries_under, entries_of, called, with_events, is_white, ignores};
-ghost use Rattle.tbr_renderer.specs.View.{IsFresh, Writes, block_meant};
-ghost use Rattle.tbr_footnotes.specs.Tags.{tag_meant};
-ghost use Rattle.tbr_renderer.specs.Meant.{meant};
+ghost use Rattle.tbr_renderer.specs.View.{IsFresh, Writes, open_seen};
 ghost use Rattle.tbr_renderer.specs.Steps.{after_joining, after_first_text, after_text};
 ghost use Rattle.tbr_renderer.specs.Outcomes.{Tries};
 ghost use Rattle.tbr_model.specs.Rule.{entry};
@@ -43,7 +41,7 @@ impl<D: TextDecorator, W: CharWidth> SubRenderer<D, W> {
 
     /// The annotations of text that comes.
     pub(crate) fn tag(&self) -> Result<Annotations<D::Annotation>, OutOfMemory>
-        ensures { IfOk result (λ tag. tag_meant D.meaning tag ≡ map D.meaning self.now.annotations) }
+        ensures { IfOk result (λ tag. tag ≡ self.now.annotations) }
     {
         self.annotations.list()
     }
@@ -52,7 +50,7 @@ impl<D: TextDecorator, W: CharWidth> SubRenderer<D, W> {
     fn new_block(&self) -> Result<Box<WrappedBlock<Annotations<D::Annotation>, W>>, OutOfMemory>
         ensures fresh { IfOk result (λ b. IsFresh W.columns (block_width self.now) (may_overflow self.now) b.value) }
         ensures block { IfOk result (λ b.
-            block_meant D.meaning b.value ≡ new_block (meant D.meaning self.now)) }
+            open_seen b.value ≡ new_block self.now) }
     {
         let block = WrappedBlock::new(
             self.alloc,
@@ -71,9 +69,9 @@ impl<D: TextDecorator, W: CharWidth> SubRenderer<D, W> {
         requires { self.old.failure ≡ None }
         ensures fresh { IfOk result (λ b. IsFresh W.columns (block_width self.old) (may_overflow self.old) b.value) }
         ensures block { IfOk result (λ b.
-            block_meant D.meaning b.value ≡ open_block (meant D.meaning self.old)) }
+            open_seen b.value ≡ open_block self.old) }
         ensures rest { OnOk result (self.new ≡ record self.old { block = None }) }
-        ensures settings { KeepsSettings (meant D.meaning self.old) (meant D.meaning self.new) }
+        ensures settings { KeepsSettings self.old self.new }
     {
         match self.take_block() {
             Some(block) => Ok(block),
@@ -83,8 +81,8 @@ impl<D: TextDecorator, W: CharWidth> SubRenderer<D, W> {
 
     /// The annotations, and one more.
     fn tag_with(&self, annotation: D::Annotation) -> Result<Annotations<D::Annotation>, OutOfMemory>
-        ensures { IfOk result (λ tag. tag_meant D.meaning tag
-            ≡ map D.meaning self.now.annotations ++ D.meaning annotation ∷ []) }
+        ensures { IfOk result (λ tag. tag
+            ≡ self.now.annotations ++ D.Annotation.meaning annotation ∷ []) }
     {
         let tag = self.tag()?;
         tag.with(self.alloc, annotation)
@@ -99,14 +97,14 @@ impl<D: TextDecorator, W: CharWidth> SubRenderer<D, W> {
         continued: &Annotations<D::Annotation>,
     ) -> Result<(), Error>
         requires fresh { IsFresh W.columns (block_width self.now) (may_overflow self.now) block.old }
-        requires main { tag_meant D.meaning main.now
-            ≡ text_annotations D.preformatted false (meant D.meaning self.now) }
-        requires continued { tag_meant D.meaning continued.now
-            ≡ text_annotations D.preformatted true (meant D.meaning self.now) }
+        requires main { main.now
+            ≡ text_annotations D.preformatted false self.now }
+        requires continued { continued.now
+            ≡ text_annotations D.preformatted true self.now }
         ensures fresh { OnOk result (IsFresh W.columns (block_width self.now) (may_overflow self.now) block.new) }
-        ensures writes { let r = meant D.meaning self.now in
+        ensures writes { let r = self.now in
             let es = entries_under D.preformatted r (chars text.now) in
-            Writes D.meaning W.columns r (called es) block.old result block.new }
+            Writes W.columns r (called es) block.old result block.new }
         ensures two_columns { 2 ≤ block_width self.now → result ≢ Err E.TooNarrow }
     {
         block.add_text(text, self.mode(), main, continued)
@@ -120,9 +118,9 @@ impl<D: TextDecorator, W: CharWidth> SubRenderer<D, W> {
     ) -> Result<(), Error>
         requires fresh { IsFresh W.columns (block_width self.now) (may_overflow self.now) block.old }
         ensures fresh { OnOk result (IsFresh W.columns (block_width self.now) (may_overflow self.now) block.new) }
-        ensures writes { let r = meant D.meaning self.now in
+        ensures writes { let r = self.now in
             let es = entries_under D.preformatted r (chars text.now) in
-            Writes D.meaning W.columns r (called es) block.old result block.new }
+            Writes W.columns r (called es) block.old result block.new }
         ensures two_columns { 2 ≤ block_width self.now → result ≢ Err E.TooNarrow }
     {
         if self.preformatted == 0 {
@@ -142,9 +140,9 @@ impl<D: TextDecorator, W: CharWidth> SubRenderer<D, W> {
     ) -> Result<(), Error>
         requires fresh { IsFresh W.columns (block_width self.now) (may_overflow self.now) block.old }
         ensures fresh { OnOk result (IsFresh W.columns (block_width self.now) (may_overflow self.now) block.new) }
-        ensures writes { let r = meant D.meaning self.now in
+        ensures writes { let r = self.now in
             let es = entries_of W.columns D.preformatted r (chars text.now) in
-            Writes D.meaning W.columns r (called es) block.old result block.new }
+            Writes W.columns r (called es) block.old result block.new }
         ensures two_columns { 2 ≤ block_width self.now → result ≢ Err E.TooNarrow }
     {
         if self.strikeouts == 0 {
@@ -157,10 +155,10 @@ impl<D: TextDecorator, W: CharWidth> SubRenderer<D, W> {
     /// Adds text to the open block, or to a new one.
     fn add_to_block(&mut self, text: &str) -> Result<(), Error>
         requires { self.old.failure ≡ None }
-        ensures tries { Tries (meant D.meaning)
+        ensures tries { Tries
             (after_joining W.columns D.preformatted (chars text.now)) self.old result self.new }
         ensures two_columns { 2 ≤ block_width self.old → result ≢ Err E.TooNarrow }
-        ensures settings { KeepsSettings (meant D.meaning self.old) (meant D.meaning self.new) }
+        ensures settings { KeepsSettings self.old self.new }
     {
         let mut block = self.take_or_new_block()?;
         self.write(&mut block, text)?;
@@ -185,10 +183,10 @@ impl<D: TextDecorator, W: CharWidth> SubRenderer<D, W> {
     /// Begins a block with text.
     fn begin_with(&mut self, text: &str) -> Result<(), Error>
         requires { self.old.failure ≡ None }
-        ensures tries { Tries (meant D.meaning)
+        ensures tries { Tries
             (after_first_text W.columns D.preformatted (chars text.now)) self.old result self.new }
         ensures two_columns { 2 ≤ block_width self.old → result ≢ Err E.TooNarrow }
-        ensures settings { KeepsSettings (meant D.meaning self.old) (meant D.meaning self.new) }
+        ensures settings { KeepsSettings self.old self.new }
     {
         self.try_start_block()?;
         self.add_to_block(text)
@@ -197,10 +195,10 @@ impl<D: TextDecorator, W: CharWidth> SubRenderer<D, W> {
     /// Adds text: to the open block or a new one, or after the end of a block to one that it begins.
     pub(crate) fn try_add_text(&mut self, text: &str) -> Result<(), Error>
         requires { self.old.failure ≡ None }
-        ensures tries { Tries (meant D.meaning)
+        ensures tries { Tries
             (after_text W.columns D.preformatted (chars text.now)) self.old result self.new }
         ensures two_columns { 2 ≤ block_width self.old → result ≢ Err E.TooNarrow }
-        ensures settings { KeepsSettings (meant D.meaning self.old) (meant D.meaning self.new) }
+        ensures settings { KeepsSettings self.old self.new }
     {
         if self.ignores(text) {
             return Ok(());
@@ -215,9 +213,9 @@ impl<D: TextDecorator, W: CharWidth> SubRenderer<D, W> {
     pub(crate) fn try_add_marker(&mut self, name: &str) -> Result<(), Error>
         requires { self.old.failure ≡ None }
         ensures ok { OnOk result
-            (meant D.meaning self.new ≡ with_events (meant D.meaning self.old) (entry (marker_entry name.now) ∷ [])) }
+            (self.new ≡ with_events self.old (entry (marker_entry name.now) ∷ [])) }
         ensures memory { IfErr result (λ e. e ≡ E.OutOfMemory) }
-        ensures settings { KeepsSettings (meant D.meaning self.old) (meant D.meaning self.new) }
+        ensures settings { KeepsSettings self.old self.new }
     {
         let name = String::from_str(self.alloc, name)?;
         let mut block = self.take_or_new_block()?;

@@ -8,7 +8,7 @@ use Rattle.tbr_annotations.proofs.written.written_line.Goals as goal
 
 pub loop-element-preserved : goal.loop-element-preserved
 loop-element-preserved g c = record {
-  items = one_more_written g.A.PartialEq.eq g.met.A.Eq.laws c.loop-element.out c.push.new.self c.loop-element.yielded c.in-Some.element
+  items = one_more_written g.A.Tag.meaning g.A.PartialEq.eq g.met.A.Tag.equal_by_meaning c.loop-element.out c.push.new.self c.loop-element.yielded c.in-Some.element
       (element_of c.in_ok-written_element.field-0) c.loop-element.invariant.items c.in_ok-written_element.ensures c.in_ok-push.ensures.items;
   merged = c.in_ok-push.ensures.merged c.loop-element.invariant.merged;
 }
@@ -20,4 +20,4 @@ returns-clause-items g c =
     let list = YieldsList-from_first (λ x. x) elements_to_come (elements_to_come walk) refl in
     let end = YieldsList-end list c.loop-element.yielded c.loop-element.element-iterator c.loop-element.yielded_by c.next.result c.next.new.self c.in-None.is c.next.ensures.steps in
     let all = ap (map element_of) (sym (map-id c.loop-element.yielded) ∙ end.0) ∙ given.0 in
-    subst (λ es. WritesItems g.A.PartialEq.eq es c.loop-element.out) all c.loop-element.invariant.items
+    subst (λ es. WritesItems g.A.Tag.meaning es c.loop-element.out) all c.loop-element.invariant.items

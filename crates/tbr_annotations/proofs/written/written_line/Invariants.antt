@@ -7,6 +7,6 @@ use Rattle.tbr_annotations.proofs.written.written_line.Given as goal
 
 abbrev pub invariant-loop-element : goal.invariant-loop-element
 invariant-loop-element g l = record {
-  items : WritesItems g.A.PartialEq.eq (map element_of l.yielded) l.out;
+  items : WritesItems g.A.Tag.meaning (map element_of l.yielded) l.out;
   merged : IsMerged (equal_lists g.A.PartialEq.eq) l.out;
 }

@@ -1,4 +1,4 @@
-use Rattle.tbr_program.proofs.Common.{◌≡◌, length, string_bytes, subst, on_ok_weaker, YieldsList-from_chain, YieldsList-at, decoration_of, meant, handed_out, new_line, append_subrender, after, Does, prefixes}
+use Rattle.tbr_program.proofs.Common.{◌≡◌, length, string_bytes, subst, on_ok_weaker, YieldsList-from_chain, YieldsList-at, decoration_of, handed_out, new_line, append_subrender, after, Does, prefixes}
 use Rattle.std.proofs.lemmas.Iterator.Adapters.{YieldsList-from_once, YieldsList-from_repeat_n}
 use Rattle.tbr_tagged.specs.declared.Error.TheVariants.{TooNarrow}
 use Rattle.tbr_renderer.proofs.OutcomeParts.{taking_none}
@@ -7,11 +7,11 @@ use Rattle.tbr_program.proofs.prefixes.append_after.Goals as goal
 
 pub returns : goal.returns
 returns g c =
-    let inside = meant g.D.TextDecorator.meaning c.args.inside in
-    let before = meant g.D.TextDecorator.meaning c.args.renderer.now in
-    let left = meant g.D.TextDecorator.meaning c.append_subrender.new.self in
+    let inside = c.args.inside in
+    let before = c.args.renderer.now in
+    let left = c.append_subrender.new.self in
     let columns = g.W.CharWidth.columns in
-    let decoration = decoration_of g.D.TextDecorator in
+    let decoration = decoration_of g.D.TextDecorator g.D.Annotation.Tag.tells in
     record {
       tries = record {
         ok = on_ok_weaker c.append_subrender.result (λ h.

@@ -5,7 +5,7 @@ use Rattle.tbr_c_lines.proofs.Places.{whole_line}
 use Rattle.tbr_c_lines.proofs.line.Line.new.Goals as goal
 
 pub into_tagged_line-requires : goal.into_tagged_line-requires
-into_tagged_line-requires g c = λ v w copy. list_copies_equal g.A.Clone.is_clone g.A.PartialEq.eq g.met.A.Annotation.copies_equal v.items w.items copy.0
+into_tagged_line-requires g c = λ v w copy. list_copies_equal g.A.Clone.is_clone g.A.PartialEq.eq g.met.A.Tag.copies_equal v.items w.items copy.0
 
 pub returns : goal.returns
 returns g c =

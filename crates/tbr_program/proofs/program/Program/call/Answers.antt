@@ -8,35 +8,32 @@ use Rattle.tbr_program.proofs.program.Program.call.Goals as goal
 
 pub returns-then-lacks : goal.returns-then-lacks
 returns-then-lacks g c =
-    let meaning = g.D.TextDecorator.meaning in
     let columns = g.W.CharWidth.columns in
-    let decoration = decoration_of g.D.TextDecorator in
+    let decoration = decoration_of g.D.TextDecorator g.D.Annotation.Tag.tells in
     let request = request_of c.args.request.now in
     record {
-      runs = runs_early meaning (after_command columns decoration c.args.number (ask request)) c.args.self.now _ _ refl
-          (request_early meaning columns decoration c.args.number _ c.args.self.now c.self.view_is request (sym c.lacks.ensures ∙ c.if-lacks.true));
+      runs = runs_early (after_command columns decoration c.args.number (ask request)) c.args.self.now _ _ refl
+          (request_early columns decoration c.args.number _ c.args.self.now c.self.view_is request (sym c.lacks.ensures ∙ c.if-lacks.true));
     }
 
 pub returns-in_err-call : goal.returns-in_err-call
 returns-in_err-call g c =
-    let meaning = g.D.TextDecorator.meaning in
     let columns = g.W.CharWidth.columns in
-    let decoration = decoration_of g.D.TextDecorator in
+    let decoration = decoration_of g.D.TextDecorator g.D.Annotation.Tag.tells in
     let request = request_of c.args.request.now in
     record {
-      runs = runs_refused meaning (after_command columns decoration c.args.number (ask request)) c.args.self.now _ c.from_residual-in_err-call.result c.in_err-call.field-0.0 c.from_residual-in_err-call.ensures.1 (λ e.
-          request_narrow meaning columns decoration c.args.number _ c.args.self.now c.self.view_is c.top_mut-top.result.now c.top_mut-top.ensures.top request (sym c.lacks.ensures ∙ c.if-lacks.false) (c.call.ensures.too_narrow (c.in_err-call.was ∙ ap Err e)));
+      runs = runs_refused (after_command columns decoration c.args.number (ask request)) c.args.self.now _ c.from_residual-in_err-call.result c.in_err-call.field-0.0 c.from_residual-in_err-call.ensures.1 (λ e.
+          request_narrow columns decoration c.args.number _ c.args.self.now c.self.view_is c.top_mut-top.result.now c.top_mut-top.ensures.top request (sym c.lacks.ensures ∙ c.if-lacks.false) (c.call.ensures.too_narrow (c.in_err-call.was ∙ ap Err e)));
     }
 
 pub returns : goal.returns
 returns g c =
-    let meaning = g.D.TextDecorator.meaning in
     let columns = g.W.CharWidth.columns in
-    let decoration = decoration_of g.D.TextDecorator in
+    let decoration = decoration_of g.D.TextDecorator g.D.Annotation.Tag.tells in
     let request = request_of c.args.request.now in
     record {
-      runs = command_done meaning columns decoration c.args.number (ask request) c.args.self.now _ c.requires _
-          (request_done meaning columns decoration c.args.number _ c.args.self.now c.self.view_is c.top_mut-top.result.now c.top_mut-top.ensures.top request (sym c.lacks.ensures ∙ c.if-lacks.false) c.call.new.renderer c.note.new.self c.in_ok-note.ensures.counts c.in_ok-call.ensures.ok);
+      runs = command_done columns decoration c.args.number (ask request) c.args.self.now _ c.requires _
+          (request_done columns decoration c.args.number _ c.args.self.now c.self.view_is c.top_mut-top.result.now c.top_mut-top.ensures.top request (sym c.lacks.ensures ∙ c.if-lacks.false) c.call.new.renderer c.note.new.self c.in_ok-note.ensures.counts c.in_ok-call.ensures.ok);
     }
 
 pub call-requires-clause-live : goal.call-requires-clause-live

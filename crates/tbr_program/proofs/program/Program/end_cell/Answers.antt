@@ -6,22 +6,20 @@ use Rattle.tbr_program.proofs.program.Program.end_cell.Goals as goal
 
 pub returns-in_default : goal.returns-in_default
 returns-in_default g c =
-    let meaning = g.D.TextDecorator.meaning in
     let columns = g.W.CharWidth.columns in
-    let decoration = decoration_of g.D.TextDecorator in
+    let decoration = decoration_of g.D.TextDecorator g.D.Annotation.Tag.tells in
     record {
-      runs = runs_early meaning (after_command columns decoration c.args.number end_cell) c.args.self.now _ _ refl
-          (no_cell meaning columns decoration c.args.number _ c.args.self.now c.self.view_is c.in_default.ensures.none);
+      runs = runs_early (after_command columns decoration c.args.number end_cell) c.args.self.now _ _ refl
+          (no_cell columns decoration c.args.number _ c.args.self.now c.self.view_is c.in_default.ensures.none);
     }
 
 pub returns-then-has_cells : goal.returns-then-has_cells
 returns-then-has_cells g c =
-    let meaning = g.D.TextDecorator.meaning in
     let columns = g.W.CharWidth.columns in
-    let decoration = decoration_of g.D.TextDecorator in
+    let decoration = decoration_of g.D.TextDecorator g.D.Annotation.Tag.tells in
     record {
-      runs = runs_early meaning (after_command columns decoration c.args.number end_cell) c.args.self.now _ _ refl
-          (cell_waits meaning columns decoration c.args.number _ c.args.self.now c.self.view_is c.in-Some.span c.in-Some.align c.in-Some.ensures.found (λ none. let h : c.has_cells.result ≡ false = c.has_cells.ensures.1 none in cc));
+      runs = runs_early (after_command columns decoration c.args.number end_cell) c.args.self.now _ _ refl
+          (cell_waits columns decoration c.args.number _ c.args.self.now c.self.view_is c.in-Some.span c.in-Some.align c.in-Some.ensures.found (λ none. let h : c.has_cells.result ≡ false = c.has_cells.ensures.1 none in cc));
     }
 
 pub close-inside-requires-clause-opened : goal.close-inside-requires-clause-opened
@@ -29,10 +27,9 @@ close-inside-requires-clause-opened g c = some_opened _ c.args.self.now c.self.v
 
 pub returns : goal.returns
 returns g c =
-    let meaning = g.D.TextDecorator.meaning in
     let columns = g.W.CharWidth.columns in
-    let decoration = decoration_of g.D.TextDecorator in
+    let decoration = decoration_of g.D.TextDecorator g.D.Annotation.Tag.tells in
     record {
-      runs = command_done meaning columns decoration c.args.number end_cell c.args.self.now _ c.requires _
-          (cell_done meaning columns decoration c.args.number _ c.args.self.now c.self.view_is c.in-Some.span c.in-Some.align c.in-Some.ensures.found (c.has_cells.ensures.0 (cc)) c.close-inside.result c.close-inside.new.self _ c.add_cell.new.self c.close-inside.ensures.closes c.self-2.view_is c.in_ok-add_cell.ensures.waits);
+      runs = command_done columns decoration c.args.number end_cell c.args.self.now _ c.requires _
+          (cell_done columns decoration c.args.number _ c.args.self.now c.self.view_is c.in-Some.span c.in-Some.align c.in-Some.ensures.found (c.has_cells.ensures.0 (cc)) c.close-inside.result c.close-inside.new.self _ c.add_cell.new.self c.close-inside.ensures.closes c.self-2.view_is c.in_ok-add_cell.ensures.waits);
     }

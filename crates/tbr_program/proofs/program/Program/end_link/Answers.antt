@@ -17,32 +17,29 @@ end_link-requires g c =
 
 pub returns-then-open_links-eq0 : goal.returns-then-open_links-eq0
 returns-then-open_links-eq0 g c =
-    let meaning = g.D.TextDecorator.meaning in
     let columns = g.W.CharWidth.columns in
-    let decoration = decoration_of g.D.TextDecorator in
+    let decoration = decoration_of g.D.TextDecorator g.D.Annotation.Tag.tells in
     record {
-      runs = runs_early meaning (after_command columns decoration c.args.number end_link) c.args.self.now _ _ refl
-          (no_link meaning columns decoration c.args.number _ c.args.self.now c.self.view_is (sym c.open_links.ensures ∙ c.if-open_links-eq0.true));
+      runs = runs_early (after_command columns decoration c.args.number end_link) c.args.self.now _ _ refl
+          (no_link columns decoration c.args.number _ c.args.self.now c.self.view_is (sym c.open_links.ensures ∙ c.if-open_links-eq0.true));
     }
 
 pub returns-in_err-end_link : goal.returns-in_err-end_link
 returns-in_err-end_link g c =
-    let meaning = g.D.TextDecorator.meaning in
     let columns = g.W.CharWidth.columns in
-    let decoration = decoration_of g.D.TextDecorator in
+    let decoration = decoration_of g.D.TextDecorator g.D.Annotation.Tag.tells in
     let some : length (open_links c.self.inside.renderers) ≢ 0 = λ e. c.if-open_links-eq0.false (c.open_links.ensures ∙ e) in
     record {
-      runs = runs_refused meaning (after_command columns decoration c.args.number end_link) c.args.self.now _ c.from_residual.result c.in_err-end_link.field-0.0 c.from_residual.ensures.1 (λ e.
-          end_narrow meaning columns decoration c.args.number _ c.args.self.now c.self.view_is some (c.end_link.ensures.tries.too_narrow (c.in_err-end_link.was ∙ ap Err e)));
+      runs = runs_refused (after_command columns decoration c.args.number end_link) c.args.self.now _ c.from_residual.result c.in_err-end_link.field-0.0 c.from_residual.ensures.1 (λ e.
+          end_narrow columns decoration c.args.number _ c.args.self.now c.self.view_is some (c.end_link.ensures.tries.too_narrow (c.in_err-end_link.was ∙ ap Err e)));
     }
 
 pub returns : goal.returns
 returns g c =
-    let meaning = g.D.TextDecorator.meaning in
     let columns = g.W.CharWidth.columns in
-    let decoration = decoration_of g.D.TextDecorator in
+    let decoration = decoration_of g.D.TextDecorator g.D.Annotation.Tag.tells in
     let some : length (open_links c.self.inside.renderers) ≢ 0 = λ e. c.if-open_links-eq0.false (c.open_links.ensures ∙ e) in
     record {
-      runs = command_done meaning columns decoration c.args.number end_link c.args.self.now _ c.requires _
-          (end_done meaning columns decoration c.args.number _ c.args.self.now c.self.view_is some c.end_link.new.self c.in_ok-end_link.ensures.tries.ok);
+      runs = command_done columns decoration c.args.number end_link c.args.self.now _ c.requires _
+          (end_done columns decoration c.args.number _ c.args.self.now c.self.view_is some c.end_link.new.self c.in_ok-end_link.ensures.tries.ok);
     }

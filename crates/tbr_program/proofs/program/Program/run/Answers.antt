@@ -6,8 +6,8 @@ returns-in-Ask g c = record { runs = rw c.in-Ask.is c.call.ensures.runs }
 
 pub returns-in-Link : goal.returns-in-Link
 returns-in-Link g c =
-    let make = after_command g.W.CharWidth.columns (decoration_of g.D.TextDecorator) c.args.number in
-    let runs = subst (λ target. Runs g.D.TextDecorator.meaning (make (link target)) c.args.self.now c.start_link.result c.start_link.new.self) c.as_str.ensures.value (c.start_link.ensures.runs c.args.number) in
+    let make = after_command g.W.CharWidth.columns (decoration_of g.D.TextDecorator g.D.Annotation.Tag.tells) c.args.number in
+    let runs = subst (λ target. Runs (make (link target)) c.args.self.now c.start_link.result c.start_link.new.self) c.as_str.ensures.value (c.start_link.ensures.runs c.args.number) in
     record { runs = rw c.in-Link.is runs }
 
 pub returns-in-EndLink : goal.returns-in-EndLink

@@ -12,20 +12,18 @@ start_link-requires g c =
 
 pub returns-in_err-start_link : goal.returns-in_err-start_link
 returns-in_err-start_link g c =
-    let meaning = g.D.TextDecorator.meaning in
     let columns = g.W.CharWidth.columns in
-    let decoration = decoration_of g.D.TextDecorator in
+    let decoration = decoration_of g.D.TextDecorator g.D.Annotation.Tag.tells in
     record {
-      runs = λ number. runs_refused meaning (after_command columns decoration number (link c.args.target.now)) c.args.self.now _ c.from_residual.result c.in_err-start_link.field-0.0 c.from_residual.ensures.1 (λ e.
-          link_narrow meaning columns decoration number _ c.args.self.now c.self.view_is c.args.target.now (c.start_link.ensures.tries.too_narrow (c.in_err-start_link.was ∙ ap Err e)));
+      runs = λ number. runs_refused (after_command columns decoration number (link c.args.target.now)) c.args.self.now _ c.from_residual.result c.in_err-start_link.field-0.0 c.from_residual.ensures.1 (λ e.
+          link_narrow columns decoration number _ c.args.self.now c.self.view_is c.args.target.now (c.start_link.ensures.tries.too_narrow (c.in_err-start_link.was ∙ ap Err e)));
     }
 
 pub returns : goal.returns
 returns g c =
-    let meaning = g.D.TextDecorator.meaning in
     let columns = g.W.CharWidth.columns in
-    let decoration = decoration_of g.D.TextDecorator in
+    let decoration = decoration_of g.D.TextDecorator g.D.Annotation.Tag.tells in
     record {
-      runs = λ number. command_done meaning columns decoration number (link c.args.target.now) c.args.self.now _ c.requires _
-          (link_done meaning columns decoration number _ c.args.self.now c.self.view_is c.args.target.now c.start_link.new.self c.in_ok-start_link.ensures.tries.ok);
+      runs = λ number. command_done columns decoration number (link c.args.target.now) c.args.self.now _ c.requires _
+          (link_done columns decoration number _ c.args.self.now c.self.view_is c.args.target.now c.start_link.new.self c.in_ok-start_link.ensures.tries.ok);
     }

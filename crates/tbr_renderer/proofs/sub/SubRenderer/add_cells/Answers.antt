@@ -1,8 +1,6 @@
 use Rattle.std.proofs.Common.{◌≡◌, ◌∙◌, ◌∷◌, ap, sym, map, fold}
 use Rattle.std.specs.Vec.Iter.{into_iter_items}
 use Rattle.std.proofs.lemmas.Result.{on_ok_weaker}
-use Rattle.tbr_footnotes.specs.Tags.{tag_meant}
-use Rattle.tbr_renderer.specs.Meant.{map_line}
 use Rattle.tbr_kept_lines.specs.Line.{line_seen}
 use Rattle.tbr_renderer.specs.Outcomes.{and_then, changed, gathered}
 use Rattle.tbr_renderer.specs.Appended.{with_cell_below}
@@ -11,11 +9,10 @@ use Rattle.tbr_renderer.proofs.sub.SubRenderer.add_cells.Goals as goal
 
 pub returns-clause-ok : goal.returns-clause-ok
 returns-clause-ok g c =
-    let f = g.D.TextDecorator.meaning in
     let columns = g.W.CharWidth.columns in
-    let give = hands f columns c.args.self.now in
+    let give = hands columns c.args.self.now in
     let others = into_iter_items c.next.new.self in
-    let seen = map (map_line (tag_meant f)) (map line_seen c.in_ok-lines.lines.items) in
+    let seen = (map line_seen c.in_ok-lines.lines.items) in
     let whole : c.args.cols.items ≡ c.in-Some.first ∷ others = sym c.into_iter-cols.ensures.rest ∙ c.in-Some.ensures.items in
     on_ok_weaker c.add_cells_below.result (λ h. (
       seen ∷ h.0,

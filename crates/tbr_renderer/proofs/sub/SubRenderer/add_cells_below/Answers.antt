@@ -2,8 +2,6 @@ use Rattle.std.proofs.Common.{ap, subst, map, ◌∙◌}
 use Rattle.std.specs.List.{AllByRecursion as Each}
 use Rattle.std.specs.Vec.Iter.{into_iter_items}
 use Rattle.tbr_tagged.specs.declared.Error.TheVariants.{TooNarrow}
-use Rattle.tbr_footnotes.specs.Tags.{tag_meant}
-use Rattle.tbr_renderer.specs.Meant.{map_line}
 use Rattle.tbr_kept_lines.specs.Line.{line_seen}
 use Rattle.tbr_renderer.specs.Outcomes.{gathered}
 use Rattle.tbr_renderer.proofs.OutcomeParts.{passed_on, gathered_stops}
@@ -13,15 +11,14 @@ use Rattle.tbr_kept_lines.proofs.ItemsLeft.{items_left, items_taken}
 use Rattle.tbr_renderer.proofs.sub.SubRenderer.add_cells_below.Goals as goal
 
 pub loop-col-init : goal.loop-col-init
-loop-col-init g c = no_cells g.D.TextDecorator.meaning g.W.CharWidth.columns c.args.self.now c.requires
+loop-col-init g c = no_cells g.W.CharWidth.columns c.args.self.now c.requires
 
 pub returns-in_err-lines-clause-too_narrow : goal.returns-in_err-lines-clause-too_narrow
 returns-in_err-lines-clause-too_narrow g c = λ is.
-    let f = g.D.TextDecorator.meaning in
     let columns = g.W.CharWidth.columns in
     let e = passed_on is c.from_residual-in_err-lines.ensures.1 c.in_err-lines.was in
     let whole = items_left c.args.cols c.into_iter-col-iterator.result c.loop-col.col-iterator c.next.new.self c.loop-col.yielded c.in-Some.col c.into_iter-col-iterator.ensures.into_iter_gives c.loop-col.yielded_by c.in-Some.ensures.steps.0 in
-    let give = hands f columns c.args.self.now in
+    let give = hands columns c.args.self.now in
     ap (gathered give) whole
     ∙ gathered_stops give c.loop-col.yielded c.loop-col.invariant.cells c.in-Some.col (into_iter_items c.next.new.self) TooNarrow c.loop-col.invariant.hand (c.into_shared_lines.ensures.too_narrow e)
 
@@ -34,15 +31,13 @@ returns-in_err-lines-clause-two_columns g c = λ wide is.
 
 pub loop-col-preserved : goal.loop-col-preserved
 loop-col-preserved g c =
-    let f = g.D.TextDecorator.meaning in
     let lines = c.in_ok-lines.lines.items in
-    cells_go_on f g.W.CharWidth.columns c.args.self.now c.loop-col.yielded c.in-Some.col (map (map_line (tag_meant f)) (map line_seen lines)) c.loop-col.self c.add_divider.new.self c.add_cell.new.self c.loop-col.invariant
+    cells_go_on g.W.CharWidth.columns c.args.self.now c.loop-col.yielded c.in-Some.col (map line_seen lines) c.loop-col.self c.add_divider.new.self c.add_cell.new.self c.loop-col.invariant
     c.in_ok-lines.ensures.lines
     c.in_ok-add_divider.ensures.divider c.in_ok-add_cell.ensures.lines c.in_ok-add_divider.ensures.settings c.in_ok-add_cell.ensures.settings c.in_ok-add_cell.ensures.unfailed
 
 pub returns-clause-ok : goal.returns-clause-ok
 returns-clause-ok g c =
-    let f = g.D.TextDecorator.meaning in
     let h = c.loop-col.invariant in
     let whole = items_taken c.args.cols c.into_iter-col-iterator.result c.loop-col.col-iterator c.next.new.self c.loop-col.yielded c.into_iter-col-iterator.ensures.into_iter_gives c.loop-col.yielded_by c.in-None.ensures.steps in
-    (h.cells, ap (gathered (hands f g.W.CharWidth.columns c.args.self.now)) whole ∙ h.hand, h.is)
+    (h.cells, ap (gathered (hands g.W.CharWidth.columns c.args.self.now)) whole ∙ h.hand, h.is)

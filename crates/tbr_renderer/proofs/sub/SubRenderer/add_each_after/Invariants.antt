@@ -1,12 +1,12 @@
 use Rattle.std.specs.Vec.Iter.{into_iter_items}
 use Rattle.std.specs.List.{AllByRecursion as Each}
-use Rattle.tbr_annotations.specs.Annotations.{equal_annotations}
+use Rattle.tbr_annotations.specs.Annotations.{same_annotations}
 use Rattle.tbr_border.specs.RenderLine.{IsMergedText}
 use Rattle.tbr_renderer.proofs.AppendedLines.{HasAfter}
 use Rattle.tbr_renderer.proofs.sub.SubRenderer.add_each_after.Given as goal
 
 abbrev pub invariant-loop-prefix : goal.invariant-loop-prefix
 invariant-loop-prefix g l = record {
-  after : HasAfter g.D.TextDecorator.meaning g.W.CharWidth.columns l.fn.self g.P.AsStr.text l.fn.lines.items l.yielded (into_iter_items l.lines) l.self;
-  merged : Each (IsMergedText (equal_annotations g.D.Annotation.PartialEq.eq)) (into_iter_items l.lines);
+  after : HasAfter g.W.CharWidth.columns l.fn.self g.P.AsStr.text l.fn.lines.items l.yielded (into_iter_items l.lines) l.self;
+  merged : Each (IsMergedText (same_annotations g.D.Annotation.Tag.same)) (into_iter_items l.lines);
 }

@@ -1,26 +1,22 @@
 use Rattle.std.proofs.Common.{◌≡◌, length, map, ap, sym, ◌∙◌, subst}
 use Rattle.std.proofs.lemmas.Result.{on_ok_weaker}
-use Rattle.tbr_annotations.specs.Annotations.{equal_annotations}
-use Rattle.tbr_footnotes.specs.Tags.{tag_meant}
-use Rattle.tbr_footnotes.proofs.Tags.{tags_mean, copies_are_equal}
+use Rattle.tbr_annotations.proofs.Told.{copies_told}
 use Rattle.tbr_kept_lines.specs.Line.{line_seen}
 use Rattle.tbr_renderer.specs.Appended.{GivesFirst, texts_of, with_prefixed}
-use Rattle.tbr_renderer.specs.Meant.{meant}
-use Rattle.tbr_renderer.proofs.MeantLines.{same_meant}
+use Rattle.tbr_renderer.proofs.JoinedLines.{lines_told}
 use Rattle.tbr_renderer.proofs.sub.SubRenderer.add_prefixed.Goals as goal
 
 pub into_vec-requires : goal.into_vec-requires
-into_vec-requires g c = copies_are_equal g.D.Annotation.PartialEq.eq g.D.TextDecorator.meaning g.met.D.TextDecorator.equal_by_meaning
+into_vec-requires g c = copies_told g.D.Annotation.Tag.same g.D.Annotation.Tag.tells
 
 pub returns-2-clause-lines : goal.returns-2-clause-lines
 returns-2-clause-lines g c =
-    let f = g.D.TextDecorator.meaning in
-    let eq = g.D.Annotation.PartialEq.eq in
+    let same = g.D.Annotation.Tag.same in let tells = g.D.Annotation.Tag.tells in
     let given = c.in_ok-given.given.items in
     on_ok_weaker c.add_each_after.result (λ h. (
       given,
       subst (λ n. GivesFirst g.I.Iterator.next_gives n c.args.prefixes given) c.in_ok-count.ensures c.in_ok-given.ensures,
-      h ∙ ap (with_prefixed g.W.CharWidth.columns (meant f c.args.self.now) (texts_of g.P.AsStr.text given))
-          (same_meant (equal_annotations eq) (tag_meant f) (tags_mean eq f g.met.D.TextDecorator.equal_by_meaning) (map line_seen c.in_ok-into_vec.field-0.items) c.args.lines c.in_ok-into_vec.ensures.lines),
+      h ∙ ap (with_prefixed g.W.CharWidth.columns c.args.self.now (texts_of g.P.AsStr.text given))
+          (lines_told same tells (map line_seen c.in_ok-into_vec.field-0.items) c.args.lines c.in_ok-into_vec.ensures.lines),
     ))
     c.add_each_after.ensures.lines

@@ -2,21 +2,18 @@ use Rattle.std.proofs.Common.{List, ap}
 use Rattle.std.proofs.lemmas.Result.{on_ok_weaker}
 use Rattle.tbr_renderer.specs.Renderer.{Renderer}
 use Rattle.tbr_renderer.specs.Rows.{style_in}
-use Rattle.tbr_footnotes.proofs.Tags.{tags_mean, copies_are_equal}
-use Rattle.tbr_renderer.proofs.MeantRows.{tags_told, row_laid}
+use Rattle.tbr_annotations.proofs.Told.{copies_told}
+use Rattle.tbr_renderer.proofs.PutRows.{row_laid}
 use Rattle.tbr_renderer.proofs.sub.SubRenderer.add_row.Goals as goal
 
 pub lay_out-requires-clause-copies : goal.lay_out-requires-clause-copies
-lay_out-requires-clause-copies g c = copies_are_equal g.D.Annotation.PartialEq.eq g.D.TextDecorator.meaning g.met.D.TextDecorator.equal_by_meaning
+lay_out-requires-clause-copies g c = copies_told g.D.Annotation.Tag.same g.D.Annotation.Tag.tells
 
 pub returns-clause-row : goal.returns-clause-row
 returns-clause-row g c =
-    let f = g.D.TextDecorator.meaning in
-    let eq = g.D.Annotation.PartialEq.eq in
-    let agree = tags_mean eq f g.met.D.TextDecorator.equal_by_meaning in
-    let told = tags_told eq f g.met.D.TextDecorator.equal_by_meaning in
-    let style = ap (λ (r : Renderer g.row.D.Denot g.row.D-Annotation.Denot (List g.row.D-Annotation.Denot)). style_in r c.args.collapses) c.self.view_is in
+    let same = g.D.Annotation.Tag.same in let tells = g.D.Annotation.Tag.tells in
+    let style = ap (λ (r : Renderer g.row.D.Denot g.row.D-Annotation-Meaning.Denot (List g.row.D-Annotation-Meaning.Denot)). style_in r c.args.collapses) c.self.view_is in
     on_ok_weaker c.put_row.result
-    (λ put. row_laid f eq agree told g.W.CharWidth.columns c.args.self.now c.take_hanging-hanging.new.self c.take_border-above.new.self c.put_row.new.self c.in_ok-row.row c.take_hanging-hanging.result c.args.columns c.take_border-above.result _ c.in_ok-tag.tag c.args.collapses
+    (λ put. row_laid same tells g.W.CharWidth.columns c.args.self.now c.take_hanging-hanging.new.self c.take_border-above.new.self c.put_row.new.self c.in_ok-row.row c.take_hanging-hanging.result c.args.columns c.take_border-above.result _ c.in_ok-tag.tag c.args.collapses
     c.take_hanging-hanging.ensures.cells c.take_hanging-hanging.ensures.rest c.take_border-above.ensures.border c.take_border-above.ensures.rest style c.in_ok-tag.ensures c.in_ok-row.ensures.row put)
     c.put_row.ensures.row

@@ -1,9 +1,8 @@
 use Rattle.std.proofs.Common.{map}
 use Rattle.tbr_tagged.specs.Elements.{items_of}
-use Rattle.tbr_footnotes.specs.Tags.{items_meant}
 use Rattle.tbr_renderer.proofs.AppendedLines.{HasPut}
 use Rattle.tbr_renderer.proofs.sub.SubRenderer.add_texts.Given as goal
 
 abbrev pub invariant-loop-text : goal.invariant-loop-text
 invariant-loop-text g l =
-    HasPut g.D.TextDecorator.meaning g.W.CharWidth.columns l.fn.self (map (λ text. items_meant g.D.TextDecorator.meaning (items_of text)) l.yielded) l.self
+    HasPut g.W.CharWidth.columns l.fn.self (map items_of l.yielded) l.self

@@ -5,16 +5,14 @@ use Rattle.tbr_tagged.specs.declared.Error.TheVariants.{TooNarrow}
 use Rattle.tbr_rows.specs.Filled.{cell_after}
 use Rattle.tbr_tagged.specs.declared.CellAlign.TheVariants.{Left}
 use Rattle.tbr_rows.specs.Meant.{map_line as map_row_line}
-use Rattle.tbr_footnotes.specs.Tags.{tag_meant}
-use Rattle.tbr_renderer.specs.Meant.{map_line, meant}
-use Rattle.tbr_renderer.specs.Rows.{LeavesFree, FillsCell, cells_meant}
+use Rattle.tbr_renderer.specs.Rows.{LeavesFree, FillsCell, cells_handed_out}
 use Rattle.tbr_renderer.specs.Appended.{handed_out}
 use Rattle.tbr_renderer.proofs.GivenCells.{given_stops}
-use Rattle.tbr_footnotes.proofs.Tags.{tags_mean, copies_are_equal}
+use Rattle.tbr_annotations.proofs.Told.{copies_told}
 use Rattle.tbr_kept_lines.proofs.ItemsLeft.{items_left, items_taken}
 use Rattle.tbr_kept_lines.proofs.KeptParts.{each_at}
 use Rattle.tbr_renderer.proofs.OutcomeParts.{passed_on}
-use Rattle.tbr_renderer.proofs.MeantRows.{tags_told, no_columns, columns_go_on, next_taken, lines_fill}
+use Rattle.tbr_renderer.proofs.PutRows.{no_columns, columns_go_on, next_taken, lines_fill}
 use Rattle.tbr_renderer.proofs.sub.SubRenderer.columns_of.Goals as goal
 
 pub loop-col-init : goal.loop-col-init
@@ -22,14 +20,13 @@ loop-col-init g c = search (rules, no_columns, c.new-columns.ensures, c.iter-ali
 
 pub returns-in_err-lines-clause-too_narrow : goal.returns-in_err-lines-clause-too_narrow
 returns-in_err-lines-clause-too_narrow g c = λ is.
-    let f = g.D.TextDecorator.meaning in
     let columns = g.W.CharWidth.columns in
     let e = passed_on is c.from_residual-in_err-lines.ensures.1 c.in_err-lines.was in
     let all = c.into_iter-col-iterator.result in
     let whole = sym c.into_iter-col-iterator.ensures.into_iter_gives.0 ∙ items_left all all c.loop-col.col-iterator c.next.new.self c.loop-col.yielded (c.in-Some.col, c.in-Some.span) refl c.loop-col.yielded_by c.in-Some.ensures.steps.0 in
     let inv = c.loop-col.invariant.0 in
-    ap (λ cols. cells_meant columns f cols c.args.aligns.now) whole
-    ∙ given_stops (λ r. r.width) (λ r. handed_out columns (meant f r)) c.loop-col.yielded c.args.aligns.now inv.cells (c.in-Some.col, c.in-Some.span) inv.given (into_iter_items c.next.new.self) TooNarrow (c.into_kept.ensures.too_narrow e)
+    ap (λ cols. cells_handed_out columns cols c.args.aligns.now) whole
+    ∙ given_stops (λ r. r.width) (λ r. handed_out columns r) c.loop-col.yielded c.args.aligns.now inv.cells (c.in-Some.col, c.in-Some.span) inv.given (into_iter_items c.next.new.self) TooNarrow (c.into_kept.ensures.too_narrow e)
 
 pub returns-in_err-lines-clause-two_columns : goal.returns-in_err-lines-clause-two_columns
 returns-in_err-lines-clause-two_columns g c = λ wide is.
@@ -40,37 +37,35 @@ returns-in_err-lines-clause-two_columns g c = λ wide is.
     c.into_kept.ensures.two_columns here.0 here.1 e
 
 pub push_cell-requires : goal.push_cell-requires
-push_cell-requires g c = copies_are_equal g.D.Annotation.PartialEq.eq g.D.TextDecorator.meaning g.met.D.TextDecorator.equal_by_meaning
+push_cell-requires g c = copies_told g.D.Annotation.Tag.same g.D.Annotation.Tag.tells
 
 pub loop-col-preserved : goal.loop-col-preserved
 loop-col-preserved g c =
-    let f = g.D.TextDecorator.meaning in
-    let eq = g.D.Annotation.PartialEq.eq in
+    let same = g.D.Annotation.Tag.same in let tells = g.D.Annotation.Tag.tells in
     let columns = g.W.CharWidth.columns in
     let lines = c.in_ok-lines.lines in
-    let seen = map (map_line (tag_meant f)) lines in
+    let seen = lines in
     let own = c.loop-col.columns in
     let col = c.in-Some.col in
     let filled = c.in_ok-push_cell.ensures.ok.0 in
     let zip = c.in_ok-push_cell.ensures.ok.1 in
     let next = next_taken (λ it. it.rest.now) c.loop-col.aligns c.next-in-loop-col.new.self c.next-in-loop-col.result c.unwrap_or-align.result c.next-in-loop-col.ensures.steps (c.unwrap_or-align.ensures ∙ ap (λ o. unwrap_or o Left) c.copied.ensures) in
-    let fills = lines_fill f eq (tags_mean eq f g.met.D.TextDecorator.equal_by_meaning) (tags_told eq f g.met.D.TextDecorator.equal_by_meaning) columns c.unwrap_or-align.result c.width-width.result c.in_ok-tag.tag lines filled zip in (
-      columns_go_on f columns c.args.aligns.now (map f c.args.self.now.annotations) c.loop-col.yielded own c.push_cell.new.columns c.loop-col.aligns.rest.now c.next-in-loop-col.new.self.rest.now col c.in-Some.span c.unwrap_or-align.result seen filled c.loop-col.invariant.0
+    let fills = lines_fill same tells columns c.unwrap_or-align.result c.width-width.result c.in_ok-tag.tag lines filled zip in (
+      columns_go_on columns c.args.aligns.now c.args.self.now.annotations c.loop-col.yielded own c.push_cell.new.columns c.loop-col.aligns.rest.now c.next-in-loop-col.new.self.rest.now col c.in-Some.span c.unwrap_or-align.result seen filled c.loop-col.invariant.0
           c.in_ok-lines.ensures.lines
           next.0 next.1
-          (subst (λ tag. AllZip (FillsCell columns c.unwrap_or-align.result col.width tag) seen (map (map_row_line (tag_meant f)) filled)) c.in_ok-tag.ensures
-          (subst (λ (n : ℕ). AllZip (FillsCell columns c.unwrap_or-align.result n (tag_meant f c.in_ok-tag.tag)) seen (map (map_row_line (tag_meant f)) filled)) c.width-width.ensures fills))
+          (subst (λ tag. AllZip (FillsCell columns c.unwrap_or-align.result col.width tag) seen filled) c.in_ok-tag.ensures
+          (subst (λ (n : ℕ). AllZip (FillsCell columns c.unwrap_or-align.result n c.in_ok-tag.tag) seen filled) c.width-width.ensures fills))
           (c.in_ok-push_cell.ensures.ok.2 ∙ ap (λ n. own ++ cell_after own n c.in-Some.span filled ∷ []) c.width-width.ensures),
       c.in_ok-push_cell.ensures.side_by_side,
     )
 
 pub returns-clause-cells : goal.returns-clause-cells
 returns-clause-cells g c =
-    let f = g.D.TextDecorator.meaning in
     let all = c.into_iter-col-iterator.result in
     let whole = sym c.into_iter-col-iterator.ensures.into_iter_gives.0 ∙ items_taken all all c.loop-col.col-iterator c.next.new.self c.loop-col.yielded refl c.loop-col.yielded_by c.in-None.ensures.steps in
     let h = c.loop-col.invariant.0 in
-    (h.cells, ap (λ cols. cells_meant g.W.CharWidth.columns f cols c.args.aligns.now) whole ∙ h.given, h.come)
+    (h.cells, ap (λ cols. cells_handed_out g.W.CharWidth.columns cols c.args.aligns.now) whole ∙ h.given, h.come)
 
 pub returns-clause-free : goal.returns-clause-free
 returns-clause-free g c =

@@ -2,7 +2,7 @@ use Rattle.std.proofs.Common.{List, ◌≡◌, None, Some, Err, map, refl, arith
 use Rattle.tbr_wrap.specs.Block.{Block, loose}
 use Rattle.tbr_tagged.specs.View.{element_of}
 use Rattle.tbr_wrap.proofs.runs.BlockLaws.{flush_in_two, flush_leaves, none_open_taken}
-use Rattle.tbr_footnotes.proofs.Tags.{copies_are_equal}
+use Rattle.tbr_annotations.proofs.Told.{copies_told}
 use Rattle.tbr_renderer.specs.Renderer.{block_width, may_overflow}
 use Rattle.tbr_renderer.specs.View.{block_seen, names_of, IsFresh}
 use Rattle.tbr_renderer.proofs.OutcomeParts.{passed_on, never_narrow, tries_ok, tries_err}
@@ -12,22 +12,21 @@ use Rattle.tbr_renderer.proofs.sub.SubRenderer.try_flush.Goals.{In_ok-flush}
 use Rattle.tbr_renderer.proofs.sub.SubRenderer.try_flush.Goals as goal
 
 pub flush-requires : goal.flush-requires
-flush-requires g c = copies_are_equal g.D.Annotation.PartialEq.eq g.D.TextDecorator.meaning g.met.D.TextDecorator.equal_by_meaning
+flush-requires g c = copies_told g.D.Annotation.Tag.same g.D.Annotation.Tag.tells
 
 pub returns-in_err-flush-clause-tries : goal.returns-in_err-flush-clause-tries
 returns-in_err-flush-clause-tries g c =
-    let f = g.D.TextDecorator.meaning in
     let columns = g.W.CharWidth.columns in
     let fresh = subst (λ b. IsFresh columns (block_width c.args.self.now) (may_overflow c.args.self.now) b) (sym c.into_inner-block.ensures) c.in-Some.ensures.opened in
     let seen = ap (λ b. block_seen (Some b)) c.into_inner-block.ensures ∙ c.in-Some.ensures.block in
-    tries_err _ _ c.args.self.now c.take_block.new.self c.from_residual.result c.in_err-flush.field-0.0 c.from_residual.ensures.1
-    (λ narrow. block_refused f columns c.args.self.now c.into_inner-block.result seen fresh (c.flush.ensures.answers.too_narrow (c.in_err-flush.was ∙ ap Err narrow)))
+    tries_err _ c.args.self.now c.take_block.new.self c.from_residual.result c.in_err-flush.field-0.0 c.from_residual.ensures.1
+    (λ narrow. block_refused columns c.args.self.now c.into_inner-block.result seen fresh (c.flush.ensures.answers.too_narrow (c.in_err-flush.was ∙ ap Err narrow)))
 
 pub returns-in_err-flush-clause-two_columns : goal.returns-in_err-flush-clause-two_columns
 returns-in_err-flush-clause-two_columns g c = λ two is.
     let k = subst (λ b. IsFresh g.W.CharWidth.columns (block_width c.args.self.now) (may_overflow c.args.self.now) b) (sym c.into_inner-block.ensures) c.in-Some.ensures.opened in
     flush_in_two g.W.CharWidth.columns (g.met.W.CharWidth.drawn_in_one 32 refl) g.met.W.CharWidth.at_most_two c.into_inner-block.result
-    (omega (arith, two, ap (λ (b : Block (List g.row.D-Annotation.Denot)). b.width) k.is)) (ap (λ (b : Block (List g.row.D-Annotation.Denot)). b.failure) k.is)
+    (omega (arith, two, ap (λ (b : Block (List g.row.D-Annotation-Meaning.Denot)). b.width) k.is)) (ap (λ (b : Block (List g.row.D-Annotation-Meaning.Denot)). b.failure) k.is)
     (c.flush.ensures.answers.too_narrow (passed_on is c.from_residual.ensures.1 c.in_err-flush.was))
 
 -- the block that was flushed hasn't failed
@@ -36,7 +35,7 @@ live g c = search (rules, flush_leaves, c.into_inner-block.ensures, c.in-Some.en
 
 pub returns-in_err-markers-clause-tries : goal.returns-in_err-markers-clause-tries
 returns-in_err-markers-clause-tries g c =
-    tries_err _ _ c.args.self.now c.take_block.new.self c.from_residual-in_err-markers.result c.in_err-markers.field-0.0 c.from_residual-in_err-markers.ensures.1
+    tries_err _ c.args.self.now c.take_block.new.self c.from_residual-in_err-markers.result c.in_err-markers.field-0.0 c.from_residual-in_err-markers.ensures.1
     (λ narrow. absurd (never_narrow (c.take_trailing_fragments.ensures.memory (live g (goal.at.returns-in_err-markers-clause-tries g c).In_ok-flush)) (c.in_err-markers.was ∙ ap Err narrow)))
 
 pub returns-in_err-markers-clause-two_columns : goal.returns-in_err-markers-clause-two_columns
@@ -56,7 +55,7 @@ returns-clause-tries g c =
     let fresh = subst (λ b. IsFresh g.W.CharWidth.columns (block_width c.args.self.now) (may_overflow c.args.self.now) b) (sym c.into_inner-block.ensures) c.in-Some.ensures.opened in
     let seen = ap (λ b. block_seen (Some b)) c.into_inner-block.ensures ∙ c.in-Some.ensures.block in
     let columns = g.W.CharWidth.columns in
-    tries_ok _ _ c.args.self.now c.add_waiting.new.self tt
-    (block_flushed g.D.TextDecorator.meaning columns c.args.self.now c.into_inner-block.result seen fresh c.flush.new.self c.take_trailing_fragments.new.self c.in_ok-flush.ensures.answers.ok c.in_ok-markers.ensures.answers.ok
+    tries_ok _ c.args.self.now c.add_waiting.new.self tt
+    (block_flushed columns c.args.self.now c.into_inner-block.result seen fresh c.flush.new.self c.take_trailing_fragments.new.self c.in_ok-flush.ensures.answers.ok c.in_ok-markers.ensures.answers.ok
     (names_of (map element_of c.in_ok-markers.markers.items)) c.take_block.new.self c.add_lines_of.new.self c.add_waiting.new.self c.in-Some.ensures.rest c.in_ok-add_lines_of.ensures.lines
     (markers_named (map element_of c.in_ok-markers.markers.items) (loose columns c.flush.new.self) c.in_ok-markers.ensures.markers) c.in_ok-add_waiting.ensures.waiting)

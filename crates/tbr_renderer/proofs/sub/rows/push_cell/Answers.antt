@@ -2,7 +2,7 @@ use Rattle.std.proofs.Common.{subst}
 use Rattle.std.specs.List.{AllZip}
 use Rattle.std.proofs.lemmas.Result.{on_ok_weaker}
 use Rattle.tbr_renderer.specs.Rows.{FillsKept}
-use Rattle.tbr_renderer.proofs.MeantRows.{all_by_themselves, all_in_text}
+use Rattle.tbr_renderer.proofs.PutRows.{all_by_themselves, all_in_text}
 use Rattle.tbr_renderer.proofs.sub.rows.push_cell.Goals as goal
 
 pub returns-in-Ok-clause-ok : goal.returns-in-Ok-clause-ok

@@ -1,4 +1,4 @@
--- Rows under what their annotations mean.
+-- Rows of cells that a renderer puts.
 use Rattle.std.proofs.Common.{◌≡◌, ℕ, ◌+◌, ◌-◌, ◌↔◌, IsTrue, Bool, true, if◌then◌else◌, is_some, is_none, ◌&&◌, Option, None, Some, unwrap_or, List, [], ◌∷◌, ◌++◌, map, fold, take, drop, length, refl, ap, sym, ◌∙◌, subst, arith}
 use Rattle.std.specs.Borrow.{Bor}
 use Rattle.std.specs.Option.{MatchOption, option_copied, option_map}
@@ -7,16 +7,11 @@ use Rattle.std.specs.Cmp.Lexicographic.{pointwise}
 use Rattle.std.proofs.lemmas.List.{map-append, length-map, take-map, length-append, drop-drop, nil_from_length}
 use Rattle.std.proofs.lemmas.Slice.Zip.{AllZip-long, all_zipped_more}
 use Rattle.tbr_model.specs.Run.{Item, items_width}
-use Rattle.tbr_model.specs.Mapped.{map_items}
 use Rattle.tbr_border.specs.Border.{Border}
-use Rattle.tbr_annotations.specs.Annotations.{equal_annotations}
 use Rattle.std.specs.Cmp.{IsEquivalence}
 use Rattle.tbr_border.specs.Border.{with_cells, stretched}
-use Rattle.tbr_model.proofs.maps.Words.{items_width-map}
-use Rattle.tbr_model.proofs.lists.Each.{zip-map}
 use Rattle.tbr_tagged.specs.Elements.{items_of, text_items, SameItems}
 use Rattle.tbr_tagged.proofs.SameItems.{same_items, same_items_trans, same_items_append, same_width}
-use Rattle.tbr_tagged.specs.Mapped.{MeansEqual}
 use Rattle.tbr_tagged.specs.Padding.{spaces, columns_in_front, aligned_items}
 use Rattle.tbr_border.specs.RenderLine.{IsMergedText}
 use Rattle.tbr_tagged.specs.declared.CellAlign.{CellAlign}
@@ -25,86 +20,48 @@ use Rattle.tbr_border.specs.declared.RenderLine.{RenderLine}
 use Rattle.tbr_border.specs.declared.RenderLine.TheVariants.{Text, Line as Rule}
 use Rattle.tbr_rows.specs.Cells.{AreSideBySide, IsAsFree, first_line, look, spot_of, spots_from, row_fits}
 use Rattle.tbr_rows.specs.Filled.{FillsLine, FillsText, cell_after}
-use Rattle.tbr_rows.specs.Meant.{map_border, map_cell, map_line as map_row_line, EqualIfMeant, SeenRow, row_meant, MeansRow}
+use Rattle.tbr_rows.specs.Meant.{AreLongest, SeenRow, MeansRow}
 use Rattle.tbr_rows.specs.Rows.{IsRow}
 use Rattle.tbr_rows.specs.declared.Row.{Row}
 use Rattle.tbr_rows.specs.declared.RowStyle.{RowStyle}
 use Rattle.tbr_rows.specs.declared.LineSet.{LineSet as Cell}
 use Rattle.tbr_rows.proofs.Fitted.{spots_are, fits_with_fewer_lines}
-use Rattle.tbr_rows.proofs.MeantRows.{aligned_means, fits_mean, row_means}
-use Rattle.tbr_rows.proofs.MeantTexts.{items-map, longest_means}
+use Rattle.tbr_rows.proofs.MeantRows.{row_means}
+use Rattle.tbr_rows.proofs.MeantTexts.{longest_means}
 use Rattle.tbr_kept_lines.specs.Line.{Line, text, border, line_seen, text_lines, SameSeen}
 use Rattle.tbr_renderer.specs.Renderer.{Renderer, with_line}
-use Rattle.tbr_kept_lines.specs.LastBorder.{border_in, without_last, last_border, before_border}
-use Rattle.tbr_footnotes.specs.Tags.{tag_meant}
-use Rattle.tbr_renderer.specs.Meant.{map_line, meant}
+use Rattle.tbr_kept_lines.specs.LastBorder.{last_border, before_border}
 use Rattle.tbr_tagged.specs.Outcome.{done}
 use Rattle.tbr_renderer.specs.Flush.{after_flush}
 use Rattle.tbr_renderer.specs.Appended.{handed_out}
 use Rattle.tbr_renderer.proofs.FlushedBlocks.{flush_keeps}
-use Rattle.tbr_renderer.specs.Rows.{is_blank, looks, spots_of, LeavesFree, GivenCell, FillsKept, FillsCell, ComesAs, next_align, cells_meant, style_in, with_row_after, with_row}
+use Rattle.tbr_renderer.specs.Rows.{is_blank, looks, spots_of, LeavesFree, GivenCell, FillsKept, FillsCell, ComesAs, next_align, cells_handed_out, style_in, row_seen, with_row_after, with_row}
 use Rattle.tbr_renderer.proofs.GivenCells.{given_last}
-use Rattle.tbr_renderer.proofs.BlankRenderers.{blank_hands_none, blank_meant}
-
--- ---- lists of annotations that mean the same are equal
-
-module _ {A M : Type 0} (eq : A → A → Bool) (meaning : A → M) (by_meaning : (a b : A) → IsTrue (eq a b) ↔ (meaning a ≡ meaning b)) where
-  lists_told : (xs ys : List A) → map meaning xs ≡ map meaning ys → pointwise eq xs ys ≡ true
-  lists_told [] [] h = refl
-  lists_told [] (y ∷ ys) h = cc
-  lists_told (x ∷ xs) [] h = cc
-  lists_told (x ∷ xs) (y ∷ ys) h =
-      let both : (meaning x ≡ meaning y) × (map meaning xs ≡ map meaning ys) = (cc, cc) in
-      λ i. (by_meaning x y).1 both.0 i && lists_told xs ys both.1 i
-
-  pub tags_told : EqualIfMeant (tag_meant meaning) (equal_annotations eq)
-  tags_told v w same = lists_told v w same
-
--- ---- the border above
-
-pub without_last-map : {X Y : Type 0} (f : X → Y) (xs : List X) → without_last (map f xs) ≡ map f (without_last xs)
-without_last-map f xs = ap (λ n. take (n - 1) (map f xs)) (length-map xs f) ∙ take-map f (length xs - 1) xs
-
-module _ {T U : Type 0} (f : T → U) where
-  border_in-map : (l : Line T) → border_in (map_line f l) ≡ option_map (map_border f) (border_in l)
-  border_in-map (text is) = refl
-  border_in-map (border b) = refl
-
-  pub last_border-map : (ls : List (Line T)) → last_border (map (map_line f) ls) ≡ option_map (map_border f) (last_border ls)
-  last_border-map [] = refl
-  last_border-map (l ∷ []) = border_in-map l
-  last_border-map (l ∷ m ∷ ls) = last_border-map (m ∷ ls)
-
-  pub before_border-map : (ls : List (Line T)) → before_border (map (map_line f) ls) ≡ map (map_line f) (before_border ls)
-  before_border-map ls = ap (λ (o : Option (Border U)). if is_some o then without_last (map (map_line f) ls) else map (map_line f) ls) (last_border-map ls) ∙ go (last_border ls)
-    where
-      go : (o : Option (Border T)) → (if is_some (option_map (map_border f) o) then without_last (map (map_line f) ls) else map (map_line f) ls) ≡ map (map_line f) (if is_some o then without_last ls else ls)
-      go None = refl
-      go (Some b) = without_last-map (map_line f) ls
+use Rattle.tbr_renderer.proofs.BlankRenderers.{blank_hands_none}
+use Rattle.tbr_annotations.specs.Annotations.{same_annotations}
+use Rattle.tbr_annotations.proofs.Told.{annotations_tell, items_told}
+use Rattle.tbr_renderer.proofs.Unmapped.{elements_unmapped, some_unmapped, cells_unmapped, row_unmapped}
 
 -- ---- a row that is put
 
-module _ {D A M : Type 0} (f : A → M) (columns : ℕ → Option ℕ) where
+module _ {D A : Type 0} (columns : ℕ → Option ℕ) where
   -- in the place of the border above
-  pub row_placed : (r s0 s1 s2 : Renderer D A (List A)) (row : SeenRow (List M)) → s0 ≡ record r { hanging = [] } → s1 ≡ record s0 { lines = before_border s0.lines } → meant f s2 ≡ with_row_after columns (meant f s1) row → meant f s2 ≡ with_row columns (meant f r) row
+  pub row_placed : (r s0 s1 s2 : Renderer D A (List A)) (row : SeenRow (List A)) → s0 ≡ record r { hanging = [] } → s1 ≡ record s0 { lines = before_border s0.lines } → s2 ≡ with_row_after columns s1 row → s2 ≡ with_row columns r row
   row_placed r s0 s1 s2 row taken cut put =
-      put ∙ (λ i. with_row_after columns (meant f (cut i)) row) ∙ (λ i. with_row_after columns (meant f (record (taken i) { lines = before_border (taken i).lines })) row)
-      ∙ (λ i. with_row_after columns (record (meant f r) { lines = sym (before_border-map (tag_meant f) r.lines) i; hanging = [] }) row)
+      put ∙ (λ i. with_row_after columns (cut i) row) ∙ (λ i. with_row_after columns (record (taken i) { lines = before_border (taken i).lines }) row)
 
 -- a row that was laid out
-module _ {D A M : Type 0} (f : A → M) (eq : A → A → Bool) (means : MeansEqual (tag_meant f) (equal_annotations eq)) (told : EqualIfMeant (tag_meant f) (equal_annotations eq)) (columns : ℕ → Option ℕ) where
+module _ {D A : Type 0} (same : A → A → Bool) (tells : (a b : A) → IsTrue (same a b) ↔ (a ≡ b)) (columns : ℕ → Option ℕ) where
   pub row_laid : (r s0 s1 s2 : Renderer D A (List A)) (row : Row (List A)) (hanging own : List (Cell (List A))) (above : Option (Border (List A))) (style : RowStyle) (tag : List A) (collapses : Bool) →
-      hanging ≡ r.hanging → s0 ≡ record r { hanging = [] } → above ≡ last_border s0.lines → s1 ≡ record s0 { lines = before_border s0.lines } → style ≡ style_in r collapses → tag_meant f tag ≡ map f r.annotations →
-      IsRow columns (equal_annotations eq) style tag hanging own above row → meant f s2 ≡ with_row_after columns (meant f s1) (row_meant (tag_meant f) row) →
-      (x : SeenRow (List M)) × MeansRow columns (style_in r collapses) (map f r.annotations) (map (map_cell (tag_meant f)) r.hanging) (map (map_cell (tag_meant f)) own) (last_border (map (map_line (tag_meant f)) r.lines)) x
-      × (meant f s2 ≡ with_row columns (meant f r) x)
+      hanging ≡ r.hanging → s0 ≡ record r { hanging = [] } → above ≡ last_border s0.lines → s1 ≡ record s0 { lines = before_border s0.lines } → style ≡ style_in r collapses → tag ≡ r.annotations →
+      IsRow columns (same_annotations same) style tag hanging own above row → s2 ≡ with_row_after columns s1 (row_seen row) →
+      (x : SeenRow (List A)) × MeansRow columns (style_in r collapses) r.annotations r.hanging own (last_border r.lines) x × (s2 ≡ with_row columns r x)
   row_laid r s0 s1 s2 row hanging own above style tag collapses hung taken top cut style_is tag_is is put =
-      let g = tag_meant f in
-      let seen : SeenRow (List M) = row_meant g row in
-      let border_is : option_map (map_border g) above ≡ last_border (map (map_line g) r.lines) =
-      ap (option_map (map_border g)) (top ∙ ap (λ (q : Renderer D A (List A)). last_border q.lines) taken) ∙ sym (last_border-map g r.lines) in
-      let laid = row_means g (equal_annotations eq) means told columns style tag hanging own above row is in
-      (seen, subst (λ (T : Type 0). T) (λ i. MeansRow columns (style_is i) (tag_is i) (map (map_cell g) (hung i)) (map (map_cell g) own) (border_is i) seen) laid, row_placed f columns r s0 s1 s2 seen taken cut put)
+      let seen : SeenRow (List A) = row_seen row in
+      let border_is : above ≡ last_border r.lines = top ∙ ap (λ (q : Renderer D A (List A)). last_border q.lines) taken in
+      let told = annotations_tell same tells in
+      let laid = row_means (λ (v : List A). v) (same_annotations same) (λ v w. (told v w).0) (λ v w. (told v w).1) columns style tag hanging own above row is in
+      (seen, subst (λ (T : Type 0). T) (λ i. MeansRow columns (style_is i) (tag_is i) ((cells_unmapped hanging ∙ hung) i) (cells_unmapped own i) ((some_unmapped above ∙ border_is) i) (row_unmapped row i)) laid, row_placed columns r s0 s1 s2 seen taken cut put)
 
 -- ---- what a flush leaves of the overhanging cells
 
@@ -118,11 +75,6 @@ module _ {D A : Type 0} (columns : ℕ → Option ℕ) where
 
 -- ---- whether the row fits
 
--- the cells are side by side, whatever their annotations mean
-pub side_by_side-map : {A B : Type 0} (f : A → B) (at : ℕ) (cells : List (Cell A)) → AreSideBySide at cells → AreSideBySide at (map (map_cell f) cells)
-side_by_side-map f at [] h = tt
-side_by_side-map f at (c ∷ cs) h = (h.0, side_by_side-map f (c.place + c.width + 1) cs h.1)
-
 freed : {D A T : Type 0} (columns : ℕ → Option ℕ) (at : ℕ) (cols : List (Renderer D A T × ℕ)) (cells : List (Cell T)) → AllZip (LeavesFree columns) cols cells → AllZip IsAsFree (spots_from at (map (looks columns) cols)) (spots_from at (map look cells))
 freed columns at [] [] h = tt
 freed columns at [] (c ∷ cs) h = absurd h
@@ -135,32 +87,31 @@ freed {D} {A} {T} columns at (d ∷ ds) (c ∷ cs) h =
     )
 
 -- the row of the cells fits where that of the renderers does
-pub still_fits : {D A M : Type 0} (f : A → M) (columns : ℕ → Option ℕ) (r s : Renderer D A (List A)) (cols : List (Renderer D A (List A) × ℕ)) (cells : List (Cell (List A))) → after_flush columns (meant f r) ≡ done (meant f s) → AreSideBySide 0 cells → AllZip (LeavesFree columns) cols cells →
+pub still_fits : {D A : Type 0} (columns : ℕ → Option ℕ) (r s : Renderer D A (List A)) (cols : List (Renderer D A (List A) × ℕ)) (cells : List (Cell (List A))) → after_flush columns r ≡ done s → AreSideBySide 0 cells → AllZip (LeavesFree columns) cols cells →
     row_fits r.hanging (spots_of columns cols) ≡ true → row_fits s.hanging (map spot_of cells) ≡ true
-still_fits f columns r s cols cells flushes stand free fits =
-    let same : row_fits s.hanging (spots_of columns cols) ≡ row_fits r.hanging (spots_of columns cols) =
-    sym (fits_mean (tag_meant f) s.hanging (spots_of columns cols)) ∙ ap (λ hs. row_fits hs (spots_of columns cols)) (flush_hangs columns (meant f r) (meant f s) flushes) ∙ fits_mean (tag_meant f) r.hanging (spots_of columns cols) in
+still_fits columns r s cols cells flushes stand free fits =
+    let same : row_fits s.hanging (spots_of columns cols) ≡ row_fits r.hanging (spots_of columns cols) = ap (λ hs. row_fits hs (spots_of columns cols)) (flush_hangs columns r s flushes) in
     ap (row_fits s.hanging) (spots_are cells stand) ∙ fits_with_fewer_lines s.hanging (spots_of columns cols) (spots_from 0 (map look cells)) (freed columns 0 cols cells free) (same ∙ fits)
 
 -- ---- cells that come one after another
 
--- a line of a cell is filled, by what its annotations mean
-module _ {A M : Type 0} (f : A → M) (eq : A → A → Bool) (means : MeansEqual (tag_meant f) (equal_annotations eq)) (told : EqualIfMeant (tag_meant f) (equal_annotations eq)) (columns : ℕ → Option ℕ) (align : CellAlign) (width : ℕ) (tag : List A) where
-  line_fills : (l : Line (List A)) (filled : RenderLine (List A)) → FillsKept columns (equal_annotations eq) align width tag l filled →
-      FillsCell columns align width (tag_meant f tag) (map_line (tag_meant f) l) (map_row_line (tag_meant f) filled)
+-- a line of a cell is filled
+module _ {A : Type 0} (same : A → A → Bool) (tells : (a b : A) → IsTrue (same a b) ↔ (a ≡ b)) (columns : ℕ → Option ℕ) (align : CellAlign) (width : ℕ) (tag : List A) where
+  line_fills : (l : Line (List A)) (filled : RenderLine (List A)) → FillsKept columns (same_annotations same) align width tag l filled → FillsCell columns align width tag l filled
   line_fills (text is) (Text filled) h =
-      let g = tag_meant f in (
-        items-map g filled ∙ aligned_means g (equal_annotations eq) means align (width - items_width columns is) tag is (items_of filled) h.0
-            ∙ ap (λ n. aligned_items align (map_items g is) (width - n) (g tag)) (sym (items_width-map g columns is)),
-        longest_means g (equal_annotations eq) means told filled h.1,
+      let told = annotations_tell same tells in (
+        items_told same tells (items_of filled) (aligned_items align is (width - items_width columns is) tag) h.0,
+        subst AreLongest (elements_unmapped filled) (longest_means (λ (v : List A). v) (same_annotations same) (λ v w. (told v w).0) (λ v w. (told v w).1) filled h.1),
       )
-  line_fills (border b) (Rule filled) h = ap (map_border (tag_meant f)) h
+  line_fills (border b) (Rule filled) h = h
   line_fills (text is) (Rule filled) h = absurd h
   line_fills (border b) (Text filled) h = absurd h
 
-  pub lines_fill : (ls : List (Line (List A))) (filled : List (RenderLine (List A))) → AllZip (FillsKept columns (equal_annotations eq) align width tag) ls filled →
-      AllZip (FillsCell columns align width (tag_meant f tag)) (map (map_line (tag_meant f)) ls) (map (map_row_line (tag_meant f)) filled)
-  lines_fill = zip-map (FillsKept columns (equal_annotations eq) align width tag) _ (map_line (tag_meant f)) (map_row_line (tag_meant f)) line_fills
+  pub lines_fill : (ls : List (Line (List A))) (filled : List (RenderLine (List A))) → AllZip (FillsKept columns (same_annotations same) align width tag) ls filled → AllZip (FillsCell columns align width tag) ls filled
+  lines_fill [] [] h = tt
+  lines_fill [] (d ∷ ds) h = absurd h
+  lines_fill (l ∷ ls) [] h = absurd h
+  lines_fill (l ∷ ls) (d ∷ ds) h = (line_fills l d h.0, lines_fill ls ds h.1)
 
 -- lines of a cell, as they are handed to a row
 module _ {A : Type 0} (eq : A → A → Bool) (laws : IsEquivalence eq) (columns : ℕ → Option ℕ) (align : CellAlign) (width : ℕ) (a : A) where
@@ -200,42 +151,38 @@ module _ {A : Type 0} (eq : A → A → Bool) (laws : IsEquivalence eq) (columns
   all_in_text (is ∷ texts) [] h = absurd h
   all_in_text (is ∷ texts) (d ∷ ds) h = (in_text is d h.0, all_in_text texts ds h.1)
 
-module _ {D A M : Type 0} (f : A → M) (columns : ℕ → Option ℕ) (aligns : List CellAlign) (tag : List M) where
+module _ {D A : Type 0} (columns : ℕ → Option ℕ) (aligns : List CellAlign) (tag : List A) where
   -- the cells of some renderers, and the alignments that are left
   pub record HasColumns (cols : List (Renderer D A (List A) × ℕ)) (own : List (Cell (List A))) (left : List CellAlign) : Type 0 where
-    pub cells : List (GivenCell (List M))
-    pub given : cells_meant columns f cols aligns ≡ done cells
+    pub cells : List (GivenCell (List A))
+    pub given : cells_handed_out columns cols aligns ≡ done cells
     pub left_is : left ≡ drop (length cols) aligns
-    pub come : AllZip (ComesAs columns tag) cells (map (map_cell (tag_meant f)) own)
+    pub come : AllZip (ComesAs columns tag) cells own
     pub free : AllZip (LeavesFree columns) cols own
 
   pub no_columns : HasColumns [] [] aligns
   no_columns = record { cells = []; given = refl; left_is = refl; come = tt; free = tt }
 
-  pub columns_go_on : (cols : List (Renderer D A (List A) × ℕ)) (own next : List (Cell (List A))) (left rest : List CellAlign) (col : Renderer D A (List A)) (span : ℕ) (align : CellAlign) (seen : List (Line (List M))) (filled : List (RenderLine (List A))) → (h : HasColumns cols own left) →
-      handed_out columns (meant f col) ≡ done seen → align ≡ next_align left → rest ≡ drop 1 left →
-      AllZip (FillsCell columns align col.width tag) seen (map (map_row_line (tag_meant f)) filled) →
+  pub columns_go_on : (cols : List (Renderer D A (List A) × ℕ)) (own next : List (Cell (List A))) (left rest : List CellAlign) (col : Renderer D A (List A)) (span : ℕ) (align : CellAlign) (seen : List (Line (List A))) (filled : List (RenderLine (List A))) → (h : HasColumns cols own left) →
+      handed_out columns col ≡ done seen → align ≡ next_align left → rest ≡ drop 1 left →
+      AllZip (FillsCell columns align col.width tag) seen filled →
       next ≡ own ++ cell_after own col.width span filled ∷ [] → HasColumns (cols ++ (col, span) ∷ []) next rest
   columns_go_on cols own next left rest col span align seen filled h hands aligned_by rest_is fills is =
-      let cell : GivenCell (List M) = record { width = col.width; span = span; align = align; lines = seen } in
+      let cell : GivenCell (List A) = record { width = col.width; span = span; align = align; lines = seen } in
       let placed : Cell (List A) = cell_after own col.width span filled in
-      let g = map_cell (tag_meant f) in
-      let more : map g next ≡ map g own ++ g placed ∷ [] = ap (map g) is ∙ map-append g own (placed ∷ []) in
       record {
         cells = h.cells ++ cell ∷ [];
         given =
-            given_last (λ r. r.width) (λ r. handed_out columns (meant f r)) cols aligns h.cells (col, span) h.given seen hands
+            given_last (λ r. r.width) (λ r. handed_out columns r) cols aligns h.cells (col, span) h.given seen hands
             ∙ ap (λ (a : CellAlign). done (h.cells ++ record { width = col.width; span = span; align = a; lines = seen } ∷ [])) (sym (aligned_by ∙ ap next_align h.left_is));
         left_is =
             rest_is ∙ ap (drop 1) h.left_is ∙ drop-drop 1 (length cols) aligns ∙ ap (λ n. drop n aligns) (sym (length-append cols ((col, span) ∷ [])));
-        come = subst (AllZip (ComesAs columns tag) (h.cells ++ cell ∷ [])) (sym more) (all_zipped_more (ComesAs columns tag) h.cells (map g own) cell (g placed) h.come (refl, refl, fills));
+        come = subst (AllZip (ComesAs columns tag) (h.cells ++ cell ∷ [])) (sym is) (all_zipped_more (ComesAs columns tag) h.cells own cell placed h.come (refl, refl, fills));
         free =
             subst (AllZip (LeavesFree columns) (cols ++ (col, span) ∷ [])) (sym is)
             (all_zipped_more (LeavesFree columns) cols own (col, span) placed h.free (
               refl,
-              λ blank. nil_from_length filled
-                  (sym (length-map filled (map_row_line (tag_meant f))) ∙ AllZip-long _ seen _ fills
-                  ∙ ap length (blank_hands_none columns (meant f col) seen (blank_meant f columns col ∙ blank) hands)),
+              λ blank. nil_from_length filled (AllZip-long _ seen filled fills ∙ ap length (blank_hands_none columns col seen blank hands)),
             ));
       }
 

@@ -1,0 +1,12 @@
+//! What tags mean.
+#![tactic(auto)]
+
+pub use meanings::Meanings;
+pub use tag::Tag;
+
+mod meanings;
+mod numbers;
+mod plain;
+mod tag;
+mod text;
+mod vector;
