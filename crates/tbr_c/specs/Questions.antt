@@ -3,11 +3,9 @@ use Rattle.std.specs.Prelude.{◌≡◌, ℕ, ◌-◌, ◌==◌, max, nat_lt, tr
 use Rattle.std.specs.Option.{option_map, ok_or}
 use Rattle.tbr_tagged.specs.UnicodeColumns.{unicode_columns}
 use Rattle.tbr_decor.specs.Prefix.{Prefix}
-use Rattle.tbr_decor.specs.Style.{style_of}
 use Rattle.tbr_decor.specs.declared.annotation.RichAnnotation.{RichAnnotation}
 use Rattle.text_block_renderer.specs.Renderer.{Renderer}
 use Rattle.text_block_renderer.specs.Steps.{is_empty}
-use Rattle.text_block_renderer.specs.Meant.{meant}
 use Rattle.tbr_stack.specs.Stack.{Stack, top_of}
 use Rattle.tbr_stack.specs.Links.{open_links}
 use Rattle.tbr_program.specs.Progress.{Progress}
@@ -42,10 +40,10 @@ abbrev pub on_top : {R X : Type 0} → X → (R → X) → Stack R → X
 on_top none ask s = unwrap_or (option_map ask (top_of s)) none
 
 -- the facts of a program
-abbrev pub facts_in : {D A M : Type 0} → (A → M) → Progress D A (List A) → Facts
-facts_in meaning p = record {
+abbrev pub facts_in : {D A : Type 0} → Progress D A (List A) → Facts
+facts_in p = record {
   width = on_top 0 (λ r. r.width) p.stack;
-  is_empty = on_top true (λ r. is_empty unicode_columns (meant meaning r)) p.stack;
+  is_empty = on_top true (λ r. is_empty unicode_columns r) p.stack;
   has_overhang = on_top false (λ r. not (length r.hanging == 0)) p.stack;
   open_levels = length p.opened;
   open_links = length (open_links p.stack);
@@ -54,9 +52,9 @@ facts_in meaning p = record {
 
 -- What a renderer answers. What is finished, or keeps a refusal, answers that.
 abbrev pub facts_of : State → Result Facts Fault
-facts_of (Plain f) = Ok (facts_in (λ a. a) f.program)
-facts_of (Trivial f) = Ok (facts_in (λ a. a) f.program)
-facts_of (Rich f) = Ok (facts_in style_of f.program)
+facts_of (Plain f) = Ok (facts_in f.program)
+facts_of (Trivial f) = Ok (facts_in f.program)
+facts_of (Rich f) = Ok (facts_in f.program)
 facts_of (Finished lines) = Err fault.Finished
 facts_of (Refused e) = Err (fault_of e)
 

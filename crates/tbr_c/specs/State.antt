@@ -4,12 +4,11 @@ use Rattle.std.specs.Option.{option_map}
 use Rattle.tbr_tagged.specs.declared.Error.{Error}
 use Rattle.tbr_tagged.specs.declared.Error.TheVariants as block
 use Rattle.tbr_tagged.specs.UnicodeColumns.{unicode_columns}
-use Rattle.tbr_decor.specs.Style.{style_of}
 use Rattle.tbr_script.specs.declared.error.RunError.{RunError}
 use Rattle.tbr_commands.specs.Command.{Command}
 use Rattle.tbr_commands.specs.declared.opening.Decorator.TheVariants as decorator
 use Rattle.tbr_commands.specs.declared.opening.Opening.{Opening}
-use Rattle.tbr_program.specs.Progress.{GoesOn, progress_meant}
+use Rattle.tbr_program.specs.Progress.{GoesOn}
 use Rattle.tbr_program.specs.Decorations.{plain_decoration, trivial_decoration, rich_decoration}
 use Rattle.tbr_program.specs.Commands.{after_command, ended, started}
 use Rattle.tbr_program.specs.Safe.{shown_command, shown_links}
@@ -73,14 +72,14 @@ HasEnded (Rich program) result = Unit {0}
 -- has no control characters in prefixes.
 abbrev pub Does : State → Command → State → Type 0
 Does (Plain f) command (Plain g) =
-    (after_command unicode_columns plain_decoration 0 (shown_command f.raw command) (progress_meant (λ a. a) f.program)
-    ≡ Ok (progress_meant (λ a. a) g.program)) × (g.raw ≡ f.raw)
+    (after_command unicode_columns plain_decoration 0 (shown_command f.raw command) f.program ≡ Ok g.program)
+    × (g.raw ≡ f.raw)
 Does (Trivial f) command (Trivial g) =
-    (after_command unicode_columns trivial_decoration 0 (shown_command f.raw command) (progress_meant (λ a. a) f.program)
-    ≡ Ok (progress_meant (λ a. a) g.program)) × (g.raw ≡ f.raw)
+    (after_command unicode_columns trivial_decoration 0 (shown_command f.raw command) f.program ≡ Ok g.program)
+    × (g.raw ≡ f.raw)
 Does (Rich f) command (Rich g) =
-    (after_command unicode_columns rich_decoration 0 (shown_command f.raw command) (progress_meant style_of f.program)
-    ≡ Ok (progress_meant style_of g.program)) × (g.raw ≡ f.raw)
+    (after_command unicode_columns rich_decoration 0 (shown_command f.raw command) f.program ≡ Ok g.program)
+    × (g.raw ≡ f.raw)
 Does (Plain f) command other = ⊥
 Does (Trivial f) command other = ⊥
 Does (Rich f) command other = ⊥
@@ -92,17 +91,17 @@ abbrev pub Refuses : State → Command → Fault → Type 0
 Refuses (Plain filled) command f =
     let make = after_command unicode_columns plain_decoration 0 in
     (e : RunError)
-    × (make (shown_command filled.raw command) (progress_meant (λ a. a) filled.program) ≡ Err e)
+    × (make (shown_command filled.raw command) filled.program ≡ Err e)
     × (f ≡ fault_of_command e)
 Refuses (Trivial filled) command f =
     let make = after_command unicode_columns trivial_decoration 0 in
     (e : RunError)
-    × (make (shown_command filled.raw command) (progress_meant (λ a. a) filled.program) ≡ Err e)
+    × (make (shown_command filled.raw command) filled.program ≡ Err e)
     × (f ≡ fault_of_command e)
 Refuses (Rich filled) command f =
     let make = after_command unicode_columns rich_decoration 0 in
     (e : RunError)
-    × (make (shown_command filled.raw command) (progress_meant style_of filled.program) ≡ Err e)
+    × (make (shown_command filled.raw command) filled.program ≡ Err e)
     × (f ≡ fault_of_command e)
 Refuses (Finished lines) command f = f ≡ fault.Finished
 Refuses (Refused e) command f = f ≡ fault_of e
@@ -120,12 +119,9 @@ refused_as (Rich program) why = why
 -- What the end gives, as that of a script: its text, with the footnotes of its links, or a refusal. Where the renderer
 -- isn't raw, targets are listed there without control characters.
 abbrev pub EndsAs : State → Result (List ℕ) RunError → Type 0
-EndsAs (Plain f) outcome =
-    ended unicode_columns plain_decoration 0 (shown_links f.raw (progress_meant (λ a. a) f.program)) ≡ outcome
-EndsAs (Trivial f) outcome =
-    ended unicode_columns trivial_decoration 0 (shown_links f.raw (progress_meant (λ a. a) f.program)) ≡ outcome
-EndsAs (Rich f) outcome =
-    ended unicode_columns rich_decoration 0 (shown_links f.raw (progress_meant style_of f.program)) ≡ outcome
+EndsAs (Plain f) outcome = ended unicode_columns plain_decoration 0 (shown_links f.raw f.program) ≡ outcome
+EndsAs (Trivial f) outcome = ended unicode_columns trivial_decoration 0 (shown_links f.raw f.program) ≡ outcome
+EndsAs (Rich f) outcome = ended unicode_columns rich_decoration 0 (shown_links f.raw f.program) ≡ outcome
 EndsAs (Finished lines) outcome = ⊥
 EndsAs (Refused e) outcome = ⊥
 

@@ -7,7 +7,7 @@ ghost use Rattle.tbr_decor.specs.Prefix.{asked_prefix, header};
 ghost use Rattle.tbr_script.specs.declared.error.RunError.{RunError as Unrun};
 ghost use Rattle.tbr_script.specs.declared.error.RunError.TheVariants as script;
 ghost use Rattle.tbr_commands.specs.Command.{command_of, IsSized};
-ghost use Rattle.tbr_program.specs.Progress.{GoesOn, progress_meant};
+ghost use Rattle.tbr_program.specs.Progress.{GoesOn};
 ghost use Rattle.tbr_program.specs.Commands.{after_command, ended, started as begun};
 ghost use Rattle.tbr_program.specs.Safe.{shown_command, shown_links};
 ghost use Rattle.tbr_c_lines.specs.Copied.{CopiesMade};
@@ -368,13 +368,13 @@ fn run_on<D: TextDecorator>(
     requires goes_on { GoesOn filled.old.program }
     requires sized { IsSized (command_of command.now) }
     ensures goes_on { OnOk result (GoesOn filled.new.program) }
-    ensures done { let make = after_command unicode_columns (decoration_of D.TextDecorator) 0 in OnOk result
-        (make (shown_command filled.old.raw (command_of command.now)) (progress_meant D.meaning filled.old.program)
-        ≡ Ok (progress_meant D.meaning filled.new.program)) }
+    ensures done { let make = after_command unicode_columns (decoration_of D.TextDecorator D.Annotation.tells) 0 in
+        OnOk result (make (shown_command filled.old.raw (command_of command.now)) filled.old.program
+        ≡ Ok filled.new.program) }
     ensures same { filled.new.raw ≡ filled.old.raw }
-    ensures refused { let make = after_command unicode_columns (decoration_of D.TextDecorator) 0 in
-        IfErr result (λ fault. fault ≢ F.OutOfMemory → (e : Unrun) × (make
-        (shown_command filled.old.raw (command_of command.now)) (progress_meant D.meaning filled.old.program) ≡ Err e)
+    ensures refused { let make = after_command unicode_columns (decoration_of D.TextDecorator D.Annotation.tells) 0 in
+        IfErr result (λ fault. fault ≢ F.OutOfMemory → (e : Unrun)
+        × (make (shown_command filled.old.raw (command_of command.now)) filled.old.program ≡ Err e)
         × (fault ≡ fault_of_command e)) }
     ensures left { IfErr result (λ fault. kept fault ≡ None → filled.new ≡ filled.old) }
 {
@@ -416,10 +416,10 @@ fn text_of<D: TextDecorator>(
     raw: bool,
 ) -> Result<String, Error>
     requires { GoesOn program }
-    ensures text { IfOk result (λ text. ended unicode_columns (decoration_of D.TextDecorator) 0
-        (shown_links raw (progress_meant D.meaning program)) ≡ Ok (string_bytes text)) }
-    ensures too_narrow { result ≡ Err Refusal.TooNarrow → ended unicode_columns (decoration_of D.TextDecorator) 0
-        (shown_links raw (progress_meant D.meaning program)) ≡ Err script.TooNarrow }
+    ensures text { let end = ended unicode_columns (decoration_of D.TextDecorator D.Annotation.tells) 0 in
+        IfOk result (λ text. end (shown_links raw program) ≡ Ok (string_bytes text)) }
+    ensures too_narrow { let end = ended unicode_columns (decoration_of D.TextDecorator D.Annotation.tells) 0 in
+        result ≡ Err Refusal.TooNarrow → end (shown_links raw program) ≡ Err script.TooNarrow }
 {
     match program.finish_shown(0, raw) {
         Ok(text) => Ok(text),
@@ -436,11 +436,11 @@ fn lines_of<D: TextDecorator>(
     requires goes_on { GoesOn program }
     requires opened { program.opened ≡ [] }
     requires cells { program.pending.cells ≡ [] }
-    ensures lines { IfOk result (λ lines. ended unicode_columns (decoration_of D.TextDecorator) 0
-        (shown_links raw (progress_meant D.meaning program))
+    ensures lines { let end = ended unicode_columns (decoration_of D.TextDecorator D.Annotation.tells) 0 in
+        IfOk result (λ lines. end (shown_links raw program)
         ≡ Ok (encode_utf8_all (flat_map line_text lines.items))) }
-    ensures too_narrow { result ≡ Err Refusal.TooNarrow → ended unicode_columns (decoration_of D.TextDecorator) 0
-        (shown_links raw (progress_meant D.meaning program)) ≡ Err script.TooNarrow }
+    ensures too_narrow { let end = ended unicode_columns (decoration_of D.TextDecorator D.Annotation.tells) 0 in
+        result ≡ Err Refusal.TooNarrow → end (shown_links raw program) ≡ Err script.TooNarrow }
 {
     program.finish_shown_lines(raw)
 }
@@ -448,12 +448,12 @@ fn lines_of<D: TextDecorator>(
 /// What a program answers of its innermost level.
 fn facts_of<D: TextDecorator>(program: &Program<D, UnicodeColumns>) -> Facts
     requires { GoesOn program.now }
-    ensures facts { result ≡ facts_in D.meaning program.now }
+    ensures facts { result ≡ facts_in program.now }
     ensures closed { result.open_levels ≡ 0 → program.now.opened ≡ [] }
     ensures cells { result.waiting_cells ≡ 0 → program.now.pending.cells ≡ [] }
     ensures open { (0 < result.open_levels) ⊎ (0 < result.waiting_cells) → (raw : Bool) →
-        ended unicode_columns (decoration_of D.TextDecorator) 0
-        (shown_links raw (progress_meant D.meaning program.now)) ≡ Err (script.NotACommand 0) }
+        ended unicode_columns (decoration_of D.TextDecorator D.Annotation.tells) 0 (shown_links raw program.now)
+        ≡ Err (script.NotACommand 0) }
 {
     let top = program.top();
     Facts {

@@ -113,8 +113,8 @@ impl<D: TextDecorator, W: CharWidth> Program<D, W> {
         raw: bool,
     ) -> Result<(), RunError>
         requires { GoesOn self.old }
-        ensures runs { let make = after_shown_line W.columns (decoration_of D.TextDecorator D.Annotation.tells) raw number line.now in
-            Runs make self.old result self.new }
+        ensures runs { let decoration = decoration_of D.TextDecorator D.Annotation.tells in
+            Runs (after_shown_line W.columns decoration raw number line.now) self.old result self.new }
     {
         if line.is_empty() {
             return Ok(());
@@ -199,7 +199,8 @@ impl<D: TextDecorator, W: CharWidth> Program<D, W> {
     /// Adds a text to the renderer on top, as a line asks for it.
     fn add_text(&mut self, text: &str) -> Result<(), RunError>
         requires { GoesOn self.old }
-        ensures runs { (number : ℕ) → let make = after_command W.columns (decoration_of D.TextDecorator D.Annotation.tells) number in
+        ensures runs { let decoration = decoration_of D.TextDecorator D.Annotation.tells in
+            (number : ℕ) → let make = after_command W.columns decoration number in
             Runs (make (asked.ask (requests.text text.now))) self.old result self.new }
     {
         self.renderers.top_mut().add_inline_text(text)?;
@@ -224,7 +225,8 @@ impl<D: TextDecorator, W: CharWidth> Program<D, W> {
     /// Begins a link to a target.
     fn start_link(&mut self, target: &str) -> Result<(), RunError>
         requires { GoesOn self.old }
-        ensures runs { (number : ℕ) → let make = after_command W.columns (decoration_of D.TextDecorator D.Annotation.tells) number in
+        ensures runs { let decoration = decoration_of D.TextDecorator D.Annotation.tells in
+            (number : ℕ) → let make = after_command W.columns decoration number in
             Runs (make (asked.link target.now)) self.old result self.new }
     {
         self.renderers.start_link(target)?;
@@ -325,7 +327,8 @@ impl<D: TextDecorator, W: CharWidth> Program<D, W> {
     /// Adds the waiting cells, one below another.
     fn add_vertical_row(&mut self, alloc: Global) -> Result<(), RunError>
         requires { GoesOn self.old }
-        ensures runs { (number : ℕ) → let make = after_command W.columns (decoration_of D.TextDecorator D.Annotation.tells) number in
+        ensures runs { let decoration = decoration_of D.TextDecorator D.Annotation.tells in
+            (number : ℕ) → let make = after_command W.columns decoration number in
             Runs (make asked.vertical_row) self.old result self.new }
     {
         let cells = self.pending.take_renderers(alloc)?;
@@ -428,10 +431,10 @@ impl<D: TextDecorator, W: CharWidth> Program<D, W> {
         requires opened { self.opened ≡ [] }
         requires cells { self.pending.cells ≡ [] }
         ensures lines { let shown = shown_links false self in IfOk result (λ lines. OfTop (λ r.
-            closed W.columns (decoration_of D.TextDecorator) shown.stack.links (meant D.meaning r)
-            ≡ done (map (map_line (tag_meant D.meaning)) (map line_seen lines.items))) self.stack) }
+            closed W.columns (decoration_of D.TextDecorator D.Annotation.tells) shown.stack.links r
+            ≡ done (map line_seen lines.items)) self.stack) }
         ensures too_narrow { let shown = shown_links false self in result ≡ Err Refusal.TooNarrow → OfTop (λ r.
-            closed W.columns (decoration_of D.TextDecorator) shown.stack.links (meant D.meaning r)
+            closed W.columns (decoration_of D.TextDecorator D.Annotation.tells) shown.stack.links r
             ≡ refused Refusal.TooNarrow) self.stack }
     {
         let (renderer, targets) = self.renderers.into_inner();

@@ -24,9 +24,9 @@ one_more_shown Shows (l ∷ lines) line cs more h here =
     (h.0, h.1 ++ more, h.2, one_more_shown Shows lines line h.1 more h.3 here, ap (λ (xs : List ℕ). xs ++ more) h.4 ∙ append_assoc h.0 h.1 more)
 
 -- in another format than text
-module _ {A : Type 0} (eq : A → A → Bool) (rich : List A → List RichAnnotation) (columns : ℕ → Option ℕ) where
-  pub shown_in : (format : Format) (line : RenderLine (List A)) (out : RenderLine (Vec A)) (cs : List ℕ) → is_text format ≡ false →
-      IsWrittenOut eq line out → ShowsAnnotated eq rich columns format out cs → ShowsLine eq rich columns format line cs
+module _ {A M : Type 0} (meaning : A → M) (eq : A → A → Bool) (rich : List A → List RichAnnotation) (columns : ℕ → Option ℕ) where
+  pub shown_in : (format : Format) (line : RenderLine (List M)) (out : RenderLine (Vec A)) (cs : List ℕ) → is_text format ≡ false →
+      IsWrittenOut meaning eq line out → ShowsAnnotated eq rich columns format out cs → ShowsLine meaning eq rich columns format line cs
   shown_in Text line out cs other written shows = absurd (false≢true (sym other))
   shown_in Bare line out cs other written shows = (out, written, shows)
   shown_in Ansi line out cs other written shows = (out, written, shows)

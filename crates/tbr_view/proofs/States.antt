@@ -9,7 +9,6 @@ use Rattle.tbr_model.specs.Width.{width_of_text}
 use Rattle.tbr_tagged.specs.View.{chars_of}
 use Rattle.tbr_decor.specs.Decoration.{Decoration}
 use Rattle.text_block_renderer.specs.Renderer.{Renderer}
-use Rattle.text_block_renderer.specs.Meant.{meant}
 use Rattle.text_block_renderer.specs.Stack.{top_of}
 use Rattle.tbr_script.specs.Script.{lines_of}
 use Rattle.tbr_script.specs.declared.text_pair.TextPair.{TextPair}
@@ -18,8 +17,7 @@ use Rattle.tbr_commands.specs.declared.command.Command.TheVariants as asked
 use Rattle.tbr_commands.specs.declared.request.layout.Layout.TheVariants.{StartBlock}
 use Rattle.tbr_commands.specs.Request.{layout}
 use Rattle.tbr_commands.specs.Command.{ask, sub, command_of}
-use Rattle.tbr_program.specs.Progress.{Progress, progress_meant}
-use Rattle.tbr_stack.proofs.Tops.{top_meant}
+use Rattle.tbr_program.specs.Progress.{Progress}
 use Rattle.tbr_statements.specs.declared.block.Block.{Block}
 use Rattle.tbr_statements.specs.declared.level.Level.{Level}
 use Rattle.tbr_statements.specs.declared.level.Notes.{Notes}
@@ -89,13 +87,13 @@ is_left old new (Some by) leaves none =
 
 -- ---- steps
 
-module _ {D A M : Type 0} (meaning : A → M) (columns : ℕ → Option ℕ) (decoration : Decoration D M) where
+module _ {D A : Type 0} (columns : ℕ → Option ℕ) (decoration : Decoration D A) where
   module _ (p q : Progress D A (List A)) (old new : List Level) where
     pub commanded : (command : declared.Command) (here there : Progress D A (List A)) → here ≡ p → q ≡ there → may_not_append command (opener_of (innermost old)) ≡ false →
-        CommandDoes columns decoration (progress_meant meaning here) (command_of command) (progress_meant meaning there) → openers new ≡ opened_by command (openers old) →
-        Commands columns decoration (state_of meaning p old) command (state_of meaning q new)
+        CommandDoes columns decoration here (command_of command) there → openers new ≡ opened_by command (openers old) →
+        Commands columns decoration (state_of p old) command (state_of q new)
     commanded command here there is_here is_there may does levels =
-        let Leads : Progress D A (List A) → Progress D A (List A) → Type 0 = λ x y. CommandDoes columns decoration (progress_meant meaning x) (command_of command) (progress_meant meaning y) in
+        let Leads : Progress D A (List A) → Progress D A (List A) → Type 0 = λ x y. CommandDoes columns decoration x (command_of command) y in
         record {
           may = ap (may_not_append command) (innermost_opener old) ∙ may;
           does = subst (λ x. Leads x q) is_here (subst (λ y. Leads here y) (sym is_there) does);
@@ -105,26 +103,26 @@ module _ {D A M : Type 0} (meaning : A → M) (columns : ℕ → Option ℕ) (de
     pub block_opens : (block : Block) (texts : TextPair) (r top : Renderer D A (List A)) (apart : Progress D A (List A)) (n : ℕ) → top_of p.stack ≡ Some r → top_of p.stack ≡ Some top →
         chars_of texts.first ≡ decoration.prefix_text r.decorator (prefix_of block) → chars_of texts.second ≡ other_prefix columns block (chars_of texts.first) →
         width_of_text columns (chars_of texts.first) < top.width → n ≡ top.width - width_of_text columns (chars_of texts.first) →
-        DoesIf columns decoration (stands_apart block) (progress_meant meaning p) (ask (layout StartBlock)) (progress_meant meaning apart) →
-        CommandDoes columns decoration (progress_meant meaning apart) (sub n) (progress_meant meaning q) → openers new ≡ openers old ++ OfBlock block texts ∷ [] →
-        BlockOpens columns decoration (state_of meaning p old) block (state_of meaning q new)
+        DoesIf columns decoration (stands_apart block) p (ask (layout StartBlock)) apart →
+        CommandDoes columns decoration apart (sub n) q → openers new ≡ openers old ++ OfBlock block texts ∷ [] →
+        BlockOpens columns decoration (state_of p old) block (state_of q new)
     block_opens block texts r top apart n is_r is_top first others fits columns_are begins opens levels =
         let same : r ≡ top = cc in
         record {
-          top = meant meaning top;
-          is_top = top_meant meaning p.stack top is_top;
+          top = top;
+          is_top = is_top;
           texts = texts;
           first = subst (λ (x : Renderer D A (List A)). chars_of texts.first ≡ decoration.prefix_text x.decorator (prefix_of block)) same first;
           others = others;
           fits = fits;
-          apart = progress_meant meaning apart;
+          apart = apart;
           begins = begins;
-          opens = subst (λ (m : ℕ). CommandDoes columns decoration (progress_meant meaning apart) (sub m) (progress_meant meaning q)) columns_are opens;
+          opens = subst (λ (m : ℕ). CommandDoes columns decoration apart (sub m) q) columns_are opens;
           levels = levels;
         }
 
     pub block_closes : (block : Block) (texts : TextPair) (by : List ℕ) (notes known : Notes) → is_closed_by by (innermost old) ≡ true → Leaves old notes (OfBlock block texts) new known →
-        BlockAppends columns decoration (progress_meant meaning p) block texts (progress_meant meaning q) → BlockCloses columns decoration (state_of meaning p old) by (state_of meaning q new)
+        BlockAppends columns decoration p block texts q → BlockCloses columns decoration (state_of p old) by (state_of q new)
     block_closes block texts by notes known closed leaves appends =
         let level : Level = record { by = OfBlock block texts; line = leaves.line; outside = leaves.outside } in
         let is : innermost old ≡ Some level = ap innermost leaves.last ∙ innermost_last new level in

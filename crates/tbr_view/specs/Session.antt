@@ -16,7 +16,7 @@ use Rattle.tbr_commands.specs.declared.opening.Opening.{Opening}
 use Rattle.tbr_commands.specs.declared.request.layout.Layout.TheVariants.{StartBlock, EndBlock}
 use Rattle.tbr_commands.specs.Request.{layout}
 use Rattle.tbr_commands.specs.Command.{Command, ask, sub, append, command_of}
-use Rattle.tbr_program.specs.Progress.{Progress, progress_meant}
+use Rattle.tbr_program.specs.Progress.{Progress}
 use Rattle.tbr_tagged.specs.Outcome.{done}
 use Rattle.tbr_program.specs.Closing.{closed}
 use Rattle.tbr_program.specs.Commands.{after_command, started}
@@ -78,8 +78,8 @@ pub record State (D M : Type 0) : Type 0 where
 abbrev pub openers : List Level → List Opener
 openers levels = map (λ level. level.by) levels
 
-abbrev pub state_of : {D A M : Type 0} → (A → M) → Progress D A (List A) → List Level → State D M
-state_of meaning program levels = record { program = progress_meant meaning program; levels = openers levels }
+abbrev pub state_of : {D A : Type 0} → Progress D A (List A) → List Level → State D A
+state_of program levels = record { program = program; levels = openers levels }
 
 -- after the first command
 abbrev pub begun : {D M : Type 0} → Opening → D → State D M

@@ -15,8 +15,6 @@ use Rattle.tbr_decor.specs.contracts.annotation.RichAnnotationPartialEq.TheImpl 
 use Rattle.tbr_annotations.specs.Written.{IsWrittenOut}
 use Rattle.tbr_decor.specs.Decoration.{Decoration}
 use Rattle.tbr_decor.specs.Style.{style_of}
-use Rattle.text_block_renderer.specs.Tags.{tag_meant}
-use Rattle.text_block_renderer.specs.Meant.{map_line}
 use Rattle.text_block_renderer.specs.Line.{line_seen}
 use Rattle.tbr_script.specs.Script.{lines_of}
 use Rattle.tbr_program.specs.Decorations.{plain_decoration, trivial_decoration, rich_decoration}
@@ -78,11 +76,11 @@ ShowsAnnotated {A} eq rich columns format line cs =
     × MapsElements (IsRich rich) es shown × (cs ≡ elements_in columns format (is_border line) shown)
 
 -- A line in a format: its text alone, or what is written out of it.
-abbrev pub ShowsLine : {A : Type 0} → (A → A → Bool) → (List A → List RichAnnotation) → (ℕ → Option ℕ) → Format →
-    RenderLine (List A) → List ℕ → Type 0
-ShowsLine eq rich columns Text line cs = cs ≡ line_text line
-ShowsLine {A} eq rich columns format line cs =
-    (out : RenderLine (Vec A)) × IsWrittenOut eq line out × ShowsAnnotated eq rich columns format out cs
+abbrev pub ShowsLine : {A M : Type 0} → (A → M) → (A → A → Bool) → (List A → List RichAnnotation) → (ℕ → Option ℕ) →
+    Format → RenderLine (List M) → List ℕ → Type 0
+ShowsLine meaning eq rich columns Text line cs = cs ≡ line_text line
+ShowsLine {A} meaning eq rich columns format line cs =
+    (out : RenderLine (Vec A)) × IsWrittenOut meaning eq line out × ShowsAnnotated eq rich columns format out cs
 
 -- lines one after another
 abbrev pub AreShown : {L : Type 0} → (L → List ℕ → Type 0) → List L → List ℕ → Type 0
@@ -104,24 +102,23 @@ width_in (Some columns) own = if columns == 0 then own else columns
 abbrev pub opening_in : Option ℕ → Opening → Opening
 opening_in width opening = record opening { width = width_in width opening.width }
 
--- Characters that are the lines of a script in a format, under a decorator with annotations of this equality and
--- meaning, of which this is shown.
-abbrev pub ShowsScript : {D A M : Type 0} → (A → A → Bool) → (List A → List RichAnnotation) → (A → M) → (ℕ → Option ℕ) →
-    Decoration D M → State D M → List (List ℕ) → Format → List ℕ → Type 0
-ShowsScript {D} {A} eq rich meaning columns decoration start script format cs =
-    (lines : List (RenderLine (List A)))
-    × LinesGive columns decoration start script (map (map_line (tag_meant meaning)) (map line_seen lines))
-    × AreShown (ShowsLine eq rich columns format) lines cs
+-- Characters that are the lines of a script in a format, under a decorator with annotations of this meaning and
+-- equality, of which this is shown.
+abbrev pub ShowsScript : {D A M : Type 0} → (A → M) → (A → A → Bool) → (List A → List RichAnnotation) →
+    (ℕ → Option ℕ) → Decoration D M → State D M → List (List ℕ) → Format → List ℕ → Type 0
+ShowsScript {D} {A} {M} meaning eq rich columns decoration start script format cs =
+    (lines : List (RenderLine (List M))) × LinesGive columns decoration start script (map line_seen lines)
+    × AreShown (ShowsLine meaning eq rich columns format) lines cs
 
 -- the same under the decorator of this name, after this first command
 abbrev pub ShowsUnder :
     (ℕ → Option ℕ) → Decorator → Opening → List (List ℕ) → Format → List ℕ → Type 0
 ShowsUnder columns Plain opening script format cs =
-    ShowsScript equal_units none (λ a. a) columns plain_decoration (begun opening (record {})) script format cs
+    ShowsScript (λ a. a) equal_units none columns plain_decoration (begun opening (record {})) script format cs
 ShowsUnder columns Trivial opening script format cs =
-    ShowsScript equal_units none (λ a. a) columns trivial_decoration (begun opening (record {})) script format cs
+    ShowsScript (λ a. a) equal_units none columns trivial_decoration (begun opening (record {})) script format cs
 ShowsUnder columns Rich opening script format cs =
-    ShowsScript annotation.ghosts.eq themselves style_of columns rich_decoration (begun opening (record {})) script
+    ShowsScript style_of annotation.ghosts.eq themselves columns rich_decoration (begun opening (record {})) script
     format cs
 
 -- These characters are what is shown of a script that begins with a first command: the lines that the others give, in

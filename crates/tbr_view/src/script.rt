@@ -3,8 +3,6 @@ ghost use Rattle.std.specs.Prelude.{◌≡◌, ◌≢◌, ◌<◌, Some, map, If
 ghost use Rattle.tbr_tagged.specs.View.{chars_of};
 ghost use Rattle.tbr_decor.specs.Decoration.{decoration_of};
 ghost use Rattle.tbr_script.specs.Script.{lines_of};
-ghost use Rattle.text_block_renderer.specs.Tags.{tag_meant};
-ghost use Rattle.text_block_renderer.specs.Meant.{map_line};
 ghost use Rattle.text_block_renderer.specs.Line.{line_seen};
 ghost use Rattle.tbr_view.specs.Script.{Begins, BeginsNot};
 ghost use Rattle.tbr_view.specs.Session.{LinesGive, begun};
@@ -170,8 +168,8 @@ fn run<D: Headings, W: CharWidth>(
 >
     requires width { 0 < opening.width }
     requires wrap_width { opening.options.wrap_width ≢ Some 0 }
-    ensures { IfOk result (λ r. LinesGive W.columns (decoration_of D.TextDecorator) (begun opening decorator)
-        (lines_of script.now) (map (map_line (tag_meant D.meaning)) (map line_seen r.0.items))) }
+    ensures { IfOk result (λ r. LinesGive W.columns (decoration_of D.TextDecorator D.Annotation.tells)
+        (begun opening decorator) (lines_of script.now) (map line_seen r.0.items)) }
 {
     let mut session: Session<D, W> = Session::new(alloc, opening, decorator, set_width)?;
     let mut rest = script;

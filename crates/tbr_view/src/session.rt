@@ -4,9 +4,7 @@ ghost use Rattle.tbr_decor.specs.Decoration.{decoration_of};
 ghost use Rattle.tbr_commands.specs.Command.{command_of, ask};
 ghost use Rattle.tbr_commands.specs.Command as asked;
 ghost use Rattle.tbr_commands.specs.Request.{layout as laid};
-ghost use Rattle.tbr_program.specs.Progress.{GoesOn, progress_meant};
-ghost use Rattle.text_block_renderer.specs.Tags.{tag_meant};
-ghost use Rattle.text_block_renderer.specs.Meant.{map_line};
+ghost use Rattle.tbr_program.specs.Progress.{GoesOn};
 ghost use Rattle.text_block_renderer.specs.Line.{line_seen};
 ghost use Rattle.tbr_statements.specs.Level.{innermost, opener_of, may_not_append, known_in, noted, takes_two};
 ghost use Rattle.tbr_view.specs.Session as model;
@@ -51,7 +49,7 @@ impl<D: Headings, W: CharWidth> Session<D, W> {
         requires width { 0 < opening.width }
         requires wrap_width { opening.options.wrap_width ≢ Some 0 }
         ensures begins { IfOk result (λ session.
-            model.state_of D.meaning session.program session.levels.inside.items ≡ model.begun opening decorator) }
+            model.state_of session.program session.levels.inside.items ≡ model.begun opening decorator) }
         ensures live { IfOk result (λ session. GoesOn session.program) }
     {
         let Opening { width, options, .. } = opening;
@@ -72,9 +70,9 @@ impl<D: Headings, W: CharWidth> Session<D, W> {
     /// Does what the line of this number asks for. An empty line and a comment ask for nothing.
     pub fn run_line(&mut self, number: usize, line: &[u8]) -> Result<(), Refusal>
         requires { GoesOn self.old.program }
-        ensures does { OnOk result (model.LineDoes W.columns (decoration_of D.TextDecorator)
-            (model.state_of D.meaning self.old.program self.old.levels.inside.items) line.now
-            (model.state_of D.meaning self.new.program self.new.levels.inside.items)) }
+        ensures does { OnOk result (model.LineDoes W.columns (decoration_of D.TextDecorator D.Annotation.tells)
+            (model.state_of self.old.program self.old.levels.inside.items) line.now
+            (model.state_of self.new.program self.new.levels.inside.items)) }
         ensures live { OnOk result (GoesOn self.new.program) }
     {
         if is_skipped(line) {
@@ -90,9 +88,9 @@ impl<D: Headings, W: CharWidth> Session<D, W> {
     fn run_statement(&mut self, number: usize, statement: Statement) -> Result<(), Refusal>
         requires live { GoesOn self.old.program }
         requires sized { IsSized statement }
-        ensures does { OnOk result (model.Does W.columns (decoration_of D.TextDecorator)
-            (model.state_of D.meaning self.old.program self.old.levels.inside.items) statement
-            (model.state_of D.meaning self.new.program self.new.levels.inside.items)) }
+        ensures does { OnOk result (model.Does W.columns (decoration_of D.TextDecorator D.Annotation.tells)
+            (model.state_of self.old.program self.old.levels.inside.items) statement
+            (model.state_of self.new.program self.new.levels.inside.items)) }
         ensures live { OnOk result (GoesOn self.new.program) }
     {
         match statement {
@@ -106,9 +104,9 @@ impl<D: Headings, W: CharWidth> Session<D, W> {
     fn run(&mut self, number: usize, command: &Command) -> Result<(), Refusal>
         requires live { GoesOn self.old.program }
         requires sized { asked.IsSized (command_of command.now) }
-        ensures does { OnOk result (model.Commands W.columns (decoration_of D.TextDecorator)
-            (model.state_of D.meaning self.old.program self.old.levels.inside.items) command.now
-            (model.state_of D.meaning self.new.program self.new.levels.inside.items)) }
+        ensures does { OnOk result (model.Commands W.columns (decoration_of D.TextDecorator D.Annotation.tells)
+            (model.state_of self.old.program self.old.levels.inside.items) command.now
+            (model.state_of self.new.program self.new.levels.inside.items)) }
         ensures live { OnOk result (GoesOn self.new.program) }
     {
         if self.may_not_append(command) {
@@ -135,9 +133,9 @@ impl<D: Headings, W: CharWidth> Session<D, W> {
     fn command(&mut self, number: usize, command: &Command) -> Result<(), Refusal>
         requires live { GoesOn self.old.program }
         requires sized { asked.IsSized (command_of command.now) }
-        ensures does { OnOk result (model.CommandDoes W.columns (decoration_of D.TextDecorator)
-            (progress_meant D.meaning self.old.program) (command_of command.now)
-            (progress_meant D.meaning self.new.program)) }
+        ensures does { OnOk result (model.CommandDoes W.columns (decoration_of D.TextDecorator D.Annotation.tells)
+            self.old.program (command_of command.now)
+            self.new.program) }
         ensures levels { self.new.levels ≡ self.old.levels }
         ensures lost { self.new.lost ≡ self.old.lost }
         ensures live { OnOk result (GoesOn self.new.program) }
@@ -156,9 +154,9 @@ impl<D: Headings, W: CharWidth> Session<D, W> {
     /// Opens a block with a prefix of the decorator, in as many columns as the prefix leaves.
     fn open(&mut self, number: usize, block: Block) -> Result<(), Refusal>
         requires { GoesOn self.old.program }
-        ensures opens { OnOk result (model.BlockOpens W.columns (decoration_of D.TextDecorator)
-            (model.state_of D.meaning self.old.program self.old.levels.inside.items) block
-            (model.state_of D.meaning self.new.program self.new.levels.inside.items)) }
+        ensures opens { OnOk result (model.BlockOpens W.columns (decoration_of D.TextDecorator D.Annotation.tells)
+            (model.state_of self.old.program self.old.levels.inside.items) block
+            (model.state_of self.new.program self.new.levels.inside.items)) }
         ensures live { OnOk result (GoesOn self.new.program) }
     {
         self.check_room(number, block)?;
@@ -193,9 +191,9 @@ impl<D: Headings, W: CharWidth> Session<D, W> {
     /// Closes the block that this command ends.
     fn close(&mut self, number: usize, by: &'static str) -> Result<(), Refusal>
         requires { GoesOn self.old.program }
-        ensures closes { OnOk result (model.BlockCloses W.columns (decoration_of D.TextDecorator)
-            (model.state_of D.meaning self.old.program self.old.levels.inside.items) by.now
-            (model.state_of D.meaning self.new.program self.new.levels.inside.items)) }
+        ensures closes { OnOk result (model.BlockCloses W.columns (decoration_of D.TextDecorator D.Annotation.tells)
+            (model.state_of self.old.program self.old.levels.inside.items) by.now
+            (model.state_of self.new.program self.new.levels.inside.items)) }
         ensures live { OnOk result (GoesOn self.new.program) }
     {
         if !self.levels.is_closed_by(by) {
@@ -217,9 +215,9 @@ impl<D: Headings, W: CharWidth> Session<D, W> {
         prefixes: TextPair,
     ) -> Result<(), Refusal>
         requires { GoesOn self.old.program }
-        ensures appends { OnOk result (model.BlockAppends W.columns (decoration_of D.TextDecorator)
-            (progress_meant D.meaning self.old.program) block prefixes
-            (progress_meant D.meaning self.new.program)) }
+        ensures appends { OnOk result (model.BlockAppends W.columns (decoration_of D.TextDecorator D.Annotation.tells)
+            self.old.program block prefixes
+            self.new.program) }
         ensures levels { self.new.levels ≡ self.old.levels }
         ensures lost { self.new.lost ≡ self.old.lost }
         ensures live { OnOk result (GoesOn self.new.program) }
@@ -231,9 +229,9 @@ impl<D: Headings, W: CharWidth> Session<D, W> {
     /// Begins or ends a block of lines, if that is asked for.
     fn lay_out_if(&mut self, is_asked: bool, number: usize, layout: Layout) -> Result<(), Refusal>
         requires { GoesOn self.old.program }
-        ensures does { OnOk result (model.DoesIf W.columns (decoration_of D.TextDecorator) is_asked
-            (progress_meant D.meaning self.old.program) (ask (laid layout))
-            (progress_meant D.meaning self.new.program)) }
+        ensures does { OnOk result (model.DoesIf W.columns (decoration_of D.TextDecorator D.Annotation.tells) is_asked
+            self.old.program (ask (laid layout))
+            self.new.program) }
         ensures levels { self.new.levels ≡ self.old.levels }
         ensures lost { self.new.lost ≡ self.old.lost }
         ensures live { OnOk result (GoesOn self.new.program) }
@@ -455,9 +453,9 @@ impl<D: Headings, W: CharWidth> Session<D, W> {
         Refusal,
     >
         requires { GoesOn self.program }
-        ensures lines { IfOk result (λ r. model.EndsIn W.columns (decoration_of D.TextDecorator)
-            (model.state_of D.meaning self.program self.levels.inside.items)
-            (map (map_line (tag_meant D.meaning)) (map line_seen r.0.items))) }
+        ensures lines { IfOk result (λ r. model.EndsIn W.columns (decoration_of D.TextDecorator D.Annotation.tells)
+            (model.state_of self.program self.levels.inside.items)
+            (map line_seen r.0.items)) }
         ensures lost { IfOk result (λ r. model.TellsLoss (model.loses self.program) number
             self.levels.notes.spanning self.lost.items r.1.items) }
     {

@@ -1,9 +1,8 @@
 //! Lines in a format.
-ghost use Rattle.std.specs.Prelude.{◌≡◌, ◌++◌, ◌∷◌, [], List, ℕ, true, refl, IfOk, OnOk};
+ghost use Rattle.std.specs.Prelude.{◌≡◌, ◌++◌, ◌∷◌, [], List, ℕ, IfOk, OnOk};
 ghost use Rattle.tbr_model.specs.Codes.{newline_character};
 ghost use Rattle.tbr_tagged.specs.View.{chars_of};
 ghost use Rattle.tbr_tagged.specs.Mapped.{MapsElements};
-ghost use Rattle.tbr_decor.specs.RichLaws.{copies_equal as rich_copies_equal};
 ghost use Rattle.tbr_decor.specs.declared.annotation.RichAnnotation.{RichAnnotation as Rich};
 ghost use Rattle.tbr_view.specs.Shown as model;
 
@@ -12,24 +11,21 @@ use std::alloc::Global;
 use tbr_decor::RichAnnotation;
 use tbr_lines::{CharWidth, OutOfMemory, RenderLine, TaggedLine};
 use tbr_show::{ansi, html, ndjson};
+use tbr_tags::Tag;
 use text_block_renderer::{Annotations, written_out};
 
 /// What lines may be annotated with, to be shown.
-pub trait Annotation: Eq + Clone + Drop {
+pub trait Annotation: Tag {
     // What is shown of a list of them.
     ghost rich: { List Self → List Rich };
 
     /// The same as rich annotations.
     fn into_rich(alloc: Global, annotations: Vec<Self>) -> Vec<RichAnnotation>
         ensures { result.items ≡ Self.rich annotations.items };
-
-    ghost copies_equal: { (a b : Self) → Self.is_clone a b → Self.eq a b ≡ true };
 }
 
 impl Annotation for () {
     ghost rich = { model.none };
-
-    ghost copies_equal = { λ _ _ _. refl };
 
     fn into_rich(alloc: Global, _annotations: Vec<()>) -> Vec<RichAnnotation>
         ensures { result.items ≡ model.none _annotations.items }
@@ -40,8 +36,6 @@ impl Annotation for () {
 
 impl Annotation for RichAnnotation {
     ghost rich = { model.themselves };
-
-    ghost copies_equal = { rich_copies_equal };
 
     fn into_rich(_alloc: Global, annotations: Vec<RichAnnotation>) -> Vec<RichAnnotation>
         ensures { result.items ≡ annotations.items }
@@ -57,7 +51,7 @@ pub fn show<T: Annotation, W: CharWidth>(
     format: Format,
 ) -> Result<String, OutOfMemory>
     ensures { IfOk result (λ text.
-        model.AreShown (model.ShowsLine T.eq T.rich W.columns format) lines.items (chars_of text)) }
+        model.AreShown (model.ShowsLine T.meaning T.eq T.rich W.columns format) lines.items (chars_of text)) }
 {
     let mut text = String::new(alloc);
     for line in lines {
@@ -73,7 +67,7 @@ fn push_line<T: Annotation, W: CharWidth>(
     line: RenderLine<Annotations<T>>,
     format: Format,
 ) -> Result<(), OutOfMemory>
-    ensures { OnOk result ((cs : List ℕ) × model.ShowsLine T.eq T.rich W.columns format line cs
+    ensures { OnOk result ((cs : List ℕ) × model.ShowsLine T.meaning T.eq T.rich W.columns format line cs
         × (chars_of text.new ≡ chars_of text.old ++ cs)) }
 {
     if is_text(format) {

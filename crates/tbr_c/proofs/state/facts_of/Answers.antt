@@ -6,5 +6,5 @@ use Rattle.tbr_c.proofs.state.facts_of.Goals as goal
 
 pub returns-clause-open : goal.returns-clause-open
 returns-clause-open g c = λ some.
-    shown_still_open unicode_columns (decoration_of g.D.TextDecorator) g.D.TextDecorator.meaning c.args.program.now
+    shown_still_open unicode_columns (decoration_of g.D.TextDecorator g.D.Annotation.Tag.tells) c.args.program.now
     (elim some [ inl levels ↦ inl (λ none. omega (arith, levels, c.open_levels.ensures ∙ ap length none)) | inr cells ↦ inr (λ none. omega (arith, cells, c.waiting_cells.ensures ∙ ap length none)) ])

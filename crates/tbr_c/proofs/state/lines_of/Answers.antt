@@ -6,9 +6,9 @@ use Rattle.tbr_c.proofs.state.lines_of.Goals as goal
 
 pub returns-clause-lines : goal.returns-clause-lines
 returns-clause-lines g c =
-    if_ok_then c.finish_shown_lines.result (λ lines. shown_lines_end unicode_columns (decoration_of g.D.TextDecorator) g.D.TextDecorator.meaning c.args.program c.requires.opened c.requires.cells c.args.raw lines.items)
+    if_ok_then c.finish_shown_lines.result (λ lines. shown_lines_end unicode_columns (decoration_of g.D.TextDecorator g.D.Annotation.Tag.tells) c.args.program c.requires.opened c.requires.cells c.args.raw lines.items)
     c.finish_shown_lines.ensures.lines
 
 pub returns-clause-too_narrow : goal.returns-clause-too_narrow
 returns-clause-too_narrow g c = λ narrow.
-    shown_narrow_end unicode_columns (decoration_of g.D.TextDecorator) g.D.TextDecorator.meaning c.args.program c.requires.opened c.requires.cells c.args.raw (c.finish_shown_lines.ensures.too_narrow narrow)
+    shown_narrow_end unicode_columns (decoration_of g.D.TextDecorator g.D.Annotation.Tag.tells) c.args.program c.requires.opened c.requires.cells c.args.raw (c.finish_shown_lines.ensures.too_narrow narrow)

@@ -8,21 +8,21 @@ use Rattle.tbr_view.proofs.script.run.Goals as goal
 
 pub loop-rest-init : goal.loop-rest-init
 loop-rest-init g c = record {
-  so_far = λ last more. subst (λ s. LinesDo g.W.CharWidth.columns (decoration_of g.D.TextDecorator) s (lines_of c.args.script.now) last) c.in_ok-session.ensures.begins more;
+  so_far = λ last more. subst (λ s. LinesDo g.W.CharWidth.columns (decoration_of g.D.TextDecorator g.D.Annotation.Tag.tells) s (lines_of c.args.script.now) last) c.in_ok-session.ensures.begins more;
   live = c.in_ok-session.ensures.live;
 }
 
 pub loop-rest-preserved : goal.loop-rest-preserved
 loop-rest-preserved g c =
-    let here = state_of g.D.TextDecorator.meaning c.loop-rest.session.program c.loop-rest.session.levels.inside.items in
-    let next = state_of g.D.TextDecorator.meaning c.run_line.new.self.program c.run_line.new.self.levels.inside.items in
+    let here = state_of c.loop-rest.session.program c.loop-rest.session.levels.inside.items in
+    let next = state_of c.run_line.new.self.program c.run_line.new.self.levels.inside.items in
     record {
-      so_far = λ last more. c.loop-rest.invariant.so_far last (line_done g.W.CharWidth.columns (decoration_of g.D.TextDecorator) here next last c.loop-rest.rest.now c.split_line.result.0.now c.split_line.result.1.now c.split_line.ensures.lines c.in_ok-run_line.ensures.does more);
+      so_far = λ last more. c.loop-rest.invariant.so_far last (line_done g.W.CharWidth.columns (decoration_of g.D.TextDecorator g.D.Annotation.Tag.tells) here next last c.loop-rest.rest.now c.split_line.result.0.now c.split_line.result.1.now c.split_line.ensures.lines c.in_ok-run_line.ensures.does more);
       live = c.in_ok-run_line.ensures.live;
     }
 
 pub returns : goal.returns
 returns g c =
-    let here = state_of g.D.TextDecorator.meaning c.loop-rest.session.program c.loop-rest.session.levels.inside.items in
+    let here = state_of c.loop-rest.session.program c.loop-rest.session.levels.inside.items in
     if_ok_then c.finish.result (λ r ends.
-    (here, c.loop-rest.invariant.so_far here (no_line_left g.W.CharWidth.columns (decoration_of g.D.TextDecorator) here c.loop-rest.rest.now c.loop-rest-test.ensures), ends)) c.finish.ensures.lines
+    (here, c.loop-rest.invariant.so_far here (no_line_left g.W.CharWidth.columns (decoration_of g.D.TextDecorator g.D.Annotation.Tag.tells) here c.loop-rest.rest.now c.loop-rest-test.ensures), ends)) c.finish.ensures.lines

@@ -9,8 +9,8 @@ abbrev pub invariant-loop-rest : goal.invariant-loop-rest
 invariant-loop-rest g l = record {
   -- where the rest leads from here, the whole leads
   so_far : (last : State _ _) →
-      LinesDo g.W.CharWidth.columns (decoration_of g.D.TextDecorator) (state_of g.D.TextDecorator.meaning l.session.program l.session.levels.inside.items) (lines_of l.rest) last →
-      LinesDo g.W.CharWidth.columns (decoration_of g.D.TextDecorator) (begun l.fn.opening l.fn.decorator) (lines_of l.fn.script) last;
+      LinesDo g.W.CharWidth.columns (decoration_of g.D.TextDecorator g.D.Annotation.Tag.tells) (state_of l.session.program l.session.levels.inside.items) (lines_of l.rest) last →
+      LinesDo g.W.CharWidth.columns (decoration_of g.D.TextDecorator g.D.Annotation.Tag.tells) (begun l.fn.opening l.fn.decorator) (lines_of l.fn.script) last;
   live : GoesOn l.session.program;
 }
 

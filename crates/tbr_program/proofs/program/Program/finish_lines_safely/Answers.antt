@@ -1,4 +1,4 @@
-use Rattle.tbr_program.proofs.Common.{◌≡◌, Some, map, sym, ap, ◌∙◌, subst, decoration_of, tag_meant, map_line, meant, line_seen, top_of, GoesOn, done, refused}
+use Rattle.tbr_program.proofs.Common.{◌≡◌, Some, map, sym, ap, ◌∙◌, subst, decoration_of, line_seen, top_of, GoesOn, done, refused}
 use Rattle.tbr_tagged.specs.declared.Error.TheVariants.{TooNarrow}
 use Rattle.tbr_safe.specs.Escaped.{escaped}
 use Rattle.tbr_program.specs.Closing.{closed}
@@ -17,7 +17,7 @@ returns-clause-lines g c =
     let top = subst (λ s. top_of s ≡ Some r) stack c.into_inner-renderer.ensures.renderer in
     let links = c.in_ok-safe.ensures ∙ ap (map escaped) (c.into_inner-renderer.ensures.links ∙ ap (λ s. s.links) stack) in
     if_ok_then c.close_lines.result (λ lines h.
-    (r, top, subst (λ targets. closed g.W.CharWidth.columns (decoration_of g.D.TextDecorator) targets (meant g.D.TextDecorator.meaning r) ≡ done (map (map_line (tag_meant g.D.TextDecorator.meaning)) (map line_seen lines.items))) links h)) c.close_lines.ensures.lines
+    (r, top, subst (λ targets. closed g.W.CharWidth.columns (decoration_of g.D.TextDecorator g.D.Annotation.Tag.tells) targets r ≡ done (map line_seen lines.items)) links h)) c.close_lines.ensures.lines
 
 pub returns-clause-too_narrow : goal.returns-clause-too_narrow
 returns-clause-too_narrow g c = λ narrow.
@@ -25,7 +25,7 @@ returns-clause-too_narrow g c = λ narrow.
     let r = c.into_inner-renderer.result.0 in
     let top = subst (λ s. top_of s ≡ Some r) stack c.into_inner-renderer.ensures.renderer in
     let links = c.in_ok-safe.ensures ∙ ap (map escaped) (c.into_inner-renderer.ensures.links ∙ ap (λ s. s.links) stack) in
-    (r, top, subst (λ targets. closed g.W.CharWidth.columns (decoration_of g.D.TextDecorator) targets (meant g.D.TextDecorator.meaning r) ≡ refused TooNarrow) links (c.close_lines.ensures.too_narrow narrow))
+    (r, top, subst (λ targets. closed g.W.CharWidth.columns (decoration_of g.D.TextDecorator g.D.Annotation.Tag.tells) targets r ≡ refused TooNarrow) links (c.close_lines.ensures.too_narrow narrow))
 
 pub close_lines-requires : goal.close_lines-requires
 close_lines-requires g c =

@@ -1,4 +1,4 @@
-use Rattle.tbr_program.proofs.Common.{sym, ap, ◌∙◌, option_map, decoration_of, ask, command_of, text, progress_meant, after_command}
+use Rattle.tbr_program.proofs.Common.{sym, ap, ◌∙◌, option_map, decoration_of, ask, command_of, text, after_command}
 use Rattle.tbr_commands.proofs.Reading.{sized}
 use Rattle.tbr_program.specs.Safe.{after_shown_line}
 use Rattle.tbr_program.proofs.Results.{runs_as}
@@ -7,14 +7,13 @@ use Rattle.tbr_program.proofs.program.Program.run_shown_line.Goals as goal
 
 pub returns-in-Some : goal.returns-in-Some
 returns-in-Some g c =
-    let meaning = g.D.TextDecorator.meaning in
     let columns = g.W.CharWidth.columns in
-    let decoration = decoration_of g.D.TextDecorator in
+    let decoration = decoration_of g.D.TextDecorator g.D.Annotation.Tag.tells in
     let request = text c.in-Some.text.now in
-    let here = progress_meant meaning c.args.self.now in
+    let here = c.args.self.now in
     let line = c.args.line.now in
     record {
-      runs = runs_as meaning (after_command columns decoration c.args.number (ask request)) (after_shown_line columns decoration c.args.raw c.args.number line) c.args.self.now _ c.add_text.result
+      runs = runs_as (after_command columns decoration c.args.number (ask request)) (after_shown_line columns decoration c.args.raw c.args.number line) c.args.self.now _ c.add_text.result
           (ap (λ k. after_command columns decoration c.args.number k here) (requested c.args.raw request) ∙ shown_commanded columns decoration c.args.raw c.args.number here line (ask request) c.if-is_empty.ensures c.in-Some.ensures.asked)
           (c.add_text.ensures.runs c.args.number);
     }

@@ -1,7 +1,6 @@
 use Rattle.std.proofs.Common.{sym, ◌∙◌, subst}
 use Rattle.std.proofs.lemmas.Result.{on_ok_weaker}
 use Rattle.tbr_decor.specs.Decoration.{decoration_of}
-use Rattle.tbr_program.specs.Progress.{progress_meant}
 use Rattle.tbr_statements.specs.declared.level.Opener.TheVariants.{Block as OfBlock}
 use Rattle.tbr_statements.specs.Level.{Leaves}
 use Rattle.tbr_view.specs.Session.{state_of, BlockAppends, BlockCloses}
@@ -10,9 +9,8 @@ use Rattle.tbr_view.proofs.session.Session.close.Goals as goal
 
 pub returns-in-Some-Block-clause-closes : goal.returns-in-Some-Block-clause-closes
 returns-in-Some-Block-clause-closes g c =
-    let meaning = g.D.TextDecorator.meaning in
     let columns = g.W.CharWidth.columns in
-    let deco = decoration_of g.D.TextDecorator in
+    let deco = decoration_of g.D.TextDecorator g.D.Annotation.Tag.tells in
     let self = c.args.self.now in
     let rest = c.leave.new.self in
     let q = c.close_block.new.self.program in
@@ -22,7 +20,7 @@ returns-in-Some-Block-clause-closes g c =
     let leaves = subst (λ l. Leaves l.inside.items l.notes (OfBlock block texts) rest.inside.items rest.notes) (c.in_ok-note_ends.ensures.levels ∙ c.in_ok-note_losses.ensures.levels)
     (subst (λ by. Leaves c.note_ends.new.self.levels.inside.items c.note_ends.new.self.levels.notes by rest.inside.items rest.notes) c.in-Some-Block.field-0-is c.in-Some-Block.ensures.closed) in
     on_ok_weaker c.close_block.result (λ h.
-    let appends = subst (λ x. BlockAppends columns deco (progress_meant meaning x) block texts (progress_meant meaning q)) (c.in_ok-note_ends.ensures.program ∙ c.in_ok-note_losses.ensures.program) h in
-    subst (λ l. BlockCloses columns deco (state_of meaning self.program self.levels.inside.items) c.args.by.now (state_of meaning q l.inside.items)) (sym c.close_block.ensures.levels)
-    (block_closes meaning columns deco self.program q self.levels.inside.items rest.inside.items block texts c.args.by.now self.levels.notes rest.notes closed leaves appends))
+    let appends = subst (λ x. BlockAppends columns deco x block texts q) (c.in_ok-note_ends.ensures.program ∙ c.in_ok-note_losses.ensures.program) h in
+    subst (λ l. BlockCloses columns deco (state_of self.program self.levels.inside.items) c.args.by.now (state_of q l.inside.items)) (sym c.close_block.ensures.levels)
+    (block_closes columns deco self.program q self.levels.inside.items rest.inside.items block texts c.args.by.now self.levels.notes rest.notes closed leaves appends))
     c.close_block.ensures.appends

@@ -1,12 +1,10 @@
 use Rattle.std.proofs.Common.{Ok}
 use Rattle.tbr_decor.specs.Decoration.{decoration_of}
 use Rattle.tbr_commands.specs.Command.{command_of}
-use Rattle.tbr_program.specs.Progress.{progress_meant}
 use Rattle.tbr_program.proofs.CommandParts.{any_line}
 use Rattle.tbr_view.proofs.session.Session.command.Goals as goal
 
 pub returns-in-Ok-clause-does : goal.returns-in-Ok-clause-does
 returns-in-Ok-clause-does g c =
-    let meaning = g.D.TextDecorator.meaning in
-    let next = progress_meant meaning c.run.new.self in
-    any_line g.W.CharWidth.columns (decoration_of g.D.TextDecorator) c.args.number 0 (progress_meant meaning c.args.self.now.program) (Ok next) tt (command_of c.args.command.now) c.in-Ok.ensures.runs.ok
+    let next = c.run.new.self in
+    any_line g.W.CharWidth.columns (decoration_of g.D.TextDecorator g.D.Annotation.Tag.tells) c.args.number 0 c.args.self.now.program (Ok next) tt (command_of c.args.command.now) c.in-Ok.ensures.runs.ok

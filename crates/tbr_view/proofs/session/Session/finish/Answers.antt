@@ -1,25 +1,20 @@
 use Rattle.std.proofs.Common.{◌≡◌, map, ap, subst}
 use Rattle.tbr_decor.specs.Decoration.{decoration_of}
-use Rattle.text_block_renderer.specs.Tags.{tag_meant}
-use Rattle.text_block_renderer.specs.Meant.{map_line, meant}
 use Rattle.text_block_renderer.specs.Top.{OfTop}
 use Rattle.text_block_renderer.specs.Line.{line_seen}
 use Rattle.tbr_tagged.specs.Outcome.{done}
 use Rattle.tbr_program.specs.Closing.{closed}
-use Rattle.tbr_program.specs.Progress.{cell_meant}
-use Rattle.tbr_stack.proofs.Tops.{top_meant}
 use Rattle.tbr_view.specs.Session.{openers}
 use Rattle.tbr_view.proofs.session.Session.finish.Goals as goal
 
 pub returns-in-Ok-clause-lines : goal.returns-in-Ok-clause-lines
 returns-in-Ok-clause-lines g c =
-    let meaning = g.D.TextDecorator.meaning in
-    let lines = map (map_line (tag_meant meaning)) (map line_seen c.in-Ok.lines.items) in
-    let ends_with = closed g.W.CharWidth.columns (decoration_of g.D.TextDecorator) in
+    let lines = map line_seen c.in-Ok.lines.items in
+    let ends_with = closed g.W.CharWidth.columns (decoration_of g.D.TextDecorator g.D.Annotation.Tag.tells) in
     let stack = let p = c.args.self.program in p.stack in
-    let ends = subst (λ p. OfTop (λ r. ends_with p.stack.links (meant meaning r) ≡ done lines) p.stack) c.in_ok-end.ensures.program c.in-Ok.ensures.lines in
+    let ends = subst (λ p. OfTop (λ r. ends_with p.stack.links r ≡ done lines) p.stack) c.in_ok-end.ensures.program c.in-Ok.ensures.lines in
     record {
       levels = ap openers c.in_ok-end.ensures.inside;
-      cells = ap (map (cell_meant meaning)) c.in_ok-end.ensures.cells;
-      closes = (meant meaning ends.0, top_meant meaning stack ends.0 ends.1, ends.2);
+      cells = c.in_ok-end.ensures.cells;
+      closes = ends;
     }

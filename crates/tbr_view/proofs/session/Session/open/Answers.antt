@@ -6,7 +6,6 @@ use Rattle.text_block_renderer.specs.Stack.{top_of}
 use Rattle.tbr_commands.specs.declared.request.layout.Layout.TheVariants.{StartBlock}
 use Rattle.tbr_commands.specs.Request.{layout}
 use Rattle.tbr_commands.specs.Command.{ask}
-use Rattle.tbr_program.specs.Progress.{progress_meant}
 use Rattle.tbr_statements.specs.declared.level.Opener.TheVariants.{Block as OfBlock}
 use Rattle.tbr_statements.specs.Block.{other_prefix, stands_apart}
 use Rattle.tbr_view.specs.Session.{openers, DoesIf}
@@ -15,9 +14,8 @@ use Rattle.tbr_view.proofs.session.Session.open.Goals as goal
 
 pub returns-clause-opens : goal.returns-clause-opens
 returns-clause-opens g c =
-    let meaning = g.D.TextDecorator.meaning in
     let columns = g.W.CharWidth.columns in
-    let deco = decoration_of g.D.TextDecorator in
+    let deco = decoration_of g.D.TextDecorator g.D.Annotation.Tag.tells in
     let self = c.args.self.now in
     let texts = c.in_ok-prefixes.prefixes in
     let unchanged = c.prefix-2.ensures.unchanged in
@@ -30,9 +28,9 @@ returns-clause-opens g c =
     let top = c.top.result.now in
     let wide : c.width-width.result ≡ top.width = c.width-width.ensures in
     let n = c.width-width.result - c.in_ok-columns.columns in
-    let begins = subst (λ x. DoesIf columns deco (stands_apart c.args.block) (progress_meant meaning x) (ask (layout StartBlock)) (progress_meant meaning apart)) unchanged
-    (subst (λ b. DoesIf columns deco b (progress_meant meaning c.prefix-2.new.self) (ask (layout StartBlock)) (progress_meant meaning apart)) c.stands_apart.ensures c.in_ok-lay_out_if.ensures.does) in
+    let begins = subst (λ x. DoesIf columns deco (stands_apart c.args.block) x (ask (layout StartBlock)) apart) unchanged
+    (subst (λ b. DoesIf columns deco b c.prefix-2.new.self (ask (layout StartBlock)) apart) c.stands_apart.ensures c.in_ok-lay_out_if.ensures.does) in
     let levels = ap (λ k. openers k.inside) c.in_ok-enter.ensures ∙ openers_push c.command.new.self.levels.inside.items _
     ∙ ap (λ l. openers l.inside.items ++ OfBlock c.args.block texts ∷ []) (c.in_ok-command.ensures.levels ∙ c.in_ok-lay_out_if.ensures.levels) in
-    block_opens meaning columns deco self.program c.command.new.self.program self.levels.inside.items c.enter.new.self.inside.items c.args.block texts asked.0 top apart n
+    block_opens columns deco self.program c.command.new.self.program self.levels.inside.items c.enter.new.self.inside.items c.args.block texts asked.0 top apart n
     asked.1 (ap (λ x. top_of x.stack) (sym unchanged) ∙ c.top.ensures) first others (omega (arith, takes, wide, c.if-width-columns.false)) (omega (arith, takes, wide)) begins c.in_ok-command.ensures.does levels

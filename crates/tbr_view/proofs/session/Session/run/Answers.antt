@@ -17,5 +17,5 @@ returns-clause-does g c =
     let levels = ap (λ k. openers k.inside) c.in_ok-note_levels.ensures.levels ∙ openers_noted (known_in c.note_stretch.new.self.levels) c.args.number command ∙ ap (λ v. opened_by command (openers v.items)) inside in
     let here = c.in_ok-note_ends_of.ensures.program ∙ c.in_ok-note_losses_of.ensures.program ∙ c.note_texts.ensures.program in
     let there = c.in_ok-note_levels.ensures.program ∙ c.in_ok-note_stretch.ensures.program ∙ c.in_ok-note_row.ensures.program in
-    commanded g.D.TextDecorator.meaning g.W.CharWidth.columns (decoration_of g.D.TextDecorator) self.program next.program self.levels.inside.items next.levels.inside.items
+    commanded g.W.CharWidth.columns (decoration_of g.D.TextDecorator g.D.Annotation.Tag.tells) self.program next.program self.levels.inside.items next.levels.inside.items
     command c.note_ends_of.new.self.program c.command.new.self.program here there may c.in_ok-command.ensures.does levels
