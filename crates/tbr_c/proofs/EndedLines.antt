@@ -1,5 +1,5 @@
 -- Lines at the end of a program.
-use Rattle.std.proofs.Common.{◌≡◌, ◌≢◌, ◌⊎◌, ℕ, Bool, true, false, Option, List, [], ◌∷◌, ◌++◌, map, flat_map, Ok, Err, encode_utf8_all, refl, ap, ◌∙◌}
+use Rattle.std.proofs.Common.{◌≡◌, ℕ, Bool, Option, List, [], ◌∷◌, ◌++◌, map, flat_map, Ok, Err, encode_utf8_all, refl, ap, ◌∙◌}
 use Rattle.tbr_model.specs.Codes.{newline_character}
 use Rattle.tbr_border.specs.Border.{shown}
 use Rattle.tbr_border.specs.declared.RenderLine.{RenderLine}
@@ -13,12 +13,12 @@ use Rattle.text_block_renderer.specs.Line.{Line, line_seen}
 use Rattle.text_block_renderer.specs.Outcomes.{changed}
 use Rattle.text_block_renderer.specs.Text.{lines_text}
 use Rattle.text_block_renderer.specs.Top.{OfTop}
-use Rattle.tbr_script.specs.declared.error.RunError.TheVariants.{NotACommand, TooNarrow}
+use Rattle.tbr_script.specs.declared.error.RunError.TheVariants.{TooNarrow}
 use Rattle.tbr_program.specs.Progress.{Progress}
 use Rattle.tbr_program.specs.Closing.{closed}
 use Rattle.tbr_program.specs.Safe.{shown_links}
 use Rattle.tbr_program.specs.Commands.{ended, answered}
-use Rattle.tbr_program.proofs.MadeCommands.{still_open, text_given}
+use Rattle.tbr_program.proofs.MadeCommands.{text_given}
 use Rattle.tbr_c_lines.specs.Lines.{line_text}
 
 seen_text : {T : Type 0} (lines : List (RenderLine T)) → lines_text (map line_seen lines) ≡ flat_map line_text lines
@@ -26,39 +26,17 @@ seen_text [] = refl
 seen_text (Text es ∷ lines) = ap (λ cs. (item_characters (items_of es) ++ newline_character ∷ []) ++ cs) (seen_text lines)
 seen_text (Rule b ∷ lines) = ap (λ cs. (item_characters (shown b.tag b) ++ newline_character ∷ []) ++ cs) (seen_text lines)
 
-module _ {D A : Type 0} (columns : ℕ → Option ℕ) (decoration : Decoration D A) (p : Progress D A (List A)) (no_level : p.opened ≡ []) (no_cell : p.pending.cells ≡ []) where
+module _ {D A : Type 0} (columns : ℕ → Option ℕ) (decoration : Decoration D A) (p : Progress D A (List A)) (no_level : p.opened ≡ []) (no_cell : p.pending.cells ≡ []) (raw : Bool) where
   abbrev Closes : Outcome (List (Line (List A))) → Type 0
-  Closes given = OfTop (λ r. closed columns decoration (let s = p.stack in s.links) r ≡ given) p.stack
+  Closes given = OfTop (λ r. closed columns decoration (let q = shown_links raw p in let s = q.stack in s.links) r ≡ given) p.stack
 
-  ends : (given : Outcome (List (Line (List A)))) → Closes given → ended columns decoration 0 p ≡ answered (changed (λ lines. encode_utf8_all (lines_text lines)) given)
+  ends : (given : Outcome (List (Line (List A)))) → Closes given → ended columns decoration 0 (shown_links raw p) ≡ answered (changed (λ lines. encode_utf8_all (lines_text lines)) given)
   ends given (top, is, h) =
-      text_given columns decoration 0 p p refl (let s = p.stack in s.links) refl top is no_level no_cell (changed (λ lines. encode_utf8_all (lines_text lines)) given)
+      text_given columns decoration 0 (shown_links raw p) (shown_links raw p) refl (let q = shown_links raw p in let s = q.stack in s.links) refl top is no_level no_cell (changed (λ lines. encode_utf8_all (lines_text lines)) given)
       (ap (changed (λ lines. encode_utf8_all (lines_text lines))) h)
 
-  pub lines_end : (lines : List (RenderLine (List A))) → Closes (done (map line_seen lines)) →
-      ended columns decoration 0 p ≡ Ok (encode_utf8_all (flat_map line_text lines))
-  lines_end lines h =
-      ends _ h ∙ ap (λ cs. Ok (encode_utf8_all cs)) (seen_text lines)
+  pub lines_end : (lines : List (RenderLine (List A))) → Closes (done (map line_seen lines)) → ended columns decoration 0 (shown_links raw p) ≡ Ok (encode_utf8_all (flat_map line_text lines))
+  lines_end lines h = ends _ h ∙ ap (λ cs. Ok (encode_utf8_all cs)) (seen_text lines)
 
-  pub narrow_end : Closes (refused block.TooNarrow) → ended columns decoration 0 p ≡ Err TooNarrow
+  pub narrow_end : Closes (refused block.TooNarrow) → ended columns decoration 0 (shown_links raw p) ≡ Err TooNarrow
   narrow_end h = ends (refused block.TooNarrow) h
-
--- the same where targets are shown raw or not
-module _ {D A : Type 0} (columns : ℕ → Option ℕ) (decoration : Decoration D A) (p : Progress D A (List A)) (no_level : p.opened ≡ []) (no_cell : p.pending.cells ≡ []) where
-  abbrev Gives : Bool → Outcome (List (Line (List A))) → Type 0
-  Gives raw given = OfTop (λ r. closed columns decoration (let q = shown_links raw p in let s = q.stack in s.links) r ≡ given) p.stack
-
-  pub shown_lines_end : (raw : Bool) (lines : List (RenderLine (List A))) → Gives raw (done (map line_seen lines)) →
-      ended columns decoration 0 (shown_links raw p) ≡ Ok (encode_utf8_all (flat_map line_text lines))
-  shown_lines_end true lines h = lines_end columns decoration p no_level no_cell lines h
-  shown_lines_end false lines h = lines_end columns decoration (shown_links false p) no_level no_cell lines h
-
-  pub shown_narrow_end : (raw : Bool) → Gives raw (refused block.TooNarrow) → ended columns decoration 0 (shown_links raw p) ≡ Err TooNarrow
-  shown_narrow_end true h = narrow_end columns decoration p no_level no_cell h
-  shown_narrow_end false h = narrow_end columns decoration (shown_links false p) no_level no_cell h
-
--- where a level is open or a cell waits
-pub shown_still_open : {D A : Type 0} (columns : ℕ → Option ℕ) (decoration : Decoration D A) (p : Progress D A (List A)) → (p.opened ≢ []) ⊎ (p.pending.cells ≢ []) →
-    (raw : Bool) → ended columns decoration 0 (shown_links raw p) ≡ Err (NotACommand 0)
-shown_still_open columns decoration p some true = still_open columns decoration 0 p p refl some
-shown_still_open columns decoration p some false = still_open columns decoration 0 (shown_links false p) (shown_links false p) refl some

@@ -421,7 +421,7 @@ fn text_of<D: TextDecorator>(
     ensures too_narrow { let end = ended unicode_columns (decoration_of D.TextDecorator D.Annotation.tells) 0 in
         result ≡ Err Refusal.TooNarrow → end (shown_links raw program) ≡ Err script.TooNarrow }
 {
-    match program.finish_shown(0, raw) {
+    match program.finish(0, raw) {
         Ok(text) => Ok(text),
         Err(RunError::TooNarrow) => Err(Error::TooNarrow),
         Err(_) => Err(Error::OutOfMemory),
@@ -442,7 +442,7 @@ fn lines_of<D: TextDecorator>(
     ensures too_narrow { let end = ended unicode_columns (decoration_of D.TextDecorator D.Annotation.tells) 0 in
         result ≡ Err Refusal.TooNarrow → end (shown_links raw program) ≡ Err script.TooNarrow }
 {
-    program.finish_shown_lines(raw)
+    program.finish_lines(raw)
 }
 
 /// What a program answers of its innermost level.

@@ -1,7 +1,7 @@
 //! A script as a whole.
 ghost use Rattle.std.specs.Prelude.{◌≡◌, ◌≢◌, ℕ, List, length, take, Ok};
 ghost use Rattle.tbr_tagged.specs.UnicodeColumns.{unicode_columns};
-ghost use Rattle.tbr_runner.specs.Safe.{shown};
+ghost use Rattle.tbr_runner.specs.Scripts.{shown};
 
 use std::alloc::Global;
 use tbr_c_lines::Fault;

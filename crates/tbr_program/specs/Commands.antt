@@ -1,5 +1,5 @@
 -- What each command makes of a script, and what its end gives.
-use Rattle.std.specs.Prelude.{◌≡◌, ◌≢◌, ℕ, if◌then◌else◌, Bool, Option, None, Some, Result, Ok, Err, OnOk, IfErr, List, [], ◌∷◌, length, chars}
+use Rattle.std.specs.Prelude.{◌≡◌, ◌≢◌, ℕ, if◌then◌else◌, Bool, true, Option, None, Some, Result, Ok, Err, OnOk, IfErr, List, [], ◌∷◌, length, chars}
 use Rattle.std.specs.Cmp.Lexicographic.{pointwise}
 use Rattle.tbr_tagged.specs.Outcome.{Outcome, done, refused}
 use Rattle.tbr_rows.specs.Cells.{row_fits}
@@ -26,6 +26,7 @@ use Rattle.tbr_program.specs.declared.opened.Opener.TheVariants.{Sub, Cell}
 use Rattle.tbr_program.specs.Prefixes.{prefixes}
 use Rattle.tbr_program.specs.Progress.{Pending, Opened, Progress, nothing_pending, renderers_of, with_cell, without_cells, GoesOn}
 use Rattle.tbr_program.specs.Closing.{closed_text}
+use Rattle.tbr_program.specs.Safe.{shown_command}
 
 -- What a function runs that makes this of a program. It is `Ok` only where it leaves that, and refused only with the
 -- refusal that this is, but where memory is refused. But for `TooNarrow` a refusal leaves the program as it was, and
@@ -157,14 +158,21 @@ module _ {D M : Type 0} (columns : ℕ → Option ℕ) (decoration : Decoration 
   -- ---- lines
 
   -- what is made of a script by what is read of the line of this number: a command, or none, which is refused
-  abbrev pub after_read : ℕ → Option Command → Place → Made
-  after_read number None p = Err (NotACommand number)
-  after_read number (Some command) p = after_command number command p
+  abbrev pub after_shown_read : (raw : Bool) → ℕ → Option Command → Place → Made
+  after_shown_read raw number None p = Err (NotACommand number)
+  after_shown_read raw number (Some command) p = after_command number (shown_command raw command) p
 
   -- What the line of this number makes of a script. An empty line is skipped.
+  abbrev pub after_shown_line : (raw : Bool) → ℕ → List ℕ → Place → Made
+  after_shown_line raw number [] p = Ok p
+  after_shown_line raw number (b ∷ bs) p = after_shown_read raw number (command_read (b ∷ bs)) p
+
+  -- what it makes of one that shows all as it came
+  abbrev pub after_read : ℕ → Option Command → Place → Made
+  after_read = after_shown_read true
+
   abbrev pub after_line : ℕ → List ℕ → Place → Made
-  after_line number [] p = Ok p
-  after_line number (b ∷ bs) p = after_read number (command_read (b ∷ bs)) p
+  after_line = after_shown_line true
 
   -- What the end of a script gives, which counts as the line of this number: its text with the footnotes of its links.
   -- Where a level is open or a cell waits, the end is no command.

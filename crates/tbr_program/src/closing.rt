@@ -7,9 +7,11 @@ ghost use Rattle.text_block_renderer.specs.Line.{line_seen};
 ghost use Rattle.tbr_tagged.specs.Outcome.{done, refused};
 ghost use Rattle.text_block_renderer.specs.Appended.{handed_out};
 ghost use Rattle.tbr_program.specs.Closing.{closed, closed_text};
+ghost use Rattle.tbr_program.specs.Safe as model;
 
 use tbr_decor::TextDecorator;
-use tbr_lines::{CharWidth, Error, RenderLine};
+use tbr_lines::{CharWidth, Error, OutOfMemory, RenderLine};
+use tbr_safe::escape_all;
 use text_block_renderer::{Annotations, Renderer, SubRenderer};
 
 /// The text of a renderer whose links have these targets: its lines, and after them the footnotes as a block of their
@@ -68,4 +70,15 @@ fn with_footnotes<D: TextDecorator, W: CharWidth>(
     renderer.start_block()?;
     renderer.fmt_links(footnotes)?;
     Ok(renderer)
+}
+
+/// The targets of links as footnotes list them: as they came if they are to be `raw`, else without control characters.
+/// It refuses only where memory is refused.
+pub fn listed(targets: Vec<String>, raw: bool) -> Result<Vec<String>, OutOfMemory>
+    ensures { IfOk result (λ shown. map chars_of shown.items ≡ model.listed raw (map chars_of targets.items)) }
+{
+    if raw {
+        return Ok(targets);
+    }
+    escape_all(targets)
 }

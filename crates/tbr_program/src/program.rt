@@ -18,10 +18,10 @@ ghost use Rattle.tbr_commands.specs.Command.{command_of, IsSized};
 ghost use Rattle.tbr_commands.specs.Command as asked;
 ghost use Rattle.tbr_program.specs.Progress.{nothing_pending, opener, Closes, IsSpanned, GoesOn};
 ghost use Rattle.tbr_program.specs.Closing.{closed};
-ghost use Rattle.tbr_program.specs.Commands.{Runs, level_opened, after_command, after_line, ended};
-ghost use Rattle.tbr_program.specs.Safe.{safe_command, shown_command, shown_links, after_shown_line};
+ghost use Rattle.tbr_program.specs.Commands.{Runs, level_opened, after_command, after_shown_line, ended};
+ghost use Rattle.tbr_program.specs.Safe.{safe_command, shown_command, shown_links};
 
-use crate::closing::{close, close_lines};
+use crate::closing::{close, close_lines, listed};
 use crate::opened::{OpenLevels, Opener};
 use crate::pending::Pending;
 use crate::prefixes::{append_after, prefix_of};
@@ -31,7 +31,7 @@ use std::mem;
 use tbr_commands::{Command, NewCell, Request};
 use tbr_decor::{DecoratorPrefix, TextDecorator};
 use tbr_lines::{CharWidth, Error, OutOfMemory, RenderLine};
-use tbr_safe::{escape, escape_all};
+use tbr_safe::escape;
 use tbr_script::{RunError, TextPair};
 use tbr_stack::TextRenderer;
 use text_block_renderer::{Annotations, RenderOptions, Renderer, SubRenderer};
@@ -81,31 +81,12 @@ impl<D: TextDecorator, W: CharWidth> Program<D, W> {
         })
     }
 
-    /// Does what the line of this number asks for. An empty line asks for nothing.
+    /// Does what the line of this number asks for. An empty line asks for nothing. A prefix is shown without control
+    /// characters, unless it is to be `raw`.
     ///
     /// It refuses as the line does, and with `OutOfMemory` only where memory is refused. After `OutOfMemory` and
     /// `TooNarrow` the program isn't to be used any more. Each other refusal leaves it as it was.
-    pub fn run_line(&mut self, alloc: Global, number: usize, line: &[u8]) -> Result<(), RunError>
-        requires { GoesOn self.old }
-        ensures runs { Runs (after_line W.columns (decoration_of D.TextDecorator D.Annotation.tells) number line.now)
-            self.old result self.new }
-    {
-        if line.is_empty() {
-            return Ok(());
-        }
-        // A text without escapes needs no copy.
-        if let Some(text) = Command::plain_text(line) {
-            return self.add_text(text);
-        }
-        match Command::parse(alloc, line)? {
-            Some(command) => self.run(alloc, number, &command),
-            None => Err(RunError::NotACommand(number)),
-        }
-    }
-
-    /// Does what the line of this number asks for, as `run_line` does. A prefix is shown without control characters,
-    /// unless it is to be `raw`.
-    pub fn run_shown_line(
+    pub fn run_line(
         &mut self,
         alloc: Global,
         number: usize,
@@ -336,76 +317,27 @@ impl<D: TextDecorator, W: CharWidth> Program<D, W> {
         Ok(())
     }
 
-    /// The text of the script, whose end counts as the line of this number.
+    /// The text of the script, whose end counts as the line of this number. The targets of links are listed without
+    /// control characters, unless they are to be `raw`.
     ///
     /// It refuses as the end of the script does, and with `OutOfMemory` only where memory is refused.
-    pub fn finish(self, number: usize) -> Result<String, RunError>
+    pub fn finish(self, number: usize, raw: bool) -> Result<String, RunError>
         requires { GoesOn self }
-        ensures text { IfOk result (λ text. ended W.columns (decoration_of D.TextDecorator D.Annotation.tells) number
-            self ≡ Ok (string_bytes text)) }
-        ensures refused { IfErr result (λ e. e ≢ RunError.OutOfMemory →
-            ended W.columns (decoration_of D.TextDecorator D.Annotation.tells) number self ≡ Err e) }
+        ensures text { let end = ended W.columns (decoration_of D.TextDecorator D.Annotation.tells) number in
+            IfOk result (λ text. end (shown_links raw self) ≡ Ok (string_bytes text)) }
+        ensures refused { let end = ended W.columns (decoration_of D.TextDecorator D.Annotation.tells) number in
+            IfErr result (λ e. e ≢ RunError.OutOfMemory → end (shown_links raw self) ≡ Err e) }
     {
         if !self.opened.is_empty() || self.pending.has_cells() {
             return Err(RunError::NotACommand(number));
         }
         let (renderer, targets) = self.renderers.into_inner();
-        Ok(close(renderer, targets)?)
+        Ok(close(renderer, listed(targets, raw)?)?)
     }
 
-    /// The text of the script, as `finish` gives it. The targets of links are listed without control characters, unless
-    /// they are to be `raw`.
-    pub fn finish_shown(self, number: usize, raw: bool) -> Result<String, RunError>
-        requires { GoesOn self }
-        ensures text { IfOk result (λ text. ended W.columns (decoration_of D.TextDecorator D.Annotation.tells) number
-            (shown_links raw self) ≡ Ok (string_bytes text)) }
-        ensures refused { IfErr result (λ e. e ≢ RunError.OutOfMemory →
-            ended W.columns (decoration_of D.TextDecorator D.Annotation.tells) number
-            (shown_links raw self) ≡ Err e) }
-    {
-        if raw {
-            return self.finish(number);
-        }
-        self.finish_safely(number)
-    }
-
-    /// The text of the script, the targets of links listed without control characters.
-    fn finish_safely(self, number: usize) -> Result<String, RunError>
-        requires { GoesOn self }
-        ensures text { IfOk result (λ text. ended W.columns (decoration_of D.TextDecorator D.Annotation.tells) number
-            (shown_links false self) ≡ Ok (string_bytes text)) }
-        ensures refused { IfErr result (λ e. e ≢ RunError.OutOfMemory →
-            ended W.columns (decoration_of D.TextDecorator D.Annotation.tells) number
-            (shown_links false self) ≡ Err e) }
-    {
-        if !self.opened.is_empty() || self.pending.has_cells() {
-            return Err(RunError::NotACommand(number));
-        }
-        let (renderer, targets) = self.renderers.into_inner();
-        let safe = escape_all(targets)?;
-        Ok(close(renderer, safe)?)
-    }
-
-    /// The lines of the text, where no level is open and no cell waits. Their lists of annotations share what they have
-    /// in common. It refuses as `finish` does then.
-    pub fn finish_lines(self) -> Result<Vec<RenderLine<Annotations<D::Annotation>>>, Error>
-        requires goes_on { GoesOn self }
-        requires opened { self.opened ≡ [] }
-        requires cells { self.pending.cells ≡ [] }
-        ensures lines { IfOk result (λ lines. OfTop (λ r.
-            closed W.columns (decoration_of D.TextDecorator D.Annotation.tells) self.stack.links r
-            ≡ done (map line_seen lines.items)) self.stack) }
-        ensures too_narrow { result ≡ Err Refusal.TooNarrow → OfTop (λ r.
-            closed W.columns (decoration_of D.TextDecorator D.Annotation.tells) self.stack.links r
-            ≡ refused Refusal.TooNarrow) self.stack }
-    {
-        let (renderer, targets) = self.renderers.into_inner();
-        close_lines(renderer, targets)
-    }
-
-    /// The lines of the text, as `finish_lines` gives them. The targets of links are listed without control characters,
-    /// unless they are to be `raw`.
-    pub fn finish_shown_lines(
+    /// The lines of the text, where no level is open and no cell waits. Their lists of annotations share their common
+    /// part. The targets of links are listed as by `finish`, and it refuses as that does.
+    pub fn finish_lines(
         self,
         raw: bool,
     ) -> Result<Vec<RenderLine<Annotations<D::Annotation>>>, Error>
@@ -419,27 +351,8 @@ impl<D: TextDecorator, W: CharWidth> Program<D, W> {
             closed W.columns (decoration_of D.TextDecorator D.Annotation.tells) shown.stack.links r
             ≡ refused Refusal.TooNarrow) self.stack }
     {
-        if raw {
-            return self.finish_lines();
-        }
-        self.finish_lines_safely()
-    }
-
-    /// The lines of the text, the targets of links listed without control characters.
-    fn finish_lines_safely(self) -> Result<Vec<RenderLine<Annotations<D::Annotation>>>, Error>
-        requires goes_on { GoesOn self }
-        requires opened { self.opened ≡ [] }
-        requires cells { self.pending.cells ≡ [] }
-        ensures lines { let shown = shown_links false self in IfOk result (λ lines. OfTop (λ r.
-            closed W.columns (decoration_of D.TextDecorator D.Annotation.tells) shown.stack.links r
-            ≡ done (map line_seen lines.items)) self.stack) }
-        ensures too_narrow { let shown = shown_links false self in result ≡ Err Refusal.TooNarrow → OfTop (λ r.
-            closed W.columns (decoration_of D.TextDecorator D.Annotation.tells) shown.stack.links r
-            ≡ refused Refusal.TooNarrow) self.stack }
-    {
         let (renderer, targets) = self.renderers.into_inner();
-        let safe = escape_all(targets)?;
-        close_lines(renderer, safe)
+        close_lines(renderer, listed(targets, raw)?)
     }
 
     /// The renderer of the innermost level.

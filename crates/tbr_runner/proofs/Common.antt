@@ -42,5 +42,5 @@ pub use Rattle.tbr_program.specs.declared.opened.Opener.{Opener}
 pub use Rattle.tbr_program.specs.declared.opened.Opener.TheVariants.{Sub}
 pub use Rattle.tbr_runner.specs.Kept.{EndsOne, EndsWhole, IsOfOneRow, IsShort, KeepsAll, LineAsksForOneRow, OverhangsNowhere, TextKeeps}
 pub use Rattle.tbr_runner.specs.Led.{AllAre, AreLed, CellsAre, IsFresh, IsLed, IsTextOfLed, IsTextOfScript, LineAsksForTwo}
-pub use Rattle.tbr_runner.specs.Scripts.{rendered, rendered_by, rendered_from, rendered_on, rendered_under, unless_refused}
+pub use Rattle.tbr_runner.specs.Scripts.{rendered, rendered_on, unless_refused}
 pub use Rattle.tbr_runner.specs.StackCalls.{AskAfterFirst, AskFor, LinesDo, calls_of, link_targets, stack_calls}

@@ -1,5 +1,6 @@
 -- Each renderer of a script is led to by calls and rows.
-use Rattle.tbr_runner.proofs.Common.{◌≡◌, ◌≢◌, ◌<◌, ◌+◌, inl, inr, Ok, ℕ, Bool, true, false, if◌then◌else◌, Option, Some, None, List, [], ◌∷◌, ◌++◌, flat_map, fold, refl, ap, sym, ◌∙◌, subst, arith, rules, Item, done, refused, Decoration, changed, Opening, opening_read, Command, top_of, Progress, with_notes, footnotes_of, lines_closed, closed_text, Decorator, Plain, Trivial, Rich, RenderOptions, block_lines, lines_at_end, names_at_end, fits_at_end, flushed, after_block, after_flush, lines_of, AllZip, encode_utf8_all, rendered_on, rendered_under, rendered_by, rendered_from, rendered, handed_out, NotACommand, after_line, ended, started, Open, Renderer, IsSound, with_line, has_content, new_line, start_block, after, sub_renderer, Act, call, row_of_cells, fmt_links, finalise, after_act, stack_calls, link_targets, AskFor, AskAfterFirst, LinesDo, IsFresh, IsLed, AreLed, IsTextOfLed, IsTextOfScript}
+use Rattle.tbr_runner.proofs.Common.{◌≡◌, ◌≢◌, ◌<◌, ◌+◌, inl, inr, Ok, ℕ, Bool, true, false, if◌then◌else◌, Option, Some, None, List, [], ◌∷◌, ◌++◌, flat_map, fold, refl, ap, sym, ◌∙◌, subst, arith, rules, Item, done, refused, Decoration, changed, Opening, opening_read, Command, top_of, Progress, with_notes, footnotes_of, lines_closed, closed_text, Decorator, Plain, Trivial, Rich, RenderOptions, block_lines, lines_at_end, names_at_end, fits_at_end, flushed, after_block, after_flush, lines_of, AllZip, encode_utf8_all, rendered_on, rendered, handed_out, NotACommand, after_line, ended, started, Open, Renderer, IsSound, with_line, has_content, new_line, start_block, after, sub_renderer, Act, call, row_of_cells, fmt_links, finalise, after_act, stack_calls, link_targets, AskFor, AskAfterFirst, LinesDo, IsFresh, IsLed, AreLed, IsTextOfLed, IsTextOfScript}
+use Rattle.tbr_runner.specs.Scripts.{shown_under, shown_by, shown_from}
 use Rattle.std.specs.Cmp.Lexicographic.{pointwise}
 use Rattle.tbr_renderer.proofs.OutcomeParts.{one_done, done_before}
 use Rattle.tbr_commands.specs.Opening.{IsOpening}
@@ -178,19 +179,19 @@ module _ (columns : ℕ → Option ℕ) (space : columns 32 ≡ Some 1) where
   begun_led decoration decorator opening number lines text wide some h = text_led columns decoration (started opening decorator) number lines text (started_led columns decoration space opening decorator wide some) h
 
   under_led : (decorator : Decorator) (opening : Opening) (number : ℕ) (lines : List (List ℕ)) (text : List ℕ) → 0 < opening.width → opening.options.wrap_width ≢ Some 0 →
-      rendered_under columns decorator opening number lines ≡ Ok text →
+      shown_under true columns decorator opening number lines ≡ Ok text →
       (commands : List Command) × AskFor lines commands × IsTextOfScript columns (link_targets commands) text
   under_led Plain opening number lines text wide some h = let (commands, asks, led) = begun_led plain_decoration (record {}) opening number lines text wide some h in (commands, asks, inl led)
   under_led Trivial opening number lines text wide some h = let (commands, asks, led) = begun_led trivial_decoration (record {}) opening number lines text wide some h in (commands, asks, inr (inl led))
   under_led Rich opening number lines text wide some h = let (commands, asks, led) = begun_led rich_decoration (record {}) opening number lines text wide some h in (commands, asks, inr (inr led))
 
-  begins_led : (number : ℕ) (lines : List (List ℕ)) (text : List ℕ) → rendered_from columns number lines ≡ Ok text →
+  begins_led : (number : ℕ) (lines : List (List ℕ)) (text : List ℕ) → shown_from true columns number lines ≡ Ok text →
       (commands : List Command) × AskAfterFirst lines commands × IsTextOfScript columns (link_targets commands) text
   begins_led number [] text h = cc
   begins_led number ([] ∷ lines) text h = begins_led (number + 1) lines text h
   begins_led number ((b ∷ bs) ∷ lines) text h = read_led (opening_read (b ∷ bs)) (read_opening (b ∷ bs)) h
     where
-      read_led : (read : Option Opening) → ((opening : Opening) → read ≡ Some opening → IsOpening (b ∷ bs) opening) → rendered_by columns read number lines ≡ Ok text →
+      read_led : (read : Option Opening) → ((opening : Opening) → read ≡ Some opening → IsOpening (b ∷ bs) opening) → shown_by true columns read number lines ≡ Ok text →
           (commands : List Command) × AskFor lines commands × IsTextOfScript columns (link_targets commands) text
       read_led None is h = cc
       read_led (Some opening) is h =

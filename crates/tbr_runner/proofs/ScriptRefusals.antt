@@ -2,7 +2,8 @@
 use Rattle.tbr_runner.proofs.Common.{◌≡◌, ◌≢◌, ℕ, Bool, true, false, Option, Some, None, List, [], ◌∷◌, Result, Err, IfErr, refl, sym, subst, Decoration, IsOfScript, RunError, OutOfMemory, NotACommand, Place, Command, IsCommand, ask, link, end_link, sub, append, cell, end_cell, vertical_row, command_read, after_line, ended}
 use Rattle.tbr_commands.specs.Command.{row}
 use Rattle.tbr_commands.proofs.Reading.{read_command}
-use Rattle.tbr_program.specs.Safe.{shown_command, after_shown_line, after_shown_read}
+use Rattle.tbr_program.specs.Safe.{shown_command}
+use Rattle.tbr_program.specs.Commands.{after_shown_line, after_shown_read}
 use Rattle.tbr_script.specs.declared.error.RunError.TheVariants.{TooNarrow}
 use Rattle.tbr_runner.proofs.Walks.{Meets, Asks, end_meets}
 use Rattle.tbr_runner.proofs.ScriptLevels.{Sized, sized, each_any, line_waits, command_waits}

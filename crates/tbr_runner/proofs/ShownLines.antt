@@ -1,9 +1,9 @@
 -- What a script gives that is shown raw or not, line after line.
-use Rattle.tbr_runner.proofs.Common.{◌≡◌, ℕ, ◌+◌, ◌==◌, Bool, true, false, Option, None, Some, List, [], ◌∷◌, length, Result, Ok, Err, refl, sym, ap, ◌∙◌, false≢true, Decoration, RunError, lines_of, Decorator, Opening, Command, command_read, opening_read, Progress, Place, Made, after_read, after_line, ended, started, unless_refused, rendered_on, rendered_under, rendered_by, rendered_from, rendered, Plain, Trivial, Rich}
-use Rattle.tbr_program.specs.Safe.{shown_links, after_shown_line, after_shown_read}
-use Rattle.tbr_program.specs.Decorations.{plain_decoration, trivial_decoration, rich_decoration}
+use Rattle.tbr_runner.proofs.Common.{◌≡◌, ℕ, ◌+◌, ◌==◌, Bool, true, false, Option, None, Some, List, [], ◌∷◌, length, Result, refl, sym, ap, ◌∙◌, false≢true, Decoration, RunError, lines_of, Decorator, Opening, opening_read, Place, Made, ended}
+use Rattle.tbr_program.specs.Safe.{shown_links}
+use Rattle.tbr_program.specs.Commands.{after_shown_line}
 use Rattle.tbr_program.proofs.CommandLines.{no_length}
-use Rattle.tbr_runner.specs.Safe.{shown_on, shown_under, shown_by, shown_from, shown}
+use Rattle.tbr_runner.specs.Scripts.{unless_refused, shown_on, shown_under, shown_by, shown_from, shown}
 
 module _ {D M : Type 0} (raw : Bool) (columns : ℕ → Option ℕ) (decoration : Decoration D M) (number : ℕ) where
   pub at_shown_end : (p : Place columns decoration) (rest : List ℕ) → true ≡ (length rest == 0) → shown_on raw columns decoration number (lines_of rest) p ≡ ended columns decoration number (shown_links raw p)
@@ -30,44 +30,3 @@ pub shown_opened : (raw : Bool) (columns : ℕ → Option ℕ) (decorator : Deco
     shown raw columns script ≡ shown_under raw columns opening.decorator opening number lines → shown_under raw columns decorator opening number lines ≡ given → given ≡ outcome → shown raw columns same ≡ outcome
 shown_opened raw columns decorator opening number lines given outcome script same are is found gives ends =
     ap (shown raw columns) (sym are) ∙ found ∙ ap (λ d. shown_under raw columns d opening number lines) is ∙ gives ∙ ends
-
--- ---- raw it is what `rendered` says
-
-module _ {D M : Type 0} (columns : ℕ → Option ℕ) (decoration : Decoration D M) where
-  raw_line : (number : ℕ) (line : List ℕ) (p : Place columns decoration) → after_shown_line columns decoration true number line p ≡ after_line columns decoration number line p
-  raw_line number [] p = refl
-  raw_line number (b ∷ bs) p = go (command_read (b ∷ bs))
-    where
-      go : (read : Option Command) → after_shown_read columns decoration true number read p ≡ after_read columns decoration number read p
-      go None = refl
-      go (Some command) = refl
-
-  then_same : (before after : Place columns decoration → Result (List ℕ) RunError) → ((p : Place columns decoration) → before p ≡ after p) → (made : Made columns decoration) → unless_refused before made ≡ unless_refused after made
-  then_same before after same (Ok p) = same p
-  then_same before after same (Err e) = refl
-
-  raw_on : (number : ℕ) (lines : List (List ℕ)) (p : Place columns decoration) → shown_on true columns decoration number lines p ≡ rendered_on columns decoration number lines p
-  raw_on number [] p = refl
-  raw_on number (line ∷ lines) p =
-      ap (unless_refused (shown_on true columns decoration (number + 1) lines)) (raw_line number line p)
-      ∙ then_same (shown_on true columns decoration (number + 1) lines) (rendered_on columns decoration (number + 1) lines) (raw_on (number + 1) lines) (after_line columns decoration number line p)
-
-raw_under : (columns : ℕ → Option ℕ) (decorator : Decorator) (opening : Opening) (number : ℕ) (lines : List (List ℕ)) → shown_under true columns decorator opening number lines ≡ rendered_under columns decorator opening number lines
-raw_under columns Plain opening number lines = raw_on columns plain_decoration number lines (started opening (record {}))
-raw_under columns Trivial opening number lines = raw_on columns trivial_decoration number lines (started opening (record {}))
-raw_under columns Rich opening number lines = raw_on columns rich_decoration number lines (started opening (record {}))
-
-raw_by : (columns : ℕ → Option ℕ) (found : Option Opening) (number : ℕ) (lines : List (List ℕ)) → shown_by true columns found number lines ≡ rendered_by columns found number lines
-raw_by columns None number lines = refl
-raw_by columns (Some opening) number lines = raw_under columns opening.decorator opening (number + 1) lines
-
-raw_from : (columns : ℕ → Option ℕ) (number : ℕ) (lines : List (List ℕ)) → shown_from true columns number lines ≡ rendered_from columns number lines
-raw_from columns number [] = refl
-raw_from columns number ([] ∷ lines) = raw_from columns (number + 1) lines
-raw_from columns number ((b ∷ bs) ∷ lines) = raw_by columns (opening_read (b ∷ bs)) number lines
-
-pub raw_script : (columns : ℕ → Option ℕ) (script : List ℕ) → shown true columns script ≡ rendered columns script
-raw_script columns script = raw_from columns 1 (lines_of script)
-
-pub raw_gives : (columns : ℕ → Option ℕ) (script : List ℕ) (given : Result (List ℕ) RunError) → shown true columns script ≡ given → rendered columns script ≡ given
-raw_gives columns script given is = sym (raw_script columns script) ∙ is

@@ -8,8 +8,7 @@ ghost use Rattle.tbr_script.specs.Script.{lines_of};
 ghost use Rattle.tbr_program.specs.Progress.{GoesOn};
 ghost use Rattle.tbr_program.specs.Commands.{ended, started};
 ghost use Rattle.tbr_program.specs.Safe.{shown_links};
-ghost use Rattle.tbr_runner.specs.Safe.{shown_on, shown_under, shown};
-ghost use Rattle.tbr_runner.specs.Scripts.{rendered};
+ghost use Rattle.tbr_runner.specs.Scripts.{shown_on, shown_under, shown, rendered};
 ghost use Rattle.tbr_script.specs.Refusal.{IsOfScript};
 
 use std::alloc::Global;
@@ -169,7 +168,7 @@ fn finish<D: TextDecorator, W: CharWidth, B: Drop>(
     ensures of_script { IfErr result (λ e. e ≢ RunError.OutOfMemory → IsOfScript e) }
 {
     drop(script);
-    program.finish_shown(number, raw)
+    program.finish(number, raw)
 }
 
 /// The first command of a script, the number of the line after it, and what follows it.
@@ -223,7 +222,7 @@ fn run_lines<D: TextDecorator, W: CharWidth>(
     let mut number = number;
     while !rest.is_empty() {
         let (line, after) = split_line(rest);
-        program.run_shown_line(alloc, number, line, raw)?;
+        program.run_line(alloc, number, line, raw)?;
         rest = after;
         number += 1;
     }

@@ -471,7 +471,7 @@ impl<D: Headings, W: CharWidth> Session<D, W> {
         if program.open_levels() > 0 || program.waiting_cells() > 0 {
             return Err(Refusal::OutOfMemory);
         }
-        match program.finish_lines() {
+        match program.finish_lines(true) {
             Ok(lines) => Ok((lines, lost, warnings)),
             Err(tbr_lines::Error::TooNarrow) => {
                 Err(advice::too_narrow(alloc, number, levels.notes.too_wide))

@@ -4,4 +4,4 @@ use Rattle.tbr_program.proofs.Results.{if_err_then}
 use Rattle.tbr_runner.proofs.runner.finish.Goals as goal
 
 pub returns-clause-of_script : goal.returns-clause-of_script
-returns-clause-of_script g c = grind (arith, if_err_then, end_of_script, c.finish_shown.ensures.refused)
+returns-clause-of_script g c = grind (arith, if_err_then, end_of_script, c.finish.ensures.refused)

@@ -1,5 +1,5 @@
 use Rattle.tbr_runner.proofs.Common.{◌≡◌, ℕ, ◌+◌, ◌≤◌, Bool, Option, length, lines_of}
-use Rattle.tbr_runner.specs.Safe.{shown, shown_from}
+use Rattle.tbr_runner.specs.Scripts.{shown, shown_from}
 use Rattle.tbr_runner.proofs.runner.first_command.Given as goal
 
 abbrev pub invariant-loop-rest : goal.invariant-loop-rest

@@ -1,5 +1,5 @@
 use Rattle.tbr_runner.proofs.Common.{◌≡◌, ◌+◌, ◌≤◌, length, decoration_of, lines_of, GoesOn}
-use Rattle.tbr_runner.specs.Safe.{shown_on}
+use Rattle.tbr_runner.specs.Scripts.{shown_on}
 use Rattle.tbr_runner.proofs.runner.run_lines.Given as goal
 
 abbrev pub invariant-loop-rest : goal.invariant-loop-rest
