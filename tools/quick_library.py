@@ -72,8 +72,8 @@ CALLS
 EDITS = r"""sed -E -i -e 's/^define internal (.*)@"tbr_c::[a-z_]+::(tbr1_[a-z_]+)"\(/define \1@\2(/' \
     -e 's/@"tbr_c::[a-z_]+::(tbr1_[a-z_]+)"/@\1/g' -e 's/^define i32 @main\(/define internal i32 @main(/' module.ll"""
 # There is nothing to link and to run.
-HOW = f'-fPIC {quick.SOON}' + ' && cp module.o "{room}/calls.o" && exit 1'
-COMPILER = quick.UNCHECKED_COMPILER.replace("EDITS", EDITS).replace("HOW", HOW)
+COMPILED = f'lean && clang "${{{{words[@]}}}}" -c -fPIC {quick.SOON} && cp module.o "{{room}}/calls.o" && exit 1'
+COMPILER = quick.unchecked(COMPILED, EDITS)
 
 
 def build():

@@ -76,7 +76,8 @@ AreShown Shows (line ∷ lines) cs =
 -- those that weren't taken
 abbrev pub ShowsRest : Format → Rest → List ℕ → Type 0
 ShowsRest format (Bare lines) cs = AreShown (ShowsLine (λ a. a) equal_bare equal_bare bare true format) lines.items cs
-ShowsRest format (Rich lines) cs = AreShown (ShowsLine style_of same_style rich.ghosts.eq itself false format) lines.items cs
+ShowsRest format (Rich lines) cs =
+    AreShown (ShowsLine style_of same_style rich.ghosts.eq itself false format) lines.items cs
 ShowsRest format (Text text) cs = ⊥
 
 -- lines that a format can show; a text alone has none

@@ -284,7 +284,8 @@ fn shown_anew<A: Annotation>(
     format: Format,
     is_bare: bool,
 ) -> Result<String, OutOfMemory>
-    ensures { IfOk result (λ text. AreShown (ShowsLine A.meaning A.same A.eq A.shown is_bare format) lines.now.items (chars_of text)) }
+    ensures { IfOk result (λ text.
+        AreShown (ShowsLine A.meaning A.same A.eq A.shown is_bare format) lines.now.items (chars_of text)) }
 {
     let mut text = String::new(alloc);
     for line in lines {

@@ -102,13 +102,16 @@ colour_in s = record { r = 0; g = 0; b = 0 }
 pub styles_apart : (s t : Style) → IsTrue (same_style s t) ↔ (s ≡ t)
 unfolding kind text_in flag_in colour_in
 styles_apart style.plain style.plain = (λ _. refl, λ _. refl)
-styles_apart (style.link s) (style.link t) = parts_apart style.link text_in (λ _. refl) (pointwise nat_eq) (lists_tell nat_eq numbers_tell) s t
-styles_apart (style.image s) (style.image t) = parts_apart style.image text_in (λ _. refl) (pointwise nat_eq) (lists_tell nat_eq numbers_tell) s t
+styles_apart (style.link s) (style.link t) =
+    parts_apart style.link text_in (λ _. refl) (pointwise nat_eq) (lists_tell nat_eq numbers_tell) s t
+styles_apart (style.image s) (style.image t) =
+    parts_apart style.image text_in (λ _. refl) (pointwise nat_eq) (lists_tell nat_eq numbers_tell) s t
 styles_apart style.emphasis style.emphasis = (λ _. refl, λ _. refl)
 styles_apart style.strong style.strong = (λ _. refl, λ _. refl)
 styles_apart style.strikeout style.strikeout = (λ _. refl, λ _. refl)
 styles_apart style.code style.code = (λ _. refl, λ _. refl)
-styles_apart (style.preformatted x) (style.preformatted y) = parts_apart style.preformatted flag_in (λ _. refl) beq flags_tell x y
+styles_apart (style.preformatted x) (style.preformatted y) =
+    parts_apart style.preformatted flag_in (λ _. refl) beq flags_tell x y
 styles_apart (style.colour x) (style.colour y) = parts_apart style.colour colour_in (λ _. refl) one_colour colours_apart x y
 styles_apart (style.background x) (style.background y) = parts_apart style.background colour_in (λ _. refl) one_colour colours_apart x y
 styles_apart s t = (λ h. absurd (false≢true h), λ e. absurd (of_one_kind s t refl e))

@@ -68,7 +68,8 @@ pub trait TextDecorator: Drop {
         url: &str,
     ) -> Result<(String, Self::Annotation), OutOfMemory>
         ensures text { IfOk result (λ r. chars_of r.0 ≡ start_text self.old (start.link (chars url.now))) }
-        ensures annotation { IfOk result (λ r. Self.Annotation.meaning r.1 ≡ annotation self.old (start.link (chars url.now))) }
+        ensures annotation { IfOk result (λ r.
+            Self.Annotation.meaning r.1 ≡ annotation self.old (start.link (chars url.now))) }
         ensures after { OnOk result (self.new ≡ after self.old (change.link_start (chars url.now))) }
         ensures err { OnErr result (self.new ≡ self.old) };
 
@@ -180,7 +181,8 @@ pub trait TextDecorator: Drop {
         alloc: Global,
         colour: Colour,
     ) -> Result<Option<Self::Annotation>, OutOfMemory>
-        ensures annotation { IfOk result (λ a. option_map Self.Annotation.meaning a ≡ colour_annotation self.old ground.text colour) }
+        ensures annotation { IfOk result (λ a.
+            option_map Self.Annotation.meaning a ≡ colour_annotation self.old ground.text colour) }
         ensures after { OnOk result (self.new ≡ after self.old (change.push_colour ground.text colour)) }
         ensures err { OnErr result (self.new ≡ self.old) };
 

@@ -9,14 +9,6 @@ pub no_length : (n : ℕ) → true ≡ (suc n == 0) → ⊥
 no_length n e = let none : suc n ≡ 0 = eqb-true (suc n) 0 (sym e) in omega (arith, none)
 
 module _ {D M : Type 0} (columns : ℕ → Option ℕ) (decoration : Decoration D M) (raw : Bool) (number : ℕ) (p : Place columns decoration) where
-  pub nothing_asked : (line : List ℕ) → true ≡ (length line == 0) → after_shown_line columns decoration raw number line p ≡ Ok p
-  nothing_asked [] none = refl
-  nothing_asked (b ∷ bs) none = absurd (no_length (length bs) none)
-
-  pub no_command : (line : List ℕ) → false ≡ (length line == 0) → command_read line ≡ None → after_shown_line columns decoration raw number line p ≡ Err (NotACommand number)
-  no_command [] some none = absurd (false≢true some)
-  no_command (b ∷ bs) some none = ap (λ read. after_shown_read columns decoration raw number read p) none
-
   pub commanded : (line : List ℕ) (command : Command) → false ≡ (length line == 0) → command_read line ≡ Some command → after_command columns decoration number (shown_command raw command) p ≡ after_shown_line columns decoration raw number line p
   commanded [] command some is = absurd (false≢true some)
   commanded (b ∷ bs) command some is = ap (λ read. after_shown_read columns decoration raw number read p) (sym is)

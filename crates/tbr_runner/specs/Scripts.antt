@@ -1,5 +1,5 @@
--- What a script gives: what its commands make one after another, up to the first line that is faulty or refuses. Prefixes,
--- and the targets that its footnotes list, are shown as they came, or without control characters.
+-- What a script gives: what its commands make one after another, up to the first line that is faulty or refuses.
+-- Prefixes, and the targets that its footnotes list, are shown as they came, or without control characters.
 use Rattle.std.specs.Prelude.{ℕ, ◌+◌, Bool, true, Option, None, Some, Result, Ok, Err, List, [], ◌∷◌}
 use Rattle.tbr_decor.specs.Decoration.{Decoration}
 use Rattle.tbr_script.specs.declared.error.RunError.{RunError}

@@ -25,8 +25,8 @@ impl<D: TextDecorator, W: CharWidth> TextRenderer<D, W> {
     /// opened. Otherwise it is open, even where the top refuses.
     pub fn start_link(&mut self, target: &str) -> Result<(), Error>
         requires { 0 < length self.old.levels }
-        ensures tries { let make = after_link_start W.columns (decoration_of D.TextDecorator D.Annotation.tells) (chars target.now) in
-            Tries make self.old result self.new }
+        ensures tries { let decoration = decoration_of D.TextDecorator D.Annotation.tells in
+            Tries (after_link_start W.columns decoration (chars target.now)) self.old result self.new }
         ensures two_columns { failure_of self.old ≡ None → OfTop (λ r. 2 ≤ block_width r) self.old →
             result ≢ Err E.TooNarrow }
         ensures left { failure_of self.old ≡ None → OnErr result

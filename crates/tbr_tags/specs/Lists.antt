@@ -15,7 +15,8 @@ module _ {A M : Type 0} (meaning : A → M) (eq : A → A → Bool)
     λ h. let e = both_true (eq x y) (pointwise eq xs ys) h in
         (λ k. (equal_by_meaning x y).0 e.0 k ∷ (lists_equal_by_meaning xs ys).0 e.1 k),
     λ h. let first : meaning x ≡ meaning y = cc in let rest : map meaning xs ≡ map meaning ys = cc in
-        true_both (eq x y) (pointwise eq xs ys) ((equal_by_meaning x y).1 first) ((lists_equal_by_meaning xs ys).1 rest),
+        true_both (eq x y) (pointwise eq xs ys)
+        ((equal_by_meaning x y).1 first) ((lists_equal_by_meaning xs ys).1 rest),
   )
 
 pub list_copies_equal : {A : Type 0} (IsClone : A → A → Type 0) (eq : A → A → Bool) →

@@ -48,8 +48,10 @@ module _ {M : Type 0} (decides : M → M → Bool) (tells : (a b : M) → IsTrue
   lists_tell [] (y ∷ ys) = (λ h. cc, λ h. cc)
   lists_tell (x ∷ xs) [] = (λ h. cc, λ h. cc)
   lists_tell (x ∷ xs) (y ∷ ys) = (
-    λ h. let e = both_true (decides x y) (pointwise decides xs ys) h in (λ k. (tells x y).0 e.0 k ∷ (lists_tell xs ys).0 e.1 k),
-    λ h. let first : x ≡ y = cc in let rest : xs ≡ ys = cc in true_both (decides x y) (pointwise decides xs ys) ((tells x y).1 first) ((lists_tell xs ys).1 rest),
+    λ h. let e = both_true (decides x y) (pointwise decides xs ys) h in
+        (λ k. (tells x y).0 e.0 k ∷ (lists_tell xs ys).0 e.1 k),
+    λ h. let first : x ≡ y = cc in let rest : xs ≡ ys = cc in
+        true_both (decides x y) (pointwise decides xs ys) ((tells x y).1 first) ((lists_tell xs ys).1 rest),
   )
 
   pub either : (p q : Bool) → (IsTrue p → IsTrue q) → (IsTrue q → IsTrue p) → p ≡ q
@@ -64,7 +66,8 @@ module _ {M : Type 0} (decides : M → M → Bool) (tells : (a b : M) → IsTrue
   pub told_equiv : IsEquivalence decides
   told_equiv = record {
     refl = λ x. (tells x x).1 refl;
-    symm = λ x y. either (decides x y) (decides y x) (λ h. (tells y x).1 (sym ((tells x y).0 h))) (λ h. (tells x y).1 (sym ((tells y x).0 h)));
+    symm = λ x y. either (decides x y) (decides y x)
+        (λ h. (tells y x).1 (sym ((tells x y).0 h))) (λ h. (tells x y).1 (sym ((tells y x).0 h)));
     congr = λ x y z h. ap (λ w. decides w z) ((tells x y).0 h);
   }
 

@@ -20,7 +20,8 @@ impl<A: Tag> Tag for Vec<A> {
 
     ghost tells = { lists_tell A.same A.tells };
 
-    ghost equal_by_meaning = { λ v w. lists_equal_by_meaning A.meaning A.eq A.equal_by_meaning (vec_items v) (vec_items w) };
+    ghost equal_by_meaning = { λ v w.
+        lists_equal_by_meaning A.meaning A.eq A.equal_by_meaning (vec_items v) (vec_items w) };
 
     ghost copies_equal = { λ v w h. list_copies_equal A.is_clone A.eq A.copies_equal (vec_items v) (vec_items w) h.0 };
 }

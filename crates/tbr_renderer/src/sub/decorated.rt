@@ -118,8 +118,8 @@ impl<D: TextDecorator, W: CharWidth> SubRenderer<D, W> {
     /// Adds the decorator's text for what is opened, under its annotation.
     pub(crate) fn try_open(&mut self, start: Start) -> Result<(), Error>
         requires { self.old.failure ≡ None }
-        ensures tries { Tries
-            (after_start W.columns (decoration_of D.TextDecorator D.Annotation.tells) (start_of start.entry)) self.old result self.new }
+        ensures tries { let decoration = decoration_of D.TextDecorator D.Annotation.tells in
+            Tries (after_start W.columns decoration (start_of start.entry)) self.old result self.new }
         ensures two_columns { 2 ≤ block_width self.old → result ≢ Err E.TooNarrow }
         ensures kept { kept_of self.new ≡ kept_of self.old }
     {
@@ -140,8 +140,8 @@ impl<D: TextDecorator, W: CharWidth> SubRenderer<D, W> {
     /// Adds the decorator's text for what is closed, and then takes the last annotation.
     pub(crate) fn try_close(&mut self, end: End) -> Result<(), Error>
         requires { self.old.failure ≡ None }
-        ensures tries { Tries
-            (after_end W.columns (decoration_of D.TextDecorator D.Annotation.tells) (end_of end)) self.old result self.new }
+        ensures tries { let decoration = decoration_of D.TextDecorator D.Annotation.tells in
+            Tries (after_end W.columns decoration (end_of end)) self.old result self.new }
         ensures two_columns { 2 ≤ block_width self.old → result ≢ Err E.TooNarrow }
         ensures kept { kept_of self.new ≡ kept_of self.old }
     {

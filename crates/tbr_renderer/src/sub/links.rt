@@ -35,7 +35,8 @@ impl<D: TextDecorator, W: CharWidth> SubRenderer<D, W> {
             }) }
         ensures memory { self.old.failure ≡ None → result ≢ Err E.TooNarrow }
         ensures left { self.old.failure ≡ None → IfErr result (λ e. self.new ≡ record self.old { failure = Some e }) }
-        ensures fails { Fails (calls_by W.columns (decoration_of D.TextDecorator D.Annotation.tells)) self.old result self.new }
+        ensures fails { let decoration = decoration_of D.TextDecorator D.Annotation.tells in
+            Fails (calls_by W.columns decoration) self.old result self.new }
     {
         self.refusal()?;
         match self.footnotes(links) {
@@ -78,7 +79,8 @@ impl<D: TextDecorator, W: CharWidth> SubRenderer<D, W> {
         ensures ok { OnOk result (self.new
             ≡ with_footnotes W.columns self.old (lines_meant D.Annotation.meaning links.items)) }
         ensures memory { self.old.failure ≡ None → result ≢ Err E.TooNarrow }
-        ensures fails { Fails (calls_by W.columns (decoration_of D.TextDecorator D.Annotation.tells)) self.old result self.new }
+        ensures fails { let decoration = decoration_of D.TextDecorator D.Annotation.tells in
+            Fails (calls_by W.columns decoration) self.old result self.new }
     {
         self.refusal()?;
         let done = self.try_fmt_links(links);

@@ -87,8 +87,8 @@ impl<D: TextDecorator, W: CharWidth> SubRenderer<D, W> {
         requires unfailed { self.old.failure ≡ None }
         requires fits { row_fits self.old.hanging (model.spots_of W.columns cols.items) ≡ true }
         ensures ok { let given = cells_handed_out W.columns cols.items aligns.now in
-            let made = taking (after_flush W.columns) given (after_row (pointwise D.Annotation.same) W.columns collapses) in
-            OnOk result (made self.old ≡ done self.new) }
+            let row = after_row (pointwise D.Annotation.same) W.columns collapses in
+            OnOk result (taking (after_flush W.columns) given row self.old ≡ done self.new) }
         ensures too_narrow { result ≡ Err E.TooNarrow → and_then (after_flush W.columns self.old)
             (λ _. cells_handed_out W.columns cols.items aligns.now) ≡ refused E.TooNarrow }
         ensures two_columns { 2 ≤ block_width self.old →

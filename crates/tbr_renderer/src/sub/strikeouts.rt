@@ -50,8 +50,8 @@ impl<D: TextDecorator, W: CharWidth> SubRenderer<D, W> {
     /// Opens a strikeout, after whose own text characters have strokes.
     pub(crate) fn try_start_strikeout(&mut self) -> Result<(), Error>
         requires { self.old.failure ≡ None }
-        ensures tries { Tries
-            (after_strikeout_start W.columns (decoration_of D.TextDecorator D.Annotation.tells)) self.old result self.new }
+        ensures tries { let decoration = decoration_of D.TextDecorator D.Annotation.tells in
+            Tries (after_strikeout_start W.columns decoration) self.old result self.new }
         ensures two_columns { 2 ≤ block_width self.old → result ≢ Err E.TooNarrow }
         ensures kept { OnErr result (kept_of self.new ≡ kept_of self.old) }
     {
@@ -63,8 +63,8 @@ impl<D: TextDecorator, W: CharWidth> SubRenderer<D, W> {
     pub(crate) fn try_end_strikeout(&mut self) -> Result<(), Error>
         requires unfailed { self.old.failure ≡ None }
         requires open { self.old.options.use_unicode_strikeout ≡ true → 0 < self.old.strikeouts }
-        ensures tries { Tries
-            (after_strikeout_end W.columns (decoration_of D.TextDecorator D.Annotation.tells)) self.old result self.new }
+        ensures tries { let decoration = decoration_of D.TextDecorator D.Annotation.tells in
+            Tries (after_strikeout_end W.columns decoration) self.old result self.new }
         ensures two_columns { 2 ≤ block_width self.old → result ≢ Err E.TooNarrow }
         ensures kept { OnErr result (kept_of self.new ≡ kept_of self.old) }
     {
