@@ -1,19 +1,13 @@
-use Rattle.std.proofs.Common.{◌≡◌, refl, true, List, [], ◌∷◌, ◌++◌, sym, ap, subst, ◌∙◌, append_assoc}
+use Rattle.std.proofs.Common.{refl, [], ◌∷◌, ◌++◌, ap, ◌∙◌, append_assoc}
 use Rattle.std.proofs.lemmas.Result.{on_ok_weaker}
-use Rattle.std.specs.Cmp.Lexicographic.{lists_equiv}
 use Rattle.tbr_model.specs.Codes.{newline_character}
 use Rattle.tbr_tagged.specs.View.{chars_of}
-use Rattle.tbr_annotations.specs.Annotations.{equal_annotations}
+use Rattle.tbr_annotations.proofs.Told.{copies_told}
 use Rattle.tbr_c_lines.specs.Formats.{line_as}
 use Rattle.tbr_c_lines.proofs.lines.append_shown.Goals as goal
 
 pub clone-requires : goal.clone-requires
-clone-requires g c = λ v w copy.
-    let own = (lists_equiv g.met.A.Eq.laws).refl v in
-    subst (λ u. equal_annotations g.A.PartialEq.eq v u ≡ true) (sym copy) own
-
-pub written_out-requires : goal.written_out-requires
-written_out-requires g c = g.met.A.Annotation.copies_equal
+clone-requires g c = copies_told g.A.Tag.same g.A.Tag.tells
 
 pub returns : goal.returns
 returns g c =

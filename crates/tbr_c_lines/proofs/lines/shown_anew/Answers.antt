@@ -12,7 +12,7 @@ loop-line-init g c = ap chars c.new-text.ensures.bytes ∙ chars-nil
 
 pub loop-line-preserved : goal.loop-line-preserved
 loop-line-preserved g c =
-    let Shows = ShowsLine g.A.PartialEq.eq g.A.Annotation.shown c.args.is_bare c.args.format in
+    let Shows = ShowsLine g.A.Tag.meaning g.A.Tag.same g.A.PartialEq.eq g.A.Annotation.shown c.args.is_bare c.args.format in
     let pushed = c.in_ok-append_shown.ensures in
     let so_far = map (λ line. line.now) c.loop-line.yielded in
     let line = c.in-Some.line in
@@ -22,7 +22,7 @@ loop-line-preserved g c =
 
 pub returns : goal.returns
 returns g c =
-    let Shows = ShowsLine g.A.PartialEq.eq g.A.Annotation.shown c.args.is_bare c.args.format in
+    let Shows = ShowsLine g.A.Tag.meaning g.A.Tag.same g.A.PartialEq.eq g.A.Annotation.shown c.args.is_bare c.args.format in
     let given = c.into_iter-line-iterator.ensures.into_iter_gives in
     let list = YieldsList-from_deque c.args.lines.now.items given.0 in
     let end = YieldsList-end list c.loop-line.yielded c.loop-line.line-iterator c.loop-line.yielded_by c.next.result c.next.new.self c.in-None.is c.next.ensures.steps in
