@@ -10,4 +10,5 @@ pub mod SameItems
 pub mod TextAfter
 pub mod TextColumns
 pub mod TextInFront
+pub mod NarrowText
 pub mod WideBlocks

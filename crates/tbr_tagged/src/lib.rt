@@ -7,7 +7,7 @@ pub use iterators::{Chars, IntoIter, Iter, TaggedStrings};
 pub use padding::{CellAlign, columns_in_front};
 pub use space::{always_takes_space, append_spaces, is_wordbreak_point, spaces};
 pub use tagged_line::TaggedLine;
-pub use width::{UnicodeColumns, text_width};
+pub use width::{UnicodeColumns, narrow_in_front, text_width};
 
 mod edits;
 mod element;
