@@ -238,6 +238,18 @@ impl<T: Eq + Clone, W: CharWidth> WrappedBlock<T, W> {
         Ok(())
     }
 
+    /// The empty text joins the run, as by [`add_text`](WrappedBlock::add_text), under any tags. It takes no memory.
+    pub fn add_empty_text(&mut self) -> Result<(), Error>
+    where
+        T: Drop,
+        ensures answers { (a b : T) (mode : _) → let after = after_text W.columns [] a b mode in
+            Answers failure_of settings_of (after self.old) self.old result self.new }
+    {
+        self.refusal()?;
+        self.begin_call(0);
+        Ok(())
+    }
+
     /// The marker joins the current word. It asks for a marker, not for text.
     ///
     /// It refuses only where memory is refused.
