@@ -10,9 +10,9 @@ use Rattle.tbr_model.specs.Laid.{Laid, nothing_laid, extended, end_line, end_if_
 use Rattle.tbr_model.specs.Rule.{Event, call, entry, run_of, Space, Progress, at_start, spaces, pending_width, space_text, is_white_item, without_leading, trimmed, space_of, wrap_space_by, wrap_space, put_space, put_spaces, put_pending, is_pre, lay_here, lay_fresh, lay, flush_word, break_word, join, collapse, newline, put_tab, tab, keep_space, passes, tag_of, keep_character, preserve, enter_normal, enter, step, progress, finished}
 use Rattle.tbr_model.proofs.words.Items.{break_lost}
 
--- A kept character may join a word, and white space in a preserving mode.
+-- A kept character may join a word, and white space that has a width in a preserving mode.
 abbrev pub MayJoin : (ℕ → Option ℕ) → WhiteSpace → ℕ → Type 0
-MayJoin columns mode c = (is_kept columns c ≡ true) ⊎ ((is_blank c ≡ true) × (mode ≢ Normal))
+MayJoin columns mode c = (is_kept columns c ≡ true) ⊎ ((is_blank c ≡ true) × (mode ≢ Normal) × (columns c ≢ None))
 
 -- A relation of the entries that came, what is laid and the word under way, that each elementary change keeps. An entry
 -- has a property, and so have its annotations and its mode. Where rooms are asked for, it is known that a space has
@@ -187,9 +187,12 @@ module _ {A : Type 0} {columns : ℕ → Option ℕ} {width : ℕ} {Comes : Entr
       joined : (p : Progress A) → MayJoin columns m c → Stands es p → Stands entered (join c (tag_of p a b) m p)
       joined p may h = record { laid = k.joins es p.laid p.word c a b m (tag_of p a b) comes (either p h) may h.laid; space = h.space; flags = (mode_joined p h, h.flags.1, h.flags.2) }
 
-      spaced : (o : Option ℕ) (p : Progress A) → is_kept columns c ≡ false → MayJoin columns m c → Stands es p → Stands entered (keep_space c (tag_of p a b) m o p)
-      spaced None p gone may h = passed p gone h
-      spaced (Some n) p gone may h = grind (arith, cond_both, waits_of, tagged)
+      waits : (n : ℕ) (p : Progress A) → is_kept columns c ≡ false → MayJoin columns m c → Stands es p → Stands entered (keep_space c (tag_of p a b) m (Some n) p)
+      waits n p gone may h = grind (arith, cond_both, waits_of, tagged)
+
+      spaced : (o : Option ℕ) (p : Progress A) → columns c ≡ o → is_kept columns c ≡ false → is_blank c ≡ true → m ≢ Normal → Stands es p → Stands entered (keep_space c (tag_of p a b) m o p)
+      spaced None p e gone blank preserving h = passed p gone h
+      spaced (Some n) p e gone blank preserving h = waits n p gone (inr (blank, preserving, λ none. cc)) h
 
       kept : (o : Option ℕ) (p : Progress A) → columns c ≡ o → is_break c ≡ false → Stands es p → Stands entered (keep_character columns width c a b m o p)
       kept None p e unbroken h = passed p (unknown_lost columns c (ap is_some e)) h
@@ -210,7 +213,7 @@ module _ {A : Type 0} {columns : ℕ → Option ℕ} {width : ℕ} {Comes : Entr
           cond_both (c == 8203) _ _ (Stands entered) (λ e. passed p (broken 8203 e refl) h)
           (λ other. cond_both (c == 10) _ _ (Stands entered) (λ e. passed (newline q) (broken 10 e refl) (line_ended q f))
           (λ _. cond_both (c == 9) _ _ (Stands entered) (λ e. passed (tab width (tag_of p a b) q) (broken 9 e refl) (tabbed (tag_of p a b) q (tagged p) f))
-          (λ _. cond_both (is_blank c) _ _ (Stands entered) (λ blank. spaced (columns c) p (break_lost columns c (or_right (c == zero_width_space) (is_blank c) blank)) (inr (blank, preserving)) h)
+          (λ _. cond_both (is_blank c) _ _ (Stands entered) (λ blank. spaced (columns c) p refl (break_lost columns c (or_right (c == zero_width_space) (is_blank c) blank)) blank preserving h)
           (λ visible. kept (columns c) p refl (rw (other, visible) refl) h))))
 
     normal : (c : ℕ) (a b : A) (p : Progress A) → Comes (character c a b Normal) → Stands es p → Stands (es ++ character c a b Normal ∷ []) (enter_normal columns width c (tag_of p a b) p)
