@@ -30,3 +30,5 @@ pub mod Headline
 pub mod EndedEntries
 pub mod SoundRenderers
 pub mod ActSteps
+pub mod LineCharacters
+pub mod CallCharacters

@@ -30,3 +30,4 @@ pub mod Taken
 pub mod Settings
 pub mod Acts
 pub mod Headline
+pub mod Columns

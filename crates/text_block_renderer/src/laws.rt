@@ -1,5 +1,6 @@
 //! What follows from the steps alone, each as the contract of a function that does nothing.
 pub mod appended;
+pub mod columns;
 pub mod headline;
 pub mod links;
 pub mod rows;
