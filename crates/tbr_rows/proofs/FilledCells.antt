@@ -29,14 +29,14 @@ text_columns : {A : Type 0} (columns : ℕ → Option ℕ) (cs : List ℕ) (a : 
 text_columns columns [] a one narrow = refl
 text_columns columns (c ∷ cs) a one narrow = omega (arith, ap (λ (o : Option ℕ). unwrap_or o 0) (one c narrow.0), text_columns columns cs a one narrow.1)
 
-spaces_narrow : (n : ℕ) → Each (λ c. IsTrue (takes_one_column c)) (spaces n)
+pub spaces_narrow : (n : ℕ) → Each (λ c. IsTrue (takes_one_column c)) (spaces n)
 spaces_narrow zero = tt
 spaces_narrow (suc n) = (refl, spaces_narrow n)
 
 pub spaces_width : {A : Type 0} (columns : ℕ → Option ℕ) → DrawsInOne columns → (n : ℕ) (a : A) → items_width columns (text_items (spaces n) a) ≡ n
 spaces_width columns one n a = text_columns columns (spaces n) a one (spaces_narrow n) ∙ length-replicate {A = ℕ} n 32
 
-character_narrow : (c : Segment) → IsTrue (takes_one_column (character c))
+pub character_narrow : (c : Segment) → IsTrue (takes_one_column (character c))
 character_narrow slash = refl
 character_narrow (arms true true true true) = refl
 character_narrow (arms true true false true) = refl
@@ -48,11 +48,11 @@ character_narrow (arms false false true true) = refl
 character_narrow (arms false false false true) = refl
 character_narrow (arms l r u d) = refl
 
-drawn_narrow : (cells : List Segment) → Each (λ c. IsTrue (takes_one_column c)) (map character cells)
+pub drawn_narrow : (cells : List Segment) → Each (λ c. IsTrue (takes_one_column c)) (map character cells)
 drawn_narrow [] = tt
 drawn_narrow (c ∷ cells) = (character_narrow c, drawn_narrow cells)
 
-above_narrow : (cells : List Segment) → Each (λ c. IsTrue (takes_one_column c)) (map line_above cells)
+pub above_narrow : (cells : List Segment) → Each (λ c. IsTrue (takes_one_column c)) (map line_above cells)
 above_narrow [] = tt
 above_narrow (c ∷ cells) = grind (arith, cond_both, above_narrow cells)
 

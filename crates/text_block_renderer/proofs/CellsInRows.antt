@@ -97,7 +97,7 @@ module _ {T : Type 0} (columns : ℕ → Option ℕ) (a : T) where
   below None = []
   below (Some b) = text_before b
 
-  put_written : (place : ℕ) (b : Border T) (es : List (Element T)) → text_before (with_elements columns place b es) ≡ text_before b ++ items_of es
+  pub put_written : (place : ℕ) (b : Border T) (es : List (Element T)) → text_before (with_elements columns place b es) ≡ text_before b ++ items_of es
   put_written place b [] = sym (append-nil (text_before b))
   put_written place b (e ∷ es) = grind (arith, flat_map-append, append-nil, append_assoc, put_written place (with_element columns place b e) es)
 

@@ -32,3 +32,5 @@ pub mod SoundRenderers
 pub mod ActSteps
 pub mod LineCharacters
 pub mod CallCharacters
+pub mod RowCharacters
+pub mod ControlCharacters
