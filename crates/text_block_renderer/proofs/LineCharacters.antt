@@ -63,7 +63,8 @@ module _ {T : Type 0} (columns : ℕ → Option ℕ) where
 
     -- Whatever comes, the lines of a run have such characters alone.
     pub run_has : (width : ℕ) (events : List (Event T)) → Each Have (lines_of columns width events)
-    run_has width events = apart (lines_of columns width events) (each_on_lines columns (ItemHasColumns columns) (λ a. Unit {0}) (λ a _. known columns draws 32 refl) width events (entries_bring (run_of events)))
+    run_has width events = apart (lines_of columns width events)
+        (each_on_lines columns (ItemHasColumns columns) (λ a. Unit {0}) (λ a _. known columns draws 32 refl) width events (entries_bring (run_of events)))
 
     -- ---- what borders show
 
@@ -77,7 +78,8 @@ module _ {T : Type 0} (columns : ℕ → Option ℕ) where
         let rest = flat_map (λ (i : Hole T). element_items i.element) hs in
         let next = shown_from tag cells (h.place + h.width) hs in
         each_append (ItemHasColumns columns) (drawn (slice_range cells at h.place) tag) (front ++ next) (drawn_has (slice_range cells at h.place) tag)
-        (each_append (ItemHasColumns columns) front next (each_front (ItemHasColumns columns) front rest k) (shown_from_has tag cells (h.place + h.width) hs (each_back (ItemHasColumns columns) front rest k)))
+        (each_append (ItemHasColumns columns) front next (each_front (ItemHasColumns columns) front rest k)
+            (shown_from_has tag cells (h.place + h.width) hs (each_back (ItemHasColumns columns) front rest k)))
 
     -- a border shows what is in front of it
     pub border_has : (tag : T) (b : Border T) → Have (text_before b) → Have (shown tag b)
@@ -105,7 +107,8 @@ module _ {T : Type 0} (columns : ℕ → Option ℕ) (draws : DrawsInOne columns
   pub lines_as_text : (tag : T) (lines : List (Line T)) → LinesHaveColumns columns lines → Each (Have columns) (map (as_text tag) lines)
   lines_as_text tag lines h = each_map (as_text tag) (LineHasColumns columns) (Have columns) (line_as_text tag) lines h
 
-  pub prefixed_have : (tag : T) (prefixes : List (List ℕ)) (lines : List (Line T)) → Each (TextHasColumns columns) prefixes → LinesHaveColumns columns lines → Each (Have columns) (prefixed tag prefixes lines)
+  pub prefixed_have : (tag : T) (prefixes : List (List ℕ)) (lines : List (Line T)) → Each (TextHasColumns columns) prefixes → LinesHaveColumns columns lines → Each (Have columns)
+      (prefixed tag prefixes lines)
   prefixed_have tag [] lines h k = tt
   prefixed_have tag (p ∷ ps) [] h k = tt
   prefixed_have tag (p ∷ ps) (line ∷ lines) h k =
@@ -140,7 +143,8 @@ module _ {D A : Type 0} (columns : ℕ → Option ℕ) (draws : DrawsInOne colum
 
   block_has : (r : Renderer D A (List A)) (b : Open (List A)) → Each (Have columns) (block_lines columns r b (lines_at_end columns r b))
   block_has r b =
-      each_map (λ is. is ++ padding_of columns b.padding (block_width r) is) (Have columns) (Have columns) (λ is h. each_append (ItemHasColumns columns) is (padding_of columns b.padding (block_width r) is) h (padding_has columns draws b.padding (block_width r) is))
+      each_map (λ is. is ++ padding_of columns b.padding (block_width r) is) (Have columns) (Have columns)
+          (λ is h. each_append (ItemHasColumns columns) is (padding_of columns b.padding (block_width r) is) h (padding_has columns draws b.padding (block_width r) is))
       (lines_at_end columns r b) (run_has columns draws (block_width r) b.events)
 
   pub flush_keeps : (r s : Renderer D A (List A)) (o : Option (Open (List A))) → FlushesBlock columns r o s → Has r → Has s
@@ -163,5 +167,6 @@ module _ {D A : Type 0} (columns : ℕ → Option ℕ) (draws : DrawsInOne colum
   cells_put [] r h k = k
   cells_put (lines ∷ cells) r h k = others_put cells (with_cell columns r lines) h.1 (cell_put lines r h.0 k)
 
-  pub cells_below : (cells : List (List (Line (List A)))) (r : Renderer D A (List A)) → Each (LinesHaveColumns columns) cells → Has r → Has (with_divider columns horizontal (with_cells columns r cells))
+  pub cells_below : (cells : List (List (Line (List A)))) (r : Renderer D A (List A)) → Each (LinesHaveColumns columns) cells → Has r → Has
+      (with_divider columns horizontal (with_cells columns r cells))
   cells_below cells r h k = divider_keeps horizontal (with_cells columns r cells) (cells_put cells r h k)
