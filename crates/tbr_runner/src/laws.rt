@@ -23,7 +23,10 @@ ghost use Rattle.tbr_runner.specs.Kept.{EndsWhole, LineAsksForOneRow, OverhangsN
 ghost use Rattle.tbr_runner.specs.Led.{IsLed, AreLed, IsTextOfLed, IsTextOfScript, LineAsksForTwo};
 ghost use Rattle.std.specs.List.{AllByRecursion as Each};
 ghost use Rattle.tbr_script.specs.declared.error.RunError.TheVariants.{TooNarrow};
-ghost use Rattle.tbr_runner.specs.Scripts.{rendered_on, rendered};
+ghost use Rattle.tbr_runner.specs.Scripts.{rendered_on, rendered, shown};
+ghost use Rattle.tbr_runner.specs.Controls.{ControlsHaveNone, HasNoControls};
+ghost use Rattle.tbr_rows.specs.Shown.{DrawsInOne};
+ghost use Rattle.tbr_tagged.specs.UnicodeColumns.{unicode_columns};
 
 /// A line is read as the command that it is, and as none where it is none. So it is with the first command.
 pub fn a_line_is_read_as_the_command_that_it_is()
@@ -117,4 +120,12 @@ pub fn links_of_scripts_end_with_their_own_numbers<D, M>()
         LinesDo columns decoration m (number + 1) lines q → IsNextToEnd (0 ∷ []) (stack_calls commands) →
         after_link_end columns decoration q.stack
         ≡ after_end_as columns decoration (length p.stack.links + 1) q.stack }
+{}
+
+/// Where prefixes and footnotes are shown without control characters, no script gives any but newlines: each character
+/// of its lines has columns, and by `unicode_columns` these are all but control characters.
+pub fn no_control_character_is_given()
+    ensures given { (columns : ℕ → Option ℕ) → DrawsInOne columns → ControlsHaveNone columns →
+        (script text : List ℕ) → shown false columns script ≡ Ok text → HasNoControls text }
+    ensures unicode { (script text : List ℕ) → shown false unicode_columns script ≡ Ok text → HasNoControls text }
 {}
