@@ -36,9 +36,9 @@ use tbr_script::RunError;
 pub enum State {
     /// Calls go in, under the plain decorator.
     Plain(Filled<PlainDecorator>),
-    /// The same under the trivial one.
+    /// Calls go in, under the trivial decorator.
     Trivial(Filled<TrivialDecorator>),
-    /// The same under the rich one.
+    /// Calls go in, under the rich decorator.
     Rich(Filled<RichDecorator>),
     /// Lines come out.
     Finished(Lines),
@@ -220,7 +220,7 @@ impl State {
         }
     }
 
-    /// The same as a text.
+    /// Its text, with the footnotes of its links at the end, where no level is open and no cell waits.
     pub fn into_text(self) -> Result<String, Error>
         requires goes_on { CanGoOn self }
         requires closed { MayFinish self }
@@ -430,7 +430,7 @@ fn text_of<D: TextDecorator>(
     }
 }
 
-/// The same as lines, where no level is open and no cell waits.
+/// The lines of a program, where no level is open and no cell waits.
 fn lines_of<D: TextDecorator>(
     program: Program<D, UnicodeColumns>,
     raw: bool,

@@ -28,7 +28,7 @@ pub struct Lines {
     current: Option<Line>,
     /// The text of the rest, if it was asked for and did not fit.
     text: Option<String>,
-    /// The same of the rest in a format.
+    /// The rest in a format, if that was asked for and did not fit.
     shown: Option<Shown>,
 }
 

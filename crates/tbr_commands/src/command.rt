@@ -149,7 +149,7 @@ impl Command {
         }
     }
 
-    /// The same of a link, a block, a cell or a row.
+    /// What a line asks for that begins or ends a link, a block, a cell or a row. `None` where it is no such command.
     fn of_levels(alloc: Global, word: &str, argument: &str) -> Result<Option<Command>, AllocError>
         ensures { IfOk result (λ found. option_map command_of found ≡ read_by level_readers word.now argument.now) }
     {

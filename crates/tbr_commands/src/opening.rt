@@ -59,7 +59,7 @@ impl Opening {
         Opening::after_new(words)
     }
 
-    /// The same of what comes after `new`.
+    /// The first command, by what comes after `new`. `None` where that is none.
     fn after_new(mut words: Words<'_>) -> Option<Opening>
         ensures { result ≡ asked_for words.entry }
     {

@@ -33,7 +33,8 @@ pub fn close<D: TextDecorator, W: CharWidth>(
     with_footnotes(renderer, targets)?.into_string()
 }
 
-/// The same as lines, whose lists of annotations share what they have in common. It refuses as [`close`] does.
+/// The lines of such a renderer, and after them the footnotes. Their lists of annotations share their common part. It
+/// refuses as [`close`] does.
 pub fn close_lines<D: TextDecorator, W: CharWidth>(
     renderer: SubRenderer<D, W>,
     targets: Vec<String>,

@@ -66,12 +66,12 @@ pub fn the_renderers_of_a_script_are_led_to<D, M>()
         IsWrittenSoFar columns r (acts_come columns decoration led.acts led.first []) }
 {}
 
-/// No visible character is lost between the blocks and cells of a script, and no marker before one, where no block has
-/// 2^64 lines, and nothing overhangs in a block, a cell or the script where that ends. What came to a renderer up to any
-/// line, and what comes to it later, is in the lines of the text, or in front of their borders: its visible characters,
-/// each under an annotation of its call, and its markers, all in one order. Only markers may be missing after which none
-/// comes to that renderer. Prefixes, borders and what came to other renderers may be between them. In a script
-/// whose cells span one row each nothing overhangs.
+/// No visible character is lost between the blocks and cells of a script, and no marker before one. No block may have
+/// 2^64 lines, and nothing may overhang in a block, a cell or the script where that ends. What came to a renderer up to
+/// any line, and what comes to it later, is in the lines of the text, or in front of their borders. There its visible
+/// characters are, each under an annotation of its call, and its markers, all in one order. Only markers may be missing
+/// after which none comes to that renderer. Prefixes, borders and what came to other renderers may be between them. In a
+/// script whose cells span one row each nothing overhangs.
 pub fn no_visible_character_of_a_script_is_lost<D, M>()
     ensures first { (columns : ℕ → Option ℕ) (decoration : Decoration D M) → columns 32 ≡ Some 1 →
         (opening : Opening) (decorator : D) → 0 < opening.width → opening.options.wrap_width ≢ Some 0 →
@@ -104,8 +104,8 @@ pub fn a_script_of_two_columns_is_not_too_narrow<D, M>()
 {}
 
 /// What the lines of a script do to its stack is what calls on a stack do, so the laws of these hold of scripts. A link
-/// that ends brings its own number, which is the place of its target among the footnotes, from 1, whatever commands
-/// come in between, and however deep links, blocks and cells are in one another.
+/// that ends brings its own number, which is the place of its target among the footnotes, counted from 1. So it is
+/// whatever commands come in between, and however deep links, blocks and cells are in one another.
 pub fn links_of_scripts_end_with_their_own_numbers<D, M>()
     ensures calls { (columns : ℕ → Option ℕ) (decoration : Decoration D M) (number : ℕ) (lines : List (List ℕ))
         (commands : List Command) (p q : Progress D M (List M)) → AskFor lines commands →

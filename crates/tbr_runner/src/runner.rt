@@ -95,8 +95,8 @@ pub fn render<W: CharWidth, B: AsSlice<u8> + Drop>(
     render_shown::<W, B>(alloc, script, true)
 }
 
-/// The same, where prefixes and the targets that footnotes list are shown without control characters, unless they are
-/// to be `raw`.
+/// The text of a script in memory, as [`render`] gives it. Prefixes and the targets that footnotes list are shown without
+/// control characters, unless they are to be `raw`.
 pub fn render_shown<W: CharWidth, B: AsSlice<u8> + Drop>(
     alloc: Global,
     script: B,

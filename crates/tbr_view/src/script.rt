@@ -24,9 +24,9 @@ use text_block_renderer::Annotations;
 pub enum Format {
     /// The characters of the lines, as `blockrender` writes them.
     Text,
-    /// The same without control characters.
+    /// The characters of the lines without control characters.
     Bare,
-    /// The same for a terminal, with the control sequences of annotations.
+    /// The lines for a terminal, with the control sequences of annotations.
     Ansi,
     /// An object of JSON a line.
     Ndjson,
@@ -103,7 +103,7 @@ pub fn view<W: CharWidth>(alloc: Global, script: &[u8], view: Settings) -> Resul
     }
 }
 
-/// The same with other columns, if some are given.
+/// A first command with other columns, if some are given.
 fn with_width(opening: Opening, width: Option<usize>) -> Opening
     requires width { 0 < opening.width }
     requires wrap_width { opening.options.wrap_width ≢ Some 0 }

@@ -311,7 +311,7 @@ impl<D: Headings, W: CharWidth> Session<D, W> {
         Ok(())
     }
 
-    /// The same, if a command closes the innermost level.
+    /// Notes such lines, if a command closes the innermost level.
     fn note_losses_of(&mut self, number: usize, command: &Command) -> Result<(), Refusal>
         requires { GoesOn self.old.program }
         ensures program { self.new.program ≡ self.old.program }
