@@ -70,10 +70,7 @@ fn written_border<A: Tag>(
 }
 
 /// A list as a vector of copies.
-fn written_list<A: Tag>(
-    alloc: Global,
-    list: &Annotations<A>,
-) -> Result<Vec<A>, OutOfMemory>
+fn written_list<A: Tag>(alloc: Global, list: &Annotations<A>) -> Result<Vec<A>, OutOfMemory>
     ensures { IfOk result (λ copies. Holds A.meaning list.now copies) }
 {
     list.to_vec(alloc)

@@ -56,7 +56,6 @@ module _ {D M : Type 0} (columns : ℕ → Option ℕ) (decoration : Decoration 
       top_goes_on p q live (without_cells p.pending) (vertical_made columns decoration p.pending)
       (taken_live columns decoration (gathered (handed_out columns) (renderers_of p.pending.cells)) _ p.pending.begun (λ cells r s here does. uncounted_live columns decoration (append_vert_row cells) r s p.pending.begun (λ x. refl) (λ n. refl) here does)) is
 
-
 module _ {D A : Type 0} where
   module _ (columns : ℕ → Option ℕ) (decoration : Decoration D A) (number : ℕ) (command : Command) (old new : Progress D A (List A)) (live : GoesOn old) where
     -- a command that is done

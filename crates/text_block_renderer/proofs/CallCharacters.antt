@@ -15,7 +15,7 @@ module _ {D A : Type 0} (columns : ℕ → Option ℕ) (draws : DrawsInOne colum
   move_keeps (flush q) r s h k = flush_keeps columns draws r s r.block h.1 k
   move_keeps (line is) r s h k =
       subst (λ (q : Renderer D A (List A)). Has columns draws q) (sym h.2)
-          (subst (λ (js : List (Item (List A))). Has columns draws (with_line columns r js)) (sym h.0) (line_put columns draws r [] tt k))
+      (subst (λ (js : List (Item (List A))). Has columns draws (with_line columns r js)) (sym h.0) (line_put columns draws r [] tt k))
   move_keeps (rule cells) r s h k = absurd h.0
   move_keeps (join es) r s h k = subst (λ (q : Renderer D A (List A)). Has columns draws q) (sym h) k
   move_keeps turn r s h k = (subst (LinesHaveColumns columns) (sym h.lines) k.0, rw h.hanging k.1)
@@ -25,7 +25,7 @@ module _ {D A : Type 0} (columns : ℕ → Option ℕ) (draws : DrawsInOne colum
     own_keeps c r s nothing h =
         let path = call_moves columns own decoration c r s ((λ appends is. absurd (appends nothing)), (λ adds appends. absurd (appends nothing))) h in
         through columns own (λ p q. Has columns draws p → Has columns draws q) (λ p q e k. subst (λ (t : Renderer D A (List A)). Has columns draws t) (sym e) k)
-            (λ p q t f g k. g (f k)) move_keeps path.moves r s path.makes
+        (λ p q t f g k. g (f k)) move_keeps path.moves r s path.makes
 
     pub call_keeps : (c : Call (List A)) (r s : Renderer D A (List A)) → CallHasColumns columns c → Does columns decoration c r s → Has columns draws r → Has columns draws s
     call_keeps (add_border width) r s good h k =
@@ -38,7 +38,7 @@ module _ {D A : Type 0} (columns : ℕ → Option ℕ) (draws : DrawsInOne colum
         (lines_put columns draws texts m (prefixed_have columns draws r.annotations prefixes lines good.0 good.1) (flush_keeps columns draws r m r.block flushes k))
     call_keeps (append_vert_row cells) r s good h k =
         let (m, flushes, is) = flushed_then columns (λ m. with_divider columns horizontal (with_cells columns m cells)) r s
-            (live_done r.failure (made columns decoration (append_vert_row cells) r) s h).1 in
+        (live_done r.failure (made columns decoration (append_vert_row cells) r) s h).1 in
         subst (λ (q : Renderer D A (List A)). Has columns draws q) (sym is) (cells_below columns draws cells m good (flush_keeps columns draws r m r.block flushes k))
     call_keeps other r s good h k = own_keeps other r s tt h k
 

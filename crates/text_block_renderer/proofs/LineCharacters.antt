@@ -79,7 +79,7 @@ module _ {T : Type 0} (columns : ℕ → Option ℕ) where
         let next = shown_from tag cells (h.place + h.width) hs in
         each_append (ItemHasColumns columns) (drawn (slice_range cells at h.place) tag) (front ++ next) (drawn_has (slice_range cells at h.place) tag)
         (each_append (ItemHasColumns columns) front next (each_front (ItemHasColumns columns) front rest k)
-            (shown_from_has tag cells (h.place + h.width) hs (each_back (ItemHasColumns columns) front rest k)))
+        (shown_from_has tag cells (h.place + h.width) hs (each_back (ItemHasColumns columns) front rest k)))
 
     -- a border shows what is in front of it
     pub border_has : (tag : T) (b : Border T) → Have (text_before b) → Have (shown tag b)
@@ -144,7 +144,7 @@ module _ {D A : Type 0} (columns : ℕ → Option ℕ) (draws : DrawsInOne colum
   block_has : (r : Renderer D A (List A)) (b : Open (List A)) → Each (Have columns) (block_lines columns r b (lines_at_end columns r b))
   block_has r b =
       each_map (λ is. is ++ padding_of columns b.padding (block_width r) is) (Have columns) (Have columns)
-          (λ is h. each_append (ItemHasColumns columns) is (padding_of columns b.padding (block_width r) is) h (padding_has columns draws b.padding (block_width r) is))
+      (λ is h. each_append (ItemHasColumns columns) is (padding_of columns b.padding (block_width r) is) h (padding_has columns draws b.padding (block_width r) is))
       (lines_at_end columns r b) (run_has columns draws (block_width r) b.events)
 
   pub flush_keeps : (r s : Renderer D A (List A)) (o : Option (Open (List A))) → FlushesBlock columns r o s → Has r → Has s

@@ -87,7 +87,7 @@ module _ {T : Type 0} (columns : ℕ → Option ℕ) (draws : DrawsInOne columns
   one_gap tag false d b m h k t = subst (λ (c : Border T). Have columns (text_before c)) (sym h) t
   one_gap tag true d b m (es, is, put) k t =
       subst (λ (c : Border T). Have columns (text_before c)) (sym put)
-          (subst (Have columns) (sym (put_written columns tag d.place b es)) (each_append (ItemHasColumns columns) (text_before b) (items_of es) t (gap_has tag d.width d.lines es is k)))
+      (subst (Have columns) (sym (put_written columns tag d.place b es)) (each_append (ItemHasColumns columns) (text_before b) (items_of es) t (gap_has tag d.width d.lines es is k)))
 
   gaps_have : (tag : T) (drawn : Bool) (ds : List (Overhanging T)) (b full : Border T) → HasGaps drawn columns tag ds b full → Each (CellHasColumns columns) ds → Have columns (text_before b) →
       Have columns (text_before full)
@@ -101,7 +101,7 @@ module _ {T : Type 0} (columns : ℕ → Option ℕ) (draws : DrawsInOne columns
   overhang_has drawn (c ∷ cs) h =
       each_append (CellHasColumns columns) (overhang_of drawn c) (overhang drawn cs)
       (cond_both (nat_lt 1 c.span) (record c { span = c.span - 1; lines = drop (if drawn then 1 else 0) c.lines } ∷ []) [] (Each (CellHasColumns columns))
-          (λ e. (each_drop LineHas (if drawn then 1 else 0) c.lines h.0, tt)) (λ e. tt)) (overhang_has drawn cs h.1)
+      (λ e. (each_drop LineHas (if drawn then 1 else 0) c.lines h.0, tt)) (λ e. tt)) (overhang_has drawn cs h.1)
 
   abbrev NextHas : Option (Border T) → Type 0
   NextHas None = Unit {0}
@@ -129,7 +129,7 @@ module _ {T : Type 0} (columns : ℕ → Option ℕ) (draws : DrawsInOne columns
         let numbers = numbers_below (row_height means.shown) in
         subst (Each (Have columns)) (sym means.texts)
         (subst (λ ks. Each (Have columns) (map (line_text separator tag ks) numbers)) (sym shown_are)
-            (lines_have separator style.collapses top tag means.cells (separates style tag) cells_have numbers))
+        (lines_have separator style.collapses top tag means.cells (separates style tag) cells_have numbers))
 
     pub next_has : NextHas row.next
     next_has =
@@ -137,7 +137,7 @@ module _ {T : Type 0} (columns : ℕ → Option ℕ) (draws : DrawsInOne columns
         let begun = next_begun style top means.cells plain in
         let none : begun.holes ≡ [] = (begins_plain style top means.cells plain).1 refl in
         let full = gaps_have tag style.draws_borders (cells_left (row_height means.shown) means.shown) begun means.full means.gaps left_have
-            (subst (λ (hs : List (Hole T)). Have columns (flat_map (λ (h : Hole T). element_items h.element) hs)) (sym none) tt) in
+        (subst (λ (hs : List (Hole T)). Have columns (flat_map (λ (h : Hole T). element_items h.element) hs)) (sym none) tt) in
         subst NextHas (sym means.lower) (cond_both style.draws_borders (Some means.full) None NextHas (λ e. full) (λ e. tt))
 
     pub rest_has : Each (CellHasColumns columns) row.overhang
@@ -154,11 +154,13 @@ module _ {T : Type 0} (columns : ℕ → Option ℕ) (draws : DrawsInOne columns
       let back = text_items (spaces (missing - columns_in_front align missing)) tag in
       let all : Have columns (aligned_items align is missing tag) =
       each_append (ItemHasColumns columns) (front ++ is) back (each_append (ItemHasColumns columns) front is (spaces_have columns draws (columns_in_front align missing) tag) k.0)
-          (spaces_have columns draws (missing - columns_in_front align missing) tag) in
+      (spaces_have columns draws (missing - columns_in_front align missing) tag) in
       (subst (Have columns) (sym h.0.0) all, filled_have tag align width ls fs h.1 k.1)
-  filled_have tag align width (border b ∷ ls) (Rule c ∷ fs) h k =
-      (subst (λ (d : Border T). Have columns (shown d.tag d)) (sym h.0)
-          (border_has columns draws b.tag (recelled (stretched width b.cells) b) (front_has columns b.tag b k.0)), filled_have tag align width ls fs h.1 k.1)
+  filled_have tag align width (border b ∷ ls) (Rule c ∷ fs) h k = (
+    subst (λ (d : Border T). Have columns (shown d.tag d)) (sym h.0)
+        (border_has columns draws b.tag (recelled (stretched width b.cells) b) (front_has columns b.tag b k.0)),
+    filled_have tag align width ls fs h.1 k.1,
+  )
   filled_have tag align width (l ∷ ls) (f ∷ fs) h k = absurd h.0
   filled_have tag align width ls fs h k = absurd h
 
@@ -172,9 +174,11 @@ module _ {T : Type 0} (columns : ℕ → Option ℕ) (draws : DrawsInOne columns
   stay_have : (ls ms : List (Line T)) → AllZip StaysLine ls ms → LinesHaveColumns columns ls → LinesHaveColumns columns ms
   stay_have [] [] h k = tt
   stay_have (text is ∷ ls) (text js ∷ ms) h k = (subst (Have columns) (sym h.0) k.0, stay_have ls ms h.1 k.1)
-  stay_have (border b ∷ ls) (border c ∷ ms) h k =
-      (border_has columns draws c.tag c (subst (λ (hs : List (Hole T)). Have columns (flat_map (λ (i : Hole T). element_items i.element) hs)) (sym h.0.1)
-          (front_has columns b.tag b k.0)), stay_have ls ms h.1 k.1)
+  stay_have (border b ∷ ls) (border c ∷ ms) h k = (
+    border_has columns draws c.tag c (subst (λ (hs : List (Hole T)). Have columns (flat_map (λ (i : Hole T). element_items i.element) hs)) (sym h.0.1)
+        (front_has columns b.tag b k.0)),
+    stay_have ls ms h.1 k.1,
+  )
   stay_have (l ∷ ls) (m ∷ ms) h k = absurd h.0
   stay_have ls ms h k = absurd h
 
@@ -197,8 +201,11 @@ module _ {D A : Type 0} (columns : ℕ → Option ℕ) (draws : DrawsInOne colum
       let seen = puts.row in
       let style = style_in m collapses in
       let own = own_have columns draws m.annotations cells puts.own puts.come good in
-      let top : Has columns draws (under_row m seen) = (stay_have columns draws m.lines _
-          (top_stays columns collapses cells m s puts) k.0, rest_has columns draws style m.annotations m.hanging puts.own (last_border m.lines) seen puts.means k.1 own) in
+      let top : Has columns draws (under_row m seen) = (
+        stay_have columns draws m.lines _
+            (top_stays columns collapses cells m s puts) k.0,
+        rest_has columns draws style m.annotations m.hanging puts.own (last_border m.lines) seen puts.means k.1 own,
+      ) in
       subst (λ (q : Renderer D A (List A)). Has columns draws q) (sym puts.is)
       (next_put _ seen.next (next_has columns draws style m.annotations m.hanging puts.own (last_border m.lines) seen puts.means k.1 own)
       (lines_put columns draws seen.lines _ (texts_have columns draws style m.annotations m.hanging puts.own (last_border m.lines) seen puts.means k.1 own) top))

@@ -85,7 +85,7 @@ impl<D: TextDecorator, W: CharWidth> SubRenderer<D, W> {
 
 impl<D: TextDecorator, W: CharWidth> Renderer for SubRenderer<D, W> {
     ghost use Rattle.tbr_renderer.specs.Renderer.{Renderer as Seen};
-        ghost use Rattle.tbr_renderer.specs.Steps.{is_empty};
+    ghost use Rattle.tbr_renderer.specs.Steps.{is_empty};
     ghost use Rattle.tbr_renderer.specs.Appended.{handed_out};
     ghost use Rattle.tbr_decor.specs.Decoration.{decoration_of};
     ghost use Rattle.std.specs.Prelude.{◌≡◌, List, true};
