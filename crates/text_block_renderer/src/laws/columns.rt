@@ -16,9 +16,8 @@ ghost use Rattle.tbr_renderer.specs.Calls.{Call, Steps};
 ghost use Rattle.text_block_renderer.specs.Acts.{Act, after_act};
 ghost use Rattle.text_block_renderer.specs.Columns.{LinesHaveColumns, CallHasColumns, ActHasColumns, RendererHasColumns};
 
-/// Each character of the lines that a renderer hands out has columns, whatever texts, images and markers came. It is
-/// asked of prefixes, footnotes, and lines of other renderers that theirs have. So nothing is handed out that has no
-/// columns, after any calls, rows and footnotes.
+/// Each character of the lines that a renderer hands out has columns, after any calls, rows and footnotes. Texts, images
+/// and markers may have any characters. Those of prefixes, footnotes and lines of other renderers have to have columns.
 pub fn characters_have_columns<D, A>()
     ensures new { (columns : ℕ → Option ℕ) (width : ℕ) (options : RenderOptions) (decorator : D) →
         RendererHasColumns columns (new_renderer {D = D} {A = A} width options decorator) }
