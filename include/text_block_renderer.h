@@ -17,7 +17,7 @@
  * CONTROL CHARACTERS. A text that comes out has none except the newlines that end lines: not U+0000 to U+001F, U+007F,
  * nor U+0080 to U+009F. Those of texts are white space or vanish. Those of prefixes, and of the targets in footnotes,
  * are shown as a browser shows them, so that an escape is %1B; `raw` of tbr_options lets them through. Annotations and
- * the names of markers keep what came.
+ * the names of markers keep them.
  *
  * STATUSES. Each call answers TBR_OK or says why it did nothing. TBR_OUT_OF_MEMORY and TBR_TOO_NARROW are kept: what
  * the renderer was filled with is lost, and each later call except tbr_free answers that status. All other refusals
@@ -30,10 +30,10 @@
  * same until then. A line belongs to its renderer: tbr_next_line frees the one before, and tbr_free the last.
  *
  * THREADS. A renderer is used by one call at a time, even for questions, and may be handed from one thread to another.
- * Any number of threads may each have their own; the library has no other state. No call may come from a signal
+ * Any number of threads may each have their own; the library has no other state. No call may be made in a signal
  * handler, nor in the forked child of a process with threads.
  *
- * VERSIONS. Each call is a symbol of the shared library, with the version that it came in. docs/versions.md says what
+ * VERSIONS. Each call is a symbol of the shared library, with the version that added it. docs/versions.md says what
  * may change when.
  *
  * WHAT C CAN'T STOP, and the library can't see, is undefined behaviour. Don't call with a renderer after tbr_free, or
@@ -66,17 +66,17 @@ typedef enum tbr_status {
     /* A word that is placed holds a character wider than the line, and `overflow` isn't on. Never in lines of two
        columns or more. Kept. Where a prefix leaves no column it isn't kept. */
     TBR_TOO_NARROW = 2,
-    /* Only of tbr_render: a line of the script isn't a command, or is where it may not be. */
+    /* Only of tbr_render: a line of the script isn't a command, or isn't allowed there. */
     TBR_NOT_A_COMMAND = 3,
     /* In the open level, nothing is open that the call could end. */
     TBR_NOTHING_TO_END = 4,
-    /* The cells of a row are in the way of what overhangs from the rows above. */
+    /* The cells of a row are in the way of cells that overhang from the rows above. */
     TBR_ROW_DOES_NOT_FIT = 5,
     /* Bytes that aren't UTF-8. */
     TBR_NOT_UTF8 = 6,
     /* A width of 0 columns. */
     TBR_BAD_WIDTH = 7,
-    /* A number that isn't a value of its enum, as a decorator 9. A span of 0 rows. NULL for a text that has bytes.
+    /* A number that isn't a value of its enum, such as decorator 9. A span of 0 rows. NULL for a text that has bytes.
        Options whose size the library doesn't know. */
     TBR_BAD_ARGUMENT = 8,
     /* Inside what the call would end, a level is open, or cells wait for a row. */
@@ -85,7 +85,7 @@ typedef enum tbr_status {
     TBR_FINISHED = 10,
     /* A question for lines or the text, before the renderer is finished. */
     TBR_NOT_FINISHED = 11,
-    /* No line comes after those that were taken, or none has been taken yet. */
+    /* No line is left, or none has been taken yet. */
     TBR_NO_LINE = 12,
     /* There is no piece at that place, or it has no annotation at that place, or none with what was asked for. */
     TBR_NO_PIECE = 13,
@@ -109,15 +109,15 @@ typedef enum tbr_decorator {
 typedef enum tbr_images {
     /* Nothing. */
     TBR_IMAGES_IGNORED = 0,
-    /* The empty title, as the decorator shows it. */
+    /* What the decorator makes of the empty title. */
     TBR_IMAGES_ALWAYS = 1,
     /* What follows the last / of its source. */
     TBR_IMAGES_FILE_NAME = 2
 } tbr_images;
 
-/* What becomes of white space. */
+/* How white space is treated. */
 typedef enum tbr_white_space {
-    /* A stretch of it is one space, and nothing at the ends of lines. */
+    /* A stretch of it counts as one space, and is dropped at the ends of lines. */
     TBR_NORMAL = 0,
     /* It is kept, and lines are cut where they are full. */
     TBR_PRE = 1,
@@ -145,7 +145,7 @@ typedef enum tbr_format {
        A character of two columns is in a <span class="wide">, to be shown as two characters wide. */
     TBR_FORMAT_HTML = 2,
     /* An object of JSON for each line: columns, whether it is a border, and its pieces and markers. Targets and names
-       are as they came, their control characters as escapes. */
+       are unchanged, their control characters as escapes. */
     TBR_FORMAT_JSON = 3
 } tbr_format;
 
@@ -177,8 +177,7 @@ typedef struct tbr_options {
     bool draw_borders;
     /* Not used. Since 0.3. */
     uint16_t unused;
-    /* Whether control characters of prefixes, and of the targets that footnotes list, come out as they went in. Since
-       0.3. */
+    /* Whether control characters of prefixes, and of the targets that footnotes list, stay as they are. Since 0.3. */
     bool raw;
 } tbr_options;
 
@@ -242,7 +241,7 @@ typedef enum tbr_annotation_kind {
     TBR_CODE = 6,
     /* Preformatted text. */
     TBR_PREFORMATTED = 7,
-    /* Preformatted text on a line that continues one which was too long. */
+    /* Preformatted text on a line that continues one that was too long. */
     TBR_PREFORMATTED_CONTINUED = 8,
     /* Text in a colour. */
     TBR_COLOUR = 9,
@@ -269,13 +268,13 @@ typedef struct tbr_annotation {
  * The answer's length is that of the whole text in bytes, as with snprintf. If it is greater than the room, the text
  * was cut.
  *
- * Any bytes may come as a script. At any other status than TBR_OK nothing is written, and the answer's line is the one
+ * The script may be any bytes. At any other status than TBR_OK nothing is written, and the answer's line is the one
  * at fault, if there is one.
  */
 tbr_answer tbr_render(const char *script, size_t length, char *out, size_t room);
 
-/* Renders a script as tbr_render does, but control characters of prefixes, and of the targets in footnotes, come out as
-   they went in. Its text is that of the program blockrender. Since 0.3. */
+/* Renders a script as tbr_render does, but control characters of prefixes, and of the targets in footnotes, stay as
+   they are. Its text is that of the program blockrender. Since 0.3. */
 tbr_answer tbr_render_raw(const char *script, size_t length, char *out, size_t room);
 
 /* ---- how wide a text is ---- */
@@ -291,8 +290,8 @@ tbr_status tbr_text_width(const char *text, size_t *columns);
 
 /* Sets options to those of a plain renderer of `width` columns. Text is wrapped to these columns, and lines are neither
    padded nor wider. There are no footnotes; if they are turned on, their lines are cut. Struck out text has strokes,
-   borders are drawn, an image without a title shows nothing, and no control characters come out. `size` is the number
-   of bytes that `options` has. */
+   borders are drawn, an image without a title shows nothing, and `raw` is off. `size` is the number of bytes that
+   `options` has. */
 void tbr_options_init(tbr_options *options, size_t size, size_t width);
 
 /* These options as a value. This call is compiled into the program, so that their size is the one that the program was
@@ -322,7 +321,7 @@ void tbr_free(tbr_renderer *renderer);
  * answer TBR_OUT_OF_MEMORY, TBR_TOO_NARROW if they place a word, and TBR_FINISHED if the renderer is finished.
  */
 
-/* Adds text. The mode that was pushed last says what becomes of white space. The end of a text doesn't end a word: two
+/* Adds text. The mode that was pushed last says how white space is treated. The end of a text doesn't end a word: two
    texts without white space between them make one. TBR_NOT_UTF8 if it isn't UTF-8. */
 tbr_status tbr_add_text_n(tbr_renderer *renderer, const char *text, size_t length);
 
@@ -331,8 +330,8 @@ tbr_status tbr_add_text(tbr_renderer *renderer, const char *text);
 /* Begins a block: ends the open line, and adds an empty one if any line has content. */
 tbr_status tbr_start_block(tbr_renderer *renderer);
 
-/* Ends a block: the next text begins a new one. In TBR_NORMAL white space before that text is ignored. The call may
-   come at any time. */
+/* Ends a block: the next text begins a new one. In TBR_NORMAL white space before that text is ignored. This
+   call is allowed at any time. */
 tbr_status tbr_end_block(tbr_renderer *renderer);
 
 /* Begins a table, as tbr_start_block begins a block. */
@@ -482,7 +481,7 @@ tbr_status tbr_start_cell(tbr_renderer *renderer, size_t width, size_t span, tbr
 tbr_status tbr_end_cell(tbr_renderer *renderer);
 
 /* Adds the waiting cells as a row, side by side, with a border below. If the last line is a border, the row joins it.
-   What is left of a cell that spans more rows overhangs into the next row. With `collapse`, borders at the tops and
+   What is left of a cell that spans several rows overhangs into the next row. With `collapse`, borders at the tops and
    bottoms of cells are merged with those of the row. TBR_ROW_DOES_NOT_FIT if cells are in the way of what overhangs;
    the cells still wait then. */
 tbr_status tbr_add_row(tbr_renderer *renderer, bool collapse);
@@ -491,7 +490,7 @@ tbr_status tbr_add_row(tbr_renderer *renderer, bool collapse);
 tbr_status tbr_add_vertical_row(tbr_renderer *renderer);
 
 /* Ends the last line, and with footnotes adds the targets of all links. After that lines can be taken, and the renderer
-   can't be filled any longer. TBR_STILL_OPEN if a level is open or cells wait. */
+   can't be filled any more. TBR_STILL_OPEN if a level is open or cells wait. */
 tbr_status tbr_finish(tbr_renderer *renderer);
 
 /* Finishes the renderer as tbr_finish does, for a caller who wants only the whole text. `*length` is the number of its
@@ -510,7 +509,7 @@ tbr_status tbr_refusal(tbr_renderer *renderer);
 /* Whether the innermost level has no line, and no text on an open one. */
 tbr_status tbr_is_empty(tbr_renderer *renderer, bool *is_empty);
 
-/* Whether cells of the innermost level overhang, since they span more rows than have come. Lines that they still have
+/* Whether cells of the innermost level overhang, since they span more rows than were added. Lines that they still have
    when the level is closed or finished are lost. */
 tbr_status tbr_has_overhang(tbr_renderer *renderer, bool *has_overhang);
 

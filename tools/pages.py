@@ -37,7 +37,8 @@ SOURCES |= {"examples/**/*.rs": "//", "examples/**/*.py": "#", "examples/**/*.c"
 # Folders of what is built.
 BUILT = {"out", "target", "build"}
 # Names of html2text and of std that have none here, and of files that a reader makes.
-FOREIGN = {"UnicodeWidthStr", "to_string", "extend_to", "Deref", "DerefMut", "non_exhaustive", "first.c"}
+FOREIGN = {"UnicodeWidthStr", "consume", "into_untagged_lines", "to_string", "extend_to", "Deref", "DerefMut"}
+FOREIGN |= {"non_exhaustive", "first.c"}
 
 
 @dataclass

@@ -1,4 +1,4 @@
-"""What callers pass, as the library takes it. A TypeError says what was expected, and what came."""
+"""What callers pass, as the library takes it. A TypeError says what was expected, and what was passed."""
 
 import ctypes
 import operator

@@ -63,7 +63,7 @@ class OwnedRenderer:
         return answer
 
     def text(self, room: int, name: str, *arguments: Any) -> str:
-        """The text that a call writes into a buffer, which is given first so much room."""
+        """The text that a call writes into a buffer, which has this much room at first."""
         length = c_size_t()
         with self._lock:
             buffer = create_string_buffer(max(room, 1))

@@ -1,4 +1,4 @@
-"""What a `with` block fills, so that its end isn't forgotten."""
+"""What a `with` block fills and then ends."""
 
 from collections.abc import Callable, Iterator
 from contextlib import contextmanager, suppress
@@ -10,7 +10,7 @@ from .errors import NothingToEndError, RendererError, StillOpenError
 def nested(depth: Callable[[], int], start: Callable[[], None], end: Callable[[], None]) -> Iterator[None]:
     """Starts something and ends it, also where an exception leaves the block, which then goes on.
 
-    It isn't ended where it isn't in the innermost level any more: `StillOpenError` if the block leaves a level open,
+    It isn't ended if it is no longer in the innermost level: `StillOpenError` if the block leaves a level open,
     `NothingToEndError` if it closed the one that it was in.
     """
     start()

@@ -2,7 +2,7 @@
 
 
 class RendererError(Exception):
-    """What all refusals of the library are."""
+    """Any refusal of the library."""
 
     message = "no status"
 
@@ -19,14 +19,14 @@ class OutOfMemoryError(RendererError, MemoryError):
 class TooNarrowError(RendererError):
     """A word holds a character that is wider than the line.
 
-    It doesn't come in lines of two columns or more. A renderer keeps this refusal.
+    This never happens in lines of two columns or more. A renderer keeps this refusal.
     """
 
     message = "too narrow"
 
 
 class NotACommandError(RendererError):
-    """A line of a script isn't a command, or comes where it may not."""
+    """A line of a script isn't a command, or isn't allowed there."""
 
     message = "not a command"
 
@@ -38,7 +38,7 @@ class NothingToEndError(RendererError):
 
 
 class RowDoesNotFitError(RendererError):
-    """The cells of a row are in the way of what overhangs from the rows above."""
+    """The cells of a row are in the way of cells that overhang from the rows above."""
 
     message = "row does not fit"
 

@@ -1,4 +1,4 @@
-"""The lines that come out of a renderer."""
+"""The lines of a finished renderer."""
 
 from collections.abc import Iterator
 from enum import Enum

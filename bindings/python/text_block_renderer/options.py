@@ -27,7 +27,7 @@ class ImageRenderMode(Enum):
 
 
 class WhiteSpace(Enum):
-    """What becomes of white space."""
+    """How white space is treated."""
 
     NORMAL = 0
     """A stretch of it counts as one space, and as none at the ends of lines."""

@@ -23,21 +23,21 @@ class Renderer:
     """Writes blocks of text, one below another, into lines of a width in columns.
 
     Its calls have the names of html2text's renderer, where that has such a call. They fill the innermost level that is
-    open. A level is a renderer inside another one, which takes its lines after prefixes or as a cell of a table. What
-    begins in a level ends there.
+    open. A level is a renderer inside another one, to which its lines are added after prefixes or as a cell of a
+    table. What begins in a level ends there.
 
     What `quote`, `link` and others fill by `with` ends there, even if an exception leaves the block. It stays open only
-    if the block leaves a level open, or cells waiting in a quote, item or header. `StillOpenError` tells that, if no
+    if the block leaves a level open, or cells waiting in a quote, item or header. `StillOpenError` says so, if no
     other exception is raised.
 
     A call that does nothing raises a `RendererError`. After `OutOfMemoryError` or `TooNarrowError`, the renderer raises
-    that at each later call. All other refusals leave it as it was. `TooNarrowError` comes only if a line has one
-    column. Apart from what is said at a call, any that takes memory can raise `OutOfMemoryError`, and any that places a
+    that at each later call. All other refusals leave it as it was. `TooNarrowError` is raised only if a line has one
+    column. Besides what is said at each call, any that takes memory can raise `OutOfMemoryError`, and any that places a
     word `TooNarrowError`.
 
     A call checks its arguments before it does anything. It raises `TypeError` if a text isn't a `str`, a number isn't
-    whole, or a choice isn't a member of its enum. It raises `ValueError` if a number is out of bounds. Flags count by
-    their truth.
+    whole, or a choice isn't a member of its enum. It raises `ValueError` if a number is out of bounds. Flags may be any
+    objects, which count by their truth.
 
     A renderer may move from thread to thread; a call waits while another thread is in one. Use it by `with`, or `close`
     it.
@@ -66,10 +66,10 @@ class Renderer:
         pad_block_width: lines are filled with spaces up to their width.
         draw_borders: borders of tables are drawn.
         wrap_links: the targets of footnotes are cut where they don't fit a line.
-        include_link_footnotes: links show numbers, and their targets come after the text under these.
+        include_link_footnotes: links show numbers, and their targets are listed by number after the text.
         use_unicode_strikeout: struck out text has strokes.
         img_mode: what an image without a title shows.
-        raw: control characters of prefixes, and of the targets in footnotes, come out as they went in. Otherwise they
+        raw: control characters of prefixes, and of the targets in footnotes, stay as they are. Otherwise they
             are shown as a browser shows them, so that an escape is `%1B`.
         """
         self._owned = OwnedRenderer(
@@ -169,7 +169,7 @@ class Renderer:
     # ---- text, blocks and lines
 
     def add_inline_text(self, text: str) -> None:
-        """Adds text. The mode that was pushed last says what becomes of white space.
+        """Adds text. The mode that was pushed last says how white space is treated.
 
         The end of a text doesn't end a word: two texts without white space between them make one. `NotUtf8Error` if it
         has a surrogate.
@@ -183,7 +183,7 @@ class Renderer:
     def end_block(self) -> None:
         """Ends a block: the next text begins a new one. In `NORMAL` white space before that text is ignored.
 
-        The call may come at any time.
+        This call is allowed at any time.
         """
         self._owned.call("end_block")
 
@@ -522,7 +522,7 @@ class Renderer:
     def append_subrender(self, first: str, others: str) -> None:
         """Closes the level that `start_subrender` opened, and adds its lines, after these prefixes, to the one outside.
 
-        `NothingToEndError` if the innermost level isn't such a level,  `StillOpenError` if cells wait in it.
+        `NothingToEndError` if the innermost level isn't such a level, `StillOpenError` if cells wait in it.
         """
         self._owned.with_texts("append_sub_n", first=first, others=others)
 
@@ -551,7 +551,7 @@ class Renderer:
     def append_columns_with_borders(self, collapse: bool = False) -> None:
         """Adds the waiting cells as a row, side by side, joined to a border that is the last line, with a border below.
 
-        What is left of a cell that spans more rows overhangs into the next row. With `collapse`, borders at the tops
+        What is left of a cell that spans several rows overhangs into the next row. With `collapse`, borders at the tops
         and bottoms of cells are merged with those of the row. `RowDoesNotFitError` if cells are in the way of what
         overhangs; the cells still wait then.
         """
@@ -572,7 +572,7 @@ class Renderer:
         return self._owned.flag("is_empty")
 
     def has_overhang(self) -> bool:
-        """Whether cells overhang, since they span more rows than have come. Lines that they still have at the end are
+        """Whether cells overhang, since they span more rows than were added. Lines that they still have at the end are
         lost."""
         return self._owned.flag("has_overhang")
 

@@ -14,10 +14,11 @@ if TYPE_CHECKING:
 def render_script(script: "str | ReadableBuffer", *, raw: bool = False) -> str:
     """The text of a script, which is a `str` or bytes.
 
-    No control characters come out except the newlines that end lines. With `raw`, those of prefixes, and of the targets
-    in footnotes, come out as they went in, as from the program `blockrender`.
+    The text has no control characters except the newlines that end lines. With `raw`, those of prefixes, and of the
+    targets in footnotes, stay as they are, as by the program `blockrender`.
 
-    Any bytes may come; `ScriptError` if a line is at fault, or refuses. `TypeError` for what isn't a text or bytes.
+    The script may be any bytes. `ScriptError` if a line is at fault, or refuses. `TypeError` for what isn't a text or
+    bytes.
     """
     encoded = as_bytes(script, "script")
     text = create_string_buffer(max(len(encoded), 1))

@@ -7,14 +7,14 @@ use std::fmt;
 pub enum Error {
     /// Memory was refused, or a size passes `usize`. A renderer keeps this refusal.
     OutOfMemory,
-    /// A word holds a character that is wider than the line. It doesn't come in lines of two columns or more. A
+    /// A word holds a character that is wider than the line. This never happens in lines of two columns or more. A
     /// renderer keeps this refusal.
     TooNarrow,
-    /// A line of a script isn't a command, or comes where it may not.
+    /// A line of a script isn't a command, or isn't allowed there.
     NotACommand,
     /// In the open level, nothing is open that the call could end.
     NothingToEnd,
-    /// The cells of a row are in the way of what overhangs from the rows above.
+    /// The cells of a row are in the way of cells that overhang from the rows above.
     RowDoesNotFit,
     /// Bytes that aren't UTF-8.
     NotUtf8,
@@ -36,12 +36,12 @@ pub enum Error {
     BufferTooSmall,
     /// There is no renderer.
     NoRenderer,
-    /// A status that a later version of the library answers.
+    /// A status of a later version of the library.
     Unknown(u32),
 }
 
 impl Error {
-    /// What a status says. Not all of them can come from a call of this crate.
+    /// The error of a status. Not all of them are answered by a call of this crate.
     pub(crate) fn check(status: u32) -> Result<(), Error> {
         Err(match status {
             0 => return Ok(()),

@@ -48,7 +48,7 @@ impl Handle {
         self.call(|it| unsafe { call(it, one.as_ptr().cast(), one.len(), other.as_ptr().cast(), other.len()) })
     }
 
-    /// The answer of a question that writes it.
+    /// The answer of a question whose call writes it.
     pub fn ask<T: Default>(&self, question: impl FnOnce(*mut sys::Renderer, &mut T) -> u32) -> Result<T, Error> {
         let mut answer = T::default();
         self.call(|it| question(it, &mut answer))?;

@@ -34,7 +34,7 @@ pub struct TaggedString {
 #[derive(Clone, Debug, Default, PartialEq, Eq)]
 #[non_exhaustive]
 pub enum RichAnnotation {
-    /// Nothing in particular. Under a decorator that isn't rich every annotation is this.
+    /// Nothing in particular. Under a decorator that isn't rich, every annotation is of this kind.
     #[default]
     Default,
     /// A link to a target.
@@ -49,7 +49,7 @@ pub enum RichAnnotation {
     Strikeout,
     /// Code.
     Code,
-    /// Preformatted text, and whether it is on a line that continues one which was too long.
+    /// Preformatted text, and whether it is on a line that continues one that was too long.
     Preformat(bool),
     /// Text in a colour.
     Colour(Colour),

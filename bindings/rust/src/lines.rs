@@ -4,10 +4,10 @@ use crate::{Colour, Error, Format, RichAnnotation, TaggedLine, TaggedLineElement
 use std::fmt;
 use std::iter::FusedIterator;
 
-/// The lines of a renderer, one by one. What was taken is freed.
+/// The lines of a renderer, one by one. Lines that were taken are freed.
 ///
-/// A line is refused only with `OutOfMemory`, and no line comes after a refusal. Like a [`Renderer`](crate::Renderer),
-/// it is `Send` and isn't `Sync`.
+/// A line is refused only with `OutOfMemory`, and no line follows a refusal. Like a [`Renderer`](crate::Renderer), it
+/// is `Send` and isn't `Sync`.
 ///
 /// ```
 /// use text_block_renderer::{Options, Renderer, RichAnnotation};

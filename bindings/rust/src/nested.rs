@@ -1,12 +1,12 @@
-//! What a closure fills, so that its end isn't forgotten.
+//! Calls that fill something by a closure, and then end it.
 
 use crate::{Colour, Error, Renderer, WhiteSpace};
 use std::cmp::Ordering;
 
 /// Blocks and stretches of text that a closure fills.
 ///
-/// Each ends where the closure returns, even if that refuses. Its refusal is then the answer, and the renderer can be
-/// used further, if the refusal isn't kept.
+/// Each ends when the closure returns, even if that refuses. Its refusal is then the answer, and the renderer can still
+/// be used, if the refusal isn't kept.
 ///
 /// The closure has to close the levels that it opens. If it leaves one open, or cells waiting in a block, what it
 /// filled isn't ended: the answer is `StillOpen`, or the closure's refusal. If it closed the level that it was in, the
@@ -245,7 +245,7 @@ impl Renderer {
         self.nest(fill, Renderer::pop_ws)
     }
 
-    /// Fills what was begun, and ends it. The first refusal of the two is the answer.
+    /// Fills what was begun, and ends it. If both refuse, the first refusal is the answer.
     fn nest(
         &mut self,
         fill: impl FnOnce(&mut Renderer) -> Result<(), Error>,
@@ -257,7 +257,7 @@ impl Renderer {
         filled.and(ended)
     }
 
-    /// Ends what was begun when this many levels were open, unless it isn't the innermost any longer.
+    /// Ends what was begun when this many levels were open, if it is still the innermost.
     fn end_at(&mut self, begun: usize, end: impl FnOnce(&mut Renderer) -> Result<(), Error>) -> Result<(), Error> {
         match self.depth()?.cmp(&begun) {
             Ordering::Greater => Err(Error::StillOpen),

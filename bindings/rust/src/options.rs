@@ -1,7 +1,7 @@
 use crate::sys;
 use std::mem;
 
-/// The settings of a renderer: its width, how decorated text is shown, and others that can be changed.
+/// The settings of a renderer: its width, how decorated text is shown, and more.
 ///
 /// The settings have the names that html2text gives them.
 ///
@@ -45,7 +45,7 @@ pub enum ImageRenderMode {
     /// Nothing.
     #[default]
     IgnoreEmpty = 0,
-    /// The empty title, as the decorator shows it.
+    /// What the decorator makes of the empty title.
     ShowAlways = 1,
     /// What follows the last `/` of its source.
     Filename = 2,
@@ -110,7 +110,7 @@ impl Options {
         Options { wrap_links, ..self }
     }
 
-    /// Whether links show numbers, under which their targets come after the text. By default they don't.
+    /// Whether links show numbers, and their targets are listed by number after the text. By default they don't.
     pub fn include_link_footnotes(self, include_link_footnotes: bool) -> Options {
         Options { include_link_footnotes, ..self }
     }
@@ -125,8 +125,8 @@ impl Options {
         Options { img_mode, ..self }
     }
 
-    /// Whether control characters of prefixes, and of the targets in footnotes, come out as they went in. By default
-    /// they are shown as a browser shows them, so that an escape is `%1B`.
+    /// Whether control characters of prefixes, and of the targets in footnotes, stay as they are. By default they are
+    /// shown as a browser shows them, so that an escape is `%1B`.
     pub fn raw(self, raw: bool) -> Options {
         Options { raw, ..self }
     }
@@ -166,10 +166,10 @@ pub enum Format {
     Json = 3,
 }
 
-/// What becomes of white space.
+/// How white space is treated.
 #[derive(Clone, Copy, Debug, Default, PartialEq, Eq, Hash)]
 pub enum WhiteSpace {
-    /// A stretch of it is one space, and nothing at the ends of lines.
+    /// A stretch of it counts as one space, and is dropped at the ends of lines.
     #[default]
     Normal = 0,
     /// It is kept, and lines are cut where they are full.

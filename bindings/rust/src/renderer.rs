@@ -6,12 +6,12 @@ use std::fmt;
 /// Writes blocks of text, one below another, into lines of a width in columns.
 ///
 /// Its calls have the names of html2text's renderer, where that has such a call. They fill the innermost level that is
-/// open. A level is a renderer inside another one, which takes its lines after prefixes or as a cell of a table. What
-/// begins in a level ends there.
+/// open. A level is a renderer inside another one, to which its lines are added after prefixes or as a cell of a table.
+/// What begins in a level ends there.
 ///
 /// After a call has answered `OutOfMemory` or `TooNarrow`, the renderer answers that to each later call. All other
-/// refusals leave it as it was. [`TooNarrow`](Error::TooNarrow) comes only if a line has one column. Apart from what is
-/// said at a call, any that takes memory can answer `OutOfMemory`, and any that places a word `TooNarrow`.
+/// refusals leave it as it was. [`TooNarrow`](Error::TooNarrow) is answered only if a line has one column. Besides what
+/// is said at each call, any that takes memory can answer `OutOfMemory`, and any that places a word `TooNarrow`.
 ///
 /// It is `Send`: it may move from one thread to another. It isn't `Sync`, since the library takes one call at a time,
 /// and even a question may change what the renderer keeps:
@@ -55,7 +55,7 @@ impl Renderer {
 
 /// Text, blocks and lines.
 impl Renderer {
-    /// Adds text. The mode that was pushed last says what becomes of white space. The end of a text doesn't end a word:
+    /// Adds text. The mode that was pushed last says how white space is treated. The end of a text doesn't end a word:
     /// two texts without white space between them make one.
     pub fn add_inline_text(&mut self, text: &str) -> Result<(), Error> {
         self.handle.with_text(sys::tbr_add_text_n, text)
@@ -66,8 +66,8 @@ impl Renderer {
         self.handle.plain(sys::tbr_start_block)
     }
 
-    /// Ends a block: the next text begins a new one. In `Normal` white space before that text is ignored. The call may
-    /// come at any time.
+    /// Ends a block: the next text begins a new one. In `Normal` white space before that text is ignored. This call
+    /// is allowed at any time.
     pub fn end_block(&mut self) -> Result<(), Error> {
         self.handle.plain(sys::tbr_end_block)
     }
@@ -311,7 +311,7 @@ impl Renderer {
     }
 
     /// Closes the level that `start_subrender` opened, and adds its lines to the one outside: the first after `first`,
-    /// each other after `others`. `NothingToEnd` if the innermost level isn't such a level,  `StillOpen` if cells wait
+    /// each other after `others`. `NothingToEnd` if the innermost level isn't such a level, `StillOpen` if cells wait
     /// in it.
     pub fn append_subrender(&mut self, first: &str, others: &str) -> Result<(), Error> {
         self.handle.with_texts(sys::tbr_append_sub_n, first, others)
@@ -344,7 +344,7 @@ impl Renderer {
     }
 
     /// Adds the waiting cells as a row, side by side, with a border below. If the last line is a border, the row joins
-    /// it. What is left of a cell that spans more rows overhangs into the next row. With `collapse`, borders at the
+    /// it. What is left of a cell that spans several rows overhangs into the next row. With `collapse`, borders at the
     /// tops and bottoms of cells are merged with those of the row.
     ///
     /// `RowDoesNotFit` if cells are in the way of what overhangs; the cells still wait then.
@@ -372,7 +372,7 @@ impl Renderer {
         self.handle.ask(|it, answer| unsafe { sys::tbr_is_empty(it, answer) })
     }
 
-    /// Whether cells overhang, since they span more rows than have come. Lines that they still have at the end are
+    /// Whether cells overhang, since they span more rows than were added. Lines that they still have at the end are
     /// lost.
     pub fn has_overhang(&self) -> Result<bool, Error> {
         // SAFETY: as above.

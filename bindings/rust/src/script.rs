@@ -35,8 +35,8 @@ impl From<Error> for ScriptError {
     }
 }
 
-/// The text of a script, in the language that `docs/SCRIPT.md` teaches. Any bytes may come. No control characters come
-/// out except the newlines that end lines.
+/// The text of a script, in the language that `docs/SCRIPT.md` teaches. The script may be any bytes. The text has no
+/// control characters except the newlines that end lines.
 ///
 /// ```
 /// let text = text_block_renderer::render_script(b"new 8 plain\ntext Hello, world.\n")?;
@@ -49,8 +49,8 @@ pub fn render_script(script: &[u8]) -> Result<String, ScriptError> {
     rendered(sys::tbr_render, script)
 }
 
-/// The text of a script, where control characters of prefixes, and of the targets in footnotes, come out as they went
-/// in. It is the text of the program `blockrender`.
+/// The text of a script, as the program `blockrender` writes it: control characters of prefixes, and of the targets in
+/// footnotes, stay as they are.
 ///
 /// ```
 /// let text = text_block_renderer::render_script_raw(b"new 8 plain\nsub 3\ntext a\nappend \\u{1b} | \n")?;

@@ -1,7 +1,8 @@
 use crate::sys;
 use std::ffi::CStr;
 
-/// The version of the library that runs, as `0.3.0`. One that was built without its proofs has `+unproved` after that.
+/// The version of the library that runs, as `0.3.0`. A library that was built without its proofs has `+unproved` after
+/// that.
 ///
 /// ```
 /// println!("text_block_renderer {}", text_block_renderer::version());

@@ -170,7 +170,7 @@ pub fn settings_of(matches: &ArgMatches, shows_colours: bool) -> Settings
     }
 }
 
-/// Whether there are colours by the word of `--colour`.
+/// Whether lines have colours, as the word after `--colour` says.
 fn has_colours(word: Option<&str>, shows_colours: bool) -> bool
     ensures { AreColours (option_map (λ s. s.now) word.entry) shows_colours result }
 {

@@ -110,7 +110,7 @@ fn tell_unread(rt: &HostRuntime, file: &str, e: &io::Error) -> u8 {
     FAILED
 }
 
-/// Reports what isn't shown of a file as its script says.
+/// Reports where the lines of a file differ from what its script says.
 fn tell_warnings(rt: &HostRuntime, file: &str, script: &[u8], shown: &Shown) {
     for problem in shown.lost.iter().chain(shown.warnings.iter()) {
         tell(rt, file, script, problem);

@@ -15,7 +15,7 @@ pub struct Output {
 }
 
 impl Output {
-    /// Nothing was written yet.
+    /// An output to which nothing is written yet.
     pub fn new(format: Format) -> Output
         ensures { result ≡ model.nothing format }
     {

@@ -24,7 +24,7 @@ pub struct CellNeed {
     pub greatest: usize,
 }
 
-/// What a column needs that no cell spans: it is one wide.
+/// What a column that no cell spans needs: one column of text.
 const UNSPANNED: Need = Need {
     least: 1,
     greatest: 1,
@@ -96,7 +96,7 @@ impl Columns {
     }
 
     /// The room that the columns need at least, and the most that they can use, lines between columns included. `None`
-    /// where that passes `usize`.
+    /// where one of the two passes `usize`.
     ///
     /// It refuses only where memory runs out.
     pub fn needed_room(&self) -> Result<Option<Room>, AllocError>
@@ -152,7 +152,7 @@ impl Columns {
     }
 }
 
-/// Whether a cell spans one column, if those are asked for, or several, if the others are.
+/// Whether a cell spans exactly one column, if `alone` is set, and otherwise whether it spans several.
 fn is_of(alone: bool, cell: CellNeed) -> bool
     ensures { result ≡ is_of alone cell }
 {
@@ -169,7 +169,7 @@ fn fill_cell(line: usize, cell: CellNeed, needs: &mut [Need])
     fill(Bound::Greatest, line, cell.greatest, columns);
 }
 
-/// Fills the columns of each cell that spans one column, or of each of the others.
+/// Fills the columns of each cell that spans one column, if `alone` is set, and otherwise of each that spans several.
 fn fill_each(line: usize, cells: &[CellNeed], alone: bool, needs: &mut [Need])
     requires { All (IsWithin (length needs.old)) cells.now }
     ensures { needs.new ≡ after_cells line cells.now alone needs.old }

@@ -1,10 +1,10 @@
-//! Columns after a cell that spans them.
+//! What columns need once a cell spans them.
 ghost use Rattle.std.specs.Prelude.{◌≡◌, ◌+◌, ◌-◌, ◌*◌, ◌/◌, ◌%◌, ◌^◌, ◌<◌, ◌≤◌, length, sum_by};
 ghost use Rattle.column_widths.specs.Needs.{width_of, missing, spread, filled};
 
 use crate::need::{Bound, Need};
 
-/// What columns, and the lines between them, lack of what a cell asks.
+/// How much less than a cell asks for its columns, and the lines between them, have.
 fn missing(bound: Bound, line: usize, asked: usize, columns: &[Need]) -> usize
     ensures { result ≡ missing bound line asked columns.now }
 {

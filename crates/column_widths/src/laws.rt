@@ -13,8 +13,7 @@ pub fn least_widths_decide()
     ensures { (t : Table) (room : ℕ) → (widths t room ≡ None) ↔ (room < room_of Least t) }
 {}
 
-/// The widths and the lines take the whole room, or, if there is more room than the columns can use, just what they can
-/// use.
+/// The widths and the lines take the whole room, or as much of it as the columns can use.
 pub fn widths_take_the_room()
     ensures all { (t : Table) (room : ℕ) (ws : List ℕ) →
         widths t room ≡ Some ws → room ≤ room_of Greatest t → sum ws + lines_of t ≡ room }
@@ -49,7 +48,8 @@ pub fn wider_needs_get_no_less()
         slice_index ws i ≤ slice_index ws j }
 {}
 
-/// A cell that spans one column makes it need at least the longest word, and at most the widest line, of the widest.
+/// Among the cells that span just one column, the longest word decides what the column needs at least, and the widest
+/// line what it needs at most.
 pub fn widest_cell_decides()
     ensures least { (line asked : ℕ) (n : Need) → n.least ≤ n.greatest →
         filled Least line asked (n ∷ [])

@@ -28,7 +28,7 @@ impl Need {
         }
     }
 
-    /// Needs this much more. What it needs at most is never below what it needs at least.
+    /// Makes it need this much more. What it needs at most is never below what it needs at least.
     pub fn widen(&mut self, bound: Bound, by: usize)
         requires { width_of bound self.old + by < 2 ^ 64 }
         ensures { self.new ≡ widened bound by self.old }

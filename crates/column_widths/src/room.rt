@@ -25,7 +25,7 @@ fn total(bound: Bound, needs: &[Need]) -> u128
     total
 }
 
-/// The sum of a number and one of the code, or `None` where it passes `usize`.
+/// The sum of two numbers, or `None` where it passes `usize`.
 fn sum(lines: usize, total: u128) -> Option<usize>
     ensures { result ≡ held lines total }
 {

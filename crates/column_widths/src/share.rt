@@ -128,7 +128,8 @@ fn shared(alloc: Global, extra: usize, columns: &[Need]) -> Result<Vec<usize>, A
     Ok(widths)
 }
 
-/// The widths in this much room beside the lines, or `None` where the least widths don't fit.
+/// The widths in this much room beside the lines, or `None` where the least widths don't fit. It refuses only where
+/// memory is refused.
 #[tactic(auto, using(crate::proofs::Shares::greatest_within))]
 pub fn widths_beside_lines(
     alloc: Global,

@@ -1,4 +1,4 @@
-//! Lists of annotations, as texts are under them.
+//! Lists of the annotations that texts are under.
 ghost use Rattle.std.specs.Prelude.{◌≡◌, ◌-◌, ◌++◌, ◌∷◌, [], length, take, map, IfOk};
 
 use crate::chain::{Chain, equal_chains};
@@ -50,7 +50,7 @@ impl<A: Tag> Annotations<A> {
         Ok(copies)
     }
 
-    /// The same annotations, and one more. It refuses only where memory is refused.
+    /// These annotations and one more. It refuses only where memory is refused.
     pub fn with(&self, alloc: Global, annotation: A) -> Result<Annotations<A>, OutOfMemory>
         ensures { IfOk result (λ more. more ≡ self.now ++ A.meaning annotation ∷ []) }
     {
@@ -58,8 +58,8 @@ impl<A: Tag> Annotations<A> {
         Ok(Annotations { chain })
     }
 
-    /// The same annotations but for the last `count`. It takes no memory, and refuses only where as many lists as
-    /// `usize` counts share them.
+    /// These annotations without the last `count`. It takes no memory, and refuses only where the number of lists that
+    /// share them would pass `usize`.
     pub fn without_last(&self, count: usize) -> Result<Annotations<A>, OutOfMemory>
         ensures { IfOk result (λ fewer. fewer ≡ take (length self.now - count) self.now) }
     {
@@ -80,8 +80,8 @@ impl<A: Tag> Clone for Annotations<A> {
     }
 }
 
-/// Two lists are equal where they have as many annotations, equal in order. Lists of one length are compared from
-/// their last annotations on.
+/// Two lists are equal where they have the same number of annotations, equal in order. Lists of one length are compared
+/// from their last annotations on.
 impl<A: Tag> PartialEq for Annotations<A> {
     ghost use Rattle.tbr_annotations.specs.Annotations.{same_annotations};
     ghost use Rattle.tbr_tags.specs.Tells.{told_per, lists_tell};

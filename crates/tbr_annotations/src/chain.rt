@@ -23,7 +23,7 @@ pub struct Node<A> {
     pub below: Chain<A>,
 }
 
-/// In a loop, so that a long chain needs no long stack.
+/// In a loop, so that a long chain doesn't use up the stack.
 impl<A: Drop> Drop for Chain<A> {
     fn drop(mut self) {
         loop {
@@ -39,7 +39,8 @@ impl<A: Drop> Drop for Chain<A> {
 }
 
 impl<A: Drop> Chain<A> {
-    /// The same chain, which both share. It takes no memory, and refuses only where as many as `usize` counts share it.
+    /// The chain, shared by one more owner. It takes no memory, and refuses only where the number of owners would pass
+    /// `usize`.
     pub fn share(&self) -> Result<Chain<A>, AllocError>
         ensures annotations { IfOk result (λ chain. annotations_of chain ≡ annotations_of self.now) }
         ensures counts { CountsWell self.now → IfOk result CountsWell }
@@ -50,7 +51,8 @@ impl<A: Drop> Chain<A> {
         })
     }
 
-    /// One annotation more.
+    /// The chain with one annotation more. It refuses where memory is refused, and where the number of annotations
+    /// would pass `usize`.
     pub fn push(self, alloc: Global, annotation: A) -> Result<Chain<A>, OutOfMemory>
         requires { CountsWell self }
         ensures annotations { IfOk result (λ chain. annotations_of chain ≡ annotations_of self ++ annotation ∷ []) }
@@ -96,7 +98,7 @@ impl<A> Chain<A> {
         chain
     }
 
-    /// Copies of the annotations, the last one first.
+    /// Copies of the annotations, the last one first. It refuses only where memory is refused.
     pub fn copied_down(&self, alloc: Global) -> Result<Vec<A>, OutOfMemory>
     where
         A: Clone,

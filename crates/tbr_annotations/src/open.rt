@@ -8,12 +8,12 @@ use std::marker::Model;
 use tbr_tagged::OutOfMemory;
 use tbr_tags::Tag;
 
-/// The annotations of text that comes, to which one is added or from which the last one is taken. A contract sees the
-/// list of what they mean.
+/// The annotations of the text that is added next. One is added to them, or the last one is removed. A contract sees
+/// the list of what they mean.
 #[derive(Drop)]
 pub struct OpenAnnotations<A: Tag> {
     list: Annotations<A>,
-    /// How many of the last ones are closed already: none, unless the others couldn't be shared once more.
+    /// How many of the last ones are closed but still held: none, unless the others couldn't be shared once more.
     closed: usize,
 }
 
@@ -40,14 +40,15 @@ impl<A: Tag> OpenAnnotations<A> {
         OpenAnnotations { list, closed: 0 }
     }
 
-    /// The annotations. It takes no memory, and refuses only where as many lists as `usize` counts share them.
+    /// The annotations. It takes no memory, and refuses only where the number of lists that share them would pass
+    /// `usize`.
     pub fn list(&self) -> Result<Annotations<A>, OutOfMemory>
         ensures { IfOk result (λ list. list ≡ self.now) }
     {
         self.list.without_last(self.closed)
     }
 
-    /// Adds an annotation. Where memory is refused nothing changes.
+    /// Adds an annotation. Where memory is refused, nothing changes.
     pub fn push(&mut self, alloc: Global, annotation: A) -> Result<(), OutOfMemory>
         ensures ok { OnOk result (self.new ≡ self.old ++ A.meaning annotation ∷ []) }
         ensures err { OnErr result (self.new ≡ self.old) }
@@ -57,7 +58,7 @@ impl<A: Tag> OpenAnnotations<A> {
         Ok(())
     }
 
-    /// Takes the last annotation, if there is one.
+    /// Removes the last annotation, if there is one.
     pub fn pop(&mut self)
         ensures { self.new ≡ take (length self.old - 1) self.old }
     {
@@ -67,7 +68,7 @@ impl<A: Tag> OpenAnnotations<A> {
         self.settle();
     }
 
-    /// Forgets the annotations that are closed, where the others can be shared once more.
+    /// Drops the annotations that are closed, if the others can be shared once more.
     fn settle(&mut self)
         ensures { self.new ≡ self.old }
     {

@@ -14,7 +14,7 @@ use tbr_border::{BorderHoriz, RenderLine};
 use tbr_tagged::{OutOfMemory, TaggedLine, TaggedLineElement, TaggedString};
 use tbr_tags::Tag;
 
-/// The same line, each list of annotations as a vector of copies. It refuses only where memory is refused.
+/// A line, with each list of annotations as a vector of copies. It refuses only where memory is refused.
 pub fn written_out<A: Tag>(
     alloc: Global,
     line: RenderLine<Annotations<A>>,
@@ -28,7 +28,7 @@ pub fn written_out<A: Tag>(
     })
 }
 
-/// The same line of text. Its pieces are the longest stretches under equal vectors.
+/// A line of text, with vectors in place of lists. Its pieces are the longest stretches under equal vectors.
 fn written_line<A: Tag>(
     alloc: Global,
     line: TaggedLine<Annotations<A>>,
@@ -43,7 +43,7 @@ fn written_line<A: Tag>(
     Ok(out)
 }
 
-/// The same element. A piece is under a vector of copies.
+/// An element. If it is a piece, a vector of copies is in place of its list.
 fn written_element<A: Tag>(
     alloc: Global,
     element: TaggedLineElement<Annotations<A>>,
@@ -59,7 +59,7 @@ fn written_element<A: Tag>(
     }
 }
 
-/// The same border, its cells and what is in front of them under vectors of copies.
+/// A border, with its cells and what is in front of them under vectors of copies.
 fn written_border<A: Tag>(
     alloc: Global,
     border: BorderHoriz<Annotations<A>>,

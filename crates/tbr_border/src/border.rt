@@ -122,7 +122,7 @@ impl<T> BorderHoriz<T> {
     }
 
     /// Merges a border that is below. It adds an arm down at `pos + i` for each place `i` where the other has one of `┴
-    /// ┬ ┼ └ ┘`, also under its holes. This border is stretched as far as joins come.
+    /// ┬ ┼ └ ┘`, also under its holes. This border is stretched up to the last join.
     ///
     /// If memory is refused, or a place passes `usize`, the border stays as it was. A border that reaches the last join
     /// takes no memory.
@@ -145,7 +145,7 @@ impl<T> BorderHoriz<T> {
     }
 
     /// Merges a border that is above. It adds an arm up at `pos + i` for each place `i` where the other has one of `┴ ┬
-    /// ┼ ┌ ┐`, also under its holes. This border is stretched as far as joins come.
+    /// ┼ ┌ ┐`, also under its holes. This border is stretched up to the last join.
     ///
     /// If memory is refused, or a place passes `usize`, the border stays as it was. A border that reaches the last join
     /// takes no memory.
@@ -278,8 +278,8 @@ fn join_at(segments: &mut Vec<BorderSegHoriz>, side: Side, x: usize) -> Result<(
     Ok(())
 }
 
-/// Adds an arm at `pos + i` for each place `i` where the other cells join, and stretches as far as these come. If
-/// memory is refused, or a place passes `usize`, nothing changes.
+/// Adds an arm at `pos + i` for each place `i` where the other cells join, and stretches the border up to the last of
+/// them. If memory is refused, or a place passes `usize`, nothing changes.
 fn merge(
     segments: &mut Vec<BorderSegHoriz>,
     side: Side,
@@ -343,7 +343,7 @@ fn open(segments: &mut Vec<BorderSegHoriz>, pos: usize, end: usize)
     chop_left_at(segments, end);
 }
 
-/// Takes away the arm to the right of the cell at a place, if there is a cell.
+/// Removes the arm to the right of the cell at a place, if there is a cell.
 fn chop_right_at(segments: &mut Vec<BorderSegHoriz>, place: usize)
     ensures cells { cells_of segments.new.items ≡ model.changed_at chopped_right place (cells_of segments.old.items) }
     ensures len { length segments.new.items ≡ length segments.old.items }
@@ -353,7 +353,7 @@ fn chop_right_at(segments: &mut Vec<BorderSegHoriz>, place: usize)
     }
 }
 
-/// Takes away the arm to the left of the cell at a place, if there is a cell.
+/// Removes the arm to the left of the cell at a place, if there is a cell.
 fn chop_left_at(segments: &mut Vec<BorderSegHoriz>, place: usize)
     ensures cells { cells_of segments.new.items ≡ model.changed_at chopped_left place (cells_of segments.old.items) }
     ensures len { length segments.new.items ≡ length segments.old.items }

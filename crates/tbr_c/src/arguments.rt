@@ -1,4 +1,5 @@
-//! What the arguments of calls are read as.
+//! The commands that arguments of calls stand for. A text is refused with `NotUtf8` if it isn't UTF-8, and with
+//! `OutOfMemory` if memory for its copy is refused.
 ghost use Rattle.std.specs.Prelude.{◌≡◌, ℕ, List, string_bytes};
 ghost use Rattle.tbr_commands.specs.Command as asked;
 ghost use Rattle.tbr_commands.specs.Request as request;
@@ -58,7 +59,7 @@ pub fn image(alloc: Global, source: &[u8], title: &[u8]) -> Result<Command, Faul
     })))
 }
 
-/// Closes a level, whose lines come after prefixes.
+/// Closes a level, whose lines are added after prefixes.
 pub fn append(alloc: Global, first: &[u8], others: &[u8]) -> Result<Command, Fault>
     ensures { ReadsCommand (with_texts first.now others.now asked.append) result }
 {
@@ -68,7 +69,7 @@ pub fn append(alloc: Global, first: &[u8], others: &[u8]) -> Result<Command, Fau
     }))
 }
 
-/// Begins the mode of white space of this number.
+/// Begins the mode of white space of this number. It answers `BadArgument` where there is none.
 pub fn mode(number: u32) -> Result<Command, Fault>
     ensures { ReadsCommand (mode_asked number) result }
 {
@@ -87,7 +88,7 @@ fn mode_named(number: u32) -> Result<WhiteSpace, Fault>
     }
 }
 
-/// Opens a level.
+/// Opens a level. It answers `BadWidth` at 0 columns.
 pub fn sub(width: usize) -> Result<Command, Fault>
     ensures { ReadsCommand (sub_asked width) result }
 {
@@ -97,7 +98,8 @@ pub fn sub(width: usize) -> Result<Command, Fault>
     Ok(Command::Sub(width))
 }
 
-/// Opens a cell, with the alignment of this number.
+/// Opens a cell, with the alignment of this number. It answers `BadWidth` at 0 columns, and `BadArgument` at 0 rows, or
+/// where there is no such alignment.
 pub fn cell(width: usize, span: usize, alignment: u32) -> Result<Command, Fault>
     ensures { ReadsCommand (cell_asked width span alignment) result }
 {

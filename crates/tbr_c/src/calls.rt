@@ -58,7 +58,7 @@ pub extern "C" fn tbr1_free(renderer: Handle) {
     drop(renderer.open());
 }
 
-/// Does what arguments ask for, or refuses those that are no command.
+/// Does what the arguments ask for, or refuses them if they are no command.
 fn run(renderer: Handle, read: Result<Command, Fault>, back: &mut Returned) -> u32
     requires { IfOk read (λ command. IsSized (command_of command)) }
     ensures { (asked : Result Asked Refusal) → ReadsCommand asked read →

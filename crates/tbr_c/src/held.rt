@@ -53,10 +53,10 @@ impl Held {
         Ok(Held { alloc, state })
     }
 
-    /// Does what arguments ask for, or refuses those that are no command.
+    /// Does what the arguments ask for, or refuses them if they are no command.
     ///
-    /// `OutOfMemory` and `TooNarrow` are kept, and each other refusal leaves the renderer as it was. One that keeps a
-    /// refusal answers that, and one that is finished `Finished`.
+    /// `OutOfMemory` and `TooNarrow` are kept, and each other refusal leaves the renderer as it was. A renderer that
+    /// keeps a refusal answers that, and a finished one answers `Finished`.
     pub fn run(&mut self, read: &Result<Command, Fault>) -> Result<(), Fault>
         requires { IfOk read.now (λ command. IsSized (command_of command)) }
         ensures { (asked : Result Asked Refusal) → Reads command_of asked read.now →
@@ -71,7 +71,7 @@ impl Held {
 
     /// Ends the last line. The lines can then be taken.
     ///
-    /// `StillOpen` where a level is open or cells wait. It refuses as `run` does.
+    /// It answers `StillOpen` where a level is open or cells wait, and otherwise refuses as `run` does.
     pub fn finish(&mut self) -> Result<(), Fault>
         ensures lines { OnOk result (EndsIn self.old self.new) }
         ensures end { IsEnd self.old result self.new }
@@ -85,8 +85,8 @@ impl Held {
         }
     }
 
-    /// Ends the last line. The text of all lines can then be taken, but no single line. It answers the bytes of the
-    /// text.
+    /// Ends the last line. The text of all lines can then be taken, but no single line. It answers how many bytes the
+    /// text has.
     ///
     /// It refuses as `finish` does.
     pub fn finish_text(&mut self) -> Result<usize, Fault>
@@ -103,7 +103,8 @@ impl Held {
         }
     }
 
-    /// Takes what is filled. `StillOpen` where a level is open or a cell waits. It refuses as `run` does.
+    /// Takes what is filled. It answers `StillOpen` where a level is open or a cell waits, and otherwise refuses as
+    /// `run` does.
     fn take_closed(&mut self) -> Result<State, Fault>
         ensures taken { IfOk result (λ state. (state ≡ self.old) × CanGoOn state × MayFinish state) }
         ensures left { IfErr result (λ _. self.new ≡ self.old) }
@@ -125,7 +126,7 @@ impl Held {
         Fault::from(e)
     }
 
-    /// The refusal that is kept, if there is one.
+    /// Answers the refusal that is kept, if there is one.
     pub fn refusal(&self) -> Result<(), Fault>
         ensures { result ≡ refusal_of self.now }
     {
@@ -135,21 +136,23 @@ impl Held {
         }
     }
 
-    /// What it answers while it is filled. A refusal of this isn't kept, nor one of the questions below.
+    /// What it answers while it is filled. A finished renderer answers `Finished`, and a failed one its kept refusal.
+    /// If this or one of the questions below refuses, the refusal isn't kept.
     pub fn facts(&self) -> Result<Facts, Fault>
         ensures { result ≡ facts_of self.now }
     {
         self.state.facts()
     }
 
-    /// The columns of the innermost level that are left after a prefix of `prefix` columns, but at least `least`.
+    /// The columns of the innermost level that are left after a prefix of `prefix` columns, but at least `least`. It
+    /// answers `TooNarrow` where fewer are left and lines may not be wider, and otherwise refuses as `facts` does.
     pub fn width_minus(&self, prefix: usize, least: usize) -> Result<usize, Fault>
         ensures { result ≡ width_left prefix least self.now }
     {
         self.state.width_minus(prefix, least)
     }
 
-    /// The text of a prefix of the decorator.
+    /// The text of a prefix of the decorator. It refuses as `facts` does, and where memory is refused.
     pub fn prefix(&mut self, prefix: DecoratorPrefix) -> Result<String, Fault>
         ensures text { IfOk result (λ text. prefix_of (asked_prefix prefix) self.old ≡ Ok (string_bytes text)) }
         ensures refused { IfErr result (λ f. f ≢ F.OutOfMemory → prefix_of (asked_prefix prefix) self.old ≡ Err f) }
@@ -158,16 +161,16 @@ impl Held {
         self.state.prefix(prefix)
     }
 
-    /// The bytes of a prefix, where they are known before it is made, as those of headings are. `None` also where they
-    /// pass `usize`, and where nothing can be filled any more.
+    /// How many bytes a prefix has, where that is known before it is made, as for headings. `None` also where they pass
+    /// `usize`, and where the renderer can no longer be filled.
     pub fn length_ahead(&self, prefix: DecoratorPrefix) -> Option<usize>
         ensures { IfSome result (λ n. Needs (prefix_of (asked_prefix prefix) self.now) n) }
     {
         self.state.length_ahead(prefix)
     }
 
-    /// Takes the next line, and answers its size. `NotFinished` where the renderer isn't finished, `NoLine` where none
-    /// is left. `OutOfMemory` is kept.
+    /// Takes the next line, and answers its size. It answers `NotFinished` where the renderer isn't finished, and
+    /// `NoLine` where none is left. `OutOfMemory` is kept.
     pub fn next_line(&mut self) -> Result<LineSize, Fault>
         ensures { IsNext self.old result self.new }
     {
@@ -175,15 +178,16 @@ impl Held {
         self.state.keep(size)
     }
 
-    /// The line that was taken last. `NotFinished` where the renderer isn't finished, `NoLine` where none was taken.
+    /// The line that was taken last. It answers `NotFinished` where the renderer isn't finished, and `NoLine` where
+    /// none was taken.
     pub fn line(&self) -> Result<&Line, Fault>
         ensures { MatchResult result (λ line. line_taken self.now ≡ Ok line.now) (λ f. line_taken self.now ≡ Err f) }
     {
         self.state.lines()?.current()
     }
 
-    /// Copies the text of all lines that weren't taken, each with a newline, as `copy_out` does. `NotFinished` where
-    /// the renderer isn't finished. `OutOfMemory` is kept.
+    /// Copies the text of all lines that weren't taken, each with a newline, as `copy_out` does. It answers
+    /// `NotFinished` where the renderer isn't finished. `OutOfMemory` is kept.
     pub fn copy_text(&mut self, out: &mut [u8], needed: &mut usize) -> Result<(), Fault>
         ensures text { CopiesMade (rest_of self.old) out.old out.new needed.old needed.new (status_of result) }
         ensures none { IfErr (rest_of self.old) (λ f. result ≡ Err f) }
@@ -193,8 +197,9 @@ impl Held {
         self.state.keep(done)
     }
 
-    /// Copies all lines that weren't taken in a format, each with a newline, as `copy_out` does. `NotFinished` where the
-    /// renderer isn't finished, `NoLine` where there is only its text. `OutOfMemory` is kept.
+    /// Copies all lines that weren't taken in a format, each with a newline, as `copy_out` does. It answers
+    /// `NotFinished` where the renderer isn't finished, and `NoLine` where there is only its text. `OutOfMemory` is
+    /// kept.
     pub fn copy_shown(
         &mut self,
         format: Format,
@@ -210,8 +215,8 @@ impl Held {
         self.state.keep(done)
     }
 
-    /// Copies the line that was taken last in a format, without a newline, as `copy_out` does. `NotFinished` where the
-    /// renderer isn't finished, `NoLine` where none was taken. `OutOfMemory` is kept.
+    /// Copies the line that was taken last in a format, without a newline, as `copy_out` does. It answers `NotFinished`
+    /// where the renderer isn't finished, and `NoLine` where none was taken. `OutOfMemory` is kept.
     pub fn copy_current(
         &mut self,
         format: Format,

@@ -26,8 +26,8 @@ pub struct Options {
 impl Options {
     /// The first command of a script that asks for the same.
     ///
-    /// It answers `BadWidth` where the width is 0. It answers `BadArgument` where the number of the decorator, or that
-    /// of what images show, names nothing.
+    /// It answers `BadWidth` where the width is 0, and `BadArgument` where the number of the decorator, or of what
+    /// images show, is unknown.
     pub fn opening(&self) -> Result<Opening, Fault>
         ensures asked { result ≡ opening_asked self.now }
         ensures width { IfOk result (λ opening. 0 < opening.width) }

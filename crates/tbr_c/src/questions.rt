@@ -115,7 +115,7 @@ pub extern "C" fn tbr1_waiting_cells(
     )
 }
 
-/// The bytes of a prefix that is known to have more than there is room for, before it is made.
+/// How many bytes a prefix has, if these are known before it is made and are more than `room`.
 fn too_long(held: &Held, prefix: DecoratorPrefix, room: usize) -> Option<usize>
     ensures { IfSome result (λ n. Needs (prefix_of (asked_prefix prefix) held.now) n × (room < n)) }
 {
@@ -123,7 +123,7 @@ fn too_long(held: &Held, prefix: DecoratorPrefix, room: usize) -> Option<usize>
     if needed > room { Some(needed) } else { None }
 }
 
-/// Copies a prefix of the decorator. One that has no room isn't made, where its length is known before.
+/// Copies a prefix of the decorator. If its length is known ahead and there is no room for it, it isn't made.
 fn prefix(
     renderer: Handle,
     prefix: DecoratorPrefix,

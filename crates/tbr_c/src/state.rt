@@ -1,4 +1,4 @@
-//! How far a renderer is that C holds: filled, finished or refused.
+//! The state of a renderer that C holds: filled, finished or refused.
 ghost use Rattle.std.specs.Prelude.{◌≡◌, ◌≢◌, ◌<◌, ◌⊎◌, Bool, [], Some, Ok, Err, IfOk, IfErr, IfSome, OnOk, MatchResult, length, flat_map, string_bytes, encode_utf8_all};
 ghost use Rattle.tbr_tagged.specs.declared.Error.TheVariants as Refusal;
 ghost use Rattle.tbr_tagged.specs.UnicodeColumns.{unicode_columns};
@@ -31,26 +31,26 @@ use tbr_program::Program;
 use tbr_renderer::Renderer;
 use tbr_script::RunError;
 
-/// How far a renderer is.
+/// The state of a renderer.
 #[derive(Drop)]
 pub enum State {
-    /// Calls go in, under the plain decorator.
+    /// It is filled, under the plain decorator.
     Plain(Filled<PlainDecorator>),
-    /// Calls go in, under the trivial decorator.
+    /// It is filled, under the trivial decorator.
     Trivial(Filled<TrivialDecorator>),
-    /// Calls go in, under the rich decorator.
+    /// It is filled, under the rich decorator.
     Rich(Filled<RichDecorator>),
-    /// Lines come out.
+    /// It is finished, and lines can be taken.
     Finished(Lines),
-    /// Neither, since a call has refused.
+    /// It failed, since a call has refused.
     Refused(Error),
 }
 
-/// A program into which calls go.
+/// A program that calls fill.
 #[derive(Drop)]
 pub struct Filled<D: TextDecorator> {
     pub program: Program<D, UnicodeColumns>,
-    /// Whether prefixes and the targets that footnotes list are shown as they came. Else they are shown without
+    /// Whether prefixes and the targets that footnotes list are shown as they came. Otherwise they are shown without
     /// control characters.
     pub raw: bool,
 }
@@ -97,7 +97,7 @@ impl State {
         })
     }
 
-    /// Does what a command asks for. After `OutOfMemory` and `TooNarrow` it isn't to be used any more, and each other
+    /// Does what a command asks for. After `OutOfMemory` or `TooNarrow` it must not be used any more. Each other
     /// refusal leaves it as it was.
     pub fn run(&mut self, alloc: Global, command: &Command) -> Result<(), Fault>
         requires goes_on { CanGoOn self.old }
@@ -118,7 +118,7 @@ impl State {
         }
     }
 
-    /// With what it refuses arguments that are no command.
+    /// The refusal of arguments that are no command: `fault`, unless the renderer is finished or failed.
     pub fn refused_as(&self, fault: Fault) -> Fault
         ensures { result ≡ refused_as self.now fault }
     {
@@ -129,7 +129,7 @@ impl State {
         }
     }
 
-    /// What it answers while it is filled.
+    /// What it answers while it is filled. A finished renderer answers `Finished`, and a failed one its kept refusal.
     pub fn facts(&self) -> Result<Facts, Fault>
         requires { CanGoOn self.now }
         ensures facts { result ≡ facts_of self.now }
@@ -149,7 +149,8 @@ impl State {
         }
     }
 
-    /// The columns of the innermost level that are left after a prefix of `prefix` columns, but at least `least`.
+    /// The columns of the innermost level that are left after a prefix of `prefix` columns, but at least `least`. It
+    /// answers `TooNarrow` where fewer are left and lines may not be wider, and otherwise refuses as `facts` does.
     pub fn width_minus(&self, prefix: usize, least: usize) -> Result<usize, Fault>
         requires { CanGoOn self.now }
         ensures { result ≡ width_left prefix least self.now }
@@ -163,7 +164,7 @@ impl State {
         })
     }
 
-    /// The text of a prefix of the decorator. It refuses where memory is refused too.
+    /// The text of a prefix of the decorator. It refuses as `facts` does, and where memory is refused.
     pub fn prefix(&mut self, prefix: DecoratorPrefix) -> Result<String, Fault>
         requires { CanGoOn self.old }
         ensures text { IfOk result (λ text. prefix_of (asked_prefix prefix) self.old ≡ Ok (string_bytes text)) }
@@ -179,8 +180,8 @@ impl State {
         }
     }
 
-    /// The bytes of a prefix, where they are known before it is made, as those of headings are. `None` also where they
-    /// pass `usize`, and where nothing can be filled any more.
+    /// How many bytes a prefix has, where that is known before it is made, as for headings. `None` also where they pass
+    /// `usize`, and where the renderer can no longer be filled.
     pub fn length_ahead(&self, prefix: DecoratorPrefix) -> Option<usize>
         requires { CanGoOn self.now }
         ensures { IfSome result (λ n. Needs (prefix_of (asked_prefix prefix) self.now) n) }
@@ -196,7 +197,8 @@ impl State {
         }
     }
 
-    /// Its lines, with the footnotes of its links after them, where no level is open and no cell waits.
+    /// Its lines, with the footnotes of its links after them. It must be filled, with no level open and no cell
+    /// waiting. It answers `TooNarrow` where the last run is too narrow, and `OutOfMemory` where memory is refused.
     pub fn into_lines(self) -> Result<Lines, Error>
         requires goes_on { CanGoOn self }
         requires closed { MayFinish self }
@@ -220,7 +222,7 @@ impl State {
         }
     }
 
-    /// Its text, with the footnotes of its links at the end, where no level is open and no cell waits.
+    /// Its text, with the footnotes of its links at the end. It asks and refuses as `into_lines` does.
     pub fn into_text(self) -> Result<String, Error>
         requires goes_on { CanGoOn self }
         requires closed { MayFinish self }
@@ -235,7 +237,7 @@ impl State {
         }
     }
 
-    /// The lines. `NotFinished` where the renderer isn't finished.
+    /// The lines. It answers `NotFinished` where the renderer isn't finished.
     pub fn lines(&self) -> Result<&Lines, Fault>
         ensures { MatchResult result (λ lines. lines_in self.now ≡ Ok lines.now) (λ f. lines_in self.now ≡ Err f) }
     {
@@ -246,8 +248,8 @@ impl State {
         }
     }
 
-    /// Copies the text of all lines that weren't taken, each with a newline, as `copy_out` does. `NotFinished` where
-    /// the renderer isn't finished. It refuses where memory is refused too.
+    /// Copies the text of all lines that weren't taken, each with a newline, as `copy_out` does. It answers
+    /// `NotFinished` where the renderer isn't finished. It also refuses where memory is refused.
     pub fn copy_text(
         &mut self,
         alloc: Global,
@@ -266,8 +268,9 @@ impl State {
         }
     }
 
-    /// Copies all lines that weren't taken in a format, each with a newline, as `copy_out` does. `NotFinished` where the
-    /// renderer isn't finished, `NoLine` where there is only its text. It refuses where memory is refused too.
+    /// Copies all lines that weren't taken in a format, each with a newline, as `copy_out` does. It answers
+    /// `NotFinished` where the renderer isn't finished, and `NoLine` where there is only its text. It also refuses
+    /// where memory is refused.
     pub fn copy_shown(
         &mut self,
         alloc: Global,
@@ -288,8 +291,8 @@ impl State {
         }
     }
 
-    /// Copies the line that was taken last in a format, without a newline, as `copy_out` does. `NotFinished` where the
-    /// renderer isn't finished, `NoLine` where none was taken. It refuses where memory is refused too.
+    /// Copies the line that was taken last in a format, without a newline, as `copy_out` does. It answers `NotFinished`
+    /// where the renderer isn't finished, and `NoLine` where none was taken. It also refuses where memory is refused.
     pub fn copy_current(
         &self,
         alloc: Global,
@@ -308,8 +311,8 @@ impl State {
         }
     }
 
-    /// Takes the next line, and answers its size. `NotFinished` where the renderer isn't finished, `NoLine` where none
-    /// is left.
+    /// Takes the next line, and answers its size. It answers `NotFinished` where the renderer isn't finished, and
+    /// `NoLine` where none is left.
     pub fn next_line(&mut self, alloc: Global) -> Result<LineSize, Fault>
         requires { CanGoOn self.old }
         ensures taken { IfOk result (λ size. TakesLine self.old self.new size) }
@@ -324,7 +327,7 @@ impl State {
         }
     }
 
-    /// Keeps a refusal, if it is one to be kept.
+    /// Keeps a refusal, if it is one that is kept: `OutOfMemory` or `TooNarrow`.
     pub fn keep<T: Drop>(&mut self, done: Result<T, Fault>) -> Result<T, Fault>
         requires { MatchResult done (λ _. CanGoOn self.old) (λ fault. kept fault ≡ None → CanGoOn self.old) }
         ensures goes_on { CanGoOn self.new }
@@ -340,7 +343,7 @@ impl State {
     }
 }
 
-/// A program in which nothing was called yet. It refuses only where memory is refused.
+/// A program to which no command was given yet. It refuses only where memory is refused.
 fn started<D: TextDecorator>(
     alloc: Global,
     opening: &Opening,
@@ -358,8 +361,8 @@ fn started<D: TextDecorator>(
     }
 }
 
-/// Does what a command asks a program for. After `OutOfMemory` and `TooNarrow` it isn't to be used any more, and each
-/// other refusal leaves it as it was.
+/// Does what a command asks a program for. After `OutOfMemory` or `TooNarrow` the program must not be used any more.
+/// Each other refusal leaves it as it was.
 fn run_on<D: TextDecorator>(
     filled: &mut Filled<D>,
     alloc: Global,
@@ -398,7 +401,7 @@ fn prefix_in<D: TextDecorator>(
     Ok(program.prefix(prefix)?)
 }
 
-/// The bytes of the prefix of headings of a level, by a program's decorator. `None` where they pass `usize`.
+/// How many bytes the prefix of headings of a level has, by a program's decorator. `None` where they pass `usize`.
 fn heading_length_in<D: Headings>(
     _program: &Program<D, UnicodeColumns>,
     level: usize,

@@ -12,7 +12,7 @@ pub trait Annotation: Tag {
     // What C sees of one.
     ghost shown: { Self → Rich };
 
-    /// The same annotations as C sees them.
+    /// These annotations, as C sees them.
     fn show(alloc: Global, annotations: Vec<Self>) -> Result<Vec<RichAnnotation>, AllocError>
         ensures { IfOk result (λ shown. shown.items ≡ map Self.shown annotations.items) };
 }

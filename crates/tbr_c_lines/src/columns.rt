@@ -8,9 +8,9 @@ use crate::fault::Fault;
 use std::str;
 use tbr_lines::{UnicodeColumns, text_width};
 
-/// The columns of a text, whose control characters take none. It takes no memory.
+/// How many columns a text takes. Its control characters take none. The call takes no memory.
 ///
-/// `NotUtf8` where it isn't UTF-8, and `OutOfMemory` where its columns pass `usize`.
+/// It answers `NotUtf8` where the text isn't UTF-8, and `OutOfMemory` where its columns pass `usize`.
 pub fn columns_of(text: &[u8]) -> Result<usize, Fault>
     ensures width { IsUtf8 text.now → MatchResult result (λ n. n ≡ wide.columns_of text.now)
         (λ fault. (fault ≡ F.OutOfMemory) × (2 ^ 64 - 1 < wide.columns_of text.now)) }

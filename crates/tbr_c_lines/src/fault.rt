@@ -6,7 +6,7 @@ ghost use Rattle.tbr_c_lines.specs.declared.fault.Fault.TheVariants as F;
 use tbr_lines::{Error, OutOfMemory, TooNarrow};
 use tbr_script::RunError;
 
-/// Why a call did nothing. `text_block_renderer.h` has the same under the names of its statuses.
+/// Why a call did nothing. `text_block_renderer.h` has these under the names of its statuses.
 #[derive(Clone, Copy, Debug, PartialEq, Eq)]
 pub enum Fault {
     /// Memory was refused, or a size passes `usize`.
@@ -17,13 +17,13 @@ pub enum Fault {
     NotACommand,
     /// What would end wasn't begun.
     NothingToEnd,
-    /// The waiting cells are in the way of what overhangs.
+    /// The waiting cells are in the way of cells that overhang.
     RowDoesNotFit,
     /// A text isn't UTF-8.
     NotUtf8,
     /// A width of 0 columns.
     BadWidth,
-    /// A number that names nothing.
+    /// A number that isn't known, or isn't allowed.
     BadArgument,
     /// A level is open, or cells wait.
     StillOpen,
@@ -35,7 +35,7 @@ pub enum Fault {
     NoLine,
     /// There is no such piece.
     NoPiece,
-    /// A buffer has less room than a text has bytes.
+    /// A buffer is smaller than the text that is copied into it.
     BufferTooSmall,
 }
 
@@ -100,8 +100,8 @@ impl From<OutOfMemory> for Fault {
     }
 }
 
-/// The fault of a call for the refusal of a script's command, without its line. Failures of streams, which no call has,
-/// count as `OutOfMemory`.
+/// The fault of a call whose command is refused, without the number of its line. Failures of streams, which no call
+/// has, count as `OutOfMemory`.
 pub fn of_command(e: RunError) -> Fault
     ensures { result ≡ fault_of_command e }
 {

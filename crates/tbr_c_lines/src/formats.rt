@@ -20,12 +20,12 @@ pub enum Format {
     Ansi,
     /// What is in a `<pre>`.
     Html,
-    /// An object a line.
+    /// One object for each line.
     Json,
 }
 
 impl Format {
-    /// The format that a number names.
+    /// The format of a number. It answers `BadArgument` where there is none.
     pub fn named(number: u32) -> Result<Format, Fault>
         ensures { result ≡ shown.format_named number }
     {

@@ -1,4 +1,4 @@
-//! Lines as C sees them: their texts, and their pieces and annotations by numbers. And why a call did nothing.
+//! Lines as C sees them: their texts, and their pieces and annotations by numbers. Also why a call did nothing.
 #![tactic(auto)]
 
 pub use annotation::Annotation;

@@ -54,8 +54,8 @@ impl Model for Lines {
         × IfSome l.shown (λ s. ShowsRest s.format l.rest (chars_of s.text)) };
 }
 
-/// Lines, by what decorators annotate them with, or their text alone. They share annotations; a line is under its own
-/// where it is taken.
+/// Lines, by what decorators annotate them with, or their text alone. They share annotations; a line that is taken gets
+/// its own.
 #[derive(Drop)]
 pub enum Rest {
     /// Those of plain and trivial decorators.
@@ -79,8 +79,9 @@ impl Lines {
         }
     }
 
-    /// Takes the next line, and answers its size. `NoLine` where there is none, and the one that was taken last stays.
-    /// It refuses where memory is refused too, and where the columns of the line pass `usize`; the line is lost then.
+    /// Takes the next line, and answers its size. It answers `NoLine` where there is none, and the one that was taken
+    /// last stays. It also refuses where memory is refused, and where the columns of the line pass `usize`; the line is
+    /// then lost.
     pub fn next(&mut self, alloc: Global) -> Result<LineSize, Fault>
         ensures taken { IfOk result (λ size. IfSome self.new.current (λ line.
             left.TakesFirst self.old.rest line self.new.rest × (size ≡ seen.size_of line))) }
@@ -98,7 +99,7 @@ impl Lines {
         Ok(size)
     }
 
-    /// The line that was taken last. `NoLine` where none was.
+    /// The line that was taken last. It answers `NoLine` where none was.
     pub fn current(&self) -> Result<&Line, Fault>
         ensures { MatchResult result (λ line. self.now.current ≡ Some line.now)
             (λ fault. (fault ≡ F.NoLine) × (self.now.current ≡ None)) }
@@ -108,8 +109,8 @@ impl Lines {
 
     /// Copies the text of all lines that weren't taken, each with a newline, as `copy_out` does.
     ///
-    /// It refuses also where memory is refused, since it puts the text together first. A text that doesn't fit the
-    /// buffer is kept for the next call.
+    /// It also refuses where memory is refused, since it builds the text first. A text that doesn't fit the buffer is
+    /// kept for the next call.
     pub fn copy_text(
         &mut self,
         alloc: Global,
@@ -127,8 +128,8 @@ impl Lines {
         }
     }
 
-    /// Copies all lines that weren't taken in a format, each with a newline, as `copy_text` does. `NoLine` where there is
-    /// only their text.
+    /// Copies all lines that weren't taken in a format, each with a newline, as `copy_text` does. It answers `NoLine`
+    /// where there is only their text.
     pub fn copy_shown(
         &mut self,
         alloc: Global,
@@ -154,8 +155,8 @@ impl Lines {
         }
     }
 
-    /// Copies the line that was taken last in a format, without a newline, as `copy_out` does. `NoLine` where none was.
-    /// It refuses also where memory is refused.
+    /// Copies the line that was taken last in a format, without a newline, as `copy_out` does. It answers `NoLine`
+    /// where none was. It also refuses where memory is refused.
     pub fn copy_current(
         &self,
         alloc: Global,
@@ -182,7 +183,7 @@ impl Rest {
         matches!(self, Rest::Bare(_))
     }
 
-    /// Takes the first line, if there is one. Where memory is refused it is lost.
+    /// Takes the first line, if there is one. Where memory is refused, it is lost.
     fn next(&mut self, alloc: Global) -> Result<Option<Line>, OutOfMemory>
         ensures taken { IfOk result (λ found. IfSome found (λ line. left.TakesFirst self.old line self.new)) }
         ensures none { result ≡ Ok None → left.NoneLeft self.old × (self.new ≡ self.old) }
@@ -195,7 +196,7 @@ impl Rest {
     }
 }
 
-/// Takes the first of these lines, if there is one. Where memory is refused it is lost.
+/// Takes the first of these lines, if there is one. Where memory is refused, it is lost.
 fn first_of<A: Annotation>(
     alloc: Global,
     lines: &mut VecDeque<RenderLine<Annotations<A>>>,
@@ -238,7 +239,8 @@ fn copy_kept<T>(
     done
 }
 
-/// These lines in a format, each with a newline: what was kept of them, if that is it.
+/// These lines in a format, each with a newline: the text that was kept, if it is in this format, and otherwise a new
+/// one.
 fn shown_in<A: Annotation>(
     alloc: Global,
     lines: &VecDeque<RenderLine<Annotations<A>>>,

@@ -92,7 +92,8 @@ impl Begun {
         }
     }
 
-    /// Counts one more of a kind, if there is a kind. It refuses where that passes `usize`, and changes nothing then.
+    /// Counts one more of a kind, if there is a kind. It refuses where the count would pass `usize`, and then changes
+    /// nothing.
     fn add(&mut self, kind: Option<Kind>) -> Result<(), OutOfMemory>
         ensures counts { OnOk result (self.new ≡ more self.old kind) }
         ensures passes { OnErr result (MorePasses self.old kind) }
@@ -108,7 +109,7 @@ impl Begun {
         Ok(())
     }
 
-    /// Counts one less of a kind, if there is a kind and one of it.
+    /// Counts one less of a kind, if there is a kind and its count isn't 0.
     fn remove(&mut self, kind: Option<Kind>)
         ensures { self.new ≡ less self.old kind }
     {
@@ -117,7 +118,7 @@ impl Begun {
         }
     }
 
-    /// Counts what a request begins or ends. It refuses where a count passes `usize`, and changes nothing then.
+    /// Counts what a request begins or ends. It refuses where a count would pass `usize`, and then changes nothing.
     pub fn note(&mut self, request: &Request) -> Result<(), OutOfMemory>
         ensures counts { OnOk result (self.new ≡ counted self.old (request_of request.now)) }
         ensures passes { OnErr result (MorePasses self.old (begins (request_of request.now))) }

@@ -28,27 +28,27 @@ pub enum Command {
     Link(String),
     /// The link that began last ends.
     EndLink,
-    /// A block of so many columns, at least 1, opens inside the renderer that is open.
+    /// A block of this many columns, at least 1, opens inside the renderer that is open.
     Sub(usize),
-    /// The block that is open closes. Its lines go into the renderer outside, each after a prefix: that of the first
-    /// line, and that of all others.
+    /// The block that is open closes. Its lines are added to the renderer outside: the first after one prefix, and each
+    /// other after another.
     Append(TextPair),
     /// A cell opens inside the renderer that is open.
     Cell(NewCell),
     /// The cell that is open closes, and waits.
     EndCell,
-    /// The cells that wait go into the renderer that is open, side by side.
+    /// The cells that wait are added to the renderer that is open, side by side.
     Row {
-        /// Whether borders at the tops and bottoms of cells become one with those of the row.
+        /// Whether borders at the tops and bottoms of cells are merged with those of the row.
         collapse: bool,
     },
-    /// The cells that wait go into the renderer that is open, one below another.
+    /// The cells that wait are added to the renderer that is open, one below another.
     VerticalRow,
 }
 
 impl Command {
-    /// The text that a line asks for, where it is written without a backslash: what comes after the word and a space.
-    /// `None` of any other line. It takes no memory.
+    /// The text that a line asks for, where it is written without a backslash: what follows the word and a space.
+    /// `None` for any other line. It takes no memory.
     pub fn plain_text(line: &[u8]) -> Option<&str>
         ensures value { option_map (λ text. text.now) result ≡ plain_read line.now }
         ensures asked { IfSome result (λ text. command_read line.now ≡ Some (asked.ask (requests.text text.now))) }
@@ -71,7 +71,7 @@ impl Command {
         Command::of_line(alloc, line)
     }
 
-    /// What a line asks for that is UTF-8.
+    /// What a line that is UTF-8 asks for.
     fn of_line(alloc: Global, line: &str) -> Result<Option<Command>, AllocError>
         ensures { IfOk result (λ found. option_map command_of found ≡ line_read line.now) }
     {
@@ -149,7 +149,7 @@ impl Command {
         }
     }
 
-    /// What a line asks for that begins or ends a link, a block, a cell or a row. `None` where it is no such command.
+    /// What a line that begins or ends a link, a block, a cell or a row asks for. `None` where it is no such command.
     fn of_levels(alloc: Global, word: &str, argument: &str) -> Result<Option<Command>, AllocError>
         ensures { IfOk result (λ found. option_map command_of found ≡ read_by level_readers word.now argument.now) }
     {

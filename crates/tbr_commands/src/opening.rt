@@ -43,7 +43,7 @@ impl Decorator {
 }
 
 impl Opening {
-    /// The first command of a script that a line is, without its newline. `None` where it is none.
+    /// The first command that a line without its newline is. `None` where it is none.
     pub fn parse(line: &[u8]) -> Option<Opening>
         ensures read { result ≡ opening_read line.now }
         ensures width { IfSome result (λ opening. 0 < opening.width) }
@@ -59,7 +59,7 @@ impl Opening {
         Opening::after_new(words)
     }
 
-    /// The first command, by what comes after `new`. `None` where that is none.
+    /// The first command, by the words after `new`. `None` where these make none.
     fn after_new(mut words: Words<'_>) -> Option<Opening>
         ensures { result ≡ asked_for words.entry }
     {

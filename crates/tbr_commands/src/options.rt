@@ -70,7 +70,7 @@ fn wrap(word: &str) -> Option<Setting>
     Some(Setting::Wrap(parse_size(word.strip_prefix("wrap=")?)?))
 }
 
-/// The options that words give; of two of a kind the later counts. `None` where one of them is no option.
+/// The options that words give. If two of one kind are given, the later one counts. `None` where a word is no option.
 pub fn parse_options(mut words: Words<'_>) -> Option<RenderOptions>
     ensures { result ≡ options_read words.entry }
 {

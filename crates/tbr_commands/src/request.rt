@@ -32,7 +32,7 @@ pub mod layout;
 pub enum Request {
     /// A block or a line begins or ends.
     Layout(Layout),
-    /// What has no argument begins.
+    /// Something begins by a command without an argument.
     Begin(Beginning),
     /// What was begun ends.
     End(Kind),
@@ -46,7 +46,7 @@ pub enum Request {
     Colour(Colour),
     /// A background in a colour begins.
     Background(Colour),
-    /// A border of so many columns, or of those of the renderer.
+    /// A border of this many columns, or of the renderer's width.
     Border(Option<usize>),
 }
 
@@ -97,7 +97,7 @@ impl Request {
     /// Asks a renderer for it. The renderer must not have failed. A preformatted stretch that ends must be open, and so
     /// must a strikeout with strokes.
     ///
-    /// It refuses as the renderer's call does, and never where that takes no memory.
+    /// It refuses as the renderer's call does, and never where that can't refuse.
     pub fn call<D: TextDecorator, W: CharWidth>(
         &self,
         renderer: &mut SubRenderer<D, W>,
@@ -131,7 +131,7 @@ impl Request {
     }
 }
 
-/// The border of so many columns that a number asks for.
+/// The border of as many columns as a number says.
 fn border(digits: &str) -> Option<Request>
     ensures { option_map request_of result ≡ option_map (λ n. asked.border (Some n)) (number_read digits.now) }
 {

@@ -4,7 +4,7 @@ ghost use Rattle.std.specs.Option.{option_map};
 ghost use Rattle.tbr_model.specs.Codes.{space_character};
 ghost use Rattle.tbr_commands.specs.Read as read;
 
-/// What is before the first space of a text and after it. `None` where it has no space.
+/// What is before the first space of a text, and what is after it. `None` where the text has no space.
 pub fn split_at_space(text: &str) -> Option<(&str, &str)>
     ensures { option_map (λ parts. (parts.0.now, parts.1.now)) result ≡ read.split_at_space text.now }
 {
@@ -12,7 +12,7 @@ pub fn split_at_space(text: &str) -> Option<(&str, &str)>
     Some((&text[..at], &text[at + 1..]))
 }
 
-/// Where the first space is. The first word of a line is short, so bytes are looked at one by one.
+/// Where the first space is. The first word of a line is usually short, so bytes are looked at one by one.
 fn first_space(bytes: &[u8]) -> Option<usize>
     ensures none { result ≡ None → (i : ℕ) → i < length bytes.now → slice_index bytes.now i ≢ space_character }
     ensures some { IfSome result (λ at. (at < length bytes.now) × (slice_index bytes.now at ≡ space_character)

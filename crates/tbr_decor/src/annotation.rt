@@ -21,7 +21,7 @@ pub enum RichAnnotation {
     Strikeout,
     /// Code.
     Code,
-    /// Preformatted text, and whether it is on a line that continues one which was too long.
+    /// Preformatted text, and whether it is on a line that continues one that was too long.
     Preformat(bool),
     /// Text in a colour.
     Colour(Colour),

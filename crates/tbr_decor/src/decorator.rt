@@ -17,21 +17,20 @@ use std::fmt::Debug;
 use tbr_tagged::{OutOfMemory, TaggedLine};
 use tbr_tags::Tag;
 
-/// Puts texts round parts of a document, such as `*` round emphasised text. It gives annotations of what is between,
-/// such as its colour.
+/// Puts texts round parts of a document, such as `*` round emphasised text, and annotates what is between, for example
+/// with its colour.
 ///
-/// The texts are wrapped with the document's own. The annotations come with the lines, for whoever shows these. A call
-/// answers [`OutOfMemory`] where memory is refused or the size of a text passes `usize`, and then leaves the decorator
-/// as it was.
+/// The texts are wrapped with the document's own. The annotations are handed out with the lines, for whoever shows
+/// these. A call answers [`OutOfMemory`] where memory is refused or the size of a text passes `usize`, and then leaves
+/// the decorator as it was.
 ///
-/// Ghost members say what a decorator means: its texts as characters, its annotations by what they mean. Code over any
-/// decorator is proved from these alone. Two annotations are equal exactly where they mean the same, `same` tells
-/// whether they do, and a copy of an annotation equals it. A call that may change the decorator leaves what `after`
-/// says. A decorator that holds a collection has an `impl Model`, so that this is a value.
+/// Ghost members say what a decorator means: its texts as characters, its annotations by what they mean. Code that
+/// works with any decorator is proved from these alone. Two annotations are equal exactly where they mean the same,
+/// `same` tells whether they do, and a copy of an annotation equals it. A call that may change the decorator leaves it
+/// as `after` says. A decorator that holds a collection has an `impl Model`, so that this is a value.
 ///
-/// No call has a body of its own here, since a body in a trait is proved for every decorator, whatever its members say.
-/// A decorator that has no superscripts, colours and footnotes of its own answers those calls by
-/// [`usual`](crate::usual).
+/// No call has a default body, since a body in a trait is proved for every decorator, whatever its members say. A
+/// decorator without superscripts, colours and footnotes of its own uses the answers of [`usual`](crate::usual).
 pub trait TextDecorator: Drop {
     /// What a stretch of text can be annotated with.
     type Annotation: Tag + Debug + Default;
@@ -186,7 +185,7 @@ pub trait TextDecorator: Drop {
         ensures after { OnOk result (self.new ≡ after self.old (change.push_colour ground.text colour)) }
         ensures err { OnErr result (self.new ≡ self.old) };
 
-    /// Whether the end of text in a colour takes an annotation away. It takes no memory.
+    /// Whether the end of text in a colour removes an annotation. It takes no memory.
     fn pop_colour(&mut self) -> bool
         ensures taken { result ≡ ends_colour self.old ground.text }
         ensures after { self.new ≡ after self.old (change.pop_colour ground.text) };
@@ -202,12 +201,12 @@ pub trait TextDecorator: Drop {
         ensures after { OnOk result (self.new ≡ after self.old (change.push_colour ground.background colour)) }
         ensures err { OnErr result (self.new ≡ self.old) };
 
-    /// Whether the end of a background in a colour takes an annotation away. It takes no memory.
+    /// Whether the end of a background in a colour removes an annotation. It takes no memory.
     fn pop_bgcolour(&mut self) -> bool
         ensures taken { result ≡ ends_colour self.old ground.background }
         ensures after { self.new ≡ after self.old (change.pop_colour ground.background) };
 
-    /// The lines after the document, by the targets of its links in their order. The targets are dropped.
+    /// The lines after the document, made of the targets of its links, in their order. The targets are dropped.
     fn finalise(
         &mut self,
         alloc: Global,

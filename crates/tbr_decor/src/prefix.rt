@@ -1,6 +1,6 @@
-//! What a decorator has a prefix for.
+//! The parts of a document for which a decorator has a prefix.
 
-/// What a decorator has a prefix for.
+/// The parts of a document for which a decorator has a prefix.
 #[derive(Clone, Copy, Debug, PartialEq, Eq)]
 pub enum DecoratorPrefix {
     /// Each line of a header of a level.

@@ -1,4 +1,4 @@
-//! Texts for decorators to answer.
+//! Texts that decorators answer.
 ghost use Rattle.std.specs.Prelude.{◌≡◌, ◌++◌, [], chars, codes, IsTrue, IfOk};
 ghost use Rattle.std.specs.List.{list_all};
 ghost use Rattle.std.specs.Char.{is_ascii};

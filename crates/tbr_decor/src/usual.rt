@@ -1,4 +1,4 @@
-//! What a decorator answers that has no answer of its own.
+//! The answers of a decorator that has none of its own.
 ghost use Rattle.std.specs.Prelude.{◌≡◌, false, None, map, chars, codes, ◌++◌, IfOk};
 ghost use Rattle.std.specs.Fmt.{decimal};
 ghost use Rattle.tbr_tagged.specs.View.{chars_of};
@@ -32,7 +32,7 @@ pub fn push_colour<A>(_alloc: Global, _colour: Colour) -> Result<Option<A>, OutO
     Ok(None)
 }
 
-/// Whether the end of text in a colour takes an annotation away: never, in a decorator without colours. It takes no
+/// Whether the end of text in a colour removes an annotation: never, in a decorator without colours. It takes no
 /// memory.
 pub fn pop_colour() -> bool
     ensures { result ≡ false }
@@ -47,16 +47,16 @@ pub fn push_bgcolour<A>(_alloc: Global, _colour: Colour) -> Result<Option<A>, Ou
     Ok(None)
 }
 
-/// Whether the end of a background in a colour takes an annotation away: never, in a decorator without colours. It
-/// takes no memory.
+/// Whether the end of a background in a colour removes an annotation: never, in a decorator without colours. It takes
+/// no memory.
 pub fn pop_bgcolour() -> bool
     ensures { result ≡ false }
 {
     false
 }
 
-/// For each target a line of one piece, its number in brackets and the target, as `[1]: target`, under the default
-/// annotation. The numbers count from 1, and the targets are dropped. It refuses only where memory is refused.
+/// A line for each target, such as `[1]: target`: one piece under the default annotation. The numbers count from 1, and
+/// the targets are dropped. It refuses only where memory is refused.
 pub fn finalise<A: Eq + Default + Drop>(
     alloc: Global,
     urls: Vec<String>,

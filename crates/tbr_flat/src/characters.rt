@@ -20,8 +20,8 @@ use tbr_tagged::{OutOfMemory, TaggedLine};
 /// Characters under tags: those that are placed on lines, and after them those of the current word.
 ///
 /// A tag is stored once for neighbouring characters, on however many lines and in however many words. Placing and
-/// handing out characters costs their own length. A contract sees the characters that are placed and not handed out
-/// yet, and those of the word.
+/// handing out characters takes time in proportion to their number. A contract sees the characters that are placed and
+/// not handed out yet, and those of the word.
 #[derive(Drop)]
 pub struct Characters<T> {
     placed: TextQueue,
@@ -97,14 +97,15 @@ impl<T> Characters<T> {
         let _ = &self.tags;
     }
 
-    /// Makes room ahead of time for placed characters of this many more bytes, if there is memory for them.
+    /// Makes room ahead of time for this many more bytes of placed characters, if there is enough memory.
     pub fn make_room(&mut self, bytes: usize)
         ensures { self.new ≡ self.old }
     {
         self.placed.make_room(bytes);
     }
 
-    /// Places the word. It takes the time of moving its text. If memory is refused, the characters stay as they were.
+    /// Places the word. Its time is in proportion to the word's text. If memory is refused, the characters stay as they
+    /// were.
     pub fn place_word(&mut self) -> Result<(), OutOfMemory>
         ensures ok { OnOk result (self.new ≡ record { placed = self.old.placed ++ self.old.word; word = [] }) }
         ensures err { OnErr result (self.new ≡ self.old) }
@@ -113,15 +114,15 @@ impl<T> Characters<T> {
         Ok(())
     }
 
-    /// The columns of the word.
+    /// The columns of the word. It refuses where they pass `usize`.
     pub fn word_width<W: CharWidth>(&self) -> Result<usize, OutOfMemory>
         ensures { IfOk result (λ n. n ≡ items_width W.columns self.now.word) }
     {
         self.word.width::<W>()
     }
 
-    /// Places the characters that the word begins with, at most `most`, while they fit into `room` columns. It answers
-    /// how many they are, and their columns.
+    /// Places the word's first characters, at most `most`, as long as they fit into `room` columns. It answers how many
+    /// they are, and their columns.
     ///
     /// If memory is refused, the characters stay as they were.
     pub fn place_fitting<W: CharWidth>(
@@ -145,8 +146,8 @@ impl<T> Characters<T> {
 }
 
 impl<T: Drop> Characters<T> {
-    /// Takes away the spaces at the end of the last `last` placed characters, and answers how many they were. It takes
-    /// the time of going over the word's stored tags.
+    /// Removes the spaces at the end of the last `last` placed characters, and answers how many they were. Its time is
+    /// in proportion to the word's stored tags.
     pub fn trim_placed(&mut self, last: usize) -> usize
         requires { last ≤ length self.old.placed }
         ensures placed { (before line : List (Item T)) → self.old.placed ≡ before ++ line → length line ≡ last →
@@ -159,8 +160,8 @@ impl<T: Drop> Characters<T> {
         spaces
     }
 
-    /// Takes away the white space at the beginning of the word's first `first` characters, and answers how many these
-    /// were. It takes the time of going over the word's stored tags.
+    /// Removes the white space at the beginning of the word's first `first` characters, and answers how many characters
+    /// it was. Its time is in proportion to the word's stored tags.
     pub fn trim_word(&mut self, first: usize) -> usize
         requires { first ≤ length self.old.word }
         ensures word { (front rest : List (Item T)) → self.old.word ≡ front ++ rest → length front ≡ first →
@@ -176,7 +177,7 @@ impl<T: Drop> Characters<T> {
 }
 
 impl<T: Eq + Clone + Drop> Characters<T> {
-    /// Adds a character to the word. The tag is copied only where the one before isn't equal to it.
+    /// Adds a character to the word. The tag is copied only if the tag before it isn't equal.
     ///
     /// If memory is refused, the characters may be lost.
     pub fn push(&mut self, c: char, tag: &T) -> Result<(), OutOfMemory>
@@ -192,7 +193,7 @@ impl<T: Eq + Clone + Drop> Characters<T> {
         Ok(())
     }
 
-    /// Adds a text of `count` characters to the word. The tag is copied only where the one before isn't equal to it.
+    /// Adds a text of `count` characters to the word. The tag is copied only if the tag before it isn't equal.
     ///
     /// If memory is refused, the characters may be lost.
     pub fn push_text(&mut self, text: &str, count: usize, tag: &T) -> Result<(), OutOfMemory>
@@ -210,8 +211,8 @@ impl<T: Eq + Clone + Drop> Characters<T> {
         Ok(())
     }
 
-    /// Places a text of `count` characters, where the word has none. The tag is copied only where the one before isn't
-    /// equal to it.
+    /// Places a text of `count` characters. The word must have none. The tag is copied only if the tag before it isn't
+    /// equal.
     ///
     /// If memory is refused, the characters may be lost.
     pub fn place_text(&mut self, text: &str, count: usize, tag: &T) -> Result<(), OutOfMemory>
@@ -230,10 +231,10 @@ impl<T: Eq + Clone + Drop> Characters<T> {
         Ok(())
     }
 
-    /// Places `count` spaces before the word. It takes the time of going over the word's stored tags.
+    /// Places `count` spaces before the word. Its time is in proportion to the word's stored tags.
     ///
-    /// Where the spaces part characters under one stored tag, that is copied, and the word's first characters are under
-    /// the copy. If memory is refused, the characters may be lost.
+    /// Where the spaces come between characters under one stored tag, that tag is copied, and the word's first
+    /// characters are under the copy. If memory is refused, the characters may be lost.
     pub fn push_spaces(&mut self, count: usize, tag: T) -> Result<(), OutOfMemory>
         requires faithful { CopiesAreEqual T.is_clone T.eq }
         requires some { 0 < count }

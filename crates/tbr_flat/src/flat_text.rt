@@ -20,8 +20,8 @@ use tbr_tagged::{OutOfMemory, TaggedLine, TaggedLineElement};
 
 /// Characters under tags and markers: those that are placed on lines, and after them those of the current word.
 ///
-/// Placing a word and handing out a line cost their own length. A contract sees the items that are placed and not
-/// handed out yet, and those of the word.
+/// Placing a word and handing out a line take time in proportion to their length. A contract sees the items that are
+/// placed and not handed out yet, and those of the word.
 #[derive(Drop)]
 pub struct FlatText<T> {
     alloc: Global,
@@ -101,7 +101,7 @@ impl<T> FlatText<T> {
         PlacedItems::new(self.text.placed_text(), self.placed.iter())
     }
 
-    /// How many items the word has.
+    /// How many items the word has. It refuses where they pass `usize`.
     pub fn word_len(&self) -> Result<usize, OutOfMemory>
         ensures { IfOk result (λ n. n ≡ length self.now.word) }
     {
@@ -111,7 +111,7 @@ impl<T> FlatText<T> {
         }
     }
 
-    /// The columns of the word.
+    /// The columns of the word. It refuses where they pass `usize`.
     pub fn word_width<W: CharWidth>(&self) -> Result<usize, OutOfMemory>
         ensures { IfOk result (λ n. n ≡ items_width W.columns self.now.word) }
     {
@@ -130,7 +130,7 @@ impl<T> FlatText<T> {
         Some(W::width(c).unwrap_or(0))
     }
 
-    /// Makes room ahead of time for placed characters of this many more bytes, if there is memory for them.
+    /// Makes room ahead of time for this many more bytes of placed characters, if there is enough memory.
     pub fn make_room(&mut self, bytes: usize)
         ensures { self.new ≡ self.old }
     {
@@ -146,7 +146,7 @@ impl<T> FlatText<T> {
 }
 
 impl<T: Drop> FlatText<T> {
-    /// Places the word, and answers how many markers it has. It takes the time of moving its text and these.
+    /// Places the word, and answers how many markers it has. Its time is in proportion to the word's text and markers.
     ///
     /// If memory is refused, the items may be lost.
     pub fn place_word(&mut self) -> Result<usize, OutOfMemory>
@@ -163,8 +163,8 @@ impl<T: Drop> FlatText<T> {
         Ok(markers)
     }
 
-    /// Places items that the word begins with, at most `most`: a marker, or characters up to a marker, while they fit
-    /// into `room` columns. It takes the time of going over them.
+    /// Places the word's first items, at most `most`: a marker, or characters up to a marker, as long as they fit into
+    /// `room` columns. Its time is in proportion to their number.
     ///
     /// If memory is refused, the items may be lost.
     pub fn place_front<W: CharWidth>(
@@ -228,7 +228,7 @@ impl<T: Drop> FlatText<T> {
         Ok(())
     }
 
-    /// Takes out the markers that the word begins with.
+    /// Takes out the markers of the word, which must have no character. If memory is refused, markers may be lost.
     pub fn take_markers(&mut self) -> Result<Vec<TaggedLineElement<T>>, OutOfMemory>
         requires { has_character self.old.word ≡ false }
         ensures markers { IfOk result (λ es.
@@ -243,9 +243,9 @@ impl<T: Drop> FlatText<T> {
         Ok(markers)
     }
 
-    /// Takes away the spaces at the end of the last `most` placed items, back to a marker, and the white space at the
-    /// word's beginning, up to a marker. It answers how many placed spaces it took away. It takes the time of going
-    /// over the word's stored tags.
+    /// Removes the spaces at the end of the last `most` placed items, back to a marker. It also removes the white space
+    /// at the word's beginning, up to a marker. It answers how many placed spaces it removed. Its time is in proportion
+    /// to the word's stored tags.
     pub fn trim(&mut self, most: usize) -> usize
         requires { most ≤ length self.old.placed }
         ensures placed { (before line : List (Item T)) → self.old.placed ≡ before ++ line → length line ≡ most →
@@ -267,8 +267,8 @@ impl<T: Drop> FlatText<T> {
         clear(&mut self.text, &mut self.placed, &mut self.word);
     }
 
-    /// Moves the text of the first `items` placed items to the end of another, and drops their tags and markers. It
-    /// takes the time of the line's length.
+    /// Moves the text of the first `items` placed items to the end of another text, and drops their tags and markers.
+    /// Its time is in proportion to `items`. If memory is refused, items may be lost.
     pub fn move_text(&mut self, items: usize, text: &mut String) -> Result<(), OutOfMemory>
         requires { items ≤ length self.old.placed }
         ensures text { OnOk result
@@ -282,8 +282,8 @@ impl<T: Drop> FlatText<T> {
         Ok(())
     }
 
-    /// Moves the text of the first placed items to another text. They are a marker, which has no text, or at most
-    /// `most` characters, all under one tag. It answers how many they are.
+    /// Moves the text of the first placed items to the end of another text, and answers how many they are. They are a
+    /// marker, which has no text, or at most `most` characters, all under one tag.
     fn move_piece(&mut self, text: &mut String, most: usize) -> Result<usize, OutOfMemory>
         requires some { 0 < most }
         requires placed { most ≤ length self.old.placed }
@@ -309,7 +309,7 @@ impl<T: Drop> FlatText<T> {
 }
 
 impl<T: Eq + Clone + Drop> FlatText<T> {
-    /// Adds a character to the word. The tag is copied only where the one before isn't equal to it.
+    /// Adds a character to the word. The tag is copied only if the tag before it isn't equal.
     ///
     /// If memory is refused, the items may be lost.
     pub fn push(&mut self, c: char, tag: &T) -> Result<(), OutOfMemory>
@@ -325,7 +325,7 @@ impl<T: Eq + Clone + Drop> FlatText<T> {
         Ok(())
     }
 
-    /// Adds a text of `count` characters to the word. The tag is copied only where the one before isn't equal to it.
+    /// Adds a text of `count` characters to the word. The tag is copied only if the tag before it isn't equal.
     ///
     /// If memory is refused, the items may be lost.
     pub fn push_text(&mut self, text: &str, count: usize, tag: &T) -> Result<(), OutOfMemory>
@@ -344,7 +344,7 @@ impl<T: Eq + Clone + Drop> FlatText<T> {
     }
 
     /// Places the word and then a text of `count` characters, and answers how many markers the word has. The tag is
-    /// copied only where the one before isn't equal to it.
+    /// copied only if the tag before it isn't equal.
     ///
     /// If memory is refused, the items may be lost.
     pub fn place_with(&mut self, text: &str, count: usize, tag: &T) -> Result<usize, OutOfMemory>
@@ -365,7 +365,7 @@ impl<T: Eq + Clone + Drop> FlatText<T> {
         Ok(0)
     }
 
-    /// Places a text of `count` characters, where the word has no item.
+    /// Places a text of `count` characters. The word must have no item. If memory is refused, items may be lost.
     fn place_text(&mut self, text: &str, count: usize, tag: &T) -> Result<(), OutOfMemory>
         requires faithful { CopiesAreEqual T.is_clone T.eq }
         requires none { self.old.word ≡ [] }
@@ -382,10 +382,10 @@ impl<T: Eq + Clone + Drop> FlatText<T> {
         Ok(())
     }
 
-    /// Places `count` spaces before the word. It takes the time of going over the word's stored tags.
+    /// Places `count` spaces before the word. Its time is in proportion to the word's stored tags.
     ///
-    /// Where the spaces part characters under one stored tag, that is copied, and the word's first characters are under
-    /// the copy. If memory is refused, the items may be lost.
+    /// Where the spaces come between characters under one stored tag, that tag is copied, and the word's first
+    /// characters are under the copy. If memory is refused, the items may be lost.
     pub fn push_spaces(&mut self, count: usize, tag: T) -> Result<(), OutOfMemory>
         requires faithful { CopiesAreEqual T.is_clone T.eq }
         requires some { 0 < count }
@@ -401,7 +401,8 @@ impl<T: Eq + Clone + Drop> FlatText<T> {
         Ok(())
     }
 
-    /// Hands out the first `items` placed items as a line. It takes the time of the line's length.
+    /// Hands out the first `items` placed items as a line. Its time is in proportion to their number. If memory is
+    /// refused, items may be lost.
     pub fn take_line(&mut self, items: usize) -> Result<TaggedLine<T>, OutOfMemory>
         requires faithful { CopiesAreEqual T.is_clone T.eq }
         requires placed { items ≤ length self.old.placed }
@@ -414,9 +415,9 @@ impl<T: Eq + Clone + Drop> FlatText<T> {
         Ok(line)
     }
 
-    /// Moves the first `items` placed items to the end of a line. It takes the time of their number.
+    /// Moves the first `items` placed items to the end of a line. Its time is in proportion to their number.
     ///
-    /// Where memory is refused the line stays as it was, and the items may be lost.
+    /// Where memory is refused, the line stays as it was, and the items may be lost.
     pub fn move_line(&mut self, items: usize, line: &mut TaggedLine<T>) -> Result<(), OutOfMemory>
         requires faithful { CopiesAreEqual T.is_clone T.eq }
         requires placed { items ≤ length self.old.placed }
@@ -434,7 +435,7 @@ impl<T: Eq + Clone + Drop> FlatText<T> {
         moved
     }
 
-    /// Moves the first `items` placed items to the end of a line. Where memory is refused part of them may have been
+    /// Moves the first `items` placed items to the end of a line. Where memory is refused, part of them may have been
     /// moved.
     fn move_elements(&mut self, items: usize, line: &mut TaggedLine<T>) -> Result<(), OutOfMemory>
         requires faithful { CopiesAreEqual T.is_clone T.eq }
@@ -452,8 +453,8 @@ impl<T: Eq + Clone + Drop> FlatText<T> {
         Ok(())
     }
 
-    /// Moves the first placed items to the end of a line, a marker, or at most `most` characters, all under one tag. It
-    /// answers how many they are.
+    /// Moves the first placed items to the end of a line, and answers how many they are. They are a marker, or at most
+    /// `most` characters, all under one tag.
     fn move_element(&mut self, line: &mut TaggedLine<T>, most: usize) -> Result<usize, OutOfMemory>
         requires faithful { CopiesAreEqual T.is_clone T.eq }
         requires some { 0 < most }

@@ -13,7 +13,7 @@ use tbr_tagged::OutOfMemory;
 /// A marker.
 #[derive(Drop)]
 pub struct Marker {
-    /// How many characters come before it, after the marker before it.
+    /// How many characters are between the marker before it and this one.
     pub before: usize,
     pub name: String,
 }
@@ -67,14 +67,14 @@ impl Markers {
         self.markers.iter()
     }
 
-    /// How many characters come after the last marker, or in all where there is none.
+    /// How many characters come after the last marker, or how many there are if there is no marker.
     pub fn after(&self) -> usize
         ensures { result ≡ self.now.after }
     {
         self.after
     }
 
-    /// How many characters come before the first marker, or in all where there is none.
+    /// How many characters come before the first marker, or how many there are if there is no marker.
     pub fn before(&self) -> usize
         ensures { result ≡ before_first self.now }
     {
@@ -95,7 +95,8 @@ impl Markers {
         }
     }
 
-    /// Notes `count` characters after the last marker. Where they pass `usize` it changes nothing.
+    /// Notes `count` more characters after the last marker. If these would pass `usize`, it refuses and changes
+    /// nothing.
     pub fn add_characters(&mut self, count: usize) -> Result<(), OutOfMemory>
         ensures ok { OnOk result (self.new ≡ record self.old { after = self.old.after + count }) }
         ensures err { OnErr result (self.new ≡ self.old) }
@@ -159,7 +160,7 @@ impl Markers {
         Some(marker.name)
     }
 
-    /// Takes the last `count` characters away, which come after the last marker.
+    /// Removes the last `count` characters, which come after the last marker.
     pub fn remove_last(&mut self, count: usize)
         requires { count ≤ self.old.after }
         ensures { self.new ≡ record self.old { after = self.old.after - count } }
@@ -167,7 +168,7 @@ impl Markers {
         self.after -= count;
     }
 
-    /// Takes the first `count` characters away, which come before the first marker.
+    /// Removes the first `count` characters, which come before the first marker.
     pub fn remove_first(&mut self, count: usize)
         requires { count ≤ before_first self.old }
         ensures { self.new ≡ shortened count self.old }
@@ -178,7 +179,7 @@ impl Markers {
         }
     }
 
-    /// Notes the characters and markers of another after its own ones. If memory is refused, markers may be lost.
+    /// Notes the characters and markers of another list after its own. If memory is refused, markers may be lost.
     pub fn append(&mut self, other: &mut Markers) -> Result<(), OutOfMemory>
         ensures ok { OnOk result ((self.new ≡ followed self.old other.old)
             × (other.new ≡ record { markers = []; after = 0 })) }

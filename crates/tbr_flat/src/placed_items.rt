@@ -61,7 +61,7 @@ impl<'a> PlacedItems<'a> {
         self.characters.next()
     }
 
-    /// Moves past the next `count` items, and answers their columns, or `usize::MAX` where they are more.
+    /// Moves past the next `count` items, and answers their columns, or `usize::MAX` where these are more.
     pub fn next_width<W: CharWidth>(&mut self, count: usize) -> usize
         ensures width { result ≡ min (given_width W.columns (take count self.old)) (2 ^ 64 - 1) }
         ensures rest { self.new ≡ drop count self.old }

@@ -12,7 +12,7 @@ use tbr_tagged::OutOfMemory;
 /// A tag of neighbouring characters.
 #[derive(Drop)]
 pub struct RepeatedTag<T> {
-    /// How many characters after the first have it.
+    /// How many more characters than the first have it.
     pub more: usize,
     pub tag: T,
 }
@@ -52,7 +52,7 @@ impl<T: Drop> Tags<T> {
         self.stored.clear();
     }
 
-    /// Takes out the first tags, at most `most`, which are stored as one, and answers how many they are.
+    /// Removes the first tags that are stored as one, at most `most`, and answers how many they are.
     pub fn remove_front(&mut self, most: usize) -> usize
         requires some { 0 < most }
         requires within { most ≤ length self.old }
@@ -68,8 +68,8 @@ impl<T: Drop> Tags<T> {
         more + 1
     }
 
-    /// Takes `count` tags out in front of the last `last` ones. It takes the time of going over the stored tags
-    /// of all these.
+    /// Removes `count` tags in front of the last `last` ones. Its time is in proportion to the stored tags of all
+    /// these.
     pub fn remove_before(&mut self, last: usize, count: usize)
         requires within { last + count ≤ length self.old }
         requires fits { last + count ≤ usize.MAX }
@@ -92,7 +92,7 @@ impl<T: Drop> Tags<T> {
 }
 
 impl<T: Eq + Clone> Tags<T> {
-    /// Adds a tag `count` times at the end. It is copied only where the tag before isn't equal to it.
+    /// Adds a tag `count` times at the end. It is copied only if the tag before it isn't equal.
     ///
     /// If memory is refused, the tags stay as they were.
     pub fn push(&mut self, tag: &T, count: usize) -> Result<(), OutOfMemory>
@@ -111,8 +111,8 @@ impl<T: Eq + Clone> Tags<T> {
         Ok(())
     }
 
-    /// Takes the first tags, at most `most`, which are stored as one. It answers how many they are, and the tag, which
-    /// is copied only where more of these stay.
+    /// Takes the first tags that are stored as one, at most `most`. It answers how many they are, and the tag, which is
+    /// copied only if more of these are left.
     ///
     /// If memory is refused, the tags stay as they were.
     pub fn take(&mut self, most: usize) -> Result<(usize, T), OutOfMemory>
@@ -136,9 +136,10 @@ impl<T: Eq + Clone> Tags<T> {
         Ok((first.more + 1, first.tag))
     }
 
-    /// Adds `tag` `count` times before the last `last` ones. It takes the time of going over their stored tags.
+    /// Adds `tag` `count` times before the last `last` tags. Its time is in proportion to the stored tags of these.
     ///
-    /// Where it parts characters under one stored tag, those after it are under a copy of that.
+    /// Where it comes between characters under one stored tag, those after it are under a copy of that tag. If memory
+    /// is refused, tags may be lost.
     pub fn insert_before(&mut self, last: usize, count: usize, tag: T) -> Result<(), OutOfMemory>
         requires faithful { CopiesAreEqual T.is_clone T.eq }
         requires within { last ≤ length self.old }
@@ -167,7 +168,8 @@ impl<T: Eq + Clone> Tags<T> {
     }
 }
 
-/// Repeats a tag `count` times more. Where it would be repeated more often than `usize` counts, it stays as it was.
+/// Repeats a tag `count` times more. If the number of its repetitions would pass `usize`, it refuses and changes
+/// nothing.
 fn lengthen<T>(repeated: &mut RepeatedTag<T>, count: usize) -> Result<(), OutOfMemory>
     ensures ok { OnOk result (repeated.new ≡ record repeated.old { more = repeated.old.more + count }) }
     ensures err { OnErr result (repeated.new ≡ repeated.old) }
@@ -179,7 +181,7 @@ fn lengthen<T>(repeated: &mut RepeatedTag<T>, count: usize) -> Result<(), OutOfM
     Ok(())
 }
 
-/// A place among tags: after `offset` tags of a stored one, or before it.
+/// A place among tags: after the first `offset` tags that a stored one stands for.
 #[derive(Clone, Copy)]
 struct Place {
     nth: usize,
@@ -205,7 +207,7 @@ fn place_before<T>(stored: &VecDeque<RepeatedTag<T>>, last: usize) -> Place
     Place { nth, offset: 0 }
 }
 
-/// Ends the stored tag that a place parts there, and answers which one comes next.
+/// Splits the stored tag at a place, drops what follows in it, and answers which one comes next.
 fn end_at<T>(stored: &mut VecDeque<RepeatedTag<T>>, place: Place) -> usize
     requires { (last : ℕ) × IsPlace stored.old.items place.nth place.offset last }
     ensures next { (place.nth ≤ result) × (result ≤ suc place.nth) × (result ≤ length stored.new.items) }
@@ -221,7 +223,7 @@ fn end_at<T>(stored: &mut VecDeque<RepeatedTag<T>>, place: Place) -> usize
     place.nth + 1
 }
 
-/// Begins the stored tag that a place parts there.
+/// Splits the stored tag at a place, and drops what comes before in it.
 fn begin_at<T>(stored: &mut VecDeque<RepeatedTag<T>>, place: Place)
     requires { (last : ℕ) × IsPlace stored.old.items place.nth place.offset last }
     ensures len { length stored.new.items ≡ length stored.old.items }

@@ -13,7 +13,7 @@ use std::marker::Model;
 use tbr_model::CharWidth;
 use tbr_tagged::{OutOfMemory, TaggedLine, append_spaces, text_width};
 
-/// As long as fewer bytes than this were taken, they stay in memory.
+/// Bytes that were taken stay in memory as long as they are fewer than this.
 const FEW: usize = 1024;
 
 /// A text that is taken from its front. What is taken is forgotten. A contract sees the characters that are left.
@@ -78,14 +78,14 @@ impl TextQueue {
         self.as_str().chars().next()
     }
 
-    /// The columns of the text.
+    /// The columns of the text. It refuses where they pass `usize`.
     pub fn width<W: CharWidth>(&self) -> Result<usize, OutOfMemory>
         ensures { IfOk result (λ n. n ≡ width_of_text W.columns self.now) }
     {
         text_width::<W>(self.as_str())
     }
 
-    /// Makes room for this many more bytes ahead of time, if there is memory for them.
+    /// Makes room ahead of time for this many more bytes, if there is enough memory.
     pub fn make_room(&mut self, bytes: usize)
         ensures { self.new ≡ self.old }
     {
@@ -137,7 +137,7 @@ impl TextQueue {
         Ok(())
     }
 
-    /// Takes away the spaces at the end, at most `most`, and answers how many they were.
+    /// Removes the spaces at the end, at most `most`, and answers how many they were.
     pub fn pop_spaces(&mut self, most: usize) -> usize
         ensures most { result ≤ most }
         ensures small { result < 2 ^ 63 }
@@ -150,7 +150,7 @@ impl TextQueue {
         count
     }
 
-    /// Takes away the white space at the beginning, at most `most` characters, and answers how many they were.
+    /// Removes the white space at the beginning, at most `most` characters, and answers how many characters it was.
     pub fn pop_blanks(&mut self, most: usize) -> usize
         ensures most { result ≤ most }
         ensures within { result ≤ length self.old }
@@ -178,7 +178,7 @@ impl TextQueue {
         bytes_of(left, count)
     }
 
-    /// Moves the first `count` characters to the end of a line, under a tag. It takes the time of going over them.
+    /// Moves the first `count` characters to the end of a line, under a tag. Its time is in proportion to their number.
     ///
     /// If memory is refused, both stay as they were.
     pub fn move_under<T: Eq + Drop>(
@@ -202,7 +202,7 @@ impl TextQueue {
         Ok(())
     }
 
-    /// Moves the first `count` characters to the end of another text. It takes the time of going over them.
+    /// Moves the first `count` characters to the end of another text. Its time is in proportion to their number.
     ///
     /// If memory is refused, both stay as they were.
     pub fn move_to(&mut self, count: usize, text: &mut String) -> Result<(), OutOfMemory>
@@ -218,8 +218,8 @@ impl TextQueue {
         Ok(())
     }
 
-    /// Moves the first characters to the end of another text, at most `most`, while they fit into `room` columns. It
-    /// answers how many they are, and their columns.
+    /// Moves the first characters to the end of another text, at most `most`, as long as they fit into `room` columns.
+    /// It answers how many they are, and their columns.
     ///
     /// If memory is refused, both stay as they were.
     pub fn move_fitting<W: CharWidth>(
@@ -257,7 +257,7 @@ impl TextQueue {
         self.give_back();
     }
 
-    /// Frees the memory of what was taken, if that is the greater part and so pays for moving the rest.
+    /// Frees the memory of what was taken, if that is at least `FEW` bytes, and as many as are left.
     #[inline]
     fn give_back(&mut self)
         ensures { self.new ≡ self.old }
@@ -314,7 +314,7 @@ fn bytes_of(text: &str, count: usize) -> usize
     text.len() - rest.as_str().len()
 }
 
-/// Characters that a text begins with: their bytes, their number and their columns.
+/// The first characters of a text: their bytes, their number and their columns.
 #[derive(Clone, Copy)]
 struct TextFront {
     bytes: usize,
@@ -322,7 +322,7 @@ struct TextFront {
     columns: usize,
 }
 
-/// The characters that a text begins with, at most `most`, while they fit into `room` columns.
+/// The first characters of a text, at most `most`, as long as they fit into `room` columns.
 fn fitting<W: CharWidth>(text: &str, most: usize, room: usize) -> TextFront
     ensures bytes { result.bytes ≡ length (encodes (take result.count (chars text.now))) }
     ensures some { 0 < most → 0 < length (chars text.now) → width_of_text W.columns (take 1 (chars text.now)) ≤ room →
@@ -353,8 +353,8 @@ fn fitting<W: CharWidth>(text: &str, most: usize, room: usize) -> TextFront
     front
 }
 
-/// How many of the last `most` characters are spaces at the end. A space is one byte, and no other character has that
-/// byte.
+/// How many spaces are at the end, among the last `most` characters. A space is one byte, and no other character has
+/// that byte.
 fn spaces_at_end(text: &str, most: usize) -> usize
     ensures most { result ≤ most }
     ensures spaces { (front : List ℕ) × (chars text.now ≡ front ++ replicate result 32) }
@@ -372,7 +372,7 @@ fn spaces_at_end(text: &str, most: usize) -> usize
     count
 }
 
-/// How many of the first characters are white space, at most `most`.
+/// How many characters of white space are at the beginning, at most `most`.
 fn blanks_in_front(text: &str, most: usize) -> usize
     ensures most { result ≤ most }
     ensures within { result ≤ length (chars text.now) }

@@ -19,7 +19,8 @@ use tbr_annotations::Annotations;
 use tbr_decor::TextDecorator;
 use tbr_lines::{CharWidth, OutOfMemory, TaggedLine, TaggedLineElement, TaggedString};
 
-/// The lines of a footnote, whose characters come in order. Each is under the list of its one annotation.
+/// The lines of a footnote, to which its characters are added in order. Each character is under the list of its one
+/// annotation.
 #[derive(Drop)]
 pub struct FootnoteLines<D: TextDecorator, W: CharWidth> {
     alloc: Global,
@@ -62,9 +63,10 @@ impl<D: TextDecorator, W: CharWidth> FootnoteLines<D, W> {
     }
 
     /// Adds a line's characters. Markers are dropped, and newlines become spaces. The open line ends before each
-    /// character that passes the width after what that line holds, even an empty line.
+    /// character that doesn't fit after what the line holds, even if the line is empty.
     ///
-    /// It answers `OutOfMemory` too where the columns of a line pass `usize`. Characters are then lost.
+    /// It answers `OutOfMemory` where memory is refused, and where the columns of a line pass `usize`. Characters are
+    /// then lost.
     pub fn push_line(&mut self, line: TaggedLine<D::Annotation>) -> Result<(), OutOfMemory>
         ensures { OnOk result (self.new
             ≡ with_items W.columns self.old (footnote_items (map (meant D.Annotation.meaning) line))) }
@@ -76,7 +78,7 @@ impl<D: TextDecorator, W: CharWidth> FootnoteLines<D, W> {
     }
 
     /// Ends the open line, and answers all lines, at least one. Their pieces are the longest stretches under equal
-    /// annotations. Where memory is refused all are lost.
+    /// annotations. Where memory is refused, all are lost.
     pub fn finish(mut self) -> Result<Vec<TaggedLine<Annotations<D::Annotation>>>, OutOfMemory>
         ensures lines { IfOk result (λ lines.
             map items_of lines.items ≡ (line_ended self).ended) }
@@ -97,7 +99,7 @@ impl<D: TextDecorator, W: CharWidth> FootnoteLines<D, W> {
         }
     }
 
-    /// Adds the characters of a piece: as it is where all of it fits, and else one by one.
+    /// Adds the characters of a piece: all at once if they fit, and otherwise one by one.
     fn push_piece(&mut self, piece: TaggedString<D::Annotation>) -> Result<(), OutOfMemory>
         ensures { OnOk result (self.new ≡ with_items W.columns self.old
             (footnote_items (meant D.Annotation.meaning (piece_of piece) ∷ []))) }
@@ -109,7 +111,8 @@ impl<D: TextDecorator, W: CharWidth> FootnoteLines<D, W> {
         }
     }
 
-    /// The columns of the open line with a text after it, where that has no newline and fits as a whole.
+    /// The columns of the open line with a text after it. `None` where the text has a newline, or doesn't fit as a
+    /// whole.
     fn columns_with(&self, text: &str) -> Option<usize>
         ensures columns { let held = self.now.held in IfSome result (λ columns.
             columns ≡ items_width W.columns held + width_of_text W.columns (chars text.now)) }
@@ -124,7 +127,7 @@ impl<D: TextDecorator, W: CharWidth> FootnoteLines<D, W> {
         }
     }
 
-    /// Adds a piece to the open line, which takes so many columns with it.
+    /// Adds a piece to the open line, which then takes `columns` columns.
     fn extend(
         &mut self,
         piece: TaggedString<Annotations<D::Annotation>>,
@@ -151,7 +154,7 @@ impl<D: TextDecorator, W: CharWidth> FootnoteLines<D, W> {
         Ok(())
     }
 
-    /// Adds a character, on a fresh line where it doesn't fit after what the open one holds.
+    /// Adds a character, on a new line if it doesn't fit after what the open one holds.
     fn push(&mut self, c: char, tag: &Annotations<D::Annotation>) -> Result<(), OutOfMemory>
         ensures { OnOk result (self.new
             ≡ with_item W.columns self.old (glyph c tag.now)) }
@@ -184,7 +187,7 @@ impl<D: TextDecorator, W: CharWidth> FootnoteLines<D, W> {
         Ok(())
     }
 
-    /// Adds a character to the open line. It refuses too where the line's columns pass `usize`.
+    /// Adds a character to the open line. It also refuses where the line's columns pass `usize`.
     fn append(&mut self, c: char, tag: &Annotations<D::Annotation>) -> Result<(), OutOfMemory>
         ensures { OnOk result (self.new
             ≡ appended self.old (glyph c tag.now)) }

@@ -1,4 +1,4 @@
-//! How long prefixes of headings are, before they are made.
+//! How long the prefixes of headings are, known before they are made.
 #![tactic(auto)]
 
 ghost use Rattle.std.specs.Prelude.{◌≡◌, ◌<◌, ◌^◌, ℕ, length, encode_utf8_all, SomeIff};
@@ -9,7 +9,7 @@ ghost use Rattle.tbr_headings.specs.Headings.{marks};
 use tbr_decor::{PlainDecorator, RichDecorator, TextDecorator, TrivialDecorator};
 use tbr_lines::CharWidth;
 
-/// A decorator whose prefix of headings is known from their level: as many number signs and a space, or nothing.
+/// A decorator whose prefix of a heading depends on the level only: that many number signs and a space, or nothing.
 pub trait Headings: TextDecorator {
     /// Whether headings are marked with number signs.
     fn are_marked() -> bool

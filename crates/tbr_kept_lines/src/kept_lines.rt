@@ -89,8 +89,8 @@ impl<T: Eq> KeptLines<T> {
 }
 
 impl<T: Eq + Drop> KeptLines<T> {
-    /// Adds a line after the others, of pieces that are the longest stretches under equal tags. Where memory is refused
-    /// it is lost.
+    /// Adds a line after the others. Its pieces are the longest stretches under equal tags. Where memory is refused, it
+    /// is lost.
     pub fn push(&mut self, line: RenderLine<T>) -> Result<(), OutOfMemory>
         requires { IsMergedText T.eq line }
         ensures { OnOk result (self.new ≡ self.old ++ line_seen line ∷ []) }
@@ -104,8 +104,8 @@ impl<T: Eq + Drop> KeptLines<T> {
         Ok(())
     }
 
-    /// Adds lines after the others, each of pieces that are the longest stretches under equal tags. Where memory is
-    /// refused they are lost.
+    /// Adds lines after the others. Their pieces are the longest stretches under equal tags. Where memory is refused,
+    /// they are lost.
     pub fn extend(&mut self, lines: Vec<RenderLine<T>>) -> Result<(), OutOfMemory>
         requires { Each (IsMergedText T.eq) lines.items }
         ensures { OnOk result (self.new ≡ self.old ++ map line_seen lines.items) }
@@ -119,8 +119,8 @@ impl<T: Eq + Drop> KeptLines<T> {
         Ok(())
     }
 
-    /// Adds the lines that a block has ended, at least one, after the others. They stay in the block's text. Where memory
-    /// is refused lines are lost.
+    /// Adds the lines that a block has ended, at least one, after the others. They stay in the block's text. Where
+    /// memory is refused, lines are lost.
     pub fn push_ended(&mut self, ended: EndedLines<T>) -> Result<(), OutOfMemory>
         requires { is_some_list ended ≡ true }
         ensures { OnOk result (self.new ≡ self.old ++ text_lines ended) }
@@ -128,7 +128,7 @@ impl<T: Eq + Drop> KeptLines<T> {
         self.push_part(PrefixedLines::of(ended))
     }
 
-    /// Adds lines that a block has ended, at least one, after the others. Where memory is refused lines are lost.
+    /// Adds lines that a block has ended, at least one, after the others. Where memory is refused, lines are lost.
     fn push_part(&mut self, ended: PrefixedLines<T>) -> Result<(), OutOfMemory>
         requires { is_some_list ended ≡ true }
         ensures { OnOk result (self.new ≡ self.old ++ text_lines ended) }
@@ -153,7 +153,7 @@ impl<T: Eq + Drop> KeptLines<T> {
         Some(border)
     }
 
-    /// The text of all lines, each with a newline. A border shows its holes too. Where memory is refused all are lost.
+    /// The text of all lines, each with a newline. A border shows its holes too. Where memory is refused, all are lost.
     pub fn into_text(self) -> Result<String, OutOfMemory>
         ensures { IfOk result (λ text. chars_of text ≡ lines_text self) }
     {
@@ -165,11 +165,10 @@ impl<T: Eq + Drop> KeptLines<T> {
 }
 
 impl<T: Eq + Clone + Drop> KeptLines<T> {
-    /// Adds other lines after these, as texts after prefixes, which are under copies of a tag: the first one after its
-    /// own, and each other one after that of the others. A border's cells are under a copy of the tag too. Where memory
-    /// is refused lines are lost.
+    /// Adds other lines after these, as texts with prefixes: one prefix for the first line, and another for each other
+    /// line. Prefixes and the cells of borders are under copies of the tag. Where memory is refused, lines are lost.
     ///
-    /// Lines in a block's text stay there, and their prefixes are kept beside it.
+    /// Lines in a block's text stay there, and their prefixes are kept outside it.
     pub fn append_prefixed<'a>(
         &mut self,
         other: KeptLines<T>,
@@ -231,8 +230,8 @@ impl<T: Eq + Clone + Drop> KeptLines<T> {
         self.extend(lines)
     }
 
-    /// The lines, where one block has ended all of them and they come after no prefix. Else they stay as they are. It
-    /// takes no memory.
+    /// The lines, if one block has ended all of them and they have no prefix. Otherwise it gives them back as they are.
+    /// It takes no memory.
     pub fn into_ended(mut self) -> Result<EndedLines<T>, KeptLines<T>>
         ensures ended { IfOk result (λ ended. text_lines ended ≡ self) }
         ensures kept { IfErr result (λ kept. kept ≡ self) }
@@ -252,7 +251,7 @@ impl<T: Eq + Clone + Drop> KeptLines<T> {
         }
     }
 
-    /// All lines, each by itself, of pieces that are the longest stretches under equal tags. Where memory is refused all
+    /// All lines, each by itself. Their pieces are the longest stretches under equal tags. Where memory is refused, all
     /// are lost.
     pub fn into_vec(self) -> Result<Vec<RenderLine<T>>, OutOfMemory>
         requires { CopiesAreEqual T.is_clone T.eq }
@@ -269,7 +268,7 @@ impl<T: Eq + Clone + Drop> KeptLines<T> {
 }
 
 impl<T: Eq + Drop> Part<T> {
-    /// Its lines, where a block has ended all of them and they come after no prefix. Else they stay as they are.
+    /// Its lines, if a block has ended all of them and they have no prefix. Otherwise it gives them back as they are.
     fn into_ended(self) -> Result<EndedLines<T>, Part<T>>
         ensures ended { IfOk result (λ ended. text_lines ended ≡ part_seen self) }
         ensures kept { IfErr result (λ part. part ≡ self) }
@@ -365,7 +364,7 @@ fn lines_of<T: Eq + Clone + Drop>(
     Ok(lines)
 }
 
-/// Adds items after others. Where there are no others, none is moved. Where memory is refused the others stay.
+/// Adds items after others. If there are no others, none is moved. Where memory is refused, the others stay.
 fn append_all<X: Drop>(items: &mut Vec<X>, mut more: Vec<X>) -> Result<(), OutOfMemory>
     ensures ok { OnOk result (items.new.items ≡ items.old.items ++ more.items) }
     ensures err { OnErr result (items.new.items ≡ items.old.items) }
@@ -401,8 +400,8 @@ fn put_prefixes<'a, T: Eq + Clone + Drop>(
     Ok(())
 }
 
-/// Puts a prefix in front of a line, under a copy of the tag. A border becomes text. Where memory is refused the line is
-/// lost.
+/// Puts a prefix in front of a line, under a copy of the tag. A border becomes text. Where memory is refused, the line
+/// is lost.
 fn put_prefix<T: Eq + Clone + Drop>(
     alloc: Global,
     line: &mut RenderLine<T>,
@@ -455,7 +454,7 @@ fn append_line<T>(text: &mut String, line: &RenderLine<T>) -> Result<(), OutOfMe
     Ok(())
 }
 
-/// Each line on a line of its own: a text between `<` and `>`, a border between `[` and `]`.
+/// Shows each line on a line of its own: a text between `<` and `>`, a border between `[` and `]`.
 impl<T: Eq> fmt::Display for KeptLines<T> {
     fn fmt<F: fmt::Write>(&self, f: &mut fmt::Formatter<F>) -> fmt::Result {
         for part in &self.above {
@@ -466,7 +465,7 @@ impl<T: Eq> fmt::Display for KeptLines<T> {
     }
 }
 
-/// As they are displayed, in brackets.
+/// Shows the lines as `Display` does, in brackets.
 impl<T: Eq> fmt::Debug for KeptLines<T> {
     fn fmt<F: fmt::Write>(&self, f: &mut fmt::Formatter<F>) -> fmt::Result {
         write!(f, "[{self}]")

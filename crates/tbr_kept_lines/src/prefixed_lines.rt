@@ -13,15 +13,15 @@ use std::fmt;
 use std::marker::Model;
 use tbr_lines::{EndedLines, OutOfMemory, RenderLine, TaggedLine};
 
-/// Lines that a block has ended, in its one text. Where there are prefixes, the first line comes after its own, and each
-/// other one after that of the others, which no line takes memory for. A contract sees the lines, each as its items.
+/// Lines that a block has ended, in its one text. They may have prefixes: one for the first line, and another for each
+/// other line. These take no memory per line. A contract sees the lines, each as its items.
 #[derive(Drop)]
 pub(crate) struct PrefixedLines<T: Eq> {
     ended: EndedLines<T>,
     prefixes: Option<Prefixes<T>>,
 }
 
-/// What comes before the first line, and before each other one.
+/// What is in front of the first line, and in front of each other line.
 #[derive(Drop)]
 pub(crate) struct Prefixes<T> {
     first: TaggedLine<T>,
@@ -42,7 +42,7 @@ impl<T: Eq> Model for PrefixedLines<T> {
 }
 
 impl<T: Eq> PrefixedLines<T> {
-    /// These lines, after no prefix.
+    /// These lines, without prefixes.
     pub(crate) fn of(ended: EndedLines<T>) -> PrefixedLines<T>
         ensures { result ≡ ended }
     {
@@ -71,7 +71,7 @@ impl<T: Eq> PrefixedLines<T> {
 }
 
 impl<T: Eq + Drop> PrefixedLines<T> {
-    /// The lines, where they come after no prefix. Else they stay as they are.
+    /// The lines, if they have no prefix. Otherwise it gives them back as they are.
     pub(crate) fn into_ended(self) -> Result<EndedLines<T>, PrefixedLines<T>>
         ensures ended { IfOk result (λ ended. ended ≡ self) }
         ensures kept { IfErr result (λ lines. lines ≡ self) }
@@ -96,7 +96,7 @@ impl<T: Eq + Drop> PrefixedLines<T> {
 }
 
 impl<T: Eq + Clone + Drop> PrefixedLines<T> {
-    /// Adds each line to others, by itself. Where memory is refused lines are lost.
+    /// Adds each line to others, by itself. Where memory is refused, lines are lost.
     pub(crate) fn push_to(self, lines: &mut Vec<RenderLine<T>>) -> Result<(), OutOfMemory>
         requires { CopiesAreEqual T.is_clone T.eq }
         ensures { OnOk result (Pushes T.eq lines.old.items self lines.new.items) }
@@ -106,8 +106,8 @@ impl<T: Eq + Clone + Drop> PrefixedLines<T> {
         push_after(lines, ended, &first, &others)
     }
 
-    /// Puts a text before the first line, and another one before all others, under copies of the tag. Where memory is
-    /// refused lines are lost.
+    /// Puts a text in front of the first line, and another one in front of each other line, under copies of the tag.
+    /// Where memory is refused, lines are lost.
     pub(crate) fn put_in_front(
         self,
         alloc: Global,
@@ -132,7 +132,7 @@ impl<T: Eq + Clone + Drop> PrefixedLines<T> {
 }
 
 impl<T> Prefixes<T> {
-    /// Nothing before any line.
+    /// No prefix for any line.
     fn none(alloc: Global) -> Prefixes<T>
         ensures { result ≡ record { first = []; others = [] } }
     {
@@ -142,7 +142,7 @@ impl<T> Prefixes<T> {
         }
     }
 
-    /// Whether one of so many lines has a character before it.
+    /// Whether any of this many lines has a prefix with a character.
     fn are_seen(&self, lines: usize) -> bool
         ensures { result
             ≡ (nat_lt 0 lines && has_piece self.now.first) || (nat_lt 1 lines && has_piece self.now.others) }
@@ -151,7 +151,7 @@ impl<T> Prefixes<T> {
     }
 }
 
-/// Puts text in front of a line, under a copy of the tag. The empty text does nothing.
+/// Puts text in front of a line, under a copy of the tag. An empty text changes nothing.
 pub(crate) fn put_in_front<T: Eq + Clone + Drop>(
     line: &mut TaggedLine<T>,
     text: &str,
@@ -168,8 +168,8 @@ pub(crate) fn put_in_front<T: Eq + Clone + Drop>(
     line.insert_front_str(text, tag.clone()?)
 }
 
-/// Adds the lines that a block has ended, each by itself: the first one after its prefix, and each other one after that
-/// of the others.
+/// Adds the lines that a block has ended, each by itself: the first one after its prefix, and each other one after the
+/// other prefix.
 fn push_after<'a, T: Eq + Clone + Drop>(
     lines: &mut Vec<RenderLine<T>>,
     mut ended: EndedLines<T>,
@@ -193,7 +193,7 @@ fn push_after<'a, T: Eq + Clone + Drop>(
     Ok(())
 }
 
-/// Each line between `<` and `>` on a line of its own, without its markers.
+/// Shows each line between `<` and `>` on a line of its own, without its markers.
 impl<T: Eq> fmt::Display for PrefixedLines<T> {
     fn fmt<W: fmt::Write>(&self, f: &mut fmt::Formatter<W>) -> fmt::Result {
         let Some(prefixes) = &self.prefixes else {

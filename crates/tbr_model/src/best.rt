@@ -13,7 +13,7 @@ use crate::width::CharWidth;
 use crate::word::slots;
 use std::alloc::{AllocError, Global};
 
-/// Where the longest legal line of the first slots ends, after which the rest has a legal layout.
+/// Where the longest legal line of the first slots ends such that the rest has a legal layout.
 ///
 /// `solved` says of each smaller number of last slots whether they have a legal layout.
 fn longest_line<T>(width: usize, slots: &[Slot<'_, T>], solved: &[bool]) -> Option<usize>

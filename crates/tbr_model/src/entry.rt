@@ -11,7 +11,7 @@ use crate::width::CharWidth;
 /// An entry of a run: a character or a marker.
 #[derive(Drop)]
 pub enum Entry<T> {
-    /// A character with its annotation, the one that it has where its hard line goes on, and its mode.
+    /// A character with its main annotation, the one for where its hard line continues, and its mode.
     Character {
         c: char,
         tag: T,
@@ -56,7 +56,7 @@ impl<T> Entry<T> {
         }
     }
 
-    /// Its columns. A character without a width takes none, and neither does a marker.
+    /// Its columns. A marker, or a character without a width, takes none.
     pub fn width<W: CharWidth>(&self) -> usize
         ensures { result ≡ item_width W.columns (item_of (entry_value self.now)) }
     {

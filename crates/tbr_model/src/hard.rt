@@ -8,7 +8,7 @@ ghost use Rattle.tbr_model.specs.Layout.{Slot, slots_of, line_text, AllItemsFit,
 ghost use Rattle.tbr_model.specs.Rule.{Event, run_of, lines_of};
 ghost use Rattle.tbr_model.specs.Hard.{AllHaveMode, Preserves, hard_lines, Parted, IsCutEvery, IsWrapped, ShowsHardLine, ShowsPre, ShowsPreWrap, ShowsTabs};
 
-/// In a run of preserving modes each hard line has lines of its own. Its visible characters are there once, in order,
+/// In a run of preserving modes each hard line has lines of its own. Its visible characters are on them once, in order,
 /// each under an annotation of its call. A newline ends a line, even an empty one. Spaces alone leave an empty line
 /// before a newline, and no line at the end of the run.
 #[tactic(auto, using(crate::proofs::rule::VisibleCharacters::hard_lines_shown))]
@@ -18,10 +18,10 @@ pub fn hard_lines_are_shown<T>()
         Parted (ShowsHardLine columns (λ a b. eq a b ≡ true)) (hard_lines (run_of es)) (lines_of columns width es) }
 {}
 
-/// In a run of `Pre` alone each hard line keeps its characters, in order. A hard line of printable characters, not of
-/// spaces alone, is one line where it fits. If it begins with a non-blank, it is cut after every `width` characters,
-/// and those after the first cut have the continuation annotation. Spaces alone leave an empty line before a newline,
-/// and no line at the end of the run.
+/// In a run of `Pre` alone each hard line keeps its characters, in order. A hard line of printable characters that
+/// aren't all spaces is one line where it fits. Otherwise, if it begins with a non-blank, it is cut after every `width`
+/// characters, and those after the first cut have the continuation annotation. Spaces alone leave an empty line before
+/// a newline, and no line at the end of the run.
 #[tactic(auto, using(crate::proofs::pre::HardLine::pre_shown))]
 pub fn pre_lines_are_shown<T>()
     ensures { (columns : ℕ → Option ℕ) (eq : T → T → Bool) (width : ℕ) →
@@ -30,8 +30,8 @@ pub fn pre_lines_are_shown<T>()
         Parted (ShowsPre columns (λ a b. eq a b ≡ true) width) (hard_lines (run_of es)) (lines_of columns width es) }
 {}
 
-/// In a run of `PreWrap` alone a hard line of printable characters, not of spaces alone, is one line where it fits
-/// without the spaces at its end. These are dropped. In any case its stretches of non-blanks are in order, and a
+/// In a run of `PreWrap` alone a hard line of printable characters that aren't all spaces is one line where it fits
+/// without the spaces at its end. These are dropped. In any case its stretches of non-blanks are shown in order, and a
 /// stretch is cut only if it is wider than a line. Spaces are dropped, and a line ends, only where the next stretch
 /// doesn't fit. Spaces alone leave an empty line before a newline, and no line at the end of the run.
 #[tactic(auto, using(crate::proofs::prewrap::HardLine::prewrap_shown))]
@@ -50,8 +50,8 @@ pub fn tabs_are_shown<T>()
         Parted (ShowsTabs columns width) (hard_lines (run_of es)) (lines_of columns width es) }
 {}
 
-/// In a run of `Normal` alone the lines are the texts of the best layout of its words, if no item of the run is wider
-/// than a line.
+/// In a run of `Normal` alone, where no item is wider than a line, the lines are the texts of the best layout of its
+/// words.
 pub fn rule_is_best<T>()
     ensures { (columns : ℕ → Option ℕ) (width : ℕ) (es : List (Event T)) →
         AllHaveMode Normal (run_of es) → AllItemsFit columns width (run_of es) →

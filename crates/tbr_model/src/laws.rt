@@ -53,8 +53,8 @@ pub fn best_lines_have_characters<T>()
         Each (λ l. IsTrue (line_has_character l)) lines }
 {}
 
-/// The working break points part every run into regions, in one way only, and the run's words and trailing markers are
-/// those read off region by region.
+/// The working break points divide every run into regions, in one way only. The run's words and trailing markers are
+/// those of its regions, one after another.
 #[tactic(auto, using(crate::proofs::words::Regions::words_parted, crate::proofs::words::Regions::parting, crate::proofs::words::Regions::parted_alike))]
 pub fn words_stand_between_working_breaks<T>()
     ensures parted { (columns : ℕ → Option ℕ) (run : List (Entry T)) →
@@ -85,7 +85,7 @@ pub fn gaps_are_one_space<T>()
         (first_blank between ≡ None) ↔ Each (λ e. blank_of e ≡ None) between }
 {}
 
-/// Layouts as cuts and layouts as lines are the same.
+/// Layouts as cuts and layouts as lines say the same.
 #[tactic(auto, using(crate::proofs::layouts::Cuts::cut_laws))]
 pub fn layouts_are_cuts<T>()
     ensures lines { (items : List T) (cuts : List ℕ) → IsLayout (length items) cuts →

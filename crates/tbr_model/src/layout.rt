@@ -38,7 +38,7 @@ fn may_follow<T>(slots: &[Slot<'_, T>]) -> bool
     slots.iter().all(|slot| !(slot.begins && slot.wider))
 }
 
-/// Whether a line is legal at a width in columns, however wide it is.
+/// Whether a line is legal at a width in columns. The line may be of any width.
 pub fn is_legal_line<T>(width: usize, line: &[Slot<'_, T>]) -> bool
     ensures { IsTrue result ↔ IsLegalLine width (slot_values line.now) }
 {

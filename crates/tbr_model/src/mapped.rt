@@ -21,8 +21,8 @@ pub fn annotations_change_no_layout<A, B>()
         IsBest width slots lines → IsBest width (map_slots f slots) (map_layout f lines) }
 {}
 
-/// If a function replaces the annotations of a run, the block goes on in the same way, and the annotations in what it
-/// leaves are replaced so.
+/// If a function replaces the annotations of a run, the block does the same steps, and the function also replaces the
+/// annotations in what they leave.
 #[tactic(auto, using(crate::proofs::maps::Rule::rule_maps))]
 pub fn annotations_change_no_progress<A, B>()
     ensures progress { (f : A → B) (columns : ℕ → Option ℕ) (width : ℕ) (es : List (Event A)) →
@@ -33,8 +33,7 @@ pub fn annotations_change_no_progress<A, B>()
         waiting columns width (map_progress f p) ≡ map_items f (waiting columns width p) }
 {}
 
-/// What is shown of a run's hard lines is shown of them under other annotations, if annotations that are equal stay
-/// equal.
+/// Other annotations don't change what is shown of a run's hard lines, if annotations that are equal stay equal.
 pub fn annotations_change_no_hard_line<A, B>()
     ensures lines { (f : A → B) (run : List (Entry A)) →
         hard_lines (map_run f run) ≡ map (map_run f) (hard_lines run) }

@@ -12,8 +12,8 @@ ghost use Rattle.tbr_model.specs.declared.white_space.WhiteSpace.TheVariants.{No
 ghost use Rattle.tbr_model.specs.Hard.{AllHaveMode, entry_letters, is_visible, ShowsVisible};
 ghost use Rattle.tbr_model.specs.Shown.{without_spaces, names_waiting, InventsNothing, ComesWithRun, ShowsInOrder, IsNotPre, ShowsOwn, run_shows_columns, HasColumns, columns_so_far, next_stop, is_newline_or_tab, HasOneMore, EndWhereFull, word_lines};
 
-/// The visible characters of a run are on its lines once, in order, each under an annotation of its call. Its
-/// markers are there once, in order, or wait.
+/// The visible characters of a run are on its lines once, in order, each under an annotation of its call. Its markers
+/// are on the lines once, in order, or wait.
 #[tactic(auto, using(crate::proofs::rule::VisibleCharacters::visible_shown, crate::proofs::rule::Markers::markers_at_end))]
 pub fn visible_characters_are_shown<T>()
     ensures characters { (columns : ℕ → Option ℕ) (width : ℕ) (eq : T → T → Bool) → ((x : T) → eq x x ≡ true) →
@@ -23,8 +23,8 @@ pub fn visible_characters_are_shown<T>()
         ≡ names_in_run (run_of es) }
 {}
 
-/// The visible characters and the markers of a run are on its lines, and then wait, once and in their order. So each
-/// marker is between the same visible characters.
+/// The visible characters and the markers of a run are once and in order on its lines, and after these among what
+/// waits. So each marker stays between the same visible characters.
 pub fn order_is_kept<T>()
     ensures { (columns : ℕ → Option ℕ) (width : ℕ) (eq : T → T → Bool) → ((x : T) → eq x x ≡ true) →
         (es : List (Event T)) → ShowsInOrder columns (λ a b. eq a b ≡ true) (run_of es)
@@ -52,9 +52,8 @@ pub fn waiting_markers_end_a_run<T>()
         × (front ++ names_waiting columns width es ≡ names_after (is_kept columns) (run_of es)) }
 {}
 
-/// A run of `Normal` alone keeps its items, whatever the width. Its kept characters and its markers are on its lines,
-/// and then in what waits, in order, each character under its own annotation. Nothing else is there except the spaces
-/// of gaps.
+/// A run of `Normal` alone keeps its items, whatever the width. Its kept characters and its markers are in order on its
+/// lines, and after these among what waits, each character under its own annotation. Only the spaces of gaps are added.
 #[tactic(auto, using(crate::proofs::lines::NormalItems::normal_keeps))]
 pub fn normal_items_are_kept<T>()
     ensures { (columns : ℕ → Option ℕ) (width : ℕ) (es : List (Event T)) → AllHaveMode Normal (run_of es) →
@@ -62,7 +61,7 @@ pub fn normal_items_are_kept<T>()
         ≡ kept_items columns (run_of es) }
 {}
 
-/// Nothing is on the lines of a run but its visible characters, white space under its annotations, and its markers.
+/// The lines of a run have only its visible characters, its markers, and white space under its annotations.
 pub fn nothing_is_invented<T>()
     ensures { (columns : ℕ → Option ℕ) (width : ℕ) (eq : T → T → Bool) → ((x : T) → eq x x ≡ true) →
         (es : List (Event T)) → InventsNothing columns (λ a b. eq a b ≡ true) (run_of es) (lines_of columns width es) }
@@ -97,17 +96,17 @@ pub fn markers_alone_are_trailing<T>()
         without_last_markers {A = T} (length names) (marker_run names) ≡ [] }
 {}
 
-/// Where a visible character that takes columns came, a line has ended, or the open line or the word takes columns.
+/// After a visible character that takes columns, a line has ended, or the open line or the word takes columns.
 #[tactic(auto, using(crate::proofs::lines::Columns::columns_show))]
 pub fn columns_are_shown<T>()
     ensures { (columns : ℕ → Option ℕ) (width : ℕ) (es : List (Event T)) →
         run_shows_columns columns (run_of es) ≡ true → HasColumns columns (progress columns width es) }
 {}
 
-/// A line ends only at a newline in a preserving mode, or where what comes next doesn't fit. Take an open line, space
-/// that waits and a word that fit a line together. Then a newline ends one line, a tab none if its next stop is on the
-/// line, any other entry none, and the end of the run at most one. A word that begins a line is cut only where the next
-/// item that takes columns doesn't fit.
+/// A line ends only at a newline in a preserving mode, or where what comes next doesn't fit. Suppose that an open line,
+/// space that waits and a word fit a line together. Then a newline ends one line, and the end of the run at most one. A
+/// tab ends none if its next stop is on the line, and no other entry ends any. A word that begins a line is cut only
+/// where the next item that takes columns doesn't fit.
 #[tactic(auto, using(crate::proofs::lines::LineEnds::end_laws, crate::proofs::lines::CutWords::word_ends_full))]
 pub fn lines_end_where_full<T>()
     ensures entry { (columns : ℕ → Option ℕ) (width : ℕ) (p : Progress T) (e : Entry T) →

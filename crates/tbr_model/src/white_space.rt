@@ -17,7 +17,7 @@ pub enum WhiteSpace {
 impl Default for WhiteSpace {
     ghost is_default = { λ mode. mode ≡ Normal };
 
-    /// White space that counts as one space.
+    /// `Normal`: stretches of white space count as one space.
     fn default() -> WhiteSpace {
         WhiteSpace::Normal
     }

@@ -5,7 +5,7 @@ ghost use Rattle.tbr_model.specs.Width.{takes_one_column, stroke};
 /// How many columns a character takes: none, 0, 1 or 2.
 ///
 /// The space, the slash and the characters that borders are drawn with take one column, and the stroke U+0336 takes
-/// none. An instance proves these laws of its answers, and is free otherwise.
+/// none. An instance proves these laws of its answers. All else is its own choice.
 pub trait CharWidth {
     ghost columns: { ℕ → Option ℕ };
 

@@ -13,7 +13,7 @@ use crate::slot::Slot;
 use crate::width::CharWidth;
 use std::alloc::{AllocError, Global};
 
-/// How many entries come before the first break point that works.
+/// How many entries come before the first working break point.
 #[tactic(auto, using(crate::proofs::words::StoredEntries::value_at, crate::proofs::words::StoredEntries::values_front))]
 fn working_break<T, W: CharWidth>(entries: &[Entry<T>]) -> Option<usize>
     ensures { MatchOption result (NoBreakWorks W.columns (entry_values entries.now))
@@ -43,7 +43,7 @@ fn first_blank<T>(entries: &[Entry<T>]) -> Option<&T>
     None
 }
 
-/// Whether the items among the entries are wider than a line, however wide they are.
+/// Whether the items among the entries are together wider than a line. They may be of any width.
 fn is_wider<T, W: CharWidth>(entries: &[Entry<T>], width: usize) -> bool
     ensures { result ≡ nat_lt width (items_width W.columns (kept_items W.columns (entry_values entries.now))) }
 {
@@ -71,7 +71,7 @@ fn has_character<T, W: CharWidth>(entries: &[Entry<T>]) -> bool
     false
 }
 
-/// Adds the items of the word that these entries hold, from the break point before it on.
+/// Adds the items of the word in these entries, which begin at the break point before it.
 fn push_word<'a, T, W: CharWidth>(
     slots: &mut Vec<Slot<'a, T>>,
     entries: &'a [Entry<T>],
@@ -99,7 +99,7 @@ fn push_word<'a, T, W: CharWidth>(
     Ok(())
 }
 
-/// The items of a run's words in order, with what a line of the width, in columns, has to know of them.
+/// The items of a run's words in order, with what is needed to lay them on lines of `width` columns.
 ///
 /// It fails only where memory is refused.
 pub fn slots<'a, T, W: CharWidth>(

@@ -1,4 +1,4 @@
-//! What comes at the end of a script.
+//! The end of a script: its text, with footnotes.
 ghost use Rattle.std.specs.Prelude.{◌≡◌, None, Err, map, IfOk, string_bytes};
 ghost use Rattle.tbr_tagged.specs.View.{chars_of};
 ghost use Rattle.tbr_tagged.specs.declared.Error.TheVariants as E;
@@ -15,8 +15,8 @@ use tbr_safe::escape_all;
 use text_block_renderer::{Annotations, Renderer, SubRenderer};
 
 /// The text of a renderer whose links have these targets: its lines, and after them the footnotes as a block of their
-/// own, if there are any. It asks for a renderer that hasn't failed, and refuses as that does. Where it refuses, the
-/// renderer and the targets are dropped.
+/// own, if there are any. The renderer must not have failed. It refuses as the renderer does, and then drops it and the
+/// targets.
 pub fn close<D: TextDecorator, W: CharWidth>(
     renderer: SubRenderer<D, W>,
     targets: Vec<String>,
@@ -33,8 +33,8 @@ pub fn close<D: TextDecorator, W: CharWidth>(
     with_footnotes(renderer, targets)?.into_string()
 }
 
-/// The lines of such a renderer, and after them the footnotes. Their lists of annotations share their common part. It
-/// refuses as [`close`] does.
+/// The lines of a renderer whose links have these targets, and after them the footnotes. Their lists of annotations
+/// share their common part. It refuses as [`close`] does.
 pub fn close_lines<D: TextDecorator, W: CharWidth>(
     renderer: SubRenderer<D, W>,
     targets: Vec<String>,
@@ -73,8 +73,8 @@ fn with_footnotes<D: TextDecorator, W: CharWidth>(
     Ok(renderer)
 }
 
-/// The targets of links as footnotes list them: as they came if they are to be `raw`, else without control characters.
-/// It refuses only where memory is refused.
+/// The targets of links as footnotes list them: unchanged if `raw` is set, and otherwise without control characters. It
+/// refuses only where memory is refused.
 pub fn listed(targets: Vec<String>, raw: bool) -> Result<Vec<String>, OutOfMemory>
     ensures { IfOk result (λ shown. map chars_of shown.items ≡ model.listed raw (map chars_of targets.items)) }
 {

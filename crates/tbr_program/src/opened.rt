@@ -13,9 +13,9 @@ use tbr_lines::{CellAlign, CharWidth};
 /// The command that opened a level.
 #[derive(Clone, Copy, Debug, PartialEq, Eq)]
 pub enum Opener {
-    /// It is appended to the level below it.
+    /// `sub`: the level is appended to the one below it.
     Sub,
-    /// It waits there as a cell.
+    /// `cell`: the level waits in the one below it as a cell.
     Cell {
         /// The rows that it spans, at least 1.
         span: usize,
@@ -113,7 +113,7 @@ impl<D: TextDecorator, W: CharWidth> OpenLevels<D, W> {
         Some(self.levels.last()?.by)
     }
 
-    /// Opens a level, below which this is pending. Where memory is refused it is dropped.
+    /// Opens a level above one on which `below` is pending. Where memory is refused, `below` is dropped.
     pub fn open(&mut self, by: Opener, below: Pending<D, W>) -> Result<(), AllocError>
         requires { IsSpanned by }
         ensures { OnOk result (self.new ≡ record { by = by; below = below } ∷ self.old) }
@@ -122,7 +122,7 @@ impl<D: TextDecorator, W: CharWidth> OpenLevels<D, W> {
         Ok(())
     }
 
-    /// Closes the innermost level, and answers what is pending below it. It asks that one is open.
+    /// Closes the innermost level, and answers what is pending on the one below it. A level must be open.
     pub fn close(&mut self) -> Pending<D, W>
         requires { opener self.old ≢ None }
         ensures { (by : By) × (self.old ≡ record { by = by; below = result } ∷ self.new) }

@@ -81,7 +81,7 @@ impl<D: TextDecorator, W: CharWidth> Pending<D, W> {
     }
 
     /// Adds a renderer to the cells that wait, with the rows that it spans and the alignment of its texts. It asks for
-    /// at least 1 row. Where memory is refused the cell is dropped.
+    /// at least 1 row. Where memory is refused, the cell is dropped.
     pub fn add_cell(
         &mut self,
         cell: SubRenderer<D, W>,
@@ -98,7 +98,8 @@ impl<D: TextDecorator, W: CharWidth> Pending<D, W> {
         Ok(())
     }
 
-    /// Takes the waiting cells, each with the rows that it spans, and how their texts are aligned. None waits then.
+    /// Takes the waiting cells, each with the rows that it spans, and how their texts are aligned. After that no cell
+    /// waits.
     pub fn take_cells(&mut self, alloc: Global) -> (Vec<(SubRenderer<D, W>, usize)>, Vec<CellAlign>)
         ensures cells { result.0.items ≡ self.old.cells }
         ensures aligns { result.1.items ≡ self.old.aligns }
@@ -111,8 +112,8 @@ impl<D: TextDecorator, W: CharWidth> Pending<D, W> {
         (cells, aligns)
     }
 
-    /// Takes the renderers of the waiting cells, whatever their spans and alignments are. Where memory is refused they
-    /// are dropped, and none waits either.
+    /// Takes the renderers of the waiting cells, without their spans and alignments. After that no cell waits. Where
+    /// memory is refused, they are dropped.
     pub fn take_renderers(&mut self, alloc: Global) -> Result<Vec<SubRenderer<D, W>>, AllocError>
         ensures cells { IfOk result (λ cells. cells.items ≡ renderers_of self.old.cells) }
         ensures rest { self.new ≡ without_cells self.old }

@@ -16,8 +16,8 @@ use text_block_renderer::{Renderer, SubRenderer};
 /// How many prefixes come after the first.
 const OTHERS: usize = usize::MAX - 1;
 
-/// Adds the lines of a renderer to another one: the first line after the first text, each other after the second. It
-/// asks for another one that hasn't failed.
+/// Adds the lines of a renderer to another one: the first line after the first text, each other after the second. The
+/// other one must not have failed.
 ///
 /// It refuses as either renderer does, and where memory is refused. The renderer inside is dropped.
 pub fn append_after<D: TextDecorator, W: CharWidth>(

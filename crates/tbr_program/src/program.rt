@@ -36,11 +36,11 @@ use tbr_script::{RunError, TextPair};
 use tbr_stack::TextRenderer;
 use text_block_renderer::{Annotations, RenderOptions, Renderer, SubRenderer};
 
-/// What a script has called so far after its first command.
+/// A script of which the first command, and perhaps more commands, were done.
 #[derive(Drop)]
 pub struct Program<D: TextDecorator, W: CharWidth> {
     renderers: TextRenderer<D, W>,
-    /// On the renderer on top.
+    /// What is pending on the renderer on top.
     pending: Pending<D, W>,
     opened: OpenLevels<D, W>,
 }
@@ -55,8 +55,8 @@ impl<D: TextDecorator, W: CharWidth> Model for Program<D, W> {
 }
 
 impl<D: TextDecorator, W: CharWidth> Program<D, W> {
-    /// A renderer of a width in columns of at least 1, and nothing called yet. A wrap width is at least 1 too. It
-    /// refuses only where memory is refused.
+    /// A program with one renderer, to which no command was given yet. Its width in columns, and a wrap width if there
+    /// is one, must be at least 1. It refuses only where memory is refused.
     pub fn new(
         alloc: Global,
         width: usize,
@@ -82,10 +82,10 @@ impl<D: TextDecorator, W: CharWidth> Program<D, W> {
     }
 
     /// Does what the line of this number asks for. An empty line asks for nothing. A prefix is shown without control
-    /// characters, unless it is to be `raw`.
+    /// characters, unless `raw` is set.
     ///
-    /// It refuses as the line does, and with `OutOfMemory` only where memory is refused. After `OutOfMemory` and
-    /// `TooNarrow` the program isn't to be used any more. Each other refusal leaves it as it was.
+    /// It refuses as the line does, and with `OutOfMemory` only where memory is refused. After `OutOfMemory` or
+    /// `TooNarrow` the program must not be used any more. Each other refusal leaves it as it was.
     pub fn run_line(
         &mut self,
         alloc: Global,
@@ -112,7 +112,7 @@ impl<D: TextDecorator, W: CharWidth> Program<D, W> {
 
     /// Does what a command asks for, on the line of this number.
     ///
-    /// After `OutOfMemory` and `TooNarrow` the program isn't to be used any more. Each other refusal leaves it as it
+    /// After `OutOfMemory` or `TooNarrow` the program must not be used any more. Each other refusal leaves it as it
     /// was.
     pub fn run(&mut self, alloc: Global, number: usize, command: &Command) -> Result<(), RunError>
         requires goes_on { GoesOn self.old }
@@ -136,8 +136,7 @@ impl<D: TextDecorator, W: CharWidth> Program<D, W> {
         }
     }
 
-    /// Does what a command asks for, as `run` does. A prefix is shown without control characters, unless it is to be
-    /// `raw`.
+    /// Does what a command asks for, as `run` does. A prefix is shown without control characters, unless `raw` is set.
     pub fn run_shown(
         &mut self,
         alloc: Global,
@@ -156,7 +155,7 @@ impl<D: TextDecorator, W: CharWidth> Program<D, W> {
         self.run_safely(alloc, number, command)
     }
 
-    /// Does what a command asks for, its prefixes without control characters.
+    /// Does what a command asks for. Its prefixes are shown without control characters.
     fn run_safely(
         &mut self,
         alloc: Global,
@@ -242,7 +241,7 @@ impl<D: TextDecorator, W: CharWidth> Program<D, W> {
         Ok(())
     }
 
-    /// Closes the innermost level, and answers its renderer. It asks that a level is open.
+    /// Closes the innermost level, and answers its renderer. A level must be open.
     fn close(&mut self) -> SubRenderer<D, W>
         requires goes_on { GoesOn self.old }
         requires opened { opener self.old.opened ≢ None }
@@ -254,7 +253,7 @@ impl<D: TextDecorator, W: CharWidth> Program<D, W> {
         inside
     }
 
-    /// Closes the level that `sub` opened, on the line of this number: its lines join those below it.
+    /// Closes the level that `sub` opened, on the line of this number: its lines are added to the level below.
     fn append(&mut self, number: usize, prefixes: &TextPair) -> Result<(), RunError>
         requires { GoesOn self.old }
         ensures runs { let make = after_command W.columns (decoration_of D.TextDecorator D.Annotation.tells) number in
@@ -273,7 +272,7 @@ impl<D: TextDecorator, W: CharWidth> Program<D, W> {
         Ok(())
     }
 
-    /// Closes the level that `cell` opened, on the line of this number: it waits below as a cell.
+    /// Closes the level that `cell` opened, on the line of this number: it waits in the level below as a cell.
     fn end_cell(&mut self, number: usize) -> Result<(), RunError>
         requires { GoesOn self.old }
         ensures runs { let make = after_command W.columns (decoration_of D.TextDecorator D.Annotation.tells) number in
@@ -318,7 +317,7 @@ impl<D: TextDecorator, W: CharWidth> Program<D, W> {
     }
 
     /// The text of the script, whose end counts as the line of this number. The targets of links are listed without
-    /// control characters, unless they are to be `raw`.
+    /// control characters, unless `raw` is set.
     ///
     /// It refuses as the end of the script does, and with `OutOfMemory` only where memory is refused.
     pub fn finish(self, number: usize, raw: bool) -> Result<String, RunError>
@@ -336,7 +335,7 @@ impl<D: TextDecorator, W: CharWidth> Program<D, W> {
     }
 
     /// The lines of the text, where no level is open and no cell waits. Their lists of annotations share their common
-    /// part. The targets of links are listed as by `finish`, and it refuses as that does.
+    /// part. The targets of links are listed as by `finish`. It also refuses as `finish` does.
     pub fn finish_lines(
         self,
         raw: bool,

@@ -9,7 +9,7 @@ ghost use Rattle.tbr_renderer.specs.declared.options.ImageRenderMode.TheVariants
 pub enum ImageRenderMode {
     /// Nothing.
     IgnoreEmpty,
-    /// The empty title, as the decorator shows it.
+    /// What the decorator makes of the empty title.
     ShowAlways,
     /// A given title.
     Replace(&'static str),
@@ -73,8 +73,8 @@ pub struct RenderOptions {
 impl Default for RenderOptions {
     ghost is_default = { λ options. options ≡ default_options };
 
-    /// Lines as wide as the renderer, without overflow and padding; borders drawn; links wrapped and without footnotes;
-    /// strokes on struck out text; nothing for an image without a title.
+    /// Lines as wide as the renderer, without overflow and padding. Borders are drawn, links are wrapped and have no
+    /// footnotes, struck out text has strokes, and an image without a title shows nothing.
     fn default() -> RenderOptions {
         RenderOptions {
             wrap_width: None,

@@ -19,11 +19,11 @@ use std::convert::AsStr;
 use tbr_decor::Colour;
 use tbr_lines::{CellAlign, Error, WhiteSpace};
 
-/// What writes blocks of text, one below another.
+/// A writer of blocks of text, one below another.
 ///
-/// A call that ends a word, or the open line, places words. It answers `TooNarrow` where one has a character wider than
-/// the block, and lines may not be wider. In blocks of two columns or more it never does. `OutOfMemory` comes where
-/// memory is refused or a size passes `usize`.
+/// A call that ends a word, or the open line, places words. It answers `TooNarrow` where a word has a character wider
+/// than the block, and lines may not be wider. In blocks of two columns or more it never does. Calls answer
+/// `OutOfMemory` where memory is refused or a size passes `usize`.
 ///
 /// A call that refuses leaves the renderer failed. The renderer keeps that refusal: each later call that can refuse
 /// answers it, and does nothing else. A call that can't refuse does nothing then. The four calls for prefixes and
@@ -65,12 +65,11 @@ pub trait Renderer {
     fn start_block(&mut self) -> Result<(), Error>
         ensures answers { Answers calls call.start_block self.old result self.new };
 
-    /// Begins a table, as a block is begun.
+    /// Begins a table, as `start_block` begins a block.
     fn start_table(&mut self) -> Result<(), Error>
         ensures answers { Answers calls call.start_table self.old result self.new };
 
-    /// Ends a block: text that comes begins a new one, but for white space in `Normal`, which is ignored. It takes no
-    /// memory.
+    /// Ends a block: later text begins a new one, except white space in `Normal`, which is ignored. It takes no memory.
     fn end_block(&mut self)
         ensures { Leaves calls call.end_block self.old self.new };
 
@@ -82,7 +81,7 @@ pub trait Renderer {
     fn push_ws(&mut self, ws: WhiteSpace) -> Result<(), Error>
         ensures answers { Answers calls (call.push_ws ws) self.old result self.new };
 
-    /// Takes the mode that was pushed last, if there is one. It takes no memory.
+    /// Removes the mode that was pushed last, if there is one. It takes no memory.
     fn pop_ws(&mut self)
         ensures { Leaves calls call.pop_ws self.old self.new };
 
@@ -96,15 +95,16 @@ pub trait Renderer {
         requires { 0 < (kept_in calls self.old).preformatted }
         ensures { Leaves calls call.pop_preformat self.old self.new };
 
-    /// Puts a marker where the text is. It opens a block if there is none, and refuses only where memory is refused.
+    /// Puts a marker where the next text begins. It opens a block if there is none, and refuses only where memory is
+    /// refused.
     fn record_frag_start(&mut self, name: &str) -> Result<(), Error>
         ensures answers { Answers calls (call.record_frag_start name.now) self.old result self.new };
 
-    /// Begins a link: its annotation joins the others, and the decorator's text is added under it.
+    /// Begins a link: its annotation is added to the others, and the decorator's text is added under them.
     fn start_link(&mut self, target: &str) -> Result<(), Error>
         ensures answers { Answers calls (call.begin (start.link (chars target.now))) self.old result self.new };
 
-    /// Ends a link: the decorator's text is added, and then the last annotation is taken, if there is one.
+    /// Ends a link: the decorator's text is added, and then the last annotation is removed, if there is one.
     fn end_link(&mut self) -> Result<(), Error>
         ensures answers { Answers calls (call.finish end.link) self.old result self.new };
 
@@ -141,12 +141,12 @@ pub trait Renderer {
         ensures answers { Answers calls (call.finish end.superscript) self.old result self.new };
 
     /// Begins a strikeout, as a link is begun. Text after the decorator's has one stroke more, if the options ask for
-    /// strokes. `OutOfMemory` comes too where the depth passes `usize`.
+    /// strokes. It also answers `OutOfMemory` where the depth passes `usize`.
     fn start_strikeout(&mut self) -> Result<(), Error>
         ensures answers { Answers calls call.start_strikeout self.old result self.new };
 
     /// Ends a strikeout, as a link is ended. The decorator's text already has one stroke less, if the options ask for
-    /// strokes. In that case it asks that a strikeout is open. Where it refuses, that one stays open.
+    /// strokes. In that case a strikeout must be open. Where the call refuses, the strikeout stays open.
     fn end_strikeout(&mut self) -> Result<(), Error>
         requires { let kept = kept_in calls self.old in
             kept.options.use_unicode_strikeout ≡ true → 0 < kept.strikeouts }
@@ -157,8 +157,8 @@ pub trait Renderer {
     fn add_image(&mut self, src: &str, title: &str) -> Result<(), Error>
         ensures answers { Answers calls (call.add_image (chars src.now) (chars title.now)) self.old result self.new };
 
-    /// Ends the open line, and adds a border of the renderer's width under the annotations. Markers that wait go on
-    /// waiting. Where lines are padded the border becomes text.
+    /// Ends the open line, and adds a border of the renderer's width under the annotations. Markers that wait keep
+    /// waiting. Where lines are padded, the border becomes text.
     fn add_horizontal_border(&mut self) -> Result<(), Error>
         ensures answers { Answers calls (call.add_border (kept_in calls self.old).width) self.old result self.new };
 
@@ -169,8 +169,8 @@ pub trait Renderer {
     /// Ends the open line, and then that of another renderer, and adds the lines of that one, each after a prefix and
     /// under the annotations. A border becomes text.
     ///
-    /// Each line takes one prefix. Where prefixes run out, the lines that are left are dropped. A refusal of the other
-    /// renderer is passed on.
+    /// Each line gets one prefix. If there are fewer prefixes than lines, the lines that are left are dropped. A
+    /// refusal of the other renderer is passed on.
     fn append_subrender<P: AsStr + Drop, I: Iterator<Item = P>>(
         &mut self,
         other: Self,
@@ -185,21 +185,20 @@ pub trait Renderer {
         ensures fails { Fails calls self.old result self.new };
 
     /// Ends the open line, and adds the lines of other renderers, one below another, as `append_subrender` does without
-    /// prefixes. Where borders are drawn, a border of slashes is between each two renderers. A plain one is after all
-    /// of them, even where there are none. A refusal of one of them is passed on, the first in order.
+    /// prefixes. Where borders are drawn, a border of slashes is added between two renderers, and a plain one after all
+    /// of them, even if there are none. If some of them refuse, the first refusal is passed on.
     fn append_vert_row(&mut self, cols: Vec<Self>) -> Result<(), Error>
         ensures takes { Takes calls (gathered handed_out cols.items) (Each (IsWide calls) cols.items)
             (λ cells. calls.after (call.append_vert_row cells)) self.old result self.new };
 
     /// Ends the open line, and then those of other renderers, in order. It adds a row of their lines, side by side and
-    /// parted by `│`, or by spaces where borders aren't drawn. Each comes with the rows that it spans, at least one.
-    /// Its texts are aligned as asked, with one alignment for each renderer. It asks for a row that fits: a
-    /// `SubRenderer` tells by `row_fits`.
+    /// separated by `│`, or by spaces where borders aren't drawn. With each renderer the rows that it spans are given,
+    /// at least one, and the alignment of its texts. The row must fit, as `row_fits` of `SubRenderer` tells.
     ///
-    /// A border that is the last line is joined to the row, and a border comes below, where borders are drawn. Lines of
-    /// a cell that spans more rows overhang into the next rows. With `collapse`, borders at the top and at the bottom
-    /// of cells are merged into the borders above and below. A refusal of one of the renderers is passed on, the first
-    /// in order.
+    /// A border that is the last line is joined to the row, and where borders are drawn, one is added below. Lines of a
+    /// cell that spans several rows overhang into the next rows. With `collapse`, borders at the top and at the bottom
+    /// of cells are merged into the borders above and below. If some of the renderers refuse, the first refusal is
+    /// passed on.
     fn append_columns_aligned(
         &mut self,
         cols: Vec<(Self, usize)>,
@@ -225,12 +224,12 @@ pub trait Renderer {
             let wide = Each (λ col. IsWide calls col.0) cols.items in
             Takes calls given wide (calls.after_row collapse) self.old result self.new };
 
-    /// Begins text in a colour, whose annotation joins the others, if the decorator has one. The only refusal of its
-    /// own is `OutOfMemory`.
+    /// Begins text in a colour, whose annotation is added to the others, if the decorator has one. The only refusal of
+    /// its own is `OutOfMemory`.
     fn push_colour(&mut self, colour: Colour) -> Result<(), Error>
         ensures answers { Answers calls (call.push_colour ground.text colour) self.old result self.new };
 
-    /// Ends text in a colour: the last annotation is taken, if there is one, where the decorator says so. It takes no
+    /// Ends text in a colour: if the decorator says so, the last annotation is removed, if there is one. It takes no
     /// memory.
     fn pop_colour(&mut self)
         ensures { Leaves calls (call.pop_colour ground.text) self.old self.new };
@@ -244,7 +243,7 @@ pub trait Renderer {
         ensures { Leaves calls (call.pop_colour ground.background) self.old self.new };
 
     /// The text before each line of a header of the given level. Its only refusal is `OutOfMemory`, also on a renderer
-    /// that has failed, and it changes nothing. So do the other calls for prefixes.
+    /// that has failed, and it changes nothing. This holds for the other calls for prefixes too.
     fn header_prefix(&mut self, level: usize) -> Result<String, Error>
         ensures text { IfOk result (λ text. chars_of text ≡ prefix_text self.old (prefix.header level)) }
         ensures memory { IfErr result (λ e. e ≡ E.OutOfMemory) }
@@ -268,9 +267,9 @@ pub trait Renderer {
         ensures memory { IfErr result (λ e. e ≡ E.OutOfMemory) }
         ensures unchanged { self.new ≡ self.old };
 
-    /// A renderer for a block inside: of a width in columns, without text, with the same options and annotations, and
-    /// with the decorator that the own one makes for it. It asks for a width of at least 1. Its only refusal is
-    /// `OutOfMemory`, also on a renderer that has failed.
+    /// An empty renderer for a block inside, of a width in columns, at least 1. It has the same options and
+    /// annotations, and a decorator that this renderer's own makes for it. Its only refusal is `OutOfMemory`, also on a
+    /// renderer that has failed.
     fn new_sub_renderer(&self, width: usize) -> Result<Self, Error>
         requires { 0 < width }
         ensures sub { IfOk result (λ sub. calls.state sub ≡ sub_renderer width (calls.state self.now)) }

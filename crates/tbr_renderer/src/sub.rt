@@ -47,11 +47,11 @@ pub struct SubRenderer<D: TextDecorator, W: CharWidth = UnicodeColumns> {
     options: RenderOptions,
     decorator: D,
     lines: KeptLines<Annotations<D::Annotation>>,
-    /// The open block. It is in a box, so that it is taken and put back for each text without a copy of its fields.
+    /// The open block. It is in a box, so that taking it and putting it back for each text doesn't copy its fields.
     wrapping: Option<Box<WrappedBlock<Annotations<D::Annotation>, W>>>,
     /// Markers that wait for a line of text.
     waiting: Vec<TaggedLineElement<Annotations<D::Annotation>>>,
-    /// Whether text that comes begins a block.
+    /// Whether the next text begins a block.
     block_ended: bool,
     annotations: OpenAnnotations<D::Annotation>,
     modes: Vec<WhiteSpace>,
@@ -120,10 +120,10 @@ impl<D: TextDecorator, W: CharWidth> SubRenderer<D, W> {
         self.failure
     }
 
-    /// Makes the renderer fail with `OutOfMemory`, as a call of its own that is refused memory does. One that has
-    /// failed keeps its first refusal.
+    /// Makes the renderer fail with `OutOfMemory`, as a call of its own does that is refused memory. A renderer that
+    /// has failed keeps its first refusal.
     ///
-    /// It is for a caller who was refused memory, and whose renderer is not to go on.
+    /// It is for a caller who was refused memory, and whose renderer must not be filled any further.
     pub fn fail(&mut self, _refusal: OutOfMemory)
         ensures live { self.old.failure ≡ None → self.new ≡ record self.old { failure = Some E.OutOfMemory } }
         ensures failed { (e : Refusal) → self.old.failure ≡ Some e → self.new ≡ self.old }
@@ -150,7 +150,7 @@ impl<D: TextDecorator, W: CharWidth> SubRenderer<D, W> {
     /// The columns that are left after a prefix of `prefix_len` columns, but at least `min_width`.
     ///
     /// It answers `TooNarrow` where fewer than `min_width` are left and lines may not be wider. It takes no memory, and
-    /// doesn't look at a failure.
+    /// a failure changes nothing.
     pub fn width_minus(&self, prefix_len: usize, min_width: usize) -> Result<usize, TooNarrow>
         ensures width { IfOk result (λ columns. columns ≡ max min_width (self.now.width - prefix_len)) }
         ensures too_narrow { IsTrue (is_err result)
@@ -205,7 +205,7 @@ impl<D: TextDecorator, W: CharWidth> SubRenderer<D, W> {
         self.wrapping = Some(block);
     }
 
-    /// Sets whether text that comes begins a block.
+    /// Sets whether the next text begins a block.
     fn set_block_ended(&mut self, ended: bool)
         ensures { self.new ≡ record self.old { block_ended = ended } }
     {
@@ -244,7 +244,7 @@ impl<D: TextDecorator, W: CharWidth> SubRenderer<D, W> {
         mem::replace(&mut self.waiting, Vec::new(self.alloc))
     }
 
-    /// Adds a line as it is. Where memory is refused the line is lost.
+    /// Adds a line as it is. Where memory is refused, the line is lost.
     fn push_line(&mut self, line: RenderLine<Annotations<D::Annotation>>) -> Result<(), OutOfMemory>
         requires { IsMergedText (same_annotations D.Annotation.same) line }
         ensures line { OnOk result (self.new ≡ record self.old { lines = self.old.lines ++ line_seen line ∷ [] }) }
@@ -270,7 +270,7 @@ impl<D: TextDecorator, W: CharWidth> SubRenderer<D, W> {
 
     /// Adds a line of text after the markers that wait. It is filled, where lines are padded.
     ///
-    /// Where memory is refused the line is lost, and markers may be.
+    /// Where memory is refused, the line is lost, and markers may be.
     fn add_line(&mut self, line: TaggedLine<Annotations<D::Annotation>>) -> Result<(), OutOfMemory>
         requires unfailed { self.old.failure ≡ None }
         requires merged { IsMerged (same_annotations D.Annotation.same) line }
@@ -286,8 +286,8 @@ impl<D: TextDecorator, W: CharWidth> SubRenderer<D, W> {
         self.add_filled(whole)
     }
 
-    /// Adds a line of text, whatever markers wait. It is filled, where lines are padded. Where memory is refused the
-    /// line is lost.
+    /// Adds a line of text without the markers that wait. It is filled, where lines are padded. Where memory is
+    /// refused, the line is lost.
     fn add_filled(
         &mut self,
         mut line: TaggedLine<Annotations<D::Annotation>>,

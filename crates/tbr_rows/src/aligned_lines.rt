@@ -13,12 +13,13 @@ use tbr_model::CharWidth;
 use tbr_tagged::{CellAlign, OutOfMemory, TaggedLine, columns_in_front};
 use tbr_wrap::EndedLines;
 
-/// Lines that a block has ended, in its one text, each filled up to a width with spaces under a tag. A line takes a
-/// number, and its spaces take nothing until it is moved. A contract sees the lines that are left, each as its items.
+/// Lines that a block has ended, in its one text, each filled up to a width with spaces under a tag. For each line a
+/// number is kept. Its spaces take no memory until it is moved. A contract sees the lines that are left, each as its
+/// items.
 #[derive(Drop)]
 pub(crate) struct AlignedLines<T> {
     ended: EndedLines<T>,
-    /// How many columns each line lacks.
+    /// How many columns each line is narrower than the width.
     missing: VecDeque<usize>,
     align: CellAlign,
     tag: T,
@@ -94,7 +95,7 @@ impl<T: Eq + Clone + Drop> AlignedLines<T> {
     }
 }
 
-/// Each line between `<` and `>`, after a space, without the spaces that fill it.
+/// Shows each line between `<` and `>`, after a space, without the spaces that fill it.
 impl<T> fmt::Display for AlignedLines<T> {
     fn fmt<W: fmt::Write>(&self, f: &mut fmt::Formatter<W>) -> fmt::Result {
         self.ended.fmt_between(f, " <", ">")

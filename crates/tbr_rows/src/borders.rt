@@ -10,8 +10,8 @@ use std::alloc::Global;
 use tbr_border::BorderHoriz;
 use tbr_tagged::OutOfMemory;
 
-/// Joins the separators of a row to the border above it and to the one below. It stretches the one above to the row's
-/// width. Where it refuses, both may be joined in part.
+/// Joins the separators of a row to the border above it and to the one below. It stretches the border above to the
+/// row's width. Where it refuses, both may be joined in part.
 pub(crate) fn join<T: Eq>(
     above: &mut BorderHoriz<T>,
     next: &mut BorderHoriz<T>,
@@ -28,7 +28,7 @@ pub(crate) fn join<T: Eq>(
     above.stretch_to(row_width(cells)?)
 }
 
-/// Merges the first borders of cells into the border above their row, and takes them out.
+/// Merges the first borders of cells into the border above their row, and removes them from the lines.
 pub(crate) fn merge_first<T: Eq + Drop>(
     alloc: Global,
     above: &mut BorderHoriz<T>,
@@ -47,7 +47,7 @@ pub(crate) fn merge_first<T: Eq + Drop>(
     Ok(rest)
 }
 
-/// Merges the last borders of cells into the border below their row, and takes them out of the lines.
+/// Merges the last borders of cells into the border below their row, and removes them from the lines.
 pub(crate) fn merge_last<T: Eq + Drop>(
     alloc: Global,
     next: &mut BorderHoriz<T>,

@@ -17,7 +17,7 @@ use std::marker::Model;
 use tbr_border::{BorderHoriz, RenderLine};
 use tbr_tagged::{OutOfMemory, TaggedLine, spaces};
 
-/// The lines that a cell has still to show. They are taken from both ends. A contract sees their list.
+/// The lines that a cell still has to show. They are taken from both ends. A contract sees their list.
 #[derive(Drop)]
 pub(crate) struct CellLines<T: Eq> {
     kept: Kept<T>,
@@ -208,7 +208,7 @@ fn gap_text<T: Eq + Clone + Drop>(
 }
 
 /// The text of a cell in the border below its row, where the cell's lines are in a block's text. That is the first
-/// line, which it takes out, or spaces if none is left.
+/// line, which it removes, or spaces if none is left.
 fn first_in_gap<T: Eq + Clone + Drop>(
     alloc: Global,
     lines: &mut AlignedLines<T>,
@@ -228,7 +228,7 @@ fn first_in_gap<T: Eq + Clone + Drop>(
     Ok(line)
 }
 
-/// Each line between `<` and `>`, after a space.
+/// Shows each line between `<` and `>`, after a space.
 impl<T: Eq> fmt::Display for CellLines<T> {
     fn fmt<W: fmt::Write>(&self, f: &mut fmt::Formatter<W>) -> fmt::Result {
         match &self.kept {
@@ -238,7 +238,7 @@ impl<T: Eq> fmt::Display for CellLines<T> {
     }
 }
 
-/// The lines as they are displayed.
+/// Shows the lines as `Display` does.
 impl<T: Eq> fmt::Debug for CellLines<T> {
     fn fmt<W: fmt::Write>(&self, f: &mut fmt::Formatter<W>) -> fmt::Result {
         write!(f, "{self}")

@@ -12,7 +12,7 @@ pub(crate) struct Column<T: Eq> {
     pub(crate) bottom: Option<BorderHoriz<T>>,
 }
 
-/// How many lines a row of these has: as many as the cell that asks for most.
+/// How many lines a row of these has: the most that any of its cells asks for.
 pub(crate) fn height<T: Eq>(columns: &[Column<T>]) -> usize
     ensures { result ≡ model.row_height columns.now }
 {

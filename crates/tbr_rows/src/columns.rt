@@ -1,4 +1,4 @@
-//! The cells that come with a row.
+//! The row's own cells.
 ghost use Rattle.std.specs.Prelude.{◌≡◌, ◌++◌, ◌∷◌, [], List, map, OnOk, OnErr};
 ghost use Rattle.std.specs.List.{AllZip};
 ghost use Rattle.tbr_border.specs.declared.render_line.RenderLine.{RenderLine as Line};
@@ -17,7 +17,7 @@ use tbr_model::CharWidth;
 use tbr_tagged::{CellAlign, OutOfMemory};
 use tbr_wrap::EndedLines;
 
-/// The cells that come with a row, side by side. A contract sees their list.
+/// A row's own cells, side by side. A contract sees their list.
 #[derive(Debug, Drop)]
 pub struct Columns<T: Eq> {
     pub(crate) cells: Vec<LineSet<T>>,

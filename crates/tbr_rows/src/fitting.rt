@@ -7,8 +7,8 @@ use crate::line_set::LineSet;
 use std::collections::linked_list;
 use std::marker::Model;
 
-/// Whether a row has a place for each cell that overhangs. It is given the row's own cells one after another, and takes
-/// no memory.
+/// A test whether a row has a place for each cell that overhangs. It gets the row's own cells one after another, and
+/// takes no memory.
 #[derive(Drop)]
 pub struct Fitting<'a, T: Eq> {
     first: Option<&'a LineSet<T>>,
@@ -29,7 +29,7 @@ impl<'a, T: Eq> Model for Fitting<'a, T> {
 }
 
 impl<'a, T: Eq> Fitting<'a, T> {
-    /// Asks about these overhanging cells, before any of the row's own.
+    /// A test of these overhanging cells, before any of the row's own.
     pub(crate) fn of(mut cells: linked_list::Iter<'a, LineSet<T>>) -> Fitting<'a, T>
         requires { AreApart 0 cells }
         ensures { (own : List (ℕ × Bool)) → fits_with result own ≡ row_fits cells.entry (spots_from 0 own) }
@@ -42,7 +42,7 @@ impl<'a, T: Eq> Fitting<'a, T> {
         }
     }
 
-    /// Takes the row's next cell: its width in columns, and whether it has no line.
+    /// Adds the row's next cell, by its width in columns, and whether it has no line.
     pub fn add(&mut self, width: usize, is_blank: bool)
         ensures { (more : List (ℕ × Bool)) →
             fits_with self.new more ≡ fits_with self.old ((width, is_blank) ∷ more) }

@@ -12,8 +12,8 @@ use tbr_border::BorderHoriz;
 use tbr_model::CharWidth;
 use tbr_tagged::{OutOfMemory, TaggedLine};
 
-/// Ends a row. The first line of each spanning cell comes in front of the border below, where borders are drawn, and
-/// the rest overhangs.
+/// Ends a row. Where borders are drawn, the first line of each spanning cell is put in front of the border below. The
+/// rest overhangs.
 pub(crate) fn hang<T: Eq + Clone + Drop, W: CharWidth>(
     alloc: Global,
     columns: Vec<Column<T>>,
@@ -33,7 +33,7 @@ pub(crate) fn hang<T: Eq + Clone + Drop, W: CharWidth>(
     Ok(rest)
 }
 
-/// Ends a row for one cell, and puts what overhangs of it after what overhangs already.
+/// Ends a row for one cell, and adds what overhangs of it to what overhangs already.
 fn hang_cell<T: Eq + Clone + Drop, W: CharWidth>(
     alloc: Global,
     column: Column<T>,
@@ -60,7 +60,7 @@ fn hang_cell<T: Eq + Clone + Drop, W: CharWidth>(
     Ok(())
 }
 
-/// Puts a text in front of a border, from a place on, or after what is there.
+/// Puts a text in front of a border, from a place on, or after the texts that are there already.
 fn add_text<T: Drop, W: CharWidth>(
     border: &mut BorderHoriz<T>,
     place: usize,

@@ -42,15 +42,14 @@ pub fn cells_stand_where_their_widths_say<T>()
     ensures { (cells : List (Cell T)) → AreSideBySide 0 cells → map spot_of cells ≡ spots_from 0 (map look cells) }
 {}
 
-/// A row that fits still does where fewer of its cells have lines.
+/// A row that fits still fits where fewer of its cells have lines.
 #[tactic(auto, using(crate::proofs::Fitted::fits_with_fewer_lines))]
 pub fn a_row_with_fewer_lines_fits_too<T>()
     ensures { (hanging : List (Cell T)) (spots others : List Spot) → AllZip IsAsFree spots others →
         row_fits hanging spots ≡ true → row_fits hanging others ≡ true }
 {}
 
-/// What a row shows of a cell, with the line in the border below it, and then what it leaves to later rows are the
-/// cell's lines.
+/// A cell's lines are what a row shows of it, with the line in the border below, and then what it leaves to later rows.
 #[tactic(auto, using(crate::proofs::AllLines::part_and_later))]
 pub fn a_row_loses_no_line<T>()
     ensures { (draws : Bool) (height : ℕ) (cell : Cell T) → cell_height cell ≤ height →
@@ -63,14 +62,14 @@ pub fn a_row_is_high_enough<T>()
     ensures { (columns : List (Column T)) → Each (λ c. cell_height (cell_in c) ≤ row_height columns) columns }
 {}
 
-/// What a row merges of a cell's lines, and what is left of them, are all of the cell's lines.
+/// A cell's lines are those that a row merges, and those that are left of them.
 #[tactic(auto, using(crate::proofs::AllLines::merged_and_left))]
 pub fn merging_takes_borders_alone<T>()
     ensures { (m : Meeting) (cell : Cell T) →
         merged_first m cell ++ lines_of (met m cell) ++ merged_last m cell ≡ lines_of cell }
 {}
 
-/// Over all its rows a cell's lines are those that are shown and the borders that are merged, in order.
+/// Over all its rows, a cell's lines are those that are shown and the borders that are merged, in order.
 #[tactic(auto, using(crate::proofs::AllLines::all_rows))]
 pub fn a_spanning_cell_is_shown_whole<T>()
     ensures { (draws : Bool) (rows : List Meeting) (cell : Cell T) → AreItsRows draws rows cell →
@@ -111,8 +110,8 @@ pub fn cells_stand_in_their_columns<T>()
         × (items_width columns before ≡ place_of (cell_in column)) }
 {}
 
-/// A line that fits its cell takes the cell's columns once it is filled. So do the lines of a row of what such a cell
-/// shows, and what is below them.
+/// A line that fits its cell takes exactly the cell's columns once it is filled. So does each line that a row shows of
+/// such a cell, and the filler below these.
 #[tactic(auto, using(crate::proofs::FilledCells::filled_line, crate::proofs::FilledCells::cell_fills))]
 pub fn lines_that_fit_take_their_columns<T>()
     ensures line { (columns : ℕ → Option ℕ) (eq : T → T → Bool) (align : CellAlign) (width : ℕ) (padding tag : T)
@@ -122,8 +121,8 @@ pub fn lines_that_fit_take_their_columns<T>()
         LinesFillCell columns tag column → TakesCellColumns columns tag i column }
 {}
 
-/// A row with each tag replaced by what it means is the row of the cells with their tags replaced so. That holds where
-/// tags are equal exactly if they mean the same.
+/// Replacing each tag of a row by what it means gives the row of the cells whose tags are replaced in this way. That
+/// holds where tags are equal exactly if they mean the same.
 pub fn a_row_is_its_row_by_meaning<A, B>()
     ensures { (f : A → B) (eq : A → A → Bool) → MeansEqual f eq → EqualIfMeant f eq →
         (columns : ℕ → Option ℕ) (style : RowStyle) (tag : A) (hanging cells : List (Cell A))
@@ -132,7 +131,7 @@ pub fn a_row_is_its_row_by_meaning<A, B>()
         (option_map (map_border f) top) (row_meant f row) }
 {}
 
-/// Lines that are filled stay filled if each tag is replaced by what it means, and that changes no place.
+/// Replacing each tag by what it means leaves filled lines filled, and changes no place.
 pub fn meanings_change_no_place<A, B>()
     ensures lines { (f : A → B) (eq : A → A → Bool) → MeansEqual f eq →
         (columns : ℕ → Option ℕ) (align : CellAlign) (width : ℕ) (tag : A) (lines done : List (RenderLine A)) →
@@ -143,7 +142,7 @@ pub fn meanings_change_no_place<A, B>()
         row_fits (map (map_cell f) hanging) spots ≡ row_fits hanging spots }
 {}
 
-/// If each tag is replaced by what it means, there is only one row of the same cells under the same border.
+/// With each tag replaced by what it means, there is only one row of the same cells under the same border.
 pub fn there_is_one_row_by_meaning<T>()
     ensures { (columns : ℕ → Option ℕ) (style : RowStyle) (tag : T) (hanging cells : List (Cell T))
         (top : Option (Border T)) (row other : SeenRow T) → MeansRow columns style tag hanging cells top row →
@@ -159,8 +158,8 @@ pub fn a_row_is_computed<T>()
 {}
 
 /// Over the rows of its span each cell shows its texts once, in order, in its own columns, also in the borders between
-/// them. The rows follow one another, and the lines of all cells take their cells' columns. The cells of a row are its
-/// own and those that overhang. An own cell without lines may leave its place to one that overhangs.
+/// these rows. The rows must follow one another, and the lines of all cells must fit their columns. The cells of a row
+/// are its own and those that overhang. An own cell without lines may give its place to one that overhangs.
 pub fn rows_show_each_cell_in_its_columns<T>()
     ensures shown { (columns : ℕ → Option ℕ) → DrawsInOne columns → (draws : Bool) (rows : List (MadeRow T columns))
         (cell : Cell T) → FollowOneAnother columns draws rows → Each (HasFilledCells columns) rows →

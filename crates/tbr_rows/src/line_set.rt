@@ -7,8 +7,8 @@ use std::alloc::Global;
 use std::fmt;
 use tbr_tagged::OutOfMemory;
 
-/// A cell of a row. It has the column at which it begins, how many columns it takes, how many rows it still spans, and
-/// the lines that it still has to show.
+/// A cell of a row: the column at which it begins, its columns, how many rows it still spans, and the lines that it
+/// still has to show.
 #[derive(Debug, Drop)]
 pub struct LineSet<T: Eq> {
     pub(crate) place: usize,
@@ -37,8 +37,8 @@ impl<T: Eq> LineSet<T> {
         self.place.checked_add(self.width).ok_or(OutOfMemory)
     }
 
-    /// How many lines the cell asks of its row: all that it has, or, if it spans more rows, its share of them, rounded
-    /// down.
+    /// How many lines the cell asks of its row: all of its lines, or, if it spans more rows, this row's share of them,
+    /// rounded down.
     pub(crate) fn height(&self) -> usize
         ensures { result ≡ model.cell_height self.now }
     {
@@ -50,7 +50,7 @@ impl<T: Eq> LineSet<T> {
     }
 }
 
-/// Where the cell is and how many rows it spans, and then each of its lines between `<` and `>`.
+/// Shows where the cell is and how many rows it spans, and then each of its lines between `<` and `>`.
 impl<T: Eq> fmt::Display for LineSet<T> {
     fn fmt<W: fmt::Write>(&self, f: &mut fmt::Formatter<W>) -> fmt::Result {
         write!(

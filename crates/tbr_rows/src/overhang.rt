@@ -14,8 +14,8 @@ use std::fmt;
 use std::marker::Model;
 use tbr_tagged::OutOfMemory;
 
-/// The cells that overhang from the rows before, in order. It is what has to be kept between two rows. A contract sees
-/// their list.
+/// The cells that overhang from the rows before, in order. This is what has to be kept between two rows. A contract
+/// sees their list.
 #[derive(Debug, Drop)]
 pub struct Overhang<T: Eq> {
     cells: LinkedList<LineSet<T>>,
@@ -34,7 +34,7 @@ impl<T: Eq> Model for Overhang<T> {
     ghost invariant = { λ o. AreApart 0 o.cells };
 }
 
-/// Each cell on a line of its own.
+/// Shows each cell on a line of its own.
 impl<T: Eq> fmt::Display for Overhang<T> {
     fn fmt<W: fmt::Write>(&self, f: &mut fmt::Formatter<W>) -> fmt::Result {
         for cell in &self.cells {
@@ -61,14 +61,15 @@ impl<T: Eq + Drop> Overhang<T> {
         self.cells.is_empty()
     }
 
-    /// Whether a cell has lines that it has still to show. They are lost if no more row comes. It takes no memory.
+    /// Whether a cell has lines that it still has to show. They are lost if no more row is added. It takes no memory.
     pub fn has_lines(&self) -> bool
         ensures { result ≡ list_any has_lines self.now }
     {
         self.cells.iter().any(|cell| !cell.lines.is_empty())
     }
 
-    /// Whether a row has a place for each of these cells, asked cell by cell of the row. It takes no memory.
+    /// A test whether a row has a place for each of these cells. The row's cells are added one by one. It takes no
+    /// memory.
     pub fn fitting(&self) -> Fitting<'_, T>
         ensures { (own : List (ℕ × Bool)) → fits_with result own ≡ row_fits self.now (spots_from 0 own) }
     {
@@ -83,7 +84,7 @@ impl<T: Eq + Drop> Overhang<T> {
         Overhang { cells }
     }
 
-    /// The cells of a row, once these have taken their places among its own.
+    /// The cells of a row: its own, and these in their places among them.
     pub(crate) fn seat(
         self,
         alloc: Global,

@@ -62,11 +62,11 @@ pub struct Row<T: Eq> {
 }
 
 impl<T: Eq + Clone + Drop> Columns<T> {
-    /// Lays out a row of these cells and of those that overhang, under a border, if there is one. It asks for a row
-    /// that fits: [`fits`](Columns::fits) tells. What is drawn is under copies of the tag.
+    /// Lays out a row of these cells and of those that overhang, under a border, if there is one. The row must fit, as
+    /// [`fits`](Columns::fits) tells. What is drawn is under copies of the tag.
     ///
-    /// It refuses only where memory is refused, or where a place or a line's columns pass `usize`. All that it was
-    /// given is then dropped.
+    /// It refuses only where memory is refused, or where a place or a line's columns pass `usize`. Its arguments are
+    /// then dropped.
     pub fn lay_out<W: CharWidth>(
         self,
         alloc: Global,

@@ -1,4 +1,4 @@
-//! Overhanging cells take their places in a row.
+//! How overhanging cells take their places in a row.
 ghost use Rattle.std.specs.Prelude.{◌≡◌, IfOk, OnOk};
 ghost use Rattle.tbr_rows.specs.Cells as model;
 
@@ -7,8 +7,8 @@ use std::alloc::Global;
 use std::collections::LinkedList;
 use tbr_tagged::OutOfMemory;
 
-/// The cells of a row, once overhanging ones have taken their places among its own. Those that come after all others
-/// are appended, with an empty cell before them where columns are free.
+/// The cells of a row: its own, and overhanging ones in their places among them. Those that are after all own ones are
+/// appended, with an empty cell before them where columns are free.
 pub(crate) fn seated<T: Eq + Drop>(
     alloc: Global,
     cells: Vec<LineSet<T>>,

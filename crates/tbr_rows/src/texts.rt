@@ -10,7 +10,7 @@ use crate::column::Column;
 use std::alloc::Global;
 use tbr_tagged::{OutOfMemory, TaggedLine, TaggedString};
 
-/// The lines of a row: as many as asked for. They are taken out of its cells.
+/// The lines of a row, as many as asked for. It removes them from the cells.
 pub(crate) fn lines_of<T: Eq + Clone + Drop>(
     alloc: Global,
     columns: &mut Vec<Column<T>>,
@@ -31,7 +31,7 @@ pub(crate) fn lines_of<T: Eq + Clone + Drop>(
     Ok(lines)
 }
 
-/// One line of a row: the first line of each cell, which it takes out, or its filler, with a separator between two
+/// One line of a row: the first line of each cell, which it removes, or the cell's filler, with a separator between two
 /// cells.
 fn line_of<T: Eq + Clone + Drop>(
     alloc: Global,
@@ -55,7 +55,7 @@ fn line_of<T: Eq + Clone + Drop>(
     Ok(line)
 }
 
-/// How many bytes a line of a row mostly has: one for each column, and three for what separates two cells.
+/// How many bytes a line of a row usually has: one for each column, and three for each separator.
 fn room_for<T: Eq>(columns: &[Column<T>]) -> usize {
     let mut bytes = 0usize;
     for column in columns {
@@ -82,7 +82,7 @@ fn push_separator<T: Eq + Clone>(
     Ok(())
 }
 
-/// Appends a cell's first line, which it takes out, or its filler.
+/// Appends a cell's first line, which it removes, or its filler.
 fn push_first<T: Eq + Clone + Drop>(
     line: &mut TaggedLine<T>,
     column: &mut Column<T>,
@@ -100,7 +100,7 @@ fn push_first<T: Eq + Clone + Drop>(
     column.cell.lines.move_first(line, tag)
 }
 
-/// Appends what fills the place of a cell that has no line left: the vertical lines above its merged border, or spaces.
+/// Appends the filler of a cell that has no line left: the vertical lines above its merged border, or spaces.
 fn push_filler<T: Eq + Clone + Drop>(
     line: &mut TaggedLine<T>,
     column: &Column<T>,

@@ -25,7 +25,7 @@ ghost use Rattle.std.specs.List.{AllByRecursion as Each};
 ghost use Rattle.tbr_script.specs.declared.error.RunError.TheVariants.{TooNarrow};
 ghost use Rattle.tbr_runner.specs.Scripts.{rendered_on, rendered};
 
-/// A line is read as the command that it is, and as none where it is none. So it is with the first command.
+/// A line is read as the command that it is, and as none where it is none. This holds for the first command too.
 pub fn a_line_is_read_as_the_command_that_it_is()
     ensures command { (line : List ℕ) (command : Command) →
         IsCommand line command ↔ (command_read line ≡ Some command) }
@@ -33,12 +33,12 @@ pub fn a_line_is_read_as_the_command_that_it_is()
         IsOpening line opening ↔ (opening_read line ≡ Some opening) }
 {}
 
-/// Calls and rows lead to each renderer that a script fills, also to those of cells that wait, from a sound one to
-/// which nothing had come: first to the script's own, and then after each line. The script's text is that of such a
-/// one's lines, without an open run, and then of the footnotes of all its links, in their order. So the laws of lists
-/// of calls and rows hold of it, also with its footnotes: the first promise, and where lines aren't padded, that its
-/// lines show the visible characters and the markers of all that came to it, once and in order. Where they are padded,
-/// borders that became text are between these.
+/// Each renderer that a script fills, also one of a cell that waits, is made by calls and rows from a sound and empty
+/// one. This holds at the beginning and after each line. The script's text is that of the lines of such a renderer,
+/// without an open run, and then of the footnotes of all its links, in their order. So the laws of lists of calls and
+/// rows hold for it, also with its footnotes. One is the first promise. Another is that its lines show the visible
+/// characters and the markers of all that was added to it, once and in order, where lines aren't padded. Where they are
+/// padded, borders that became text are between these.
 pub fn the_renderers_of_a_script_are_led_to<D, M>()
     ensures first { (columns : ℕ → Option ℕ) (decoration : Decoration D M) → columns 32 ≡ Some 1 →
         (opening : Opening) (decorator : D) → 0 < opening.width → opening.options.wrap_width ≢ Some 0 →
@@ -67,11 +67,11 @@ pub fn the_renderers_of_a_script_are_led_to<D, M>()
 {}
 
 /// No visible character is lost between the blocks and cells of a script, and no marker before one. No block may have
-/// 2^64 lines, and nothing may overhang in a block, a cell or the script where that ends. What came to a renderer up to
-/// any line, and what comes to it later, is in the lines of the text, or in front of their borders. There its visible
-/// characters are, each under an annotation of its call, and its markers, all in one order. Only markers may be missing
-/// after which none comes to that renderer. Prefixes, borders and what came to other renderers may be between them. In a
-/// script whose cells span one row each nothing overhangs.
+/// 2^64 lines or more, and nothing may overhang in a block, a cell or the script where that ends. Take what is added to
+/// a renderer up to any line, and after it. Its visible characters, each under an annotation of its call, and its
+/// markers are in order in the lines of the text, or in front of their borders. Only markers may be missing after which
+/// that renderer gets no visible character. Prefixes, borders and what was added to other renderers may be between
+/// them. In a script whose cells span one row each nothing overhangs.
 pub fn no_visible_character_of_a_script_is_lost<D, M>()
     ensures first { (columns : ℕ → Option ℕ) (decoration : Decoration D M) → columns 32 ≡ Some 1 →
         (opening : Opening) (decorator : D) → 0 < opening.width → opening.options.wrap_width ≢ Some 0 →
@@ -94,8 +94,8 @@ pub fn no_visible_character_of_a_script_is_lost<D, M>()
         OverhangsNowhere there × EndsWhole back there }
 {}
 
-/// A script isn't refused as too narrow whose blocks and cells have two columns or more, the wrap width included, where
-/// no character takes more than two.
+/// A script whose blocks, cells and wrap width have two columns or more is never too narrow, if no character takes more
+/// than two.
 pub fn a_script_of_two_columns_is_not_too_narrow<D, M>()
     ensures { (columns : ℕ → Option ℕ) (decoration : Decoration D M) → columns 32 ≡ Some 1 → TakeTwoAtMost columns →
         (opening : Opening) (decorator : D) → 2 ≤ least opening.width opening.options.wrap_width → (number : ℕ)
@@ -103,9 +103,9 @@ pub fn a_script_of_two_columns_is_not_too_narrow<D, M>()
         rendered_on columns decoration number lines (started opening decorator) ≡ Err TooNarrow → ⊥ }
 {}
 
-/// What the lines of a script do to its stack is what calls on a stack do, so the laws of these hold of scripts. A link
-/// that ends brings its own number, which is the place of its target among the footnotes, counted from 1. So it is
-/// whatever commands come in between, and however deep links, blocks and cells are in one another.
+/// The lines of a script change its stack as calls on a stack do, so the laws of these hold for scripts. A link that
+/// ends adds its own number, which is the place of its target among the footnotes, counted from 1. This holds whatever
+/// commands are in between, and however deeply links, blocks and cells are nested.
 pub fn links_of_scripts_end_with_their_own_numbers<D, M>()
     ensures calls { (columns : ℕ → Option ℕ) (decoration : Decoration D M) (number : ℕ) (lines : List (List ℕ))
         (commands : List Command) (p q : Progress D M (List M)) → AskFor lines commands →

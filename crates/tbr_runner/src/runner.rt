@@ -19,16 +19,16 @@ use tbr_lines::{CharWidth, UnicodeColumns};
 use tbr_program::Program;
 use tbr_script::{RunError, Sink, Source, split_line, write_all};
 
-/// Bytes that a read asks for at most.
+/// The most bytes that a read asks for.
 const CHUNK: usize = 4096;
 
 /// Reads the whole script and writes its text.
 ///
 /// The script is read to its end first. Then its commands are done in order, up to the first line that is faulty or
-/// refuses. Nothing is written before the text is complete. So nothing is written where the script is refused, and
-/// where the writer fails a beginning of the text was written. `ReadFailed` comes exactly where the reader fails, and
-/// `WriteFailed` exactly where the writer does. `OutOfMemory` comes only where memory is refused. With a reader that
-/// never ends, it comes at the latest where the script's length passes `usize`.
+/// refuses. Nothing is written before the text is complete. So nothing is written if the script is refused; if the
+/// writer fails, a beginning of the text was written. It answers `ReadFailed` exactly where the reader fails, and
+/// `WriteFailed` exactly where the writer does. It answers `OutOfMemory` only where memory is refused, or where the
+/// script's length passes `usize`, as with a reader that never ends.
 pub fn run<R: Source, S: Sink>(
     alloc: Global,
     reader: &mut R,
@@ -61,7 +61,7 @@ pub fn run<R: Source, S: Sink>(
     write_all(writer, text.as_bytes()).map_err(|_| RunError::WriteFailed)
 }
 
-/// All bytes that the reader has left.
+/// All the bytes that the reader still gives.
 fn read_script<R: Source>(alloc: Global, reader: &mut R) -> Result<Vec<u8>, RunError>
     requires { R.failed reader.old ≡ false }
     ensures script { IfOk result (λ script. IfSome (R.remaining reader.old) (λ bytes. script.items ≡ bytes)) }
@@ -81,9 +81,9 @@ fn read_script<R: Source>(alloc: Global, reader: &mut R) -> Result<Vec<u8>, RunE
     }
 }
 
-/// The text of a script in memory, which is dropped before its lines are made text.
+/// The text of a script in memory. The script is dropped before its lines are turned into text.
 ///
-/// It refuses as `run` does, but for streams.
+/// It refuses as `run` does, except that no stream can fail.
 pub fn render<W: CharWidth, B: AsSlice<u8> + Drop>(
     alloc: Global,
     script: B,
@@ -95,8 +95,8 @@ pub fn render<W: CharWidth, B: AsSlice<u8> + Drop>(
     render_shown::<W, B>(alloc, script, true)
 }
 
-/// The text of a script in memory, as [`render`] gives it. Prefixes and the targets that footnotes list are shown without
-/// control characters, unless they are to be `raw`.
+/// The text of a script in memory, as [`render`] gives it. Prefixes and the targets that footnotes list are shown
+/// without control characters, unless `raw` is set.
 pub fn render_shown<W: CharWidth, B: AsSlice<u8> + Drop>(
     alloc: Global,
     script: B,
@@ -126,8 +126,8 @@ pub fn render_shown<W: CharWidth, B: AsSlice<u8> + Drop>(
     }
 }
 
-/// A program under the decorator that a first command names, which has run the rest of the script, and the number of
-/// the line after it.
+/// A program under this decorator that has run the script after its first command, and the number of the line after the
+/// script.
 fn run_under<D: TextDecorator, W: CharWidth>(
     alloc: Global,
     opening: Opening,
@@ -152,7 +152,7 @@ fn run_under<D: TextDecorator, W: CharWidth>(
     run_lines(alloc, program, number, script, raw)
 }
 
-/// The text of a program that has run a whole script. The script isn't needed any more.
+/// The text of a program that has run a whole script. The script is dropped first.
 fn finish<D: TextDecorator, W: CharWidth, B: Drop>(
     program: Program<D, W>,
     number: usize,
@@ -198,7 +198,7 @@ fn first_command(script: &[u8]) -> Result<(Opening, usize, &[u8]), RunError>
     Err(RunError::NotACommand(number))
 }
 
-/// A program that has run these lines, the first of them with this number, and the number of the line after them.
+/// A program that has run these lines, the first of which has this number, and the number of the line after them.
 fn run_lines<D: TextDecorator, W: CharWidth>(
     alloc: Global,
     program: Program<D, W>,

@@ -9,8 +9,8 @@ use percent_encoding::{CONTROLS, utf8_percent_encode};
 use std::alloc::Global;
 use tbr_tagged::OutOfMemory;
 
-/// A copy of a text with its control characters escaped: each byte of their UTF-8 is `%` and two hexadecimal digits. So
-/// an escape is `%1B`, a newline `%0A`, and U+009B `%C2%9B`. It refuses only where memory is refused.
+/// A copy of a text with its control characters escaped: each byte of their UTF-8 becomes `%` and two hexadecimal
+/// digits. So U+001B becomes `%1B`, a newline `%0A`, and U+009B `%C2%9B`. It refuses only where memory is refused.
 pub fn escape(alloc: Global, text: &str) -> Result<String, OutOfMemory>
     ensures bytes { IfOk result (λ safe. string_bytes safe ≡ escaped_bytes text.now) }
     ensures characters { IfOk result (λ safe. chars_of safe ≡ escaped (chars text.now)) }
@@ -20,8 +20,8 @@ pub fn escape(alloc: Global, text: &str) -> Result<String, OutOfMemory>
     Ok(safe)
 }
 
-/// Copies of these texts with their control characters escaped, in order. A text without control characters is itself,
-/// and takes no memory.
+/// These texts with their control characters escaped, in order. A text without control characters stays as it is, and
+/// takes no memory.
 pub fn escape_all(texts: Vec<String>) -> Result<Vec<String>, OutOfMemory>
     ensures { IfOk result (λ safe. map chars_of safe.items ≡ map escaped (map chars_of texts.items)) }
 {

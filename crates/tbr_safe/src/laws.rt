@@ -1,4 +1,4 @@
-//! What holds of escaped texts, each law as the contract of a function that does nothing.
+//! The laws of escaped texts, each as the contract of a function that does nothing.
 ghost use Rattle.std.specs.Prelude.{◌≡◌, ℕ, List, false, map};
 ghost use Rattle.std.specs.Char.{is_control};
 ghost use Rattle.std.specs.List.{AllByRecursion as Each};

@@ -1,4 +1,4 @@
-//! Texts without control characters: these are shown as a browser shows them in an address.
+//! Texts whose control characters are escaped, as browsers escape them in an address.
 #![tactic(auto)]
 
 pub use escapes::{escape, escape_all};

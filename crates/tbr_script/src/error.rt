@@ -18,7 +18,7 @@ pub enum RunError {
     TooNarrow,
     /// Memory was refused, or a size passes `usize`.
     OutOfMemory,
-    /// The line isn't a command, or comes where it may not.
+    /// The line isn't a command, or isn't allowed there.
     NotACommand(usize),
     /// The line ends what wasn't begun.
     NothingToEnd(usize),
@@ -42,7 +42,7 @@ impl RunError {
         }
     }
 
-    /// Writes the line that tells the refusal, with its newline.
+    /// Writes the line that reports the refusal, with its newline.
     ///
     /// It takes no memory. It answers `Failed` only where the sink fails, and then a beginning of the line was written.
     pub fn report<S: Sink>(self, sink: &mut S) -> Result<(), Failed>

@@ -26,7 +26,7 @@ pub fn unescape(alloc: Global, writing: &str) -> Result<Option<String>, AllocErr
     Ok(Some(text))
 }
 
-/// What comes before the first escape, and what comes after its backslash.
+/// What comes before the first backslash, and what comes after it.
 fn split_at_escape(writing: &str) -> Option<(&str, &str)>
     ensures none { result ≡ None → text_read writing.now ≡ Some writing.now }
     ensures text { IfSome result (λ r. text_read writing.now

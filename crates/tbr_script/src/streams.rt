@@ -18,7 +18,7 @@ pub trait Source {
     ghost failed: { Self → Bool };
 
     /// Reads some bytes to the front of the buffer, and answers how many. For a buffer that isn't empty, 0 means the
-    /// end. `Failed` comes where the source fails.
+    /// end. It answers `Failed` where the source fails.
     fn read(&mut self, buf: &mut [u8]) -> Result<usize, Failed>
         ensures bound { ReadsAtMost result buf.new }
         ensures bytes { ReadConsumes (remaining self.old) (remaining self.new) result buf.new }
@@ -35,8 +35,8 @@ pub trait Sink {
 
     ghost failed: { Self → Bool };
 
-    /// Writes some bytes from the front, and answers how many: at least one where there is one. `Failed` comes where
-    /// the sink fails.
+    /// Writes some bytes from the front, and answers how many: at least one, if there are any. It answers `Failed`
+    /// where the sink fails.
     fn write(&mut self, bytes: &[u8]) -> Result<usize, Failed>
         ensures bound { WritesAtMost result bytes.now }
         ensures some { IfOk result (λ n. 0 < length bytes.now → 0 < n) }
@@ -48,7 +48,7 @@ pub trait Sink {
         ensures { result ≡ failed self.now };
 }
 
-/// A reader of std. Every error of it is `Failed`.
+/// A reader of std. Each of its errors is `Failed`.
 #[derive(Drop)]
 pub struct StdSource<R> {
     reader: R,
@@ -66,7 +66,7 @@ impl<R> Model for StdSource<R> {
 impl<R> StdSource<R> {
     ghost use Rattle.std.specs.Prelude.{◌≡◌, false};
 
-    /// The reader, not failed at first.
+    /// A source of this reader, which hasn't failed.
     pub fn new(reader: R) -> StdSource<R>
         ensures { result ≡ record { inner = reader; failed = false } }
     {
@@ -104,7 +104,7 @@ impl<R: Read> Source for StdSource<R> {
     }
 }
 
-/// A writer of std. Every error of it is `Failed`, and so is a write that takes none of the bytes it is given.
+/// A writer of std. Each of its errors is `Failed`, and so is a write that takes none of the bytes that it is given.
 #[derive(Drop)]
 pub struct StdSink<W> {
     writer: W,
@@ -122,7 +122,7 @@ impl<W> Model for StdSink<W> {
 impl<W> StdSink<W> {
     ghost use Rattle.std.specs.Prelude.{◌≡◌, false};
 
-    /// The writer, not failed at first.
+    /// A sink of this writer, which hasn't failed.
     pub fn new(writer: W) -> StdSink<W>
         ensures { result ≡ record { inner = writer; failed = false } }
     {

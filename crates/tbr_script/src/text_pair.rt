@@ -36,7 +36,7 @@ impl TextPair {
     }
 }
 
-/// What is before the first ` | ` of a text and after it. `None` where ` | ` is missing.
+/// What is before the first ` | ` of a text, and what is after it. `None` where ` | ` is missing.
 fn split_at_bar(text: &str) -> Option<(&str, &str)>
     ensures { option_map (λ parts. (parts.0.now, parts.1.now)) result ≡ read.split_at_bar text.now }
 {

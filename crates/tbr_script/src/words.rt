@@ -4,7 +4,7 @@ ghost use Rattle.tbr_script.specs.Script.{words_of};
 
 use std::marker::Model;
 
-/// Words that are still to come. Exactly one space is between two.
+/// The words of a line that are left, with exactly one space between two.
 #[derive(Drop)]
 pub struct Words<'a> {
     rest: Option<&'a str>,
@@ -20,7 +20,7 @@ impl<'a> Model for Words<'a> {
 }
 
 impl<'a> Words<'a> {
-    /// The words of a line, which has one at least.
+    /// The words of a line, at least one.
     pub fn of(line: &'a str) -> Words<'a>
         ensures { result ≡ words_of line.now }
     {

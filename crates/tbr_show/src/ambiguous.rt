@@ -1,4 +1,4 @@
-//! The columns of terminals that give East Asian ambiguous characters two.
+//! The columns of characters in terminals that give East Asian ambiguous characters two.
 ghost use Rattle.std.specs.Prelude.{◌≡◌};
 ghost use Rattle.tbr_model.specs.Width as fixed;
 ghost use Rattle.tbr_show.specs.Ambiguous.{ambiguous_wide, ambiguous_wide_at_most_two, ambiguous_wide_drawn};
@@ -9,10 +9,10 @@ use unicode_width::UnicodeWidthChar;
 /// U+0336, which strikes out the character before it.
 const STROKE: char = '\u{336}';
 
-/// The columns of characters in a terminal that shows those which Unicode calls ambiguous in two, by the crate
-/// `unicode_width`.
+/// The columns of characters, by the crate `unicode_width`, in a terminal that gives two to those that Unicode calls
+/// ambiguous.
 ///
-/// The characters whose columns [`CharWidth`] fixes have those, borders among them, and a character to which
+/// Characters whose columns [`CharWidth`] fixes, among them those of borders, have these columns. A character to which
 /// `unicode_width` gives more than two columns has two.
 #[derive(Clone, Copy, Debug)]
 pub struct AmbiguousWide;

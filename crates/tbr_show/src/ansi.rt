@@ -9,8 +9,8 @@ use tbr_decor::RichAnnotation;
 use tbr_lines::{OutOfMemory, TaggedLine, TaggedLineElement};
 
 /// Appends a line with its newline: each piece without its control characters, between what begins its annotations and
-/// what ends them. Markers aren't shown. A link to a target with another scheme than `http`, `https`, `mailto` and
-/// `ftp` is underlined, and leads nowhere. If memory is refused, part of the line may have been appended.
+/// what ends them. Markers aren't shown. A link to a target with another scheme than `http`, `https`, `mailto` or `ftp`
+/// is underlined, and leads nowhere. If memory is refused, part of the line may have been appended.
 pub fn push_line(
     text: &mut String,
     line: &TaggedLine<Vec<RichAnnotation>>,

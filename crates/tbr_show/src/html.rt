@@ -11,7 +11,7 @@ use crate::text::{push_ascii, push_char, push_parts};
 use tbr_decor::{Colour, RichAnnotation};
 use tbr_lines::{CharWidth, OutOfMemory, TaggedLine, TaggedLineElement};
 
-/// What comes before the lines, so that they are a document of their own.
+/// What comes before the lines, to make them a document of their own.
 pub const BEGINNING: &str =
     "<!DOCTYPE html>\n<meta charset=\"utf-8\">\n<style>\npre { font-family: monospace }\npre code { font: inherit }\npre .wide { display: inline-block; width: 2ch }\n</style>\n<pre>\n";
 
@@ -19,11 +19,11 @@ pub const BEGINNING: &str =
 pub const END: &str = "</pre>\n";
 
 /// Appends a line with its newline: each piece without its control characters, in the elements of its annotations. A
-/// marker is the place that a link to its name leads to.
+/// marker becomes the place to which a link to its name leads.
 ///
-/// A character of two columns is in an element of the class `wide`, which is as wide as two of one column, with the
-/// characters of no columns after it. A link to a target with another scheme than `http`, `https`, `mailto` and `ftp`
-/// leads nowhere.
+/// A character of two columns, with the characters of no columns after it, is in an element of the class `wide`. That
+/// is as wide as two characters of one column. A link to a target with another scheme than `http`, `https`, `mailto` or
+/// `ftp` leads nowhere.
 ///
 /// It refuses only where memory is refused, and part of the line may then have been appended.
 pub fn push_line<W: CharWidth>(
@@ -195,8 +195,7 @@ fn push_character(text: &mut String, c: char) -> Result<(), OutOfMemory>
     }
 }
 
-/// Appends the characters of a text, where each character of two columns is in an element, with those of no columns
-/// after it.
+/// Appends the characters of a text. Each character of two columns is in an element, with those of no columns after it.
 fn push_shown<W: CharWidth>(text: &mut String, more: &str) -> Result<(), OutOfMemory>
     ensures { OnOk result
         (chars_of text.new ≡ chars_of text.old ++ model.shown W.columns (printable (chars more.now))) }

@@ -1,4 +1,4 @@
-//! What holds of what is written, each law as the contract of a function that does nothing.
+//! The laws of what is written, each as the contract of a function that does nothing.
 ghost use Rattle.std.specs.Prelude.{◌≡◌, ◌≢◌, ◌++◌, ◌∷◌, [], List, Vec, true};
 ghost use Rattle.std.specs.declared.alloc.Global.{Global as Heap};
 ghost use Rattle.std.specs.Char.{is_control};
@@ -10,7 +10,7 @@ ghost use Rattle.tbr_show.specs.Written.{printable};
 ghost use Rattle.tbr_show.specs.Ansi.{line, escape_character};
 ghost use Rattle.tbr_show.specs.Terminal.{seen, among};
 
-/// Of a line that is written for it, a terminal shows all characters except control characters, in order.
+/// A terminal shows all characters of a line that is written for it, except control characters, in order.
 #[tactic(auto, using(crate::proofs::Terminal::line_is_seen))]
 pub fn a_terminal_shows_the_characters()
     ensures { (es : List (Element (Vec RichAnnotation Heap))) →

@@ -1,4 +1,5 @@
-//! Lines as JSON, with one object for each line.
+//! Lines as JSON, with one object for each line. Calls that write refuse where memory is refused, and part of the line
+//! may then have been written.
 ghost use Rattle.std.specs.Prelude.{◌≡◌, ◌++◌, ◌<◌, [], chars, flat_map, OnOk};
 ghost use Rattle.std.specs.Char.{digit_char};
 ghost use Rattle.tbr_tagged.specs.View.{chars_of, element_of};
@@ -10,8 +11,8 @@ use json::Writer;
 use tbr_decor::{Colour, RichAnnotation};
 use tbr_lines::{CharWidth, OutOfMemory, TaggedLine, TaggedLineElement, TaggedString};
 
-/// Appends a line, which may be a border, as an object, with a newline. It has the columns of the line, and its pieces
-/// and markers in order: of each piece its text, its columns and its annotations, the outermost first.
+/// Appends a line, which may be a border, as an object, with a newline. The object has the columns of the line, and its
+/// pieces and markers in order. For each piece it has text, columns and annotations, the outermost first.
 ///
 /// It refuses where memory is refused, and where the line's columns pass `usize`. Part of the line may then have been
 /// appended.
@@ -28,7 +29,7 @@ pub fn push_line<W: CharWidth>(
     push_ascii(text, "\n")
 }
 
-/// Appends what was written, U+007F to U+009F as escapes. If memory is refused, part of it may have been appended.
+/// Appends what was written, with U+007F to U+009F as escapes. If memory is refused, part of it may have been appended.
 pub fn push_written(text: &mut String, writer: Writer) -> Result<(), OutOfMemory>
     requires { writer.before ≡ [] }
     ensures { OnOk result (chars_of text.new ≡ chars_of text.old ++ model.written writer.tokens) }
@@ -252,8 +253,7 @@ fn write_colour(writer: &mut Writer, colour: Colour) -> Result<(), OutOfMemory>
     Ok(())
 }
 
-/// Appends JSON whose only control characters are those which JSON allows in strings, U+007F to U+009F. These become
-/// escapes.
+/// Appends JSON, with U+007F to U+009F as escapes. It may have no other control characters.
 fn push_escaped(text: &mut String, more: &str) -> Result<(), OutOfMemory>
     ensures { OnOk result (chars_of text.new ≡ chars_of text.old ++ flat_map model.escaped (chars more.now)) }
 {

@@ -6,7 +6,7 @@ ghost use Rattle.tbr_show.specs.Target.{encoded, is_followed};
 use percent_encoding::{AsciiSet, CONTROLS, ascii_set, utf8_percent_encode};
 use tbr_lines::OutOfMemory;
 
-/// The characters of ASCII that may not be in a URL. No character beyond ASCII may be in one either.
+/// The ASCII characters that a URL may not have. Characters beyond ASCII aren't allowed either.
 pub const NOT_OF_URLS: AsciiSet = ascii_set!(
     CONTROLS
         .add(b' ')
@@ -21,8 +21,8 @@ pub const NOT_OF_URLS: AsciiSet = ascii_set!(
         .add(b'}')
 );
 
-/// Appends a target, in which each byte that may not be in a URL becomes `%` and two hexadecimal digits. What is
-/// encoded already stays. It refuses only where memory is refused.
+/// Appends a target. Each byte that a URL may not have becomes `%` and two hexadecimal digits. What is encoded already
+/// stays. It refuses only where memory is refused.
 pub fn push_target(text: &mut String, target: &str) -> Result<(), OutOfMemory>
     ensures { OnOk result (chars_of text.new ≡ chars_of text.old ++ encoded target.now) }
 {

@@ -13,7 +13,7 @@ use tbr_lines::OutOfMemory;
 #[derive(Debug, Drop)]
 pub(crate) struct Level<R> {
     renderer: R,
-    /// For each open link the place of its target, from 1. The one that was opened last comes last.
+    /// For each open link the place of its target, counted from 1, in the order in which links were opened.
     open_links: Vec<usize>,
 }
 
@@ -61,7 +61,7 @@ impl<R> Level<R> {
         renderer
     }
 
-    /// Opens a link to the target at a place. Where memory is refused nothing changes.
+    /// Opens a link to the target at a place. Where memory is refused, nothing changes.
     pub(crate) fn open(&mut self, place: usize) -> Result<(), OutOfMemory>
         ensures ok { OnOk result (self.new ≡ opened place self.old) }
         ensures err { OnErr result (self.new ≡ self.old) }

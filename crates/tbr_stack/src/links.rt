@@ -21,8 +21,8 @@ impl<D: TextDecorator, W: CharWidth> TextRenderer<D, W> {
     /// Starts a link in the top, and adds its target to the others. It asks for a depth of at least 1.
     ///
     /// It refuses where the top does, and where memory is refused. The top has then failed. A top that had failed
-    /// answers its refusal, and nothing changes. Where memory is refused before the top begins the link, the link isn't
-    /// opened. Otherwise it is open, even where the top refuses.
+    /// answers the refusal that it keeps, and nothing changes. If memory is refused before the top begins the link, the
+    /// link isn't opened. Otherwise it is open, even if the top refuses.
     pub fn start_link(&mut self, target: &str) -> Result<(), Error>
         requires { 0 < length self.old.levels }
         ensures tries { let decoration = decoration_of D.TextDecorator D.Annotation.tells in
@@ -39,12 +39,12 @@ impl<D: TextDecorator, W: CharWidth> TextRenderer<D, W> {
         self.top_mut().start_link(target)
     }
 
-    /// Ends the link that was opened last in the top, and closes it. With footnotes its number comes after it as text.
-    /// It asks for a depth of at least 1.
+    /// Ends the link that was opened last in the top, and closes it. With footnotes its number is added after it as
+    /// text. It asks for a depth of at least 1.
     ///
-    /// Where no link is open in the top, the top ends one all the same, and no number comes. It refuses where the top
-    /// does, and where memory is refused. The top has then failed, and no link was closed. A top that had failed
-    /// answers its refusal, and nothing changes.
+    /// If no link is open in the top, the top's call is made all the same, and no number is added. It refuses where the
+    /// top does, and where memory is refused. The top has then failed, and no link was closed. A top that had failed
+    /// answers the refusal that it keeps, and nothing changes.
     pub fn end_link(&mut self) -> Result<(), Error>
         requires { 0 < length self.old.levels }
         ensures tries { let make = after_link_end W.columns (decoration_of D.TextDecorator D.Annotation.tells) in

@@ -19,7 +19,7 @@ pub type TextRenderer<D, W = UnicodeColumns> = Stack<SubRenderer<D, W>>;
 
 /// Values on a stack, and the targets of the links that were started in them.
 ///
-/// A renderer for a block inside is pushed, and popped where the block ends. Text goes to the top.
+/// A renderer for a block inside is pushed, and popped where the block ends. Text is added to the top.
 #[derive(Drop)]
 pub struct Stack<R> {
     alloc: Global,
@@ -40,7 +40,7 @@ impl<R> Model for Stack<R> {
     ghost view = { λ s. stack_of s };
 }
 
-/// Its levels, the top last, the targets, and the depth of tables.
+/// Shows its levels, the top last, the targets, and the depth of tables.
 impl<R: fmt::Debug> fmt::Debug for Stack<R> {
     fn fmt<W: fmt::Write>(&self, f: &mut fmt::Formatter<W>) -> fmt::Result {
         f.debug_struct("Stack")
@@ -100,7 +100,7 @@ impl<R: Drop> Stack<R> {
 
     /// The top, to be changed. It asks for a depth of at least 1.
     ///
-    /// What is left of it is the top of the stack, and all else stays as it was.
+    /// Whatever it is changed to is then the top of the stack, and all else stays as it was.
     pub fn top_mut(&mut self) -> &mut R
         requires { 0 < length self.old.levels }
         ensures* writes_back { sem 𝓛 (Lends (the_row R.row) R.row self.entry result (with_top self.old)) }
@@ -138,7 +138,7 @@ impl<R: Drop> Stack<R> {
         self.levels[self.levels.len() - 1].last_open()
     }
 
-    /// Opens a link in the top. Where memory is refused nothing changes.
+    /// Opens a link in the top. Where memory is refused, nothing changes.
     pub(crate) fn open_link(&mut self, target: &str) -> Result<(), OutOfMemory>
         requires { 0 < length self.old.levels }
         ensures ok { OnOk result (self.new ≡ with_link (chars target.now) self.old) }

@@ -1,4 +1,5 @@
-//! What errors say: what is wrong with a line, and one way to correct it.
+//! What errors say: what is wrong with a line, and one way to correct it. If memory for the words is refused, so is the
+//! call.
 ghost use Rattle.std.specs.Prelude.{◌≡◌, None, Some, IfOk};
 ghost use Rattle.std.specs.Option.{option_map};
 ghost use Rattle.tbr_statements.specs.Problem.{IsOf, Tells};
@@ -83,7 +84,7 @@ pub fn nothing_there(alloc: Global, line: usize) -> Refusal
     refusal(Kind::NotACommand, line, None, None, texts)
 }
 
-/// A command ends what isn't open, or another level than the innermost.
+/// A command ends something that isn't open, or a level that isn't the innermost.
 pub fn not_open(alloc: Global, line: usize, word: &str, level: Option<&Level>) -> Refusal
     ensures { Tells result kind_is.NothingToEnd line (option_map (λ l. l.now.line) level.entry) }
 {
@@ -99,7 +100,7 @@ pub fn not_open(alloc: Global, line: usize, word: &str, level: Option<&Level>) -
     refusal(Kind::NothingToEnd, line, FIRST, related, texts)
 }
 
-/// What is said if nothing is open that a command could end.
+/// What is said if a command could end nothing that is open.
 fn nothing_to_end(alloc: Global, word: &str) -> Result<(String, String), AllocError> {
     Ok((
         format!(in alloc; "nothing that `{word}` ends is open")?,
@@ -107,7 +108,7 @@ fn nothing_to_end(alloc: Global, word: &str) -> Result<(String, String), AllocEr
     ))
 }
 
-/// What is said if a level is open, and nothing is open inside it that a command could end.
+/// What is said if a level is open, and a command could end nothing that is open inside it.
 fn inside(alloc: Global, word: &str, level: &Level) -> Result<(String, String), AllocError> {
     let name = level.by.name();
     let end = level.by.end();
@@ -225,8 +226,8 @@ fn no_column(
     ))
 }
 
-/// Lines of a cell are lost, since it takes more rows than come. The other line is that of the last cell that takes
-/// several.
+/// Lines of a cell are lost, since it takes more rows than are added. The other line is that of the last cell that
+/// takes several.
 pub fn lost_lines(alloc: Global, line: usize, cell: Option<usize>) -> Result<Problem, AllocError>
     ensures { IfOk result (λ problem. IsOf problem kind_is.LinesLost line cell) }
 {

@@ -23,7 +23,7 @@ pub enum Block {
 }
 
 impl Block {
-    /// The prefix that the decorator is asked for.
+    /// The decorator's prefix that it has.
     pub fn prefix(self) -> DecoratorPrefix
         ensures { asked_prefix result ≡ model.prefix_of self }
     {
@@ -66,8 +66,8 @@ impl Block {
         }
     }
 
-    /// What comes before its first line, and before the others, if this is the decorator's prefix. It refuses where
-    /// memory is refused, and where the prefix's columns pass `usize`.
+    /// What comes before its first line, and before the others, if the decorator's prefix is this text. It refuses
+    /// where memory is refused, and where the prefix's columns pass `usize`.
     pub fn prefixes<W: CharWidth>(
         self,
         alloc: Global,

@@ -12,7 +12,7 @@ use tbr_script::unescape;
 /// U+FEFF, which some editors put in front of a file.
 const BYTE_ORDER_MARK: char = '\u{feff}';
 
-/// The words of commands whose text is on a line below.
+/// The words of commands whose text is written on a line below.
 const TEXT_BELOW: [&str; 9] = [
     "heading", "quote", "item", "ordered", "block", "line", "em", "strong", "code",
 ];
@@ -34,7 +34,7 @@ pub struct Fault {
 /// The column of a line's first word.
 const FIRST: usize = 1;
 
-/// Why a line isn't a command, or isn't a first command.
+/// Why a line isn't a command, or isn't a first command. It refuses only where memory is refused.
 pub fn fault_of(alloc: Global, line: &[u8], is_first: bool) -> Result<Fault, AllocError> {
     let Ok(line) = str::from_utf8(line) else {
         return Ok(Fault {
@@ -145,7 +145,7 @@ fn written_otherwise(alloc: Global, word: &str, form: &str) -> Result<Fault, All
     })
 }
 
-/// How a command of this word is written.
+/// How the command with this word is written.
 fn help_of(alloc: Global, word: &str, form: &str) -> Result<String, AllocError> {
     let besides = besides(word);
     format!(in alloc; "write it as `{form}`{besides}")
@@ -164,7 +164,7 @@ fn besides(word: &str) -> &'static str
     }
 }
 
-/// The first of the words after a command's that may not come there, if there is one.
+/// What is wrong with the first word after a command's that isn't allowed there, if there is one.
 fn fault_of_arguments(
     alloc: Global,
     word: &str,
@@ -184,7 +184,7 @@ fn fault_of_arguments(
     Ok(None)
 }
 
-/// What is wrong with the word at a place after a command's, counted from 0, if that is it.
+/// What is wrong with the word at a place after a command's, counted from 0, if something is.
 fn fault_of_argument(
     alloc: Global,
     word: &str,
@@ -230,7 +230,7 @@ fn not_in_limits(
     format!(in alloc; "`{of}` takes {name} from {least} to {greatest}, not `{digits}`")
 }
 
-/// A command has more than it may have.
+/// A command has more words than it may have.
 fn too_much(alloc: Global, word: &str, form: &str, column: usize) -> Result<Fault, AllocError> {
     Ok(Fault {
         column: Some(column),
@@ -281,7 +281,7 @@ fn fault_of_text(alloc: Global, word: &str, form: &str, line: &str) -> Result<Fa
     }
 }
 
-/// The character of a line, counted from 1, where a backslash doesn't begin an escape, if there is one.
+/// The character of a line, counted from 1, that is a backslash which begins no escape, if there is one.
 fn bad_escape(alloc: Global, line: &str) -> Result<Option<usize>, AllocError> {
     let mut rest = line;
     while let Some((_, after)) = rest.split_once('\\') {
@@ -349,7 +349,7 @@ fn fault_of_opening(alloc: Global, line: &str) -> Result<Fault, AllocError> {
     fault_of_options(alloc, words)
 }
 
-/// The first of the words that isn't an option.
+/// What is wrong with the first of the words that isn't an option.
 fn fault_of_options(alloc: Global, words: PlacedWords<'_>) -> Result<Fault, AllocError> {
     let mut words = words;
     while let Some((column, option)) = words.next() {
@@ -378,7 +378,7 @@ fn fault_of_option(alloc: Global, column: usize, option: &str) -> Result<Fault, 
     }
 }
 
-/// A word that isn't one of those that may come there.
+/// A word that isn't one of those that are allowed there.
 fn unknown(
     alloc: Global,
     column: usize,
@@ -398,7 +398,7 @@ fn unknown(
     })
 }
 
-/// The words that may come there.
+/// The words that are allowed there.
 fn listed(alloc: Global, among: &[&'static str]) -> Result<String, AllocError> {
     let mut help = String::from_str(alloc, "one of")?;
     for (place, word) in among.iter().enumerate() {

@@ -105,7 +105,7 @@ impl Notes {
         }
     }
 
-    /// One more cell waits, which was opened on a line, with this many columns and rows.
+    /// Notes that one more cell waits, which was opened on a line, with this many columns and rows.
     pub fn add_cell(&mut self, line: usize, columns: usize, rows: usize)
         ensures { self.new ≡ model.with_cell self.old line columns rows }
     {
@@ -120,7 +120,7 @@ impl Notes {
         }
     }
 
-    /// No cell waits any longer.
+    /// Notes that no cell waits any more.
     pub fn take_cells(&mut self)
         ensures { self.new ≡ model.without_cells self.old }
     {
@@ -189,7 +189,7 @@ impl Levels {
         }
     }
 
-    /// A level opens on a line. Nothing is known of it yet.
+    /// Opens a level on a line. Nothing is known of it yet. It refuses only where memory is refused.
     pub fn enter(&mut self, by: Opener, line: usize) -> Result<(), AllocError>
         ensures { OnOk result (model.known_in self.new ≡ model.entered (model.known_in self.old) by line) }
     {
@@ -198,8 +198,8 @@ impl Levels {
         Ok(())
     }
 
-    /// The innermost level closes, if one is open. What was known of the level outside is known again. A text inside
-    /// that is too wide is then known there, unless another one was.
+    /// Closes the innermost level, if one is open, and returns to what is known of the level outside. A text inside
+    /// that is too wide is then known there, unless one was known already.
     pub fn leave(&mut self) -> Option<Opener>
         ensures closed { IfSome result (λ by. model.Leaves self.old.inside.items self.old.notes by
             self.new.inside.items self.new.notes) }

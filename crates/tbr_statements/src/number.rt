@@ -7,7 +7,7 @@ use tbr_script::parse_number;
 /// A number that a command takes.
 #[derive(Clone, Copy, Debug)]
 pub struct Number {
-    /// What it is called where the command's form is written.
+    /// Its name in the form of the command.
     pub name: &'static str,
     /// The least that it may be.
     pub least: usize,

@@ -5,7 +5,8 @@ ghost use Rattle.tbr_statements.specs.Level.{held};
 
 use tbr_script::Words;
 
-/// Words that are still to come, with the character of the line where each begins. Exactly one space is between two.
+/// The words of a line that are left, with the character of the line where each begins. Exactly one space is between
+/// two.
 #[derive(Drop)]
 pub struct PlacedWords<'a> {
     words: Words<'a>,
@@ -14,7 +15,7 @@ pub struct PlacedWords<'a> {
 }
 
 impl<'a> PlacedWords<'a> {
-    /// The words of a line, which has one at least.
+    /// The words of a line, at least one.
     pub fn of(line: &'a str) -> PlacedWords<'a>
         ensures words { result.words ≡ words_of line.now }
         ensures column { result.column ≡ 1 }

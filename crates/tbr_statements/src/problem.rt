@@ -8,7 +8,7 @@ use tbr_lines::{Error, OutOfMemory};
 /// The kinds of problems.
 #[derive(Clone, Copy, Debug, PartialEq, Eq)]
 pub enum Kind {
-    /// The line isn't a command, or isn't the first one that it should be, or the script has none.
+    /// The line isn't a command, or isn't a first command where it should be, or the script has none.
     NotACommand,
     /// The line ends what isn't open there.
     NothingToEnd,
@@ -22,17 +22,16 @@ pub enum Kind {
     TooNarrow,
     /// The prefix of a block leaves it no column.
     NoRoom,
-    /// A cell takes more rows than come, and lines of it are in no row.
+    /// A cell takes more rows than are added, and some of its lines are in no row.
     LinesLost,
-    /// What began isn't ended where its level closes, or the script ends.
+    /// Something that began isn't ended where its level closes, or the script ends.
     NotEnded,
     /// A row is wider than the columns that were set instead of those of the script.
     RowTooWide,
 }
 
 impl Kind {
-    /// The status with which a program ends that finds such a problem: that of `blockrender`, or 0 where the script is
-    /// shown.
+    /// The status of a program that finds such a problem: that of `blockrender`, or 0 if the script is shown.
     pub fn status(self) -> u8
         ensures { result ≡ model.status_of self }
     {
@@ -43,7 +42,7 @@ impl Kind {
         }
     }
 
-    /// Whether the script is shown in spite of it.
+    /// Whether the script is shown all the same.
     pub fn is_warning(self) -> bool
         ensures { result ≡ (model.status_of self == 0) }
     {
@@ -62,13 +61,13 @@ pub struct Problem {
     pub column: Option<usize>,
     /// What is wrong with it.
     pub message: String,
-    /// Another line that this has to do with.
+    /// Another line to which this is related.
     pub related: Option<Related>,
     /// One way to correct it.
     pub help: String,
 }
 
-/// A line that a problem has to do with.
+/// A line to which a problem is related.
 #[derive(Clone, Copy, Debug)]
 pub struct Related {
     /// The line, counted from 1.

@@ -45,7 +45,7 @@ pub fn is_skipped(line: &[u8]) -> bool
     line.is_empty() || line.starts_with(b"#")
 }
 
-/// What a line asks for that opens or closes a block with a prefix.
+/// What a line that opens or closes a block with a prefix asks for.
 fn of_blocks(line: &str) -> Option<Statement>
     ensures { option_map statement_of result ≡ block_read line.now }
 {
@@ -60,7 +60,7 @@ fn of_blocks(line: &str) -> Option<Statement>
     }
 }
 
-/// What a line with a number asks for that opens a block with a prefix.
+/// What a line with a number that opens a block with a prefix asks for.
 fn numbered(line: &str) -> Option<Statement>
     ensures { option_map statement_of result ≡ numbered_read line.now }
 {

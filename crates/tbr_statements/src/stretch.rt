@@ -114,21 +114,21 @@ struct Begun {
     /// How many levels were open.
     level: usize,
     is_open: bool,
-    /// The place of the one of its kind that was open when it began.
+    /// The place of the last one of its kind that was open when it began.
     before: Option<usize>,
 }
 
-/// The stretches that are open, and some that were ended. Each of them ends in constant time, also where they overlap.
+/// The stretches that are open, and some that were ended. Ending one takes constant time, even if they overlap.
 #[derive(Drop)]
 pub struct Stretches {
-    /// In the order in which they began. The last is open.
+    /// The stretches, in the order in which they began. The last one is open.
     begun: Vec<Begun>,
     /// The place of the last open one of each kind.
     last: [Option<usize>; KINDS],
 }
 
 impl Stretches {
-    /// None is open.
+    /// No stretches.
     pub fn none(alloc: Global) -> Stretches {
         Stretches {
             begun: Vec::new(alloc),
@@ -136,7 +136,7 @@ impl Stretches {
         }
     }
 
-    /// A stretch begins on a line, where this many levels are open. It refuses only where memory is refused.
+    /// Begins a stretch on a line, where this many levels are open. It refuses only where memory is refused.
     pub fn begin(&mut self, stretch: Stretch, line: usize, level: usize) -> Result<(), AllocError> {
         let place = self.begun.len();
         let before = mem::replace(&mut self.last[stretch.place()], Some(place));
@@ -150,7 +150,7 @@ impl Stretches {
         Ok(())
     }
 
-    /// The last open stretch of its kind ends, if there is one.
+    /// Ends the last open stretch of its kind, if there is one.
     pub fn end(&mut self, stretch: Stretch) {
         let Some(place) = self.last[stretch.place()] else {
             return;
@@ -196,7 +196,7 @@ impl Stretches {
         Some((begun.stretch, begun.line))
     }
 
-    /// Those from a place on end, with their level.
+    /// Ends those from a place on, with their level.
     pub fn end_from(&mut self, place: usize) {
         for _ in place..self.begun.len() {
             self.end_last();
@@ -204,7 +204,7 @@ impl Stretches {
         self.forget_ended();
     }
 
-    /// The last ends.
+    /// Ends the last one.
     fn end_last(&mut self) {
         if let Some(begun) = self.begun.pop()
             && begun.is_open

@@ -1,4 +1,4 @@
-//! The commands of a script, and which is similar to a word.
+//! The commands of a script, and which of them is similar to a word.
 ghost use Rattle.std.specs.Prelude.{◌≡◌, map, IfOk, IfSome, IfNone};
 ghost use Rattle.tbr_statements.specs.Words as model;
 ghost use Rattle.tbr_statements.specs.Words.{IsNearest, AreFar, IsFirstOf, NoneBegins};
@@ -88,7 +88,7 @@ pub fn first_word(line: &str) -> &str
     }
 }
 
-/// How the command of this word is written, if there is one: the first form that begins with it.
+/// How the command with this word is written, if there is one: the first form that begins with it.
 pub fn form_of(word: &str) -> Option<&'static str>
     ensures found { IfSome result (λ form. IsFirstOf word.now (map (λ s. s.now) FORMS) form.now) }
     ensures none { IfNone result (NoneBegins word.now (map (λ s. s.now) FORMS)) }
@@ -109,15 +109,15 @@ fn first_of(word: &str, among: &[&'static str]) -> Option<&'static str>
     None
 }
 
-/// How many edits are too many for a word: three, or as many as it has bytes if these are fewer.
+/// How many edits are too many for a word: three, or the number of its bytes if that is smaller.
 fn too_far(word: &str) -> usize
     ensures { result ≡ model.too_far word.now }
 {
     word.len().min(3)
 }
 
-/// One of the texts whose first words are nearest to a word. `None` where all are three edits away or more, or as many
-/// as the word has bytes. It refuses only where memory is refused.
+/// A text whose first word is nearest to a word. `None` where all are three edits away or more, or as many as the word
+/// has bytes. It refuses only where memory is refused.
 pub fn nearest(
     alloc: Global,
     word: &str,

@@ -77,7 +77,7 @@ fn drawing_of(
     Ok(drawing)
 }
 
-/// Whether lines are moved to the right.
+/// Whether this alignment moves lines to the right.
 fn is_moved(align: CellAlign) -> bool
     ensures { result ≡ is_moved align }
 {
@@ -88,7 +88,7 @@ fn is_moved(align: CellAlign) -> bool
 }
 
 impl Drawing {
-    /// Nothing, in this many columns.
+    /// A drawing of nothing, in this many columns.
     fn begun(alloc: Global, room: usize) -> Drawing
         ensures { result ≡ nothing_drawn room }
     {
@@ -111,7 +111,7 @@ impl Drawing {
         self.calls
     }
 
-    /// The step at a place comes.
+    /// Draws the step at a place.
     fn step(&mut self, shapes: &[Shape], at: usize, step: Step) -> Result<(), OutOfMemory>
         ensures { OnOk result (self.new ≡ drawn_after shapes.now self.old at step) }
     {
@@ -147,7 +147,7 @@ impl Drawing {
         Ok(())
     }
 
-    /// A level opens inside, of this many columns.
+    /// Opens a level of this many columns inside.
     fn enter(&mut self, room: usize, moves: bool) -> Result<(), OutOfMemory>
         ensures { OnOk result (self.new ≡ entered room moves self.old) }
     {
@@ -156,7 +156,7 @@ impl Drawing {
         Ok(())
     }
 
-    /// A level of this many columns opens inside, by a step of its own.
+    /// Opens a level of this many columns inside, by a step of its own.
     fn enter_given(&mut self, at: usize, room: usize, moves: bool) -> Result<(), OutOfMemory>
         ensures { OnOk result (self.new ≡ entered room moves (given at self.old)) }
     {
@@ -164,7 +164,7 @@ impl Drawing {
         self.enter(room, moves)
     }
 
-    /// The innermost level closes.
+    /// Closes the innermost level.
     fn leave(&mut self)
         ensures { self.new ≡ left self.old }
     {
@@ -173,7 +173,7 @@ impl Drawing {
         }
     }
 
-    /// The innermost level closes, after a call.
+    /// Closes the innermost level, after a call.
     fn leave_by(&mut self, at: usize, call: Call) -> Result<(), OutOfMemory>
         ensures { OnOk result (self.new ≡ left (adding (call_at at call ∷ []) self.old)) }
     {
@@ -182,7 +182,7 @@ impl Drawing {
         Ok(())
     }
 
-    /// A block opens inside, as wide as a prefix leaves.
+    /// Opens a block inside, as wide as a prefix leaves.
     fn open_inside(&mut self, at: usize, prefix: usize) -> Result<(), OutOfMemory>
         ensures { let columns = columns_inside prefix self.old.level.room in OnOk result
             (self.new ≡ entered columns false (adding (call_at at (Call.Sub columns) ∷ []) self.old)) }
@@ -192,7 +192,7 @@ impl Drawing {
         self.enter(columns, false)
     }
 
-    /// A table begins, of this shape.
+    /// Begins a table of this shape.
     fn begin_table(&mut self, at: usize, shape: Option<&Shape>) -> Result<(), OutOfMemory>
         ensures { OnOk result (self.new ≡ model.table_begun_of at (option_copied shape.entry) self.old) }
     {
@@ -204,7 +204,7 @@ impl Drawing {
         Ok(())
     }
 
-    /// Adds what begins a table.
+    /// Adds the calls that begin a table.
     fn start_table(&mut self, at: usize, table: &OpenTable) -> Result<(), OutOfMemory>
         ensures { OnOk result (self.new ≡ adding (table_start at table.now) self.old) }
     {
@@ -237,7 +237,7 @@ impl Drawing {
         self.add(at, Call::EndCell)
     }
 
-    /// Adds cells from above that are next, if cells are side by side.
+    /// Adds the cells from above that are next, if cells are side by side.
     fn add_above(&mut self, at: usize) -> Result<(), OutOfMemory>
         ensures { OnOk result (self.new ≡ adding (before_cell at self.old.table) self.old) }
     {
@@ -248,7 +248,7 @@ impl Drawing {
         self.add_empty(at, &spots)
     }
 
-    /// A cell of the innermost table opens.
+    /// Opens a cell of the innermost table.
     fn begin_cell(&mut self, at: usize, cell: TableCell) -> Result<(), OutOfMemory>
         ensures { OnOk result (self.new ≡ cell_begun at cell self.old) }
     {
@@ -259,7 +259,7 @@ impl Drawing {
         self.enter(drawn.width, is_moved(cell.align))
     }
 
-    /// Adds what ends a row.
+    /// Adds the calls that end a row.
     fn finish_row(&mut self, at: usize) -> Result<(), OutOfMemory>
         ensures { OnOk result (self.new ≡ adding (row_end at self.old.table) self.old) }
     {
@@ -273,7 +273,7 @@ impl Drawing {
         self.add(at, Call::Row)
     }
 
-    /// A row ends.
+    /// Ends a row.
     fn end_row(&mut self, at: usize) -> Result<(), OutOfMemory>
         ensures { OnOk result
             (self.new ≡ record (adding (row_end at self.old.table) self.old) { table = row_left self.old.table }) }
@@ -282,7 +282,7 @@ impl Drawing {
         self.table.end_row()
     }
 
-    /// The innermost table ends, if one is open.
+    /// Ends the innermost table, if one is open.
     fn end_table(&mut self, at: usize) -> Result<(), OutOfMemory>
         ensures { OnOk result (self.new ≡ table_left at self.old.tables self.old) }
     {

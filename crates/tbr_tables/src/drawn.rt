@@ -24,15 +24,15 @@ pub enum Call {
     Border(usize),
     /// A block of this many columns opens inside.
     Sub(usize),
-    /// It closes, and its lines come after empty prefixes.
+    /// It closes, and its lines are added after empty prefixes.
     Append,
     /// A cell opens.
     Cell(DrawnCell),
     /// It closes, and waits.
     EndCell,
-    /// The cells that wait come side by side. Borders at their tops and bottoms are merged with those of the row.
+    /// The cells that wait are added side by side. Borders at their tops and bottoms are merged with those of the row.
     Row,
-    /// The cells that wait come one below another.
+    /// The cells that wait are added one below another.
     VerticalRow,
     /// The block ends.
     EndBlock,

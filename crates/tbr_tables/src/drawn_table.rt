@@ -1,4 +1,4 @@
-//! A table that is drawn.
+//! A table that is drawn. Calls refuse where memory is refused, and where a column passes `usize`.
 ghost use Rattle.std.specs.Prelude.{◌≡◌, ◌+◌, is_some, option_map, Some, IfOk, OnOk, IfSome};
 ghost use Rattle.std.specs.Option.{option_copied};
 ghost use Rattle.tbr_tables.specs.Grid.{spot_for};
@@ -25,12 +25,12 @@ pub struct DrawnLevel {
 /// A table that is open.
 #[derive(Drop)]
 pub struct OpenTable {
-    /// Where each column begins, and where one after the last would begin. `None` if the cells of a row come one below
+    /// Where each column begins, and where one after the last would begin. `None` if the cells of a row are one below
     /// another.
     edges: Option<Vec<usize>>,
     level: DrawnLevel,
     columns: usize,
-    /// How many of its rows are to come, the open one included.
+    /// How many of its rows are left, the open one included.
     rows: usize,
     /// Whether a cell began in the open row.
     has_cell: bool,
@@ -144,14 +144,14 @@ impl OpenTable {
         }
     }
 
-    /// Cells from above that are next come.
+    /// Passes the cells from above that are next.
     pub fn pass(&mut self) -> Result<(), OutOfMemory>
         ensures { OnOk result (self.new ≡ above_passed self.old) }
     {
         self.grid.pass()
     }
 
-    /// A cell comes.
+    /// Places a cell, and answers how it is drawn.
     pub fn place(&mut self, cell: TableCell) -> Result<DrawnCell, OutOfMemory>
         ensures table { OnOk result (self.new ≡ with_cell cell self.old) }
         ensures cell { IfOk result (λ drawn.
@@ -168,7 +168,7 @@ impl OpenTable {
         Ok(drawn)
     }
 
-    /// The open row ends.
+    /// Ends the open row.
     pub fn end_row(&mut self) -> Result<(), OutOfMemory>
         ensures { OnOk result (self.new ≡ row_left self.old) }
     {

@@ -1,4 +1,4 @@
-//! Where the cells of a table are.
+//! Where the cells of a table are. Calls refuse where memory is refused, and where a column passes `usize`.
 ghost use Rattle.std.specs.Prelude.{◌≡◌, ◌≤◌, ◌-◌, ◌++◌, length, IfOk, OnOk};
 ghost use Rattle.tbr_tables.specs.Grid as model;
 ghost use Rattle.tbr_tables.specs.Grid.{first_row, next_from_above, passed, spot_for, placed, last_of, rest_of_row, row_ended, singles, carried};
@@ -7,7 +7,7 @@ use std::alloc::{AllocError, Global};
 use std::marker::Model;
 use tbr_tagged::OutOfMemory;
 
-/// As many columns as browsers let a cell span.
+/// The most columns that browsers let a cell span.
 const MOST_COLUMNS: usize = 1000;
 
 /// The place of a cell in a row.
@@ -21,17 +21,17 @@ pub struct Spot {
     pub rows: usize,
 }
 
-/// The row of a table that is open, as far as its cells have come.
+/// The open row of a table, with the cells that are placed so far.
 #[derive(Drop)]
 pub struct Grid {
     alloc: Global,
-    /// The first column after those that have come.
+    /// The first column after the cells that are placed.
     column: usize,
     /// The cells that span this row from above, from left to right.
     above: Vec<Spot>,
-    /// How many of them have come.
+    /// How many of them are placed.
     passed: usize,
-    /// The cells that have come, those from above among them, from left to right.
+    /// The cells that are placed, those from above among them, from left to right.
     row: Vec<Spot>,
 }
 
@@ -60,7 +60,7 @@ impl Grid {
         }
     }
 
-    /// The cells from above that are next, one after another.
+    /// The cells from above that are next, adjacent to one another.
     pub fn next_from_above(&self) -> &[Spot]
         ensures { result.now ≡ next_from_above self.now }
     {
@@ -68,7 +68,7 @@ impl Grid {
         &spots[..adjacent(self.column, spots)]
     }
 
-    /// Those cells come.
+    /// Places those cells.
     pub fn pass(&mut self) -> Result<(), OutOfMemory>
         ensures { OnOk result (self.new ≡ passed self.old) }
     {
@@ -81,8 +81,7 @@ impl Grid {
         Ok(())
     }
 
-    /// The place of a cell that would come next and span this many columns and rows. It ends where a cell from above
-    /// begins.
+    /// The place that a cell of this many columns and rows would get next. It ends where a cell from above begins.
     pub fn spot(&self, columns: usize, rows: usize) -> Result<Spot, OutOfMemory>
         ensures { IfOk result (λ spot. spot ≡ spot_for columns rows self.now) }
     {
@@ -97,7 +96,7 @@ impl Grid {
         })
     }
 
-    /// A cell comes.
+    /// Places a cell.
     pub fn place(&mut self, spot: Spot) -> Result<(), OutOfMemory>
         ensures { OnOk result (self.new ≡ placed spot self.old) }
     {
@@ -106,7 +105,7 @@ impl Grid {
         Ok(())
     }
 
-    /// The cell that came last.
+    /// The cell that was placed last.
     pub fn last(&self) -> Option<Spot>
         ensures { result ≡ last_of self.now }
     {
@@ -124,7 +123,7 @@ impl Grid {
         Ok(spots)
     }
 
-    /// The row ends. The cells that span more rows are above the next one.
+    /// Ends the row. The cells that span more rows are above the next one.
     pub fn end_row(&mut self) -> Result<(), OutOfMemory>
         ensures { OnOk result (self.new ≡ row_ended self.old) }
     {
@@ -156,7 +155,7 @@ fn adjacent(column: usize, spots: &[Spot]) -> usize
     count
 }
 
-/// This column, or that of the first of these cells if it comes before it.
+/// This column, or the first column of these cells if that is less.
 fn before_first(end: usize, spots: &[Spot]) -> usize
     ensures { result ≡ model.before_first end spots.now }
 {
@@ -205,7 +204,7 @@ fn fill_between(spots: &mut Vec<Spot>, from: usize, above: &[Spot]) -> Result<us
     Ok(column)
 }
 
-/// Adds what is left of these cells in the next row.
+/// Adds what is left of these cells for the next row.
 fn carry(spots: &[Spot], above: &mut Vec<Spot>) -> Result<(), OutOfMemory>
     ensures { OnOk result (above.new.items ≡ above.old.items ++ carried spots.now) }
 {

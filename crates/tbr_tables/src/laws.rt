@@ -13,19 +13,19 @@ ghost use Rattle.tbr_tables.specs.declared.step.TableCell.{TableCell};
 ghost use Rattle.tbr_tables.specs.Drawn.{drawn, table_of};
 ghost use Rattle.tbr_tables.specs.Laws.{given_of, kept_from, IsSized, Tiles, EndsBy, grid_of, full_row, WordsFit, shapes_of, width_at};
 
-/// Each step that isn't of a table is drawn as it is, once, and in order: no text is lost or changed.
+/// Each step that isn't part of a table is drawn as it is, once, and in order: no text is lost or changed.
 pub fn steps_are_drawn_once()
     ensures { (shapes : List Shape) (room : ℕ) (steps : List Step) →
         given_of (drawn shapes room steps) ≡ kept_from 0 steps }
 {}
 
-/// Each cell and block that opens has a column at least, and each cell a row.
+/// Each cell and block that opens has at least one column, and each cell at least one row.
 pub fn what_opens_has_a_size()
     ensures { (shapes : List Shape) (room : ℕ) (steps : List Step) → Each IsSized (drawn shapes room steps) }
 {}
 
-/// The cells of each row follow one another from the first column to the last, whatever came before: those given, those
-/// from above, and those that fill the gaps. So it is where no cell ends after the last column.
+/// The cells of each row follow one another from the first column to the last: those given, those from above, and those
+/// that fill the gaps. This holds whatever was drawn before, where no cell ends after the last column.
 pub fn rows_are_full()
     ensures { (moves : List (Option TableCell)) (columns : ℕ) → let g = grid_of moves in
         Each (EndsBy columns) (g.row ++ g.above) → Tiles 0 (full_row columns g) columns }
@@ -38,8 +38,8 @@ pub fn no_word_is_cut()
         All WordsFit (shapes_of columns wrap steps) }
 {}
 
-/// If columns are given widths, each full row is as wide as the table: its cells, with a line between two of them, take
-/// the columns and the lines between these.
+/// If columns are given widths, each full row is as wide as the table. Its cells, with lines between them, take the
+/// columns with the lines between these.
 pub fn rows_take_the_width()
     ensures { (t : Table) (room any : ℕ) (ws : List ℕ) (row : List Spot) → widths t room ≡ Some ws →
         Tiles 0 row t.columns → sum_by (width_at ws any) row + (length row - 1) ≡ sum ws + (t.columns - 1) }
@@ -51,7 +51,7 @@ pub fn borders_take_the_width()
         width_at ws any (record { column = 0; end = t.columns; rows = 1 }) ≡ sum ws + (t.columns - 1) }
 {}
 
-/// The cells of rows come one below another exactly where the longest words and the lines between columns don't fit.
+/// The cells of rows are one below another exactly where the longest words and the lines between columns don't fit.
 pub fn cells_are_below_where_words_do_not_fit()
     ensures { (level : DrawnLevel) (shape : Shape) →
         ((table_of level (Some shape)).edges ≡ None) ↔ (level.room < room_of Least shape.columns) }

@@ -9,7 +9,7 @@ use column_widths::Room;
 /// What is known of a level.
 #[derive(Clone, Copy, Debug, PartialEq, Eq)]
 pub struct Level {
-    /// What is known of its lines.
+    /// How wide its lines are.
     pub ruler: Ruler,
     /// How many modes of white space had begun before it.
     pub modes: usize,
@@ -20,7 +20,7 @@ pub struct Level {
 }
 
 impl Level {
-    /// A level whose lines take this many columns at most, and those of text this many, where this many modes have
+    /// A level whose lines take at most `limit` columns, and those of text at most `wrap`, where `modes` modes have
     /// begun.
     pub fn new(limit: usize, wrap: usize, modes: usize) -> Level
         ensures { result ≡ new_level limit wrap modes }
@@ -33,7 +33,7 @@ impl Level {
         }
     }
 
-    /// A cell of this many columns waits.
+    /// Notes that a cell of this many columns waits.
     pub fn add_cell(&mut self, columns: usize)
         ensures { self.new ≡ with_cell columns self.old }
     {
@@ -42,7 +42,7 @@ impl Level {
         self.widest = self.widest.max(columns);
     }
 
-    /// The cells that wait come as lines of this many columns.
+    /// Adds the cells that wait as lines of this many columns.
     fn add_cells(&mut self, columns: usize)
         ensures { self.new ≡ cells_added columns self.old }
     {
@@ -51,14 +51,14 @@ impl Level {
         self.widest = 0;
     }
 
-    /// They come side by side.
+    /// Adds the cells that wait, side by side.
     pub fn add_row(&mut self)
         ensures { self.new ≡ cells_added self.old.row self.old }
     {
         self.add_cells(self.row);
     }
 
-    /// They come one below another.
+    /// Adds the cells that wait, one below another.
     pub fn add_vertical_row(&mut self)
         ensures { self.new ≡ cells_added self.old.widest self.old }
     {
@@ -66,7 +66,7 @@ impl Level {
     }
 }
 
-/// This many columns, all of them needed.
+/// The room of lines that need exactly this many columns.
 pub fn exactly(columns: usize) -> Room
     ensures { result ≡ exactly columns }
 {

@@ -1,4 +1,4 @@
-//! A table that is measured.
+//! A table that is measured. Calls refuse where memory is refused, and where a column passes `usize`.
 ghost use Rattle.std.specs.Prelude.{◌≡◌, OnOk};
 ghost use Rattle.tbr_tables.specs.Measured.{new_table, cell_placed, need_at, cell_needs, table_row_ended};
 ghost use Rattle.tbr_tables.specs.Grid.{last_of};
@@ -22,7 +22,7 @@ pub struct MeasuredTable {
 }
 
 impl MeasuredTable {
-    /// A table that begins after this many others.
+    /// A table that begins after `place` others.
     pub fn begun(alloc: Global, place: usize) -> MeasuredTable
         ensures { result ≡ new_table place }
     {
@@ -33,7 +33,7 @@ impl MeasuredTable {
         }
     }
 
-    /// A cell comes. It refuses where memory is refused, and where a column passes `usize`.
+    /// Places a cell. It refuses where memory is refused, and where a column passes `usize`.
     pub fn place(&mut self, cell: TableCell) -> Result<(), OutOfMemory>
         ensures { OnOk result (self.new ≡ cell_placed cell self.old) }
     {
@@ -42,7 +42,7 @@ impl MeasuredTable {
         self.grid.place(spot)
     }
 
-    /// The cell that came last asks for this much, if there is one.
+    /// Notes that the cell that was placed last asks for this much, if there is one.
     pub fn need(&mut self, room: Room) -> Result<(), OutOfMemory>
         ensures { OnOk result (self.new ≡ cell_needs room (last_of self.old.grid) self.old) }
     {
@@ -52,7 +52,7 @@ impl MeasuredTable {
         }
     }
 
-    /// The open row ends.
+    /// Ends the open row.
     pub fn end_row(&mut self) -> Result<(), OutOfMemory>
         ensures { OnOk result (self.new ≡ table_row_ended self.old) }
     {

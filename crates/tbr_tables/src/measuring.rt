@@ -22,7 +22,7 @@ use tbr_tagged::OutOfMemory;
 #[derive(Drop)]
 pub struct Measuring {
     alloc: Global,
-    /// The tables that began, in order, each as known at its end.
+    /// The tables that began, in order, each with what was known at its end.
     shapes: Vec<Shape>,
     /// The innermost table that is open.
     table: MeasuredTable,
@@ -56,7 +56,7 @@ impl Model for Measuring {
 }
 
 impl Measuring {
-    /// Nothing has come, where lines of text take this many columns at most.
+    /// No step yet. Lines of text take at most `wrap` columns.
     pub fn begun(alloc: Global, wrap: usize) -> Measuring
         ensures { result ≡ nothing_measured wrap }
     {
@@ -79,7 +79,7 @@ impl Measuring {
         &self.shapes
     }
 
-    /// A step comes, with its text. It refuses where memory is refused, and where a size passes `usize`.
+    /// Adds a step, with its text. It refuses where memory is refused, and where a size passes `usize`.
     pub fn add<W: CharWidth>(&mut self, step: Step, text: &str) -> Result<(), OutOfMemory>
         ensures { OnOk result (self.new ≡ measured_after W.columns self.old step (chars text.now)) }
     {
@@ -105,7 +105,7 @@ impl Measuring {
         Ok(())
     }
 
-    /// The mode of white space that is on.
+    /// The mode of white space that text has now.
     fn mode(&self) -> WhiteSpace
         ensures { result ≡ mode_of self.now }
     {
@@ -116,7 +116,7 @@ impl Measuring {
         }
     }
 
-    /// The mode ends, if it began in the innermost level.
+    /// Ends the mode, if it began in the innermost level.
     fn end_mode(&mut self)
         ensures { self.new ≡ mode_ended self.old }
     {
@@ -125,7 +125,7 @@ impl Measuring {
         }
     }
 
-    /// A text comes.
+    /// Adds a text.
     fn add_text<W: CharWidth>(&mut self, text: &str)
         ensures { self.new ≡ measured_after W.columns self.old Step.Text (chars text.now) }
     {
@@ -133,14 +133,14 @@ impl Measuring {
         self.level.ruler.add_text::<W>(mode, text);
     }
 
-    /// Lines come that take this room.
+    /// Adds lines that take this room.
     fn add_lines(&mut self, room: Room)
         ensures { self.new ≡ lines_come room self.old }
     {
         self.level.ruler.add_lines(room);
     }
 
-    /// A level opens inside, whose lines take this many columns at most.
+    /// Opens a level inside, whose lines take at most `limit` columns.
     fn enter(&mut self, limit: usize) -> Result<(), OutOfMemory>
         ensures { OnOk result (self.new ≡ entered limit self.old) }
     {
@@ -150,7 +150,7 @@ impl Measuring {
         Ok(())
     }
 
-    /// The innermost level closes, if one is open inside the outermost. It answers what was known of it.
+    /// Closes the innermost level, if one is open inside the outermost, and answers what was known of it.
     fn leave(&mut self) -> Level
         ensures level { result ≡ self.old.level }
         ensures after { self.new ≡ left self.old }
@@ -163,7 +163,7 @@ impl Measuring {
         inside
     }
 
-    /// The innermost level closes, and its lines come after prefixes of this many columns.
+    /// Closes the innermost level, and adds its lines after prefixes of this many columns.
     fn append(&mut self, prefix: usize)
         ensures { self.new ≡ lines_come (beside prefix (room_of self.old.level.ruler)) (left self.old) }
     {
@@ -171,7 +171,7 @@ impl Measuring {
         self.add_lines(beside(prefix, inside.ruler.room()));
     }
 
-    /// A cell of a given width closes, and waits.
+    /// Closes a cell of a given width, which then waits.
     fn end_given_cell(&mut self)
         ensures { let outside = left self.old in
             self.new ≡ record outside { level = with_cell self.old.level.ruler.limit outside.level } }
@@ -180,7 +180,7 @@ impl Measuring {
         self.level.add_cell(cell.ruler.limit);
     }
 
-    /// A table begins.
+    /// Begins a table.
     fn begin_table(&mut self) -> Result<(), OutOfMemory>
         ensures { OnOk result (self.new ≡ table_begun self.old) }
     {
@@ -191,7 +191,7 @@ impl Measuring {
         Ok(())
     }
 
-    /// A cell of the innermost table opens.
+    /// Opens a cell of the innermost table.
     fn begin_cell(&mut self, cell: TableCell) -> Result<(), OutOfMemory>
         ensures { OnOk result
             (self.new ≡ entered any_width (record self.old { table = cell_placed cell self.old.table })) }
@@ -200,7 +200,7 @@ impl Measuring {
         self.enter(usize::MAX)
     }
 
-    /// The cell closes.
+    /// Closes the cell.
     fn end_cell(&mut self) -> Result<(), OutOfMemory>
         ensures { let outside = left self.old in OnOk result (self.new ≡ record outside {
           table = cell_needs (room_of self.old.level.ruler) (last_of self.old.table.grid) self.old.table;
@@ -210,7 +210,7 @@ impl Measuring {
         self.table.need(inside.ruler.room())
     }
 
-    /// The innermost table ends, if one is open.
+    /// Ends the innermost table, if one is open.
     fn end_table(&mut self) -> Result<(), OutOfMemory>
         ensures { let room = room_or_none (needed_room self.old.table.shape.columns) in
             OnOk result (self.new ≡ table_left room self.old.tables self.old) }
@@ -222,7 +222,7 @@ impl Measuring {
         Ok(())
     }
 
-    /// The innermost table ends, if one is open, and takes this room.
+    /// Ends the innermost table, if one is open. It takes this room.
     fn leave_table(&mut self, room: Room)
         ensures { self.new ≡ table_left room self.old.tables self.old }
     {
@@ -236,7 +236,7 @@ impl Measuring {
     }
 }
 
-/// Lines beside a prefix of this many columns.
+/// The room of lines after a prefix of this many columns.
 fn beside(prefix: usize, room: Room) -> Room
     ensures { result ≡ beside prefix room }
 {
@@ -246,7 +246,7 @@ fn beside(prefix: usize, room: Room) -> Room
     }
 }
 
-/// The table at a place, if there is one, is known.
+/// Sets what is known of the table at a place, if there is one.
 fn set_shape(shapes: &mut Vec<Shape>, place: usize, shape: Shape)
     ensures { shapes.new.items ≡ slice_set shapes.old.items place shape }
 {

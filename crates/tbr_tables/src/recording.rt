@@ -11,7 +11,7 @@ use std::marker::Model;
 use tbr_model::CharWidth;
 use tbr_tagged::OutOfMemory;
 
-/// What is recorded from the beginning of a table to its end, measured as it comes.
+/// What is recorded from the beginning of a table to its end, and measured step by step.
 #[derive(Drop)]
 pub struct Recording {
     alloc: Global,
@@ -28,7 +28,7 @@ impl Model for Recording {
 }
 
 impl Recording {
-    /// Nothing, where lines of text take this many columns at most.
+    /// A recording without steps. Lines of text take at most `wrap` columns.
     pub fn begun(alloc: Global, wrap: usize) -> Recording
         ensures { result ≡ nothing_recorded wrap }
     {
@@ -40,7 +40,7 @@ impl Recording {
     }
 
     /// Records one more step, with the text that it writes. It refuses where memory is refused, and where a size passes
-    /// `usize`; the recording must not be used any longer then.
+    /// `usize`. After that the recording must not be used any more.
     pub fn add<W: CharWidth>(&mut self, step: Step, text: &str) -> Result<(), OutOfMemory>
         ensures { OnOk result (self.new ≡ with_step W.columns self.old step (chars text.now)) }
     {

@@ -34,7 +34,7 @@ pub struct Ruler {
 }
 
 impl Ruler {
-    /// No text, in lines of this many columns at most, and those of text of this many.
+    /// No text. Lines take at most `limit` columns, and those of text at most `wrap`.
     pub fn new(limit: usize, wrap: usize) -> Ruler
         ensures { result ≡ no_text limit wrap }
     {
@@ -61,7 +61,7 @@ impl Ruler {
         }
     }
 
-    /// A text comes.
+    /// Adds a text.
     pub fn add_text<W: CharWidth>(&mut self, mode: WhiteSpace, text: &str)
         ensures { self.new ≡ after_text W.columns mode (chars text.now) self.old }
     {
@@ -70,7 +70,7 @@ impl Ruler {
         }
     }
 
-    /// The open line ends.
+    /// Ends the open line.
     pub fn end_line(&mut self)
         ensures { self.new ≡ line_ended self.old }
     {
@@ -80,7 +80,7 @@ impl Ruler {
         self.space = 0;
     }
 
-    /// Lines come that take this room.
+    /// Adds lines that take this room.
     pub fn add_lines(&mut self, room: Room)
         ensures { self.new ≡ with_lines room self.old }
     {
@@ -88,7 +88,7 @@ impl Ruler {
         self.grow(room.least, room.greatest);
     }
 
-    /// The longest word and the widest line are at least this wide.
+    /// Makes the longest word and the widest line at least this wide.
     fn grow(&mut self, word: usize, line: usize)
         ensures { self.new ≡ grown word line self.old }
     {
@@ -96,14 +96,14 @@ impl Ruler {
         self.greatest = self.greatest.max(line.min(self.limit));
     }
 
-    /// The open word and the open line are counted.
+    /// Counts the open word and the open line.
     fn settle(&mut self)
         ensures { self.new ≡ settled self.old }
     {
         self.grow(self.word.min(self.wrap), self.line.min(self.wrap));
     }
 
-    /// The word at the end of the line ends.
+    /// Ends the word at the end of the line.
     fn end_word(&mut self)
         ensures { self.new ≡ model.word_ended self.old.space self.old }
     {
@@ -111,7 +111,7 @@ impl Ruler {
         self.word = 0;
     }
 
-    /// A character joins the word at the end of the line.
+    /// Adds a character of this many columns to the word at the end of the line.
     fn join(&mut self, columns: usize)
         ensures { self.new ≡ joined columns self.old }
     {
@@ -120,7 +120,7 @@ impl Ruler {
         self.space = 0;
     }
 
-    /// A character comes.
+    /// Adds a character.
     fn add_char<W: CharWidth>(&mut self, mode: WhiteSpace, c: char)
         ensures { self.new ≡ after_char W.columns mode self.old c }
     {
@@ -131,7 +131,7 @@ impl Ruler {
         }
     }
 
-    /// A character comes, where white space counts as one space.
+    /// Adds a character, where white space counts as one space.
     fn add_normal<W: CharWidth>(&mut self, c: char)
         ensures { self.new ≡ after_normal W.columns c self.old }
     {
@@ -145,7 +145,7 @@ impl Ruler {
         }
     }
 
-    /// A character comes, where no line is broken.
+    /// Adds a character, where no line is broken.
     fn add_kept<W: CharWidth>(&mut self, c: char)
         ensures { self.new ≡ after_kept W.columns c self.old }
     {
@@ -157,7 +157,7 @@ impl Ruler {
         }
     }
 
-    /// A character comes, where white space is kept and lines are broken there.
+    /// Adds a character, where white space is kept and lines are broken there.
     fn add_wrapped<W: CharWidth>(&mut self, c: char)
         ensures { self.new ≡ after_wrapped W.columns c self.old }
     {
@@ -171,7 +171,7 @@ impl Ruler {
         }
     }
 
-    /// A character joins the word, if it is shown.
+    /// Adds a character to the word, if it is shown.
     fn add_shown<W: CharWidth>(&mut self, c: char)
         ensures { self.new ≡ shown (W.columns c) self.old }
     {

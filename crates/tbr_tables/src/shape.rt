@@ -29,8 +29,8 @@ impl Shape {
         }
     }
 
-    /// A cell asks for this much, and there are as many columns as it spans. It refuses where memory is refused, and
-    /// where a column passes `usize`.
+    /// Notes what a cell asks for. There are then at least as many columns as it spans. It refuses where memory is
+    /// refused, and where a column passes `usize`.
     pub fn need(&mut self, cell: CellNeed) -> Result<(), OutOfMemory>
         requires { 1 ≤ cell.span }
         ensures { OnOk result (self.new ≡ needing cell self.old) }

@@ -6,10 +6,10 @@ use tbr_tagged::CellAlign;
 /// A cell of a table that finds its widths.
 #[derive(Clone, Copy, Debug, PartialEq, Eq)]
 pub struct TableCell {
-    /// The columns of the table that it spans, if no cell from above is in the way. 0 counts as 1, and more than 1,000
-    /// as 1,000, as in browsers.
+    /// The columns of the table that it spans, if no cell from above is in the way. As in browsers, 0 counts as 1, and
+    /// more than 1,000 as 1,000.
     pub columns: usize,
-    /// The rows that it spans, if this many come. 0 counts as 1.
+    /// The rows that it spans, if the table has this many more. 0 counts as 1.
     pub rows: usize,
     /// Where its lines are in its columns.
     pub align: CellAlign,
@@ -32,15 +32,15 @@ pub enum Step {
     Inside(usize),
     /// A block of this many columns opens inside.
     Sub(usize),
-    /// The block that is open closes. Its lines come after prefixes of this many columns.
+    /// The block that is open closes. Its lines are added after prefixes of this many columns.
     Append(usize),
     /// A cell of this many columns opens, in a table that doesn't find its widths.
     GivenCell(usize, CellAlign),
     /// That cell closes, and waits.
     EndGivenCell,
-    /// The cells that wait come side by side.
+    /// The cells that wait are added side by side.
     GivenRow,
-    /// The cells that wait come one below another.
+    /// The cells that wait are added one below another.
     VerticalRow,
     /// A table begins.
     Table,
@@ -48,7 +48,7 @@ pub enum Step {
     Cell(TableCell),
     /// That cell closes.
     EndCell,
-    /// The row of the cells that came ends.
+    /// The row of the cells that were added ends.
     Row,
     /// The table ends.
     EndTable,

@@ -12,10 +12,10 @@ use crate::element::{TaggedLineElement, TaggedString, new_piece};
 use crate::element_list::ElementList;
 use crate::error::OutOfMemory;
 
-/// The room of a text that is copied, beyond its own bytes. A prefix or padding then mostly needs no request.
+/// The room that a copied text gets beyond its own bytes. A prefix or padding then usually needs no more memory.
 const SPARE_ROOM: usize = 24;
 
-/// Appends text that isn't empty. Where memory is refused nothing changes, and the text is dropped.
+/// Appends text that isn't empty. Where memory is refused, nothing changes, and the text is dropped.
 pub fn push_piece<T: Eq + Drop>(
     elements: &mut ElementList<T>,
     ts: TaggedString<T>,
@@ -31,8 +31,8 @@ pub fn push_piece<T: Eq + Drop>(
     elements.push(TaggedLineElement::Str(ts))
 }
 
-/// Appends a copy of a text that isn't empty. Where it begins a piece, that has room for a prefix or padding. Where memory
-/// is refused nothing changes.
+/// Appends a copy of a text that isn't empty. Where it begins a piece, that has room for a prefix or padding. Where
+/// memory is refused, nothing changes.
 pub fn push_copy<T: Eq + Drop>(
     elements: &mut ElementList<T>,
     text: &str,
@@ -52,7 +52,7 @@ pub fn push_copy<T: Eq + Drop>(
     elements.push(TaggedLineElement::Str(TaggedString { s, tag }))
 }
 
-/// Appends a character under a tag, of which a new piece gets a copy. Where memory is refused nothing changes.
+/// Appends a character under a tag, of which a new piece gets a copy. Where memory is refused, nothing changes.
 pub fn push_glyph<T: Eq + Clone>(
     elements: &mut ElementList<T>,
     c: char,
@@ -70,8 +70,8 @@ pub fn push_glyph<T: Eq + Clone>(
     elements.push(piece)
 }
 
-/// Puts text in front. Where that extended the first piece, it answers the text that the piece had before. Where memory
-/// is refused nothing changes, and the text is dropped.
+/// Puts text in front. If that extends the first piece, it answers the text that the piece had before. Where memory is
+/// refused, nothing changes, and the text is dropped.
 pub fn put_in_front<T: Eq + Drop>(
     elements: &mut ElementList<T>,
     ts: TaggedString<T>,
@@ -90,8 +90,9 @@ pub fn put_in_front<T: Eq + Drop>(
     Ok(None)
 }
 
-/// Puts text in front, which extends the first piece where that is under an equal tag. Where memory is refused nothing
-/// changes, and the text is dropped. The empty text takes none where it extends that piece, or there is no element.
+/// Puts text in front, which extends the first piece where that is under an equal tag. Where memory is refused, nothing
+/// changes, and the text is dropped. The empty text takes no memory if it extends that piece, or if there is no
+/// element.
 pub fn put_text_in_front<T: Eq + Drop>(
     elements: &mut ElementList<T>,
     ts: TaggedString<T>,
@@ -109,8 +110,8 @@ pub fn put_text_in_front<T: Eq + Drop>(
     Ok(())
 }
 
-/// Puts text in front, which extends the first piece where that is under an equal tag. Where memory is refused nothing
-/// changes. The empty text takes none where it extends that piece, or there is no element.
+/// Puts text in front, which extends the first piece where that is under an equal tag. Where memory is refused, nothing
+/// changes. The empty text takes no memory if it extends that piece, or if there is no element.
 pub fn put_str_in_front<T: Eq + Drop>(
     elements: &mut ElementList<T>,
     text: &str,
@@ -132,8 +133,8 @@ pub fn put_str_in_front<T: Eq + Drop>(
     elements.insert_front(TaggedLineElement::Str(TaggedString { s, tag }))
 }
 
-/// Puts the empty text in front, unless it extends the first piece. Where memory is refused nothing changes. Where no
-/// element is it takes none.
+/// Puts the empty text in front, unless it extends the first piece. Where memory is refused, nothing changes. If there
+/// is no element, it takes no memory.
 fn put_none_in_front<T: Eq + Drop>(elements: &mut ElementList<T>, tag: T) -> Result<(), OutOfMemory>
     ensures ok { OnOk result (elements_of (stored elements.new)
         ≡ insert_text T.eq (elements_of (stored elements.old)) [] tag) }

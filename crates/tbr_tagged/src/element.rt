@@ -38,7 +38,7 @@ pub enum TaggedLineElement<T> {
 }
 
 impl<T> TaggedString<T> {
-    /// The columns that the text takes: the sum over its characters, one without a width counting 0.
+    /// The columns that the text takes: the sum over its characters, where one without a width counts 0.
     ///
     /// It takes no memory, and refuses exactly where the sum passes `usize`.
     pub fn width<W: CharWidth>(&self) -> Result<usize, OutOfMemory>
@@ -47,8 +47,8 @@ impl<T> TaggedString<T> {
         text_width::<W>(self.s.as_str())
     }
 
-    /// The same text under the tag that `f` makes of this one's. It asks that `f` may be called on every tag. It takes
-    /// no memory.
+    /// This text under the tag that `f` makes of its own. It asks that `f` may be called on every tag. It takes no
+    /// memory.
     pub fn map_tag<U, F: Fn(T) -> U>(self, f: &F) -> TaggedString<U>
         requires { F.IsAlwaysCallable f.now }
         ensures text { result.s ≡ self.s }
@@ -60,7 +60,7 @@ impl<T> TaggedString<T> {
         }
     }
 
-    /// The same text under a copy of the tag. It refuses only where memory is refused.
+    /// This text under a copy of its tag. It refuses only where memory is refused.
     pub fn clone(&self) -> Result<TaggedString<T>, OutOfMemory>
     where
         T: Eq + Clone,
@@ -87,7 +87,7 @@ impl<T> TaggedLineElement<T> {
         }
     }
 
-    /// Whether it is a piece, and no marker.
+    /// Whether it is a piece, and not a marker.
     pub(crate) fn is_piece(&self) -> bool
         ensures { result ≡ model.has_piece (element_of self.now ∷ []) }
     {
@@ -112,7 +112,7 @@ impl<T> TaggedLineElement<T> {
         }
     }
 
-    /// The same text under the tag that `f` makes of this one's, or the same marker. It asks that `f` may be called on
+    /// The element with its tag, if it is a piece, replaced by what `f` makes of it. It asks that `f` may be called on
     /// every tag. It takes no memory.
     pub fn map_tag<U, F: Fn(T) -> U>(self, f: &F) -> TaggedLineElement<U>
         requires { F.IsAlwaysCallable f.now }
@@ -126,7 +126,7 @@ impl<T> TaggedLineElement<T> {
         }
     }
 
-    /// The same element, a piece under a copy of its tag. It refuses only where memory is refused.
+    /// A copy of the element, and of its tag if it is a piece. It refuses only where memory is refused.
     pub fn clone(&self) -> Result<TaggedLineElement<T>, OutOfMemory>
     where
         T: Eq + Clone,
@@ -153,7 +153,7 @@ pub fn is_under<T: Eq>(element: Option<&TaggedLineElement<T>>, tag: &T) -> bool
     }
 }
 
-/// Appends text to a piece's; a marker stays. Where memory is refused nothing changes.
+/// Appends text to a piece's; a marker stays. Where memory is refused, nothing changes.
 pub fn extend<T>(element: &mut TaggedLineElement<T>, text: &str) -> Result<(), OutOfMemory>
     ensures ok { OnOk result (element_of element.new ≡ with_text (element_of element.old) (chars text.now)) }
     ensures err { OnErr result (element_of element.new ≡ element_of element.old) }
@@ -164,7 +164,7 @@ pub fn extend<T>(element: &mut TaggedLineElement<T>, text: &str) -> Result<(), O
     Ok(())
 }
 
-/// Appends a character to a piece's text; a marker stays. Where memory is refused nothing changes.
+/// Appends a character to a piece's text; a marker stays. Where memory is refused, nothing changes.
 pub fn extend_by_char<T>(element: &mut TaggedLineElement<T>, c: char) -> Result<(), OutOfMemory>
     ensures ok { OnOk result (element_of element.new ≡ with_text (element_of element.old) (c ∷ [])) }
     ensures err { OnErr result (element_of element.new ≡ element_of element.old) }
@@ -175,7 +175,7 @@ pub fn extend_by_char<T>(element: &mut TaggedLineElement<T>, c: char) -> Result<
     Ok(())
 }
 
-/// Appends `count` spaces to a piece's text; a marker stays. Where memory is refused nothing changes.
+/// Appends `count` spaces to a piece's text; a marker stays. Where memory is refused, nothing changes.
 pub fn extend_by_spaces<T>(
     element: &mut TaggedLineElement<T>,
     count: usize,
@@ -189,7 +189,7 @@ pub fn extend_by_spaces<T>(
     Ok(())
 }
 
-/// Makes room ahead of time for a piece's text of so many bytes, if there is memory for them.
+/// Makes room ahead of time for a piece's text to have `bytes` bytes, if there is enough memory.
 pub fn make_room<T>(element: &mut TaggedLineElement<T>, bytes: usize)
     ensures { element_of element.new ≡ element_of element.old }
 {
@@ -198,7 +198,7 @@ pub fn make_room<T>(element: &mut TaggedLineElement<T>, bytes: usize)
     }
 }
 
-/// How many bytes an element's text takes; without an element 0.
+/// How many bytes an element's text takes, or 0 if there is no element.
 pub fn text_len<T>(element: Option<&TaggedLineElement<T>>) -> usize
     ensures { result ≡ last_bytes (option_map element_of (option_copied element.entry)) }
 {
@@ -208,7 +208,7 @@ pub fn text_len<T>(element: Option<&TaggedLineElement<T>>) -> usize
     }
 }
 
-/// Takes off what a piece's text has after so many bytes; a marker stays.
+/// Removes what a piece's text has after its first `bytes` bytes; a marker stays.
 pub fn cut_text<T>(element: &mut TaggedLineElement<T>, bytes: usize)
     ensures { (e : Element T) (cs : List ℕ) → text_bytes e ≡ bytes → element_of element.old ≡ with_text e cs →
         element_of element.new ≡ e }
@@ -233,8 +233,8 @@ pub fn new_piece<T: Eq + Clone>(
     Ok(TaggedLineElement::Str(TaggedString { s, tag }))
 }
 
-/// Puts text in front of a piece's. It answers the text that the piece had. A marker stays, and the answer is the text
-/// itself. Where memory is refused nothing changes, and the text is dropped.
+/// Puts text in front of a piece's, and answers the text that the piece had. A marker stays, and the answer is the
+/// given text. Where memory is refused, nothing changes, and the text is dropped.
 pub fn extend_front<T>(
     element: &mut TaggedLineElement<T>,
     mut text: String,
@@ -251,7 +251,7 @@ pub fn extend_front<T>(
     Ok(text)
 }
 
-/// Puts text in front of a piece's, where that is; a marker stays. Where memory is refused nothing changes.
+/// Puts text in front of a piece's, in place; a marker stays. Where memory is refused, nothing changes.
 pub fn prepend<T>(element: &mut TaggedLineElement<T>, text: &str) -> Result<(), OutOfMemory>
     ensures ok { OnOk result (element_of element.new ≡ text_before (chars text.now) (element_of element.old)) }
     ensures err { OnErr result (element_of element.new ≡ element_of element.old) }

@@ -24,7 +24,7 @@ use std::alloc::Global;
 use std::mem;
 use tbr_model::CharWidth;
 
-/// The elements of a line, in order. A single one is in place, so that a line of one piece takes no list.
+/// The elements of a line, in order. A single one is kept in place, so that a line of one piece needs no list.
 #[derive(Debug, Drop)]
 pub enum ElementList<T> {
     /// One element, in place.
@@ -128,7 +128,7 @@ impl<T> ElementList<T> {
         }
     }
 
-    /// The elements themselves, one by one.
+    /// The elements, one by one, by value.
     pub fn into_iter(self) -> IntoIter<T>
         ensures { elements_to_come result ≡ stored self }
     {
@@ -181,7 +181,7 @@ impl<T> ElementList<T> {
         }
     }
 
-    /// Appends text to the last element, if that is a piece. Where memory is refused nothing changes.
+    /// Appends text to the last element, if that is a piece. Where memory is refused, nothing changes.
     pub fn extend_last(&mut self, text: &str) -> Result<(), OutOfMemory>
         ensures ok { OnOk result
             (elements_of (stored self.new) ≡ model.extend_last (elements_of (stored self.old)) (chars text.now)) }
@@ -193,7 +193,7 @@ impl<T> ElementList<T> {
         }
     }
 
-    /// Appends a character to the last element, if that is a piece. Where memory is refused nothing changes.
+    /// Appends a character to the last element, if that is a piece. Where memory is refused, nothing changes.
     pub fn extend_last_by_char(&mut self, c: char) -> Result<(), OutOfMemory>
         ensures ok { OnOk result
             (elements_of (stored self.new) ≡ model.extend_last (elements_of (stored self.old)) (c ∷ [])) }
@@ -205,7 +205,7 @@ impl<T> ElementList<T> {
         }
     }
 
-    /// Appends spaces to the last element, if that is a piece. Where memory is refused nothing changes.
+    /// Appends spaces to the last element, if that is a piece. Where memory is refused, nothing changes.
     pub fn extend_last_by_spaces(&mut self, count: usize) -> Result<(), OutOfMemory>
         ensures ok { OnOk result (elements_of (stored self.new)
             ≡ model.extend_last (elements_of (stored self.old)) (padding.spaces count)) }
@@ -217,7 +217,7 @@ impl<T> ElementList<T> {
         }
     }
 
-    /// Makes room ahead of time for a text of so many bytes, if there is a single element, and memory for them.
+    /// Makes room ahead of time for a text of `bytes` bytes, if there is a single element, and enough memory.
     pub fn make_room(&mut self, bytes: usize)
         ensures { elements_of (stored self.new) ≡ elements_of (stored self.old) }
     {
@@ -226,8 +226,7 @@ impl<T> ElementList<T> {
         }
     }
 
-    /// Puts text in front of the first element's, where that is, if it is a piece. Where memory is refused nothing
-    /// changes.
+    /// Puts text in front of the first element's, in place, if it is a piece. Where memory is refused, nothing changes.
     pub fn prepend_first(&mut self, text: &str) -> Result<(), OutOfMemory>
         ensures ok { OnOk result
             (elements_of (stored self.new) ≡ model.extend_first (chars text.now) (elements_of (stored self.old))) }
@@ -240,7 +239,7 @@ impl<T> ElementList<T> {
     }
 
     /// Puts text in front of the first element's, if that is a piece. It answers the text that the piece had. Where
-    /// memory is refused nothing changes, and the text is dropped.
+    /// memory is refused, nothing changes, and the text is dropped.
     pub fn extend_first(&mut self, text: String) -> Result<String, OutOfMemory>
         ensures ok { OnOk result (elements_of (stored self.new)
             ≡ model.extend_first (chars_of text) (elements_of (stored self.old))) }
@@ -266,7 +265,7 @@ impl<T> ElementList<T> {
 }
 
 impl<T: Drop> ElementList<T> {
-    /// Appends an element. Where memory is refused nothing changes.
+    /// Appends an element. Where memory is refused, nothing changes.
     pub fn push(&mut self, element: TaggedLineElement<T>) -> Result<(), OutOfMemory>
         ensures ok { OnOk result (stored self.new ≡ stored self.old ++ element ∷ []) }
         ensures err { OnErr result (stored self.new ≡ stored self.old) }
@@ -279,7 +278,7 @@ impl<T: Drop> ElementList<T> {
         Ok(())
     }
 
-    /// Appends an element to a single one, and lists both. Where memory is refused nothing changes.
+    /// Appends an element to a single one, and puts both into a list. Where memory is refused, nothing changes.
     fn push_beside(&mut self, element: TaggedLineElement<T>) -> Result<(), OutOfMemory>
         ensures ok { OnOk result (stored self.new ≡ stored self.old ++ element ∷ []) }
         ensures err { OnErr result (stored self.new ≡ stored self.old) }
@@ -291,7 +290,8 @@ impl<T: Drop> ElementList<T> {
         Ok(())
     }
 
-    /// Puts an element in front, which takes no memory where there is none. Where memory is refused nothing changes.
+    /// Puts an element in front, which takes no memory if there are no others. Where memory is refused, nothing
+    /// changes.
     pub fn insert_front(&mut self, element: TaggedLineElement<T>) -> Result<(), OutOfMemory>
         ensures ok { OnOk result (stored self.new ≡ element ∷ stored self.old) }
         ensures err { OnErr result (stored self.new ≡ stored self.old) }
@@ -308,7 +308,7 @@ impl<T: Drop> ElementList<T> {
         Ok(())
     }
 
-    /// Takes the elements out, as a list. Where memory is refused they stay.
+    /// Takes the elements out, as a list. Where memory is refused, they stay.
     fn take_list(&mut self) -> Result<Vec<TaggedLineElement<T>>, OutOfMemory>
         ensures ok { IfOk result (λ list. list.items ≡ stored self.old) }
         ensures err { OnErr result (stored self.new ≡ stored self.old) }
@@ -328,7 +328,7 @@ impl<T: Drop> ElementList<T> {
         }
     }
 
-    /// Takes off all but the first `count` elements, and what the last of these has after so many bytes.
+    /// Removes all elements after the first `count`, and what the last of these has after its first `bytes` bytes.
     pub fn cut_back(&mut self, count: usize, bytes: usize)
         ensures { (es : List (Element T)) → length es ≡ count → last_bytes (last_of es) ≡ bytes →
             HasGrown es (elements_of (stored self.old)) → elements_of (stored self.new) ≡ es }
@@ -368,7 +368,7 @@ impl<T: Drop> ElementList<T> {
         }
     }
 
-    /// The same elements, each piece under a copy of its tag. It refuses only where memory is refused.
+    /// Copies of the elements, each piece under a copy of its tag. It refuses only where memory is refused.
     pub fn clone(&self) -> Result<ElementList<T>, OutOfMemory>
     where
         T: Eq + Clone,

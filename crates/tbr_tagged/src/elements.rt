@@ -63,7 +63,7 @@ pub fn append_text<T>(
     Ok(())
 }
 
-/// Appends text to the last element, if that is a piece. Where memory is refused nothing changes.
+/// Appends text to the last element, if that is a piece. Where memory is refused, nothing changes.
 pub fn extend_last<T>(
     elements: &mut Vec<TaggedLineElement<T>>,
     text: &str,
@@ -79,7 +79,7 @@ pub fn extend_last<T>(
     extend(&mut elements[end], text)
 }
 
-/// Appends a character to the last element, if that is a piece. Where memory is refused nothing changes.
+/// Appends a character to the last element, if that is a piece. Where memory is refused, nothing changes.
 pub fn extend_last_by_char<T>(
     elements: &mut Vec<TaggedLineElement<T>>,
     c: char,
@@ -95,7 +95,7 @@ pub fn extend_last_by_char<T>(
     extend_by_char(&mut elements[end], c)
 }
 
-/// Appends spaces to the last element, if that is a piece. Where memory is refused nothing changes.
+/// Appends spaces to the last element, if that is a piece. Where memory is refused, nothing changes.
 pub fn extend_last_by_spaces<T>(
     elements: &mut Vec<TaggedLineElement<T>>,
     count: usize,
@@ -111,7 +111,7 @@ pub fn extend_last_by_spaces<T>(
     extend_by_spaces(&mut elements[end], count)
 }
 
-/// Puts text in front of the first element's, where that is, if it is a piece. Where memory is refused nothing changes.
+/// Puts text in front of the first element's, in place, if it is a piece. Where memory is refused, nothing changes.
 pub fn prepend_first<T>(
     elements: &mut Vec<TaggedLineElement<T>>,
     text: &str,
@@ -127,7 +127,7 @@ pub fn prepend_first<T>(
 }
 
 /// Puts text in front of the first element's, if that is a piece. It answers the text that the piece had. Where memory
-/// is refused nothing changes, and the text is dropped.
+/// is refused, nothing changes, and the text is dropped.
 pub fn extend_first<T>(
     elements: &mut Vec<TaggedLineElement<T>>,
     text: String,
@@ -153,7 +153,7 @@ pub fn set_first_text<T>(elements: &mut Vec<TaggedLineElement<T>>, text: String)
     }
 }
 
-/// Takes off all but the first `count` elements, and what the last of these has after so many bytes.
+/// Removes all elements after the first `count`, and what the last of these has after its first `bytes` bytes.
 pub fn cut_back<T: Drop>(elements: &mut Vec<TaggedLineElement<T>>, count: usize, bytes: usize)
     ensures { (es : List (Element T)) → length es ≡ count → last_bytes (last_of es) ≡ bytes →
         HasGrown es (elements_of elements.old.items) → elements_of elements.new.items ≡ es }
@@ -182,7 +182,7 @@ pub fn map_tag<T: Drop, U: Drop, F: Fn(T) -> U>(
     Ok(mapped)
 }
 
-/// The same elements, each piece under a copy of its tag. It refuses only where memory is refused.
+/// Copies of the elements, each piece under a copy of its tag. It refuses only where memory is refused.
 pub fn clone<T: Eq + Clone + Drop>(
     elements: &Vec<TaggedLineElement<T>>,
 ) -> Result<Vec<TaggedLineElement<T>>, OutOfMemory>

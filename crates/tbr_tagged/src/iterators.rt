@@ -6,23 +6,23 @@ use std::{str, vec};
 /// The elements of a line, in order.
 #[derive(Drop)]
 pub struct Iter<'a, T> {
-    /// An element before those of the slice.
+    /// An element that comes before those of the slice.
     pub(crate) first: Option<&'a TaggedLineElement<T>>,
     pub(crate) rest: &'a [TaggedLineElement<T>],
 }
 
-/// The elements of a line itself, in order.
+/// The elements of a line, in order, by value.
 #[derive(Drop)]
 pub struct IntoIter<T> {
     pub(crate) rest: Rest<T>,
 }
 
-/// The elements that are still to come, stored as the line stored them.
+/// The elements that are left, stored as the line stored them.
 #[derive(Drop)]
 pub enum Rest<T> {
-    /// From a single one in place.
+    /// Those of a line that keeps a single one in place.
     Alone(Option<TaggedLineElement<T>>),
-    /// From a list.
+    /// Those of a list.
     Listed(vec::IntoIter<TaggedLineElement<T>>),
 }
 

@@ -7,7 +7,7 @@ ghost use Rattle.tbr_tagged.specs.Copies.{CopiesAreEqual, IsListClone, equal_lis
 ghost use Rattle.tbr_tagged.specs.Elements.{Element, items_of, has_piece, SameItems, IsMerged};
 ghost use Rattle.tbr_tagged.specs.Mapped.{MeansEqual};
 
-/// Where a copy of a tag equals its source, so does a copy of a list of tags. A call of this lets a `Vec<T>` be a tag.
+/// If a copy of a tag equals its source, so does a copy of a list of tags. With this law a `Vec<T>` can be a tag.
 pub fn copies_of_lists_are_equal<T: Eq + Clone>()
     requires { CopiesAreEqual T.is_clone T.eq }
     ensures { CopiesAreEqual (IsListClone T.is_clone) (equal_lists T.eq) }
@@ -19,7 +19,7 @@ pub fn merged_pieces_have_characters<T>()
         IsMerged eq es → has_piece es ≡ has_character (items_of es) }
 {}
 
-/// Items under equal tags are the same items under what the tags mean, where equal tags mean the same.
+/// Items that differ only by equal tags are the same under what the tags mean, where equal tags mean the same.
 pub fn equal_tags_mean_the_same<A, B>()
     ensures items { (f : A → B) (eq : A → A → Bool) → MeansEqual f eq → (is js : List (Item A)) →
         SameItems eq is js → map_items f is ≡ map_items f js }

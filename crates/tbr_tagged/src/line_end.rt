@@ -1,7 +1,7 @@
 //! Where lines end.
 
-/// Where a line ends, as [`end`](crate::TaggedLine::end) answers it. [`cut_back`](crate::TaggedLine::cut_back) takes
-/// off what came after that.
+/// Where a line ends, as [`end`](crate::TaggedLine::end) answers it. [`cut_back`](crate::TaggedLine::cut_back) removes
+/// what was added after that.
 #[derive(Clone, Copy, PartialEq, Eq, Debug)]
 pub struct LineEnd {
     /// How many elements the line has.

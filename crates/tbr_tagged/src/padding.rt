@@ -34,7 +34,7 @@ impl Default for CellAlign {
     }
 }
 
-/// How many of the columns that a line leaves are in front of it.
+/// How many of the `missing` columns of a line are put in front of it.
 pub fn columns_in_front(align: CellAlign, missing: usize) -> usize
     ensures value { result ≡ model.columns_in_front align missing }
     ensures bound { result ≤ missing }
@@ -46,8 +46,8 @@ pub fn columns_in_front(align: CellAlign, missing: usize) -> usize
     }
 }
 
-/// Puts `front` spaces in front of the elements and `after` spaces after them, under copies of the tag. Where memory
-/// is refused nothing changes.
+/// Puts `front` spaces in front of the elements and `after` spaces after them, under copies of the tag. Where memory is
+/// refused, nothing changes.
 pub fn pad<T: Eq + Clone + Drop>(
     elements: &mut ElementList<T>,
     front: usize,
@@ -74,7 +74,7 @@ pub fn pad<T: Eq + Clone + Drop>(
     Ok(())
 }
 
-/// Appends `count` spaces under a copy of the tag. Where memory is refused nothing changes.
+/// Appends `count` spaces under a copy of the tag. Where memory is refused, nothing changes.
 pub fn push_spaces<T: Eq + Clone + Drop>(
     elements: &mut ElementList<T>,
     count: usize,

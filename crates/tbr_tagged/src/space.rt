@@ -10,10 +10,10 @@ use std::alloc::Global;
 /// The last character that is white space.
 const LAST_SPACE: char = '\u{3000}';
 
-/// As many spaces as are appended at once.
+/// The spaces that are appended at once.
 const SPACES: &str = "                                ";
 
-/// Whether a character takes space wherever it is: it is no white space, or U+00A0.
+/// Whether a character takes space wherever it is: it isn't white space, or it is U+00A0.
 pub fn always_takes_space(c: char) -> bool
     ensures { result ≡ model.always_takes_space c }
 {
@@ -27,7 +27,7 @@ pub fn is_wordbreak_point(c: char) -> bool
     c <= LAST_SPACE && (c == '\u{200b}' || (c.is_whitespace() && c != '\u{a0}'))
 }
 
-/// Takes off what a text has after its first characters, of so many bytes.
+/// Removes what a text has after its first characters, which are `bytes` bytes.
 pub fn cut(text: &mut String, bytes: usize)
     ensures { (cs ds : List ℕ) → length (encode_utf8_all cs) ≡ bytes → chars_of text.old ≡ cs ++ ds →
         chars_of text.new ≡ cs }
@@ -46,7 +46,7 @@ pub fn spaces(alloc: Global, count: usize) -> Result<String, OutOfMemory>
     Ok(s)
 }
 
-/// Appends `count` spaces, of one byte each, to a text. Where memory is refused the text stays as it was.
+/// Appends `count` spaces to a text. Where memory is refused, the text stays as it was.
 pub fn append_spaces(text: &mut String, count: usize) -> Result<(), OutOfMemory>
     ensures ok { OnOk result (string_bytes text.new ≡ string_bytes text.old ++ padding.spaces count) }
     ensures err { OnErr result (string_bytes text.new ≡ string_bytes text.old) }

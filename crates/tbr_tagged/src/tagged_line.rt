@@ -59,7 +59,7 @@ impl<T> TaggedLine<T> {
         !self.elements.has_piece()
     }
 
-    /// The columns that the line takes: the sum over its characters, one without a width counting 0.
+    /// The columns that the line takes: the sum over its characters, where one without a width counts 0.
     ///
     /// It takes no memory, and refuses exactly where the sum passes `usize`.
     pub fn width<W: CharWidth>(&self) -> Result<usize, OutOfMemory>
@@ -115,7 +115,7 @@ impl<T> TaggedLine<T> {
         Ok(TaggedLine { elements })
     }
 
-    /// The same elements, each piece under a copy of its tag. It refuses only where memory is refused.
+    /// A copy of the line, with each piece under a copy of its tag. It refuses only where memory is refused.
     pub fn clone(&self) -> Result<TaggedLine<T>, OutOfMemory>
     where
         T: Eq + Clone + Drop,
@@ -129,10 +129,10 @@ impl<T> TaggedLine<T> {
 }
 
 impl<T: Eq> TaggedLine<T> {
-    /// Appends text. It extends the last piece if that is under an equal tag, and else is a piece of its own. The empty
-    /// text does nothing.
+    /// Appends text. It extends the last piece if that is under an equal tag, and otherwise is a piece of its own. The
+    /// empty text changes nothing.
     ///
-    /// Where memory is refused the line stays as it was, and the text is dropped. The empty text takes none.
+    /// Where memory is refused, the line stays as it was, and the text is dropped. The empty text takes no memory.
     pub fn push_str(&mut self, ts: TaggedString<T>) -> Result<(), OutOfMemory>
     where
         T: Drop,
@@ -149,9 +149,9 @@ impl<T: Eq> TaggedLine<T> {
         push_piece(&mut self.elements, ts)
     }
 
-    /// Appends a copy of a text, as [`push_str`](TaggedLine::push_str) does. The empty text does nothing.
+    /// Appends a copy of a text, as [`push_str`](TaggedLine::push_str) does. The empty text changes nothing.
     ///
-    /// Where memory is refused the line stays as it was. The empty text takes none.
+    /// Where memory is refused, the line stays as it was. The empty text takes no memory.
     pub fn push_text(&mut self, text: &str, tag: T) -> Result<(), OutOfMemory>
     where
         T: Drop,
@@ -168,17 +168,17 @@ impl<T: Eq> TaggedLine<T> {
         push_copy(&mut self.elements, text, tag)
     }
 
-    /// Makes room ahead of time for a text of so many bytes, if the line is of one piece, and there is memory for them.
+    /// Makes room ahead of time for a text of `bytes` bytes, if the line is of one piece, and there is enough memory.
     pub fn make_room(&mut self, bytes: usize)
         ensures { self.new ≡ self.old }
     {
         self.elements.make_room(bytes);
     }
 
-    /// Appends a character. It extends the last piece if that is under an equal tag, and else begins a piece under a
-    /// copy of the tag.
+    /// Appends a character. It extends the last piece if that is under an equal tag, and otherwise begins a piece under
+    /// a copy of the tag.
     ///
-    /// Where memory is refused the line stays as it was.
+    /// Where memory is refused, the line stays as it was.
     pub fn push_char(&mut self, c: char, tag: &T) -> Result<(), OutOfMemory>
     where
         T: Clone,
@@ -193,10 +193,10 @@ impl<T: Eq> TaggedLine<T> {
 }
 
 impl<T: Eq + Drop> TaggedLine<T> {
-    /// Appends an element. Text is appended as by [`TaggedLine::push_str`], and a marker comes after what the line has.
+    /// Appends an element: text as [`TaggedLine::push_str`] does, and a marker as an element of its own.
     ///
-    /// Where memory is refused the line stays as it was, and the element is dropped. A piece of the empty text takes
-    /// none.
+    /// Where memory is refused, the line stays as it was, and the element is dropped. A piece of the empty text takes
+    /// no memory.
     pub fn push(&mut self, element: TaggedLineElement<T>) -> Result<(), OutOfMemory>
         ensures ok { OnOk result (self.new ≡ push_element T.eq self.old (element_of element)) }
         ensures items { OnOk result
@@ -215,8 +215,8 @@ impl<T: Eq + Drop> TaggedLine<T> {
 
     /// Appends the elements of another line, each as [`TaggedLine::push`] does.
     ///
-    /// Where memory is refused the line stays as it was, and the other one is dropped. A line without characters and
-    /// markers takes none.
+    /// Where memory is refused, the line stays as it was, and the other one is dropped. A line without characters and
+    /// markers takes no memory.
     pub fn append(&mut self, other: TaggedLine<T>) -> Result<(), OutOfMemory>
         ensures ok { OnOk result (self.new ≡ fold (push_element T.eq) self.old other) }
         ensures items { OnOk result (SameItems T.eq (items_of self.new) (items_of self.old ++ items_of other)) }
@@ -234,12 +234,12 @@ impl<T: Eq + Drop> TaggedLine<T> {
         Ok(())
     }
 
-    /// Puts text in front. It extends the first piece if that is under an equal tag, and else is a piece of its own,
-    /// even where the text is empty.
+    /// Puts text in front. It extends the first piece if that is under an equal tag, and otherwise is a piece of its
+    /// own, even if the text is empty.
     ///
-    /// A call goes over what the line has. A line that is built by such calls alone takes quadratic time.
+    /// The time of a call is in proportion to the line. Building a line by such calls alone takes quadratic time.
     ///
-    /// Where memory is refused the line stays as it was, and the text is dropped. The empty text takes none where it
+    /// Where memory is refused, the line stays as it was, and the text is dropped. The empty text takes no memory if it
     /// extends the first piece, or is all that the line then has.
     pub fn insert_front(&mut self, ts: TaggedString<T>) -> Result<(), OutOfMemory>
         ensures ok { OnOk result (self.new ≡ insert_text T.eq self.old (chars_of ts.s) ts.tag) }
@@ -254,11 +254,11 @@ impl<T: Eq + Drop> TaggedLine<T> {
         Ok(())
     }
 
-    /// Puts text in front, as [`insert_front`](TaggedLine::insert_front) does. Where it extends the first piece, it
-    /// mostly takes no memory.
+    /// Puts text in front, as [`insert_front`](TaggedLine::insert_front) does. If it extends the first piece, it
+    /// usually takes no memory.
     ///
-    /// Where memory is refused the line stays as it was. The empty text takes none where it extends the first piece, or
-    /// is all that the line then has.
+    /// Where memory is refused, the line stays as it was. The empty text takes no memory if it extends the first piece,
+    /// or is all that the line then has.
     pub fn insert_front_str(&mut self, text: &str, tag: T) -> Result<(), OutOfMemory>
         ensures ok { OnOk result (self.new ≡ insert_text T.eq self.old (chars text.now) tag) }
         ensures items { OnOk result
@@ -274,10 +274,10 @@ impl<T: Eq + Drop> TaggedLine<T> {
 }
 
 impl<T: Eq + Clone + Drop> TaggedLine<T> {
-    /// Appends `count` spaces. They extend the last piece if that is under an equal tag, and else begin a piece under a
-    /// copy of the tag.
+    /// Appends `count` spaces. They extend the last piece if that is under an equal tag, and otherwise begin a piece
+    /// under a copy of the tag.
     ///
-    /// Where memory is refused the line stays as it was. No spaces take none.
+    /// Where memory is refused, the line stays as it was. If `count` is 0, it takes no memory.
     pub fn push_spaces(&mut self, count: usize, tag: &T) -> Result<(), OutOfMemory>
         requires { CopiesAreEqual T.is_clone T.eq }
         ensures ok { OnOk result (SameElements T.eq self.new (push_text T.eq self.old (spaces count) tag.now)) }
@@ -290,11 +290,11 @@ impl<T: Eq + Clone + Drop> TaggedLine<T> {
         push_spaces(&mut self.elements, count, tag)
     }
 
-    /// Fills the line up to `width` columns with spaces after it, under a copy of the tag. A line that is as wide
-    /// already stays as it is.
+    /// Fills the line up to `width` columns with spaces after it, under a copy of the tag. A line that is already as
+    /// wide stays as it is.
     ///
     /// It refuses where memory is refused, or where the line's columns pass `usize`. The line then stays as it was. A
-    /// line that is as wide already takes no memory.
+    /// line that is already as wide takes no memory.
     pub fn pad_to<W: CharWidth>(&mut self, width: usize, tag: &T) -> Result<(), OutOfMemory>
         requires { CopiesAreEqual T.is_clone T.eq }
         ensures ok { OnOk result (SameElements T.eq self.new
@@ -312,11 +312,11 @@ impl<T: Eq + Clone + Drop> TaggedLine<T> {
     }
 
     /// Fills the line up to `width` columns with spaces under copies of the tag: after it, in front of it, or on both
-    /// sides, as the alignment says. Spaces in front come before the first element, markers included. A line that is as
-    /// wide already stays as it is.
+    /// sides, as the alignment says. Spaces in front come before the first element, markers included. A line that is
+    /// already as wide stays as it is.
     ///
     /// It refuses where memory is refused, or where the line's columns pass `usize`. The line then stays as it was. A
-    /// line that is as wide already takes no memory.
+    /// line that is already as wide takes no memory.
     pub fn pad_aligned<W: CharWidth>(
         &mut self,
         width: usize,
@@ -342,7 +342,7 @@ impl<T: Eq + Clone + Drop> TaggedLine<T> {
 }
 
 impl<T> TaggedLine<T> {
-    /// Where the line ends, so that [`cut_back`](TaggedLine::cut_back) can take off what comes after that.
+    /// Where the line ends, so that [`cut_back`](TaggedLine::cut_back) can remove what is added after that.
     pub fn end(&self) -> LineEnd
         ensures elements { result.elements ≡ length self.now }
         ensures bytes { result.bytes ≡ last_bytes (last_of self.now) }
@@ -353,7 +353,7 @@ impl<T> TaggedLine<T> {
         }
     }
 
-    /// Takes off what came to the line's end since it ended there: elements, and text of the piece that was the last.
+    /// Removes what was added after this end: elements, and text of the piece that was the last.
     pub fn cut_back(&mut self, end: LineEnd)
     where
         T: Drop,

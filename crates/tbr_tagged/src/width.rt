@@ -14,7 +14,7 @@ const STROKE: char = '\u{336}';
 
 /// The columns that terminals give characters, by the crate `unicode_width`.
 ///
-/// The characters whose columns [`CharWidth`] fixes have those, and a character to which `unicode_width` gives more
+/// Characters whose columns [`CharWidth`] fixes have these columns. A character to which `unicode_width` gives more
 /// than two columns has two.
 #[derive(Clone, Copy, Debug)]
 pub struct UnicodeColumns;
@@ -66,7 +66,7 @@ fn is_printable_ascii(c: char) -> bool
     c >= ' ' && c <= '~'
 }
 
-/// Whether the character is in a block whose characters all take two columns, so that they needn't be looked up. These
+/// Whether the character is in a block whose characters all take two columns, so that it needn't be looked up. These
 /// are Han and Yi, Hangul, hiragana and katakana, their punctuation, and full-width forms.
 #[inline]
 fn is_in_wide_block(c: char) -> bool
@@ -103,7 +103,7 @@ fn draws_border(c: char) -> bool
         || c == '┼'
 }
 
-/// The columns that a text takes: the sum over its characters, one without a width counting 0.
+/// The columns that a text takes: the sum over its characters, where one without a width counts 0.
 ///
 /// It takes no memory, and refuses exactly where the sum passes `usize`.
 pub fn text_width<W: CharWidth>(s: &str) -> Result<usize, OutOfMemory>

@@ -1,4 +1,4 @@
-//! What tags mean.
+//! Tags of text, and what they mean.
 #![tactic(auto)]
 
 pub use meanings::Meanings;

@@ -5,7 +5,7 @@ ghost use Rattle.std.specs.Prelude.{◌≡◌, ◌↔◌, IsTrue, Bool, true};
 ///
 /// Two tags are equal exactly where they mean the same, and a copy equals its source.
 pub trait Tag: Eq + Clone + Drop {
-    /// What a tag means. A value of this type is never made: contracts alone speak of it.
+    /// What a tag means. No value of this type is ever made: only contracts speak of it.
     type Meaning;
 
     ghost meaning: { Self → Self.Meaning };

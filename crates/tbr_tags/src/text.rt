@@ -5,7 +5,7 @@ ghost use Rattle.tbr_tags.specs.Texts.{texts_equal_by_meaning, text_copies_equal
 use crate::meanings::Meanings;
 use crate::tag::Tag;
 
-/// A text means its characters.
+/// A text, as a tag, means its characters.
 impl Tag for String {
     ghost use Rattle.std.specs.Prelude.{chars, string_bytes, ◌==◌, nat_eq};
     ghost use Rattle.std.specs.Cmp.Lexicographic.{pointwise};

@@ -28,7 +28,7 @@ pub enum Format {
     Bare,
     /// The lines for a terminal, with the control sequences of annotations.
     Ansi,
-    /// An object of JSON a line.
+    /// One object of JSON for each line.
     Ndjson,
     /// The lines in HTML, as they are in a `<pre>`.
     Html,
@@ -39,9 +39,9 @@ pub enum Format {
 pub struct Settings {
     /// What is written.
     pub format: Format,
-    /// The columns of the renderer, in the place of those of the script. 0 counts as none.
+    /// The columns of the renderer, in place of those of the script. 0 counts as none.
     pub width: Option<usize>,
-    /// The decorator, in the place of that of the script.
+    /// The decorator, in place of that of the script.
     pub decorator: Option<Decorator>,
 }
 
@@ -103,7 +103,7 @@ pub fn view<W: CharWidth>(alloc: Global, script: &[u8], view: Settings) -> Resul
     }
 }
 
-/// A first command with other columns, if some are given.
+/// A first command, with its columns replaced if others are given.
 fn with_width(opening: Opening, width: Option<usize>) -> Opening
     requires width { 0 < opening.width }
     requires wrap_width { opening.options.wrap_width ≢ Some 0 }
@@ -150,7 +150,7 @@ fn first_command(alloc: Global, script: &[u8]) -> Result<(Opening, usize, &[u8])
     Err(advice::nothing_there(alloc, number))
 }
 
-/// The lines of a script after its first command, what was lost of them, and what else isn't shown as it says.
+/// The lines of a script after its first command, what was lost of them, and what else isn't shown as the script says.
 fn run<D: Headings, W: CharWidth>(
     alloc: Global,
     opening: Opening,

@@ -29,7 +29,7 @@ pub struct Session<D: Headings, W: CharWidth> {
     program: Program<D, W>,
     levels: Levels,
     stretches: Stretches,
-    /// The columns that were set in the place of those of the script, until a row is wider.
+    /// The columns that were set in place of those of the script, until a row is wider.
     set_width: Option<usize>,
     /// What was lost so far.
     lost: Vec<Problem>,
@@ -38,7 +38,7 @@ pub struct Session<D: Headings, W: CharWidth> {
 }
 
 impl<D: Headings, W: CharWidth> Session<D, W> {
-    /// A script after its first command, with the columns that were set in the place of its own. It refuses only where
+    /// A script after its first command, with the columns that were set in place of its own. It refuses only where
     /// memory is refused.
     pub fn new(
         alloc: Global,
@@ -67,7 +67,8 @@ impl<D: Headings, W: CharWidth> Session<D, W> {
         })
     }
 
-    /// Does what the line of this number asks for. An empty line and a comment ask for nothing.
+    /// Does what the line of this number asks for. An empty line and a comment ask for nothing. It refuses where the
+    /// line is at fault, and where memory is refused.
     pub fn run_line(&mut self, number: usize, line: &[u8]) -> Result<(), Refusal>
         requires { GoesOn self.old.program }
         ensures does { OnOk result (model.LineDoes W.columns (decoration_of D.TextDecorator D.Annotation.tells)
@@ -175,7 +176,7 @@ impl<D: Headings, W: CharWidth> Session<D, W> {
         Ok(())
     }
 
-    /// Refuses a block whose prefix is known to leave it no column, before that is made.
+    /// Refuses a block whose prefix is known to leave it no column, before the prefix is made.
     fn check_room(&self, number: usize, block: Block) -> Result<(), Refusal>
         requires { GoesOn self.now.program }
     {
@@ -295,7 +296,7 @@ impl<D: Headings, W: CharWidth> Session<D, W> {
         }
     }
 
-    /// Notes that lines of a cell which takes several rows are lost in the innermost level, if some are.
+    /// Notes if lines of a cell that takes several rows are lost in the innermost level.
     fn note_losses(&mut self, number: usize) -> Result<(), Refusal>
         requires { GoesOn self.old.program }
         ensures program { self.new.program ≡ self.old.program }
@@ -311,7 +312,7 @@ impl<D: Headings, W: CharWidth> Session<D, W> {
         Ok(())
     }
 
-    /// Notes such lines, if a command closes the innermost level.
+    /// Notes such lost lines, if a command closes the innermost level.
     fn note_losses_of(&mut self, number: usize, command: &Command) -> Result<(), Refusal>
         requires { GoesOn self.old.program }
         ensures program { self.new.program ≡ self.old.program }
@@ -323,7 +324,7 @@ impl<D: Headings, W: CharWidth> Session<D, W> {
         }
     }
 
-    /// Notes the stretches of the innermost level that aren't ended: it closes, and they end with it.
+    /// Notes the stretches of the innermost level that aren't ended. The level closes, and they end with it.
     fn note_ends(&mut self) -> Result<(), Refusal>
         ensures program { self.new.program ≡ self.old.program }
         ensures levels { self.new.levels ≡ self.old.levels }
@@ -417,8 +418,7 @@ impl<D: Headings, W: CharWidth> Session<D, W> {
         self.program.top().has_overhanging_lines()
     }
 
-    /// Ends the script with the line of this number, which is that after the last. It refuses where a level is open or
-    /// cells wait.
+    /// Ends the script. The number is that of the line after the last. It refuses where a level is open or cells wait.
     fn end(&mut self, number: usize) -> Result<(), Refusal>
         requires { GoesOn self.old.program }
         ensures inside { OnOk result (self.old.levels.inside.items ≡ []) }
@@ -439,8 +439,9 @@ impl<D: Headings, W: CharWidth> Session<D, W> {
         Ok(())
     }
 
-    /// The lines of the script, what was lost of it, and what else isn't shown as it says. The number is that of the
-    /// line after the last.
+    /// The lines of the script, what was lost of them, and what else isn't shown as the script says. The number is that
+    /// of the line after the last. It refuses as `end` does, where the last text is too narrow, and where memory is
+    /// refused.
     pub fn finish(
         mut self,
         number: usize,
@@ -509,7 +510,7 @@ fn columns_ahead<D: Headings, W: CharWidth>(block: Block) -> Option<usize> {
     }
 }
 
-/// The columns that were set, if a command adds a row of so many columns that is wider. 0 counts as none.
+/// The columns that were set, if a command adds a row of `columns` columns and that is wider. 0 counts as none.
 fn passed(set: Option<usize>, command: &Command, columns: usize) -> Option<usize>
     ensures { result ≡ model.passed set command.now columns }
 {

@@ -14,12 +14,12 @@ use tbr_show::{ansi, html, ndjson};
 use tbr_tags::Tag;
 use text_block_renderer::{Annotations, written_out};
 
-/// What lines may be annotated with, to be shown.
+/// Annotations whose lines can be shown.
 pub trait Annotation: Tag {
     // What is shown of a list of them.
     ghost rich: { List Self → List Rich };
 
-    /// The same as rich annotations.
+    /// These annotations as rich ones.
     fn into_rich(alloc: Global, annotations: Vec<Self>) -> Vec<RichAnnotation>
         ensures { result.items ≡ Self.rich annotations.items };
 }
@@ -60,7 +60,7 @@ pub fn show<T: Annotation, W: CharWidth>(
     Ok(text)
 }
 
-/// Appends a line in a format. Where that shows annotations, those of this line alone are written out.
+/// Appends a line in a format. If the format shows annotations, only those of this line are copied into vectors.
 fn push_line<T: Annotation, W: CharWidth>(
     alloc: Global,
     text: &mut String,
@@ -77,7 +77,7 @@ fn push_line<T: Annotation, W: CharWidth>(
     push_annotated::<T, W>(alloc, text, line, format)
 }
 
-/// Appends a line under vectors in a format that shows them.
+/// Appends a line whose annotations are in vectors, in a format that shows them.
 fn push_annotated<T: Annotation, W: CharWidth>(
     alloc: Global,
     text: &mut String,
@@ -93,7 +93,7 @@ fn push_annotated<T: Annotation, W: CharWidth>(
     push_elements::<W>(text, &rich, is_border, format)
 }
 
-/// Whether it is the characters of lines.
+/// Whether the format is the characters of lines alone.
 fn is_text(format: Format) -> bool
     ensures { result ≡ model.is_text format }
 {
@@ -123,7 +123,7 @@ fn end_line(text: &mut String) -> Result<(), OutOfMemory>
     Ok(())
 }
 
-/// The same elements under rich annotations.
+/// These elements under rich annotations.
 fn rich_line<T: Annotation>(
     alloc: Global,
     line: TaggedLine<Vec<T>>,

@@ -20,14 +20,14 @@ use tbr_tagged::{Error, OutOfMemory, TaggedLine, TaggedLineElement, UnicodeColum
 
 /// Text under tags that is wrapped into lines of a width in columns.
 ///
-/// The text that comes between two flushes is a run: [`add_text`](WrappedBlock::add_text) adds to it, and
+/// The text between two flushes is a run: [`add_text`](WrappedBlock::add_text) adds to it, and
 /// [`flush`](WrappedBlock::flush) ends it. The lines of a `Normal` run, where none may be wider than the block, are
 /// those of the best layout. After any number of lines no legal layout has placed more of the run.
 ///
 /// A call that refuses leaves the block failed. The block keeps that refusal: each later call that can refuse answers
 /// it, and does nothing else. A contract sees what [`Block`] lists, and says by an equation what each call makes of it.
 ///
-/// The memory of text that was handed out, and of its tags, is given back as more is handed out.
+/// The memory of text that was handed out, and of its tags, is freed as more is handed out.
 #[derive(Drop)]
 pub struct WrappedBlock<T: Eq + Clone, W: CharWidth = UnicodeColumns> {
     alloc: Global,
@@ -62,7 +62,7 @@ impl<T: Eq + Clone, W: CharWidth> WrappedBlock<T, W> {
     ghost use Rattle.tbr_tagged.specs.Outcome.{Answers, done, refused};
     ghost use Rattle.tbr_wrap.specs.Block.{Block, new_block, settings_of, failure_of, lines, all_lines, left, any_line, takes_no_columns, has_no_character, loose, allows, grown, settled, HasGrown, after_text, after_marker, after_taking, after_flush, after_line, line_handed_out, HandsOutFirst, WrapsNormally};
 
-    /// A block without text, whose lines take `width` columns at most; it asks for at least 1. It takes no memory.
+    /// A block without text. Its lines take at most `width` columns, which must be at least 1. It takes no memory.
     ///
     /// With `pad_blocks` each line that is handed out is padded to the width by spaces under the default tag. In a
     /// block of one column a character of two columns is refused; with `allow_overflow` it goes on a line of its own
@@ -106,15 +106,16 @@ impl<T: Eq + Clone, W: CharWidth> WrappedBlock<T, W> {
         self.pads
     }
 
-    /// Whether open line and word take no columns. In a `Normal` run, where no line may be wider than the block, that
-    /// is so exactly where no kept character of the run takes any. It is false on a block that has failed.
+    /// Whether the open line and the word take no columns. In a `Normal` run, where no line may be wider than the
+    /// block, this holds exactly if no kept character of the run takes any. It is false on a block that has failed.
     pub fn at_line_start(&self) -> bool
         ensures { result ≡ is_none self.now.failure && takes_no_columns W.columns self.now }
     {
         self.failure.is_none() && self.has_no_columns()
     }
 
-    /// Whether no line has ended yet, and open line and word take no columns. It is false on a block that has failed.
+    /// Whether no line has ended yet, and the open line and the word take no columns. It is false on a block that has
+    /// failed.
     pub fn is_empty(&self) -> bool
         ensures { result ≡ is_none self.now.failure
             && (not (any_line W.columns self.now) && takes_no_columns W.columns self.now) }
@@ -122,9 +123,9 @@ impl<T: Eq + Clone, W: CharWidth> WrappedBlock<T, W> {
         self.failure.is_none() && !self.has_begun() && self.has_no_columns()
     }
 
-    /// Whether no line has ended yet, and open line and word hold no character. In a `Normal` run, where no line may be
-    /// wider than the block, these hold none exactly where the run has no kept character. It is false on a block that
-    /// has failed.
+    /// Whether no line has ended yet, and the open line and the word have no character. In a `Normal` run, where no
+    /// line may be wider than the block, they have none exactly if the run has no kept character. It is false on a
+    /// block that has failed.
     pub fn is_blank(&self) -> bool
         ensures { result ≡ is_none self.now.failure
             && (not (any_line W.columns self.now) && has_no_character W.columns self.now) }
@@ -132,7 +133,7 @@ impl<T: Eq + Clone, W: CharWidth> WrappedBlock<T, W> {
         self.failure.is_none() && !self.has_begun() && self.has_no_character()
     }
 
-    /// Whether open line and word take no columns.
+    /// Whether the open line and the word take no columns.
     fn has_no_columns(&self) -> bool
         requires { self.now.failure ≡ None }
         ensures { result ≡ takes_no_columns W.columns self.now }
@@ -140,7 +141,7 @@ impl<T: Eq + Clone, W: CharWidth> WrappedBlock<T, W> {
         self.wrapper.lines.line_width == 0 && self.wrapper.word_width == 0
     }
 
-    /// Whether open line and word hold no character.
+    /// Whether the open line and the word have no character.
     fn has_no_character(&self) -> bool
         requires { self.now.failure ≡ None }
         ensures { result ≡ has_no_character W.columns self.now }
@@ -166,7 +167,7 @@ impl<T: Eq + Clone, W: CharWidth> WrappedBlock<T, W> {
         }
     }
 
-    /// Begins a call with a text of so many bytes.
+    /// Begins a call whose text has `bytes` bytes.
     fn begin_call(&mut self, bytes: usize)
     where
         T: Drop,
@@ -210,13 +211,13 @@ impl<T: Eq + Clone, W: CharWidth> WrappedBlock<T, W> {
         Ok(rest)
     }
 
-    /// The text joins the run, in the given mode. Each character is under a copy of the main tag, or of the wrap tag
-    /// where its hard line goes on after a full line.
+    /// Adds text to the run, in the given mode. Each character is under a copy of the main tag, or of the wrap tag
+    /// where its hard line continues after a full line.
     ///
-    /// A word that ends is placed. `TooNarrow` never comes in two columns or more, nor where lines may be wider. In a
-    /// `Normal` run it comes exactly where a break point of the text ends a word of the run that has a character wider
-    /// than the block. In any other run it comes only where the run has such a character. `OutOfMemory` comes only
-    /// where memory is refused.
+    /// A word that ends is placed. It never answers `TooNarrow` in two columns or more, nor where lines may be wider.
+    /// In a `Normal` run it does exactly where a break point of the text ends a word of the run that has a character
+    /// wider than the block. In any other run it does only where the run has such a character. It answers `OutOfMemory`
+    /// only where memory is refused.
     pub fn add_text(
         &mut self,
         text: &str,
@@ -234,7 +235,7 @@ impl<T: Eq + Clone, W: CharWidth> WrappedBlock<T, W> {
         self.add_whole(text, ws_mode, main_tag, wrap_tag)
     }
 
-    /// Adds a text to the run, as much at once as can be.
+    /// Adds a text to the run, as much of it at once as possible.
     fn add_whole(
         &mut self,
         text: &str,
@@ -257,7 +258,7 @@ impl<T: Eq + Clone, W: CharWidth> WrappedBlock<T, W> {
         Ok(())
     }
 
-    /// The marker joins the current word. It asks for a marker, not for text.
+    /// Adds a marker to the current word. The element must be a marker, not text.
     ///
     /// It refuses only where memory is refused.
     pub fn add_element(&mut self, element: TaggedLineElement<T>) -> Result<(), Error>
@@ -291,8 +292,8 @@ impl<T: Eq + Clone, W: CharWidth> WrappedBlock<T, W> {
         Ok(())
     }
 
-    /// Takes the markers of the current word out of the run, in order, if that word has no character, and else none.
-    /// After a [`flush`](WrappedBlock::flush) these are the markers that are on no ended line.
+    /// Takes the markers of the current word out of the run, in order, if that word has no character. Otherwise it
+    /// takes none. After a [`flush`](WrappedBlock::flush) these are the markers that are on no ended line.
     ///
     /// It refuses only where memory is refused.
     pub fn take_trailing_fragments(&mut self) -> Result<Vec<TaggedLineElement<T>>, Error>
@@ -314,13 +315,13 @@ impl<T: Eq + Clone, W: CharWidth> WrappedBlock<T, W> {
         Ok(markers)
     }
 
-    /// Ends the run. Its last word is placed, and its lines join the ended ones. Markers that are on none of them
-    /// begin the next run; [`take_trailing_fragments`](WrappedBlock::take_trailing_fragments) takes them.
+    /// Ends the run. Its last word is placed, and its lines are added to the ended ones. Markers that are on none of
+    /// them begin the next run; [`take_trailing_fragments`](WrappedBlock::take_trailing_fragments) takes them.
     ///
-    /// `TooNarrow` never comes in two columns or more, nor where lines may be wider. In a `Normal` run it comes exactly
-    /// where a word of the run has a character wider than the block. In any other run it comes only where the run has
-    /// such a character, and always where that is visible. `OutOfMemory` comes only where memory is refused. Where open
-    /// line and word hold no character, no line ends.
+    /// It never answers `TooNarrow` in two columns or more, nor where lines may be wider. In a `Normal` run it does
+    /// exactly where a word of the run has a character wider than the block. In any other run it does only where the
+    /// run has such a character, and always where that is visible. It answers `OutOfMemory` only where memory is
+    /// refused. Where the open line and the word have no character, no line ends.
     pub fn flush(&mut self) -> Result<(), Error>
     where
         T: Drop,
@@ -350,7 +351,7 @@ impl<T: Eq + Clone, W: CharWidth> WrappedBlock<T, W> {
         Ok(())
     }
 
-    /// Hands out the first ended line that isn't handed out yet, if there is one. It flushes nothing.
+    /// Hands out the first ended line that isn't handed out yet, if there is one. It doesn't flush.
     ///
     /// It refuses only where memory is refused, and then the block has failed.
     pub fn next_line(&mut self) -> Result<Option<TaggedLine<T>>, Error>
@@ -432,7 +433,7 @@ impl<T: Eq + Clone, W: CharWidth> WrappedBlock<T, W> {
         self.hand_out()
     }
 
-    /// How many lines have ended and aren't handed out yet. It asks that the block hasn't failed.
+    /// How many lines have ended and aren't handed out yet. The block must not have failed.
     pub fn lines_left(&self) -> usize
         requires { self.now.failure ≡ None }
         ensures { result ≡ length (left W.columns self.now) }
@@ -443,7 +444,7 @@ impl<T: Eq + Clone, W: CharWidth> WrappedBlock<T, W> {
     /// Hands out all ended lines that aren't handed out yet, in the block's one text and without padding. It takes no
     /// memory.
     ///
-    /// It asks that the block hasn't failed, and that open line and word hold no character, as after a
+    /// The block must not have failed, and the open line and the word must have no character, as after a
     /// [`flush`](WrappedBlock::flush).
     pub fn into_ended(self) -> EndedLines<T>
     where

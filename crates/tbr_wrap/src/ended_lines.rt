@@ -16,8 +16,8 @@ use tbr_flat::{FlatText, PlacedItems};
 use tbr_model::CharWidth;
 use tbr_tagged::{OutOfMemory, TaggedLine};
 
-/// Lines that a block has ended, kept in its one text: a line costs a number, and no allocation. A contract sees the
-/// lines that are left, each as its items.
+/// Lines that a block has ended, kept in its one text. A line takes a number, and no allocation of its own. A contract
+/// sees the lines that are left, each as its items.
 #[derive(Drop)]
 pub struct EndedLines<T> {
     flat: FlatText<T>,
@@ -39,7 +39,7 @@ impl<T> Model for EndedLines<T> {
         × AreLines a.lens.items a.flat.placed (cut a.lens.items a.flat.placed) };
 }
 
-/// Each line between `<` and `>` on a line of its own, without its markers.
+/// Shows each line between `<` and `>` on a line of its own, without its markers.
 impl<T> fmt::Display for EndedLines<T> {
     fn fmt<W: fmt::Write>(&self, f: &mut fmt::Formatter<W>) -> fmt::Result {
         self.fmt_between(f, "<", ">\n")
@@ -61,8 +61,7 @@ fn print_items<W: fmt::Write>(
 }
 
 impl<T> EndedLines<T> {
-    /// Prints each line as `Display` does, the first one after a prefix of its own, and each other one after that of the
-    /// others.
+    /// Prints each line as `Display` does, the first after one prefix, and each other line after another.
     pub fn fmt_after<'a, W: fmt::Write>(
         &self,
         f: &mut fmt::Formatter<W>,
@@ -80,8 +79,8 @@ impl<T> EndedLines<T> {
         Ok(())
     }
 
-    /// How many columns each line lacks of a width: none where it is as wide already, or wider. It refuses only where
-    /// memory is refused.
+    /// How many columns each line is narrower than a width: 0 if it isn't narrower. It refuses only where memory is
+    /// refused.
     pub fn missing<W: CharWidth>(
         &self,
         alloc: Global,
@@ -98,7 +97,7 @@ impl<T> EndedLines<T> {
         Ok(missing)
     }
 
-    /// Lines of these lengths, of the first items that are placed.
+    /// Lines of these lengths, made of the first placed items.
     pub(crate) fn new(flat: FlatText<T>, lens: VecDeque<usize>) -> EndedLines<T>
         requires counted { deque_len lens ≡ length lens.items }
         requires held { (lines : List (List (Item T))) × AreLines lens.items flat.placed lines }
@@ -148,8 +147,8 @@ impl<T> EndedLines<T> {
 }
 
 impl<T: Drop> EndedLines<T> {
-    /// Appends the text of each line and a newline to `text`, the first line after a prefix of its own, and each other
-    /// one after that of the others. Where memory is refused, part of them may have been appended.
+    /// Appends the text of each line and a newline to `text`: the first line after one prefix, and each other line
+    /// after another. Where memory is refused, part of them may have been appended.
     pub fn append_after<'a>(
         mut self,
         text: &mut String,
@@ -181,7 +180,7 @@ impl<T: Drop> EndedLines<T> {
         Ok(())
     }
 
-    /// Moves the text of the first line, if one is left, and a newline, to the end of a text. Where memory is refused
+    /// Moves the text of the first line, if one is left, and a newline, to the end of a text. Where memory is refused,
     /// lines may be lost.
     fn append_line(&mut self, text: &mut String) -> Result<(), OutOfMemory>
         ensures { (is : List (Item T)) (rest : List (List (Item T))) → self.old ≡ is ∷ rest →
@@ -200,7 +199,7 @@ impl<T: Drop> EndedLines<T> {
 }
 
 impl<T: Eq + Clone + Drop> EndedLines<T> {
-    /// Moves the first line, if one is left, to the end of another. Where memory is refused that one stays as it was,
+    /// Moves the first line, if one is left, to the end of another. Where memory is refused, that one stays as it was,
     /// and lines may be lost.
     pub fn move_line(&mut self, line: &mut TaggedLine<T>) -> Result<(), OutOfMemory>
         requires { CopiesAreEqual T.is_clone T.eq }
@@ -222,7 +221,7 @@ impl<T: Eq + Clone + Drop> EndedLines<T> {
     }
 }
 
-/// Appends what comes before a line. The empty text does nothing.
+/// Appends the prefix of a line. The empty text changes nothing.
 fn append_prefix(text: &mut String, prefix: &str) -> Result<(), OutOfMemory>
     ensures { OnOk result (chars_of text.new ≡ chars_of text.old ++ chars prefix.now) }
 {

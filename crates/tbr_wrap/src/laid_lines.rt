@@ -1,4 +1,5 @@
-//! Lines that are laid.
+//! Lines that are laid. Calls answer `OutOfMemory` where memory is refused or a size passes `usize`; items may then be
+//! lost.
 ghost use Rattle.std.specs.Prelude.{◌≡◌, ◌≤◌, ◌<◌, ◌+◌, ◌++◌, ◌∷◌, [], ℕ, List, Option, None, Some, true, false, OnOk, IfOk, IfSome, MatchOption, Ok, Err, length, take, drop, chars, Bool};
 ghost use Rattle.std.specs.VecDeque.{deque_len};
 ghost use Rattle.tbr_tagged.specs.Copies.{CopiesAreEqual};
@@ -11,11 +12,10 @@ use tbr_flat::FlatText;
 use tbr_model::CharWidth;
 use tbr_tagged::{Error, OutOfMemory, TaggedLine};
 
-/// How many columns tab stops are apart.
+/// The columns from one tab stop to the next.
 const TAB_STOP: usize = 8;
 
-/// The items of a block that aren't handed out: those of its ended lines, those of the open line, and after them the
-/// word's.
+/// The items of a block that aren't handed out: those of its ended lines, of the open line, and of the word after it.
 #[derive(Drop)]
 pub struct LaidLines<T> {
     /// The columns of a line.
@@ -123,7 +123,7 @@ impl<T: Eq + Clone + Drop> LaidLines<T> {
         self.end_line()
     }
 
-    /// Puts the word's first item, of `width` columns, after those of no width, and ends the line.
+    /// Puts the word's first item, of `width` columns, on the open line after items of no width, and ends the line.
     fn place_wide<W: CharWidth>(&mut self, width: usize) -> Result<(), OutOfMemory>
         requires some { 0 < length self.old.flat.word }
         requires width { width ≡ items_width W.columns (take 1 self.old.flat.word) }
@@ -145,8 +145,8 @@ impl<T: Eq + Clone + Drop> LaidLines<T> {
         Ok(())
     }
 
-    /// Puts the word's first item, of `width` columns, which is wider than a line: after items of no width, on a line
-    /// that is ended at once. Where no line may be wider it answers `TooNarrow` in any case.
+    /// Puts the word's first item, of `width` columns, which is wider than a line, after items of no width on a line
+    /// that is ended at once. Where no line may be wider, it always answers `TooNarrow`.
     fn put_wide<W: CharWidth>(&mut self, width: usize) -> Result<(), Error>
         requires some { 0 < length self.old.flat.word }
         requires width { width ≡ items_width W.columns (take 1 self.old.flat.word) }
@@ -164,8 +164,8 @@ impl<T: Eq + Clone + Drop> LaidLines<T> {
         Ok(())
     }
 
-    /// Puts items that the word begins with on the open line, which has room for the first one: a marker, or characters
-    /// up to a marker, as many as fit.
+    /// Puts the word's first items on the open line, which has room for the first one. They are a marker, or the
+    /// characters up to a marker, as many as fit.
     fn place_front<W: CharWidth>(&mut self) -> Result<(), OutOfMemory>
         requires some { 0 < length self.old.flat.word }
         requires room { self.old.line_width + items_width W.columns (take 1 self.old.flat.word) ≤ self.old.width }
@@ -183,8 +183,8 @@ impl<T: Eq + Clone + Drop> LaidLines<T> {
         Ok(())
     }
 
-    /// Puts items that the word begins with on the open line, or on a fresh one where the first, of `width` columns,
-    /// doesn't fit. Where no line may be wider, and the first item is, it answers `TooNarrow` in any case.
+    /// Puts the word's first items on the open line, or on a new one if the first, of `width` columns, doesn't fit.
+    /// Where no line may be wider, and the first item is, it always answers `TooNarrow`.
     fn put_front<W: CharWidth>(&mut self, width: usize) -> Result<(), Error>
         requires some { 0 < length self.old.flat.word }
         requires width { width ≡ items_width W.columns (take 1 self.old.flat.word) }
@@ -203,8 +203,8 @@ impl<T: Eq + Clone + Drop> LaidLines<T> {
         Ok(())
     }
 
-    /// Puts the items of a word, line by line. Where no line may be wider, and the word's first item is, it answers
-    /// `TooNarrow` in any case: no memory is asked for before that.
+    /// Puts the items of a word, line by line. Where no line may be wider, and the word's first item is, it always
+    /// answers `TooNarrow`, since it takes no memory before that.
     pub fn put_word<W: CharWidth>(&mut self) -> Result<(), Error>
         ensures put { (js : List (Item T)) → SameItems T.eq self.old.flat.word js →
             LinesFollow W.columns T.eq self.old self.new result (λ r. put_items W.columns self.old.width r js) }
@@ -294,7 +294,7 @@ impl<T: Eq + Clone + Drop> LaidLines<T> {
         Ok(())
     }
 
-    /// Takes `count` spaces, which are placed after the open line, onto it, and ends it if they fill it.
+    /// Adds `count` spaces, which are placed after the open line, to that line, and ends it if they fill it.
     fn take_spaces(&mut self, count: usize) -> Result<(), OutOfMemory>
         requires some { 0 < count }
         requires room { self.old.line_width + count ≤ self.old.width }
@@ -362,7 +362,7 @@ impl<T: Eq + Clone + Drop> LaidLines<T> {
         self.end_line()
     }
 
-    /// Takes away the spaces at the open line's end, and the white space at the word's beginning.
+    /// Removes the spaces at the open line's end, and the white space at the word's beginning.
     pub fn trim(&mut self)
         requires lays { (columns : ℕ → Option ℕ) × (before : List (List (Item T))) × (given : List (List (Item T)))
             × (r : Laid T) × (columns 32 ≡ Some 1) × HoldsRule columns T.eq self.old before given r }

@@ -19,8 +19,9 @@ ghost use Rattle.tbr_wrap.specs.Block.{Block, new_block, settings_of, lines, all
 ghost use Rattle.tbr_wrap.specs.Wrapped.{ShowsText, WordsFit, EndedWordsFit, padding_of};
 ghost use Rattle.tbr_wrap.specs.Runs.{IsNormal, CharactersFit, VisibleFit, AreLastOf, EndsRun, is_some_list, text_entries};
 
-/// The lines that are handed out one by one, and then those that are left, are in order those that were left before;
-/// and the run stays. So the lines of `next_line`, and then those of `into_lines`, are what `into_lines` alone gives.
+/// The lines that are handed out one by one, and then those that are left, are in order the lines that were left
+/// before. The run stays as it was. So the lines of `next_line`, and then those of `into_lines`, are what `into_lines`
+/// alone gives.
 pub fn lines_are_handed_out_in_order<T>()
     ensures lines { (columns : ℕ → Option ℕ) (n : ℕ) (s : Block T) →
         take n (left columns s) ++ left columns (lines_handed_out n s) ≡ left columns s }
@@ -28,8 +29,8 @@ pub fn lines_are_handed_out_in_order<T>()
     ensures settings { (n : ℕ) (s : Block T) → settings_of (lines_handed_out n s) ≡ settings_of s }
 {}
 
-/// Lines that a run ends, under way or where it is flushed, come after those that are left. Where open line and word
-/// hold no character a flush ends none, and a marker never does.
+/// Lines that a text or a flush ends are added after those that are left. A flush ends none where the open line and the
+/// word have no character, and a marker never ends one.
 pub fn lines_join_after_those_left<T>()
     ensures text { (columns : ℕ → Option ℕ) (s t : Block T) (cs : List ℕ) (a b : T) (mode : WhiteSpace) →
         IsSound columns s → after_text columns cs a b mode s ≡ done t → (more : List (List (Item T)))
@@ -43,8 +44,8 @@ pub fn lines_join_after_those_left<T>()
         lines columns t ≡ lines columns s }
 {}
 
-/// Whatever calls come, a block has at least one column, and its ended lines are no wider than it allows. Only such
-/// lines are handed out.
+/// After any calls a block has at least one column, and its ended lines are no wider than it allows. Only such lines
+/// are handed out.
 pub fn blocks_stay_sound<T>()
     ensures new { (columns : ℕ → Option ℕ) (width : ℕ) (may_overflow : Bool) (padding : Option T) → 0 < width →
         IsSound columns (new_block width may_overflow padding) }
@@ -60,8 +61,8 @@ pub fn blocks_stay_sound<T>()
         after_line columns s ≡ done t → IsSound columns t }
 {}
 
-/// A flush leaves nothing open: open line and word hold no character, and take no columns. The run that begins is the
-/// markers that wait, which are loose, and nothing is open where these are taken out.
+/// A flush leaves nothing open: the open line and the word have no character, and take no columns. The next run has
+/// just the markers that wait, which are loose. If these are taken out, nothing is open.
 pub fn flushes_leave_nothing_open<T>()
     ensures character { (columns : ℕ → Option ℕ) (s t : Block T) → after_flush columns s ≡ done t →
         has_no_character columns t ≡ true }
@@ -75,15 +76,15 @@ pub fn flushes_leave_nothing_open<T>()
         after_taking columns t ≡ done u → has_no_character columns u ≡ true }
 {}
 
-/// A flush leaves of a run the lines and the markers that `EndsRun` promises, field by field.
+/// A flush leaves the lines and the markers of a run that `EndsRun` promises, field by field.
 pub fn runs_end_as_promised<T>()
     ensures { (columns : ℕ → Option ℕ) → columns 32 ≡ Some 1 → (s t : Block T) → 0 < s.width →
         after_flush columns s ≡ done t → EndsRun columns s.width s.may_overflow (run_of s.events) (all_lines columns s)
         (waiting_names columns s) }
 {}
 
-/// In a `Normal` run where no line may be wider than the block, the kept characters decide what is open. In any run
-/// a visible character that takes columns has ended a line, or is open.
+/// In a `Normal` run where no line may be wider than the block, the kept characters decide what is open. In any run,
+/// after a visible character that takes columns, a line has ended or something is open.
 pub fn runs_decide_what_is_open<T>()
     ensures normal { (columns : ℕ → Option ℕ) → columns 32 ≡ Some 1 → (s : Block T) → IsSound columns s →
         WrapsNormally s → RunDecides columns s }
@@ -104,8 +105,7 @@ pub fn loose_markers_are_last<T>()
         WrapsNormally s → loose columns s ≡ names_in_items (trailing columns (run_of s.events)) }
 {}
 
-/// A marker changes no line and no column. It is loose where no other character is in its word, and so where none is
-/// open.
+/// A marker changes no line and no column. It is loose where no character is in its word, and so where none is open.
 pub fn markers_join_the_word<T>()
     ensures columns { (columns : ℕ → Option ℕ) (s t : Block T) (name : List ℕ) → after_marker name s ≡ done t →
         takes_no_columns columns t ≡ takes_no_columns columns s }
@@ -117,8 +117,9 @@ pub fn markers_join_the_word<T>()
         has_no_character columns s ≡ true → loose columns t ≡ loose columns s ++ name ∷ [] }
 {}
 
-/// A text is too narrow only where no line may be wider than the block, and a character of the run is. In a `Normal`
-/// run it is so exactly where that character is in a word that a break point has ended. In two columns it never is.
+/// Adding a text answers `TooNarrow` only where no line may be wider than the block, and a character of the run is. In
+/// a `Normal` run it does exactly where that character is in a word that a break point has ended. In two columns it
+/// never does.
 pub fn texts_are_too_narrow_for_characters<T>()
     ensures fits { (columns : ℕ → Option ℕ) → columns 32 ≡ Some 1 → (s t : Block T) (cs : List ℕ) (a b : T)
         (mode : WhiteSpace) → 0 < s.width → after_text columns cs a b mode s ≡ done t → s.may_overflow ≡ false →
@@ -136,8 +137,9 @@ pub fn texts_are_too_narrow_for_characters<T>()
         ¬ (after_text columns cs a b mode s ≡ refused E.TooNarrow) }
 {}
 
-/// A flush is too narrow only where no line may be wider than the block, and a character of the run is. It always is
-/// where such a character is visible, and in a `Normal` run exactly where one is in a word. In two columns it never is.
+/// A flush answers `TooNarrow` only where no line may be wider than the block, and a character of the run is. It always
+/// does where such a character is visible, and in a `Normal` run exactly where one is in a word. In two columns it
+/// never does.
 pub fn flushes_are_too_narrow_for_characters<T>()
     ensures fits { (columns : ℕ → Option ℕ) → columns 32 ≡ Some 1 → (s t : Block T) → 0 < s.width →
         after_flush columns s ≡ done t → s.may_overflow ≡ false → IsNormal (run_of s.events) →
@@ -179,7 +181,7 @@ pub fn too_narrow_is_no_legal_layout<T>()
 {}
 
 /// The lines of a `Normal` run, and then what waits, have its kept characters and its markers, in order, each character
-/// under its own tag. That holds too in a word under two tags, in one that is cut, and where lines may be wider.
+/// under its own tag. This also holds in a word under two tags, in one that is cut, and where lines may be wider.
 pub fn words_keep_their_tags<T>()
     ensures { (columns : ℕ → Option ℕ) (s : Block T) → IsNormal (run_of s.events) →
         without_spaces (joined (all_lines columns s)) ++ waiting columns s.width (progress_of columns s)

@@ -1,4 +1,4 @@
-//! Characters that join a word where they are, and words of them.
+//! Plain characters, which can be added to a word or a line many at once.
 ghost use Rattle.std.specs.Prelude.{◌≡◌, ◌≤◌, ◌<◌, ◌+◌, ◌∷◌, ℕ, List, length, take, drop, IfSome, Some, false, fold, nat_lt};
 ghost use Rattle.std.specs.Str.{IsAscii};
 ghost use Rattle.tbr_model.specs.Width.{width_of_text};
@@ -8,10 +8,11 @@ ghost use Rattle.tbr_wrap.specs.Plain.{JoinWord, IsStretch, AreWords, reads};
 use tbr_model::CharWidth;
 use tbr_tagged::is_wordbreak_point;
 
-/// How many bytes of plain characters a text begins with that fit into `room` columns, and the columns that these take.
+/// The plain characters at the beginning of a text that fit into `room` columns: how many bytes they are, and their
+/// columns.
 ///
-/// A plain character is printable ASCII that has a width; the space is one only if `spaced`. The one after these isn't
-/// plain, or doesn't fit.
+/// A plain character is printable ASCII that has a width; the space is one only if `spaced` is set. The character after
+/// these isn't plain, or doesn't fit.
 pub fn plain_in_front<W: CharWidth>(text: &str, spaced: bool, room: usize) -> (usize, usize)
     ensures within { result.0 ≤ length text.now }
     ensures ascii { IsAscii (take result.0 text.now) }
@@ -45,7 +46,8 @@ pub struct Stretch {
     pub columns: usize,
 }
 
-/// The characters that a text begins with at which no word ends, as many as fit into `room` columns. Each has a width.
+/// The characters at the beginning of a text at which no word ends, as many as fit into `room` columns. Each has a
+/// width.
 pub fn letters_in_front<W: CharWidth>(text: &str, room: usize) -> Stretch
     ensures letters { IsStretch W.columns false text.now result }
     ensures room { result.columns ≤ room }
@@ -99,7 +101,7 @@ pub fn words_in_front<W: CharWidth>(text: &str, room: usize) -> usize
     end
 }
 
-/// Where the narrow characters end that begin at a place, up to another place.
+/// Where the narrow characters that begin at a place end, at most at another place.
 fn word_end<W: CharWidth>(bytes: &[u8], start: usize, most: usize) -> usize
     requires { (start ≤ most) × (most ≤ length bytes.now) }
     ensures within { (start ≤ result) × (result ≤ most) }
@@ -123,7 +125,7 @@ fn is_narrow<W: CharWidth>(byte: u8) -> bool
     }
 }
 
-/// The columns of a plain character, among which the space is one only if `spaced`.
+/// The columns of a plain character. The space is one only if `spaced` is set.
 fn stretch_width<W: CharWidth>(byte: u8, spaced: bool) -> Option<usize>
     ensures { result ≡ plain.stretch_width W.columns spaced byte }
 {

@@ -1,4 +1,4 @@
-//! What happens to the runs of a block, which only contracts read.
+//! What happens to the runs of a block, for contracts alone to read.
 ghost use Rattle.std.specs.Prelude.{◌≡◌, ◌++◌, ◌∷◌, [], length, chars};
 ghost use Rattle.tbr_wrap.specs.Story.{text_changes};
 
@@ -15,9 +15,9 @@ pub enum RunChange {
     Marker(String),
     /// The markers of the current word are taken out of it.
     Taken,
-    /// It ends.
+    /// The run ends.
     Ended,
-    /// The first line that isn't handed out is.
+    /// The first line that wasn't handed out is handed out.
     HandedOut,
 }
 
@@ -46,7 +46,7 @@ pub fn note_text<T>(
     }
 }
 
-/// The history with one more marker, whose name is given back. A marker has no tag: this one fills the place.
+/// The history with one more marker, and the marker's name. A marker has no tag, so `tag` only fills the place.
 pub fn with_marker<T>(changes: &RunHistory<T>, name: String, tag: &T) -> (RunHistory<T>, String)
     ensures changes { result.0.items ≡ changes.now.items ++ (RunChange.Marker name, tag.now, tag.now) ∷ [] }
     ensures name { result.1 ≡ name }

@@ -1,14 +1,15 @@
-//! Lays the characters of a run on lines, one after another.
+//! Lays the characters of a run on lines, one after another. A call answers `TooNarrow` where a word that it lays has a
+//! character wider than a line, and lines may not be wider. It answers `OutOfMemory` as `LaidLines` does.
 //!
 //! Its stages, in the words of its functions:
-//! - The beginning of a text is *added* as much at once as can be: words, a stretch of characters, or one
+//! - The beginning of a text is *added*, as much at once as possible: words, a stretch of characters, or one
 //!   (`add_front`).
-//! - A character *joins* the word (`join`), or a stretch of them does at which no word ends (`add_stretch`). White
-//!   space that doesn't join is pending before it (`collapse`, `keep_space`).
-//! - The word is *laid* where it ends: here, after what is pending, if both fit the open line (`lay_here`), and else
-//!   afresh, after what is left of that (`wrap_space`, `lay_fresh`).
-//! - Words that a text begins with, and that fit the open line, are laid there at once (`add_words`). Where
-//!   the first one doesn't fit, and a fresh line has room for all, they are moved to it (`move_words`).
+//! - A character *joins* the word (`join`), or a stretch of characters at which no word ends does (`add_stretch`).
+//!   White space that doesn't join is pending before the word (`collapse`, `keep_space`).
+//! - The word is *laid* where it ends. If it fits the open line after what is pending, it is laid here (`lay_here`).
+//!   Otherwise it is laid afresh, after what is left of the space (`wrap_space`, `lay_fresh`).
+//! - Words at the beginning of a text that fit the open line are laid there at once (`add_words`). If the first one
+//!   doesn't fit, and a new line has room for all, they are moved to it (`move_words`).
 //! - What fits the open line is *placed* on it (`place_pending`, `place_word`). What may not fit is *put* on it and the
 //!   next ones (`put_pending`, `put_fresh`, `put_tab`).
 //! - Ended lines are *taken*, the first one first ([`LaidLines::take_line`]).
@@ -37,7 +38,7 @@ use tbr_tagged::{Error, OutOfMemory, TaggedLineElement, always_takes_space, is_w
 /// U+200B, at which a word may end without a space.
 const ZERO_WIDTH_SPACE: char = '\u{200b}';
 
-/// For so many lines at most a call makes room ahead of time.
+/// The most lines for which a call makes room ahead of time.
 const MOST_AHEAD: usize = 32;
 
 /// White space that waits for a word.
@@ -114,7 +115,7 @@ impl<T: Eq + Clone + Drop> Wrapper<T> {
     ghost use Rattle.tbr_wrap.specs.Runs.{text_entries};
     ghost use Rattle.tbr_wrap.specs.Wrapper.{IsAtProgress, IsUnderWay, Wherever, WrapperFollows, RefusesWider, Enters, RunIsFinished, SameSpace, KeepsTag, DropsSpace, AreMoved, held_width, join_all};
 
-    /// The tag that a call's characters come under where no continuation begins.
+    /// The tag of a call's characters where no continuation begins.
     fn call_tag<'a>(&self, main_tag: &'a T, wrap_tag: &'a T) -> &'a T
         ensures { (columns : ℕ → Option ℕ) → Wherever columns T.eq self.now (λ p.
             T.eq result.now (model.tag_of p main_tag.now wrap_tag.now) ≡ true) }
@@ -143,7 +144,7 @@ impl<T: Eq + Clone + Drop> Wrapper<T> {
         }
     }
 
-    /// Puts the pending space on the open line, which has room, and on the next ones.
+    /// Puts the pending space on the open line, which has room, and on lines after it.
     fn put_pending<W: CharWidth>(&mut self) -> Result<(), OutOfMemory>
         requires faithful { CopiesAreEqual T.is_clone T.eq }
         requires room { self.old.lines.line_width < self.old.lines.width }
@@ -172,7 +173,7 @@ impl<T: Eq + Clone + Drop> Wrapper<T> {
         Ok(())
     }
 
-    /// Does with the pending space what its mode asks for where the word after it doesn't fit.
+    /// Does with the pending space what its mode asks for, if the word after it doesn't fit.
     fn wrap_space<W: CharWidth>(&mut self) -> Result<(), OutOfMemory>
         requires faithful { CopiesAreEqual T.is_clone T.eq }
         requires stands { IsUnderWay W.columns T.eq self.old }
@@ -190,7 +191,7 @@ impl<T: Eq + Clone + Drop> Wrapper<T> {
         }
     }
 
-    /// Takes the room of the open line from the pending space, or writes it where it is less.
+    /// Shortens the pending space by the room of the open line. If the space is shorter than that, it is written there.
     fn shorten_space<W: CharWidth>(&mut self, space: Space<T>) -> Result<(), OutOfMemory>
         requires faithful { CopiesAreEqual T.is_clone T.eq }
         requires taken { self.old.space ≡ None }
@@ -218,7 +219,7 @@ impl<T: Eq + Clone + Drop> Wrapper<T> {
         Ok(())
     }
 
-    /// Takes away the spaces at the open line's end, and the white space at the word's beginning.
+    /// Removes the spaces at the open line's end, and the white space at the word's beginning.
     fn trim_word<W: CharWidth>(&mut self) -> Result<(), OutOfMemory>
         requires taken { self.old.space ≡ None }
         requires stands { IsUnderWay W.columns T.eq self.old }
@@ -233,8 +234,8 @@ impl<T: Eq + Clone + Drop> Wrapper<T> {
         Ok(())
     }
 
-    /// Puts the word, before which nothing is pending, on the open line and the next ones. Where no line may be wider,
-    /// and the word's first item is, it answers `TooNarrow` in any case. What calls it may have asked for memory before.
+    /// Puts the word, before which nothing is pending, on the open line and on lines after it. Where no line may be
+    /// wider, and the word's first item is, it always answers `TooNarrow`. Its callers may take memory before that.
     fn put_fresh<W: CharWidth>(&mut self) -> Result<(), Error>
         ensures put { WrapperFollows W.columns T.eq self.old self.new result (λ p.
             record p { laid = put_items W.columns self.old.lines.width p.laid p.word; word = [] }) }
@@ -252,7 +253,7 @@ impl<T: Eq + Clone + Drop> Wrapper<T> {
         self.lines.put_word::<W>()
     }
 
-    /// Puts the word on a fresh line, after what is still pending. A word that has lost its characters stays.
+    /// Puts the word on a new line, after what is still pending. A word that has lost its characters stays.
     fn lay_fresh<W: CharWidth>(&mut self) -> Result<(), Error>
         requires faithful { CopiesAreEqual T.is_clone T.eq }
         requires stands { IsUnderWay W.columns T.eq self.old }
@@ -271,7 +272,7 @@ impl<T: Eq + Clone + Drop> Wrapper<T> {
         Ok(())
     }
 
-    /// Lays the word: after the pending space if both fit the open line, and else on a fresh one.
+    /// Lays the word: after the pending space if both fit the open line, and otherwise on a new one.
     fn lay<W: CharWidth>(&mut self) -> Result<(), Error>
         requires faithful { CopiesAreEqual T.is_clone T.eq }
         requires stands { IsUnderWay W.columns T.eq self.old }
@@ -382,7 +383,7 @@ impl<T: Eq + Clone + Drop> Wrapper<T> {
         Ok(())
     }
 
-    /// Begins a call with a text of so many bytes. It has the continuation tag where the flag is on.
+    /// Begins a call whose text has `bytes` bytes. It has the continuation tag if the flag is on.
     pub fn begin_call(&mut self, bytes: usize)
         ensures begun { (columns : ℕ → Option ℕ) (before given : List (List (Item T))) (p : Progress T) →
             IsAtProgress columns T.eq self.old before given p →
@@ -443,7 +444,7 @@ impl<T: Eq + Clone + Drop> Wrapper<T> {
         self.lines.put_tab(0, tag)
     }
 
-    /// Keeps white space: it waits for a word, or joins the word's characters.
+    /// Keeps white space, which waits for a word, or joins the word's characters.
     fn keep_space(
         &mut self,
         c: char,
@@ -491,7 +492,8 @@ impl<T: Eq + Clone + Drop> Wrapper<T> {
         }
     }
 
-    /// Keeps a character that takes space. In `Pre` the continuation tag begins where a line is passed.
+    /// Keeps a character that takes space. In `Pre` the continuation tag begins where the character doesn't fit the
+    /// line.
     fn keep_character(
         &mut self,
         c: char,
@@ -609,7 +611,7 @@ impl<T: Eq + Clone + Drop> Wrapper<T> {
         }
     }
 
-    /// The columns that the open line has left after the pending space and the word. None where these pass it.
+    /// The columns that the open line has left after the pending space and the word. `None` where these don't fit it.
     fn room(&self) -> Option<usize>
         ensures { IfSome result (λ room. self.now.lines.line_width + (held_width self.now.space + (self.now.word_width
             + room)) ≡ self.now.lines.width) }
@@ -622,7 +624,7 @@ impl<T: Eq + Clone + Drop> Wrapper<T> {
         Some(room - self.word_width - pending)
     }
 
-    /// How many columns may join the word without a change of the tag. None where no character may.
+    /// How many columns of characters may join the word without a change of the tag. `None` where no character may.
     fn room_under_tag(&self, mode: WhiteSpace) -> Option<usize>
         ensures { IfSome result (λ room. KeepsTag self.now mode room) }
     {
@@ -632,9 +634,9 @@ impl<T: Eq + Clone + Drop> Wrapper<T> {
         self.room()
     }
 
-    /// The characters that a text begins with and that join the word under the tag of this call. They are as many plain
-    /// ones as there are, and where there are none, as many of any script. In `Pre` the spaces after a character of the
-    /// word are plain. None where there are none.
+    /// The characters at the beginning of a text that join the word under the tag of this call. They are plain ones, or
+    /// if there are none, characters of any script, as many as there are. In `Pre` the spaces after a character of the
+    /// word are plain. `None` where there are none.
     fn fitting_stretch<W: CharWidth>(&self, text: &str, mode: WhiteSpace) -> Option<Stretch>
         ensures some { IfSome result (λ s. 0 < s.count) }
         ensures stretch { IfSome result (λ s.
@@ -684,8 +686,8 @@ impl<T: Eq + Clone + Drop> Wrapper<T> {
         self.join_text(text, count, width, tag, mode)
     }
 
-    /// How many bytes the first words of a text take, each with the space after it, as many as go on the open line at
-    /// once.
+    /// How many bytes the first words of a text take, each with the space after it. They are as many as fit the open
+    /// line.
     fn fitting_words<W: CharWidth>(&self, text: &str, mode: WhiteSpace) -> usize
         ensures within { result ≤ length text.now }
         ensures mode { 0 < result → mode ≡ Normal }
@@ -756,7 +758,7 @@ impl<T: Eq + Clone + Drop> Wrapper<T> {
         Ok(())
     }
 
-    /// Whether white space that is pending is dropped where the word after it doesn't fit.
+    /// Whether pending white space is dropped if the word after it doesn't fit.
     fn drops_space(&self) -> bool
         ensures { IsTrue result ↔ DropsSpace self.now.space }
     {
@@ -767,7 +769,7 @@ impl<T: Eq + Clone + Drop> Wrapper<T> {
     }
 
     /// How many bytes the first words of a text take, each with the space after it. The first one doesn't fit the open
-    /// line, and a fresh one has room for all.
+    /// line, and a new line has room for all.
     fn moved_words<W: CharWidth>(&self, text: &str, mode: WhiteSpace) -> usize
         ensures within { result ≤ length text.now }
         ensures mode { 0 < result → mode ≡ Normal }
@@ -787,7 +789,7 @@ impl<T: Eq + Clone + Drop> Wrapper<T> {
         words_in_front::<W>(text, self.lines.width - self.word_width)
     }
 
-    /// Adds words, each with a space after it, to a fresh line. The last space waits, and that before them is dropped.
+    /// Adds words, each with a space after it, to a new line. The last space waits, and the one before them is dropped.
     fn move_words<W: CharWidth>(
         &mut self,
         text: &str,
@@ -808,9 +810,9 @@ impl<T: Eq + Clone + Drop> Wrapper<T> {
         self.add_words::<W>(text, main_tag, wrap_tag)
     }
 
-    /// Adds the beginning of a text to a run, and answers how many bytes and characters that is. It adds the words that
-    /// the text begins with, where they go on the open line or on a fresh one at once. Else it adds the characters that
-    /// join the word under the tag of this call, and else the first character.
+    /// Adds the beginning of a text to a run, and answers how many bytes and characters that is. It adds the first
+    /// words, if they fit the open line or a new one. Otherwise it adds the characters that join the word under the tag
+    /// of this call, or else the first character.
     pub fn add_front<W: CharWidth>(
         &mut self,
         text: &str,

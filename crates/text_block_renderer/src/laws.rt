@@ -1,4 +1,4 @@
-//! What follows from the steps alone, each as the contract of a function that does nothing.
+//! The laws of lists of calls, each as the contract of a function that does nothing.
 pub mod appended;
 pub mod columns;
 pub mod headline;
@@ -39,8 +39,8 @@ pub fn a_call_changes_its_own_settings_alone<D, A>()
         Does columns decoration call r s → settings_of s ≡ settings_of (settled decoration call r) }
 {}
 
-/// Renderers are sound, as the laws ask: new ones and those for a block inside have columns, and no call, row or
-/// footnote takes these.
+/// All renderers are sound, as the laws ask: new ones and those for a block inside have columns, and no call, row or
+/// footnote changes that.
 pub fn renderers_stay_sound<D, A>()
     ensures new { (columns : ℕ → Option ℕ) → columns 32 ≡ Some 1 → (width : ℕ) (options : RenderOptions)
         (decorator : D) → 0 < width → options.wrap_width ≢ Some 0 →
@@ -55,9 +55,9 @@ pub fn renderers_stay_sound<D, A>()
         IsSound columns s }
 {}
 
-/// After any calls the visible characters of what they brought are in the lines of text, but for those of the open run.
-/// They are there once and in order, each under an annotation of its call. Borders that became text by padding are left
-/// out. To a new renderer nothing was brought.
+/// After any calls the visible characters that they brought are in the lines of text, except those of the open run.
+/// They are there once and in order, each under an annotation of its call. Borders that became text by padding aren't
+/// counted. To a new renderer nothing was brought.
 pub fn visible_characters_stand_once<D, A>()
     ensures calls { (columns : ℕ → Option ℕ) (decoration : Decoration D A) (calls : List (Call (List A)))
         (r s : Renderer D A (List A)) (borders : List (List Cell)) (before es : List (Entry (List A))) →
@@ -74,10 +74,10 @@ pub fn visible_characters_stand_once<D, A>()
         Brings columns decoration calls r es s → Shows columns r before → Shows columns s (before ++ es) }
 {}
 
-/// After any calls what they brought is in the lines of text, or is a marker that waits, but for the open run. The
+/// After any calls what they brought, except the open run, is in the lines of text, or is a marker that waits. The
 /// visible characters and the markers are there once and in order, and in `Normal` so are all kept characters. No
 /// marker waits that has a visible character after it. To a new renderer nothing was brought. Borders that became text
-/// by padding are left out.
+/// by padding aren't counted.
 pub fn what_was_brought_stands<D, A>()
     ensures calls { (columns : ℕ → Option ℕ) (decoration : Decoration D A) (calls : List (Call (List A)))
         (r s : Renderer D A (List A)) (borders : List (List Cell)) (before es : List (Entry (List A))) →
@@ -96,17 +96,17 @@ pub fn what_was_brought_stands<D, A>()
         Stands columns (new_renderer {D = D} {A = A} width options decorator) [] }
 {}
 
-/// What a flush puts into lines, and which markers wait after it. These come, in the run or before it, after the last
-/// visible character of the run, and in a `Normal` run after the last kept one. The kept characters and the markers of
-/// a `Normal` run come in order after all that was in lines or waited. Where it may not overflow, just its trailing
-/// markers wait.
+/// What a flush puts into lines, and which markers wait after it. These are after the last visible character of the
+/// run, and in a `Normal` run after the last kept one. Markers that waited before count as the first of the run. The
+/// kept characters and the markers of a `Normal` run are in order after all that was in lines or waited. Where it may
+/// not overflow, only its trailing markers wait.
 pub fn what_a_flush_makes_stand<D, A>()
     ensures { (columns : ℕ → Option ℕ) (r s : Renderer D A (List A)) → IsSound columns r →
         after_flush columns r ≡ done s → FlushStands columns (open_run r.block) r s }
 {}
 
-/// Markers that wait begin the next line of text, whatever calls come, and until then they wait. A border that became
-/// text by padding is no such line.
+/// After any calls the markers that wait begin the next line of text, and until then they wait. A border that became
+/// text by padding doesn't count as such a line.
 pub fn waiting_markers_begin_the_next_text<D, A>()
     ensures calls { (columns : ℕ → Option ℕ) (decoration : Decoration D A) (calls : List (Call (List A)))
         (r s : Renderer D A (List A)) → Steps columns decoration calls r s →
@@ -124,8 +124,8 @@ pub fn a_run_is_one_stretch<D, A>()
         after_flush columns r ≡ done q → Steps columns decoration calls q s → StandsAsStretch columns r b s.lines }
 {}
 
-/// Whatever calls come, the run of an open block goes on, or it ends as one stretch of the lines. The stretch also has
-/// the first of the entries that came, and comes after all lines that there were.
+/// After any calls the run of an open block is still open, or it has ended as one stretch of the lines. The stretch
+/// also has the first of the entries that were added, and comes after all lines that there were.
 pub fn each_open_run_ends_as_one_stretch<D, A>()
     ensures { (columns : ℕ → Option ℕ) (decoration : Decoration D A) (calls : List (Call (List A)))
         (r s : Renderer D A (List A)) (b : Open (List A)) (es : List (Entry (List A))) → IsSound columns r →
@@ -134,8 +134,8 @@ pub fn each_open_run_ends_as_one_stretch<D, A>()
 {}
 
 /// The lines that calls add are the stretches of the runs that they end, the texts that they lay, such as empty lines,
-/// and their borders. What the calls brought are these runs and the entries of these texts, one after another, and
-/// then the run that is open. Calls that append nothing add stretches and empty lines alone.
+/// and their borders. What the calls brought is these runs and the entries of these texts, one after another, and then
+/// the run that is open. Calls that append nothing add only stretches and empty lines.
 pub fn lines_are_stretches_laid_texts_and_borders<D, A>()
     ensures calls { (columns : ℕ → Option ℕ) (decoration : Decoration D A) (calls : List (Call (List A)))
         (r s : Renderer D A (List A)) (es : List (Entry (List A))) → IsSound columns r →

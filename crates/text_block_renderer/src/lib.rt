@@ -1,5 +1,5 @@
-//! Renderers of blocks of text, and what holds of every list of calls. It re-exports what a caller of renderers names
-//! of the crates below: renderers and stacks, decorators, lines, borders and blocks. Their laws stay there.
+//! Renderers of blocks of text, and the laws of every list of calls. It re-exports what a caller of renderers needs
+//! from the crates below: renderers and stacks, decorators, lines, borders and blocks. Their laws stay there.
 #![tactic(auto)]
 
 pub use tbr_annotations::{Annotations, written_out};

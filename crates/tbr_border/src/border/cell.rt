@@ -39,7 +39,7 @@ pub(crate) enum Side {
 }
 
 impl BorderSegHoriz {
-    /// Takes away the arm to the left. If a single arm is left, its opposite is added. It takes no memory.
+    /// Removes the arm to the left. If a single arm is left, its opposite is added. It takes no memory.
     pub fn chop_left(&mut self)
         ensures { model.cell_of self.new ≡ model.chopped_left (model.cell_of self.old) }
     {
@@ -54,7 +54,7 @@ impl BorderSegHoriz {
         };
     }
 
-    /// Takes away the arm to the right. If a single arm is left, its opposite is added. It takes no memory.
+    /// Removes the arm to the right. If a single arm is left, its opposite is added. It takes no memory.
     pub fn chop_right(&mut self)
         ensures { model.cell_of self.new ≡ model.chopped_right (model.cell_of self.old) }
     {
@@ -69,7 +69,7 @@ impl BorderSegHoriz {
         };
     }
 
-    /// Adds the arm to a side.
+    /// Adds the arm on a side.
     pub(crate) fn join(&mut self, side: Side)
         ensures { model.cell_of self.new ≡ model.joined (model.side_of side) (model.cell_of self.old) }
     {

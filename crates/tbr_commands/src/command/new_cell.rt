@@ -20,8 +20,8 @@ pub struct NewCell {
 }
 
 impl NewCell {
-    /// The cell that a width, a span and perhaps an alignment are, with exactly one space between two of them. `None`
-    /// where they are no cell.
+    /// The cell of a width, a span and perhaps an alignment, written with exactly one space between two of them. `None`
+    /// where the text isn't written so.
     pub fn parse(writing: &str) -> Option<NewCell>
         ensures { option_map (λ c. asked.cell c.width c.span c.align) result ≡ cell_of (words_of writing.now) }
     {

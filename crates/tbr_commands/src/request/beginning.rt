@@ -46,7 +46,7 @@ impl Beginning {
         }
     }
 
-    /// Asks a renderer for it, which hasn't failed. It refuses as the renderer's call does.
+    /// Asks a renderer that hasn't failed for it. It refuses as the renderer's call does.
     pub fn call<D: TextDecorator, W: CharWidth>(
         self,
         renderer: &mut SubRenderer<D, W>,

@@ -6,7 +6,7 @@ use crate::spaces::split_at_space;
 use tbr_decor::Colour;
 use tbr_script::parse_byte;
 
-/// The colour that three numbers are, with exactly one space between two, if they are one.
+/// The colour of three numbers, with exactly one space between two. `None` where the text isn't written so.
 pub fn colour(writing: &str) -> Option<Colour>
     ensures { result ≡ colour_read writing.now }
 {

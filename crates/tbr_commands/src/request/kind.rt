@@ -37,7 +37,7 @@ impl Kind {
     /// Asks a renderer to end it. The renderer must not have failed. A preformatted stretch must be open, and so must a
     /// strikeout with strokes.
     ///
-    /// It refuses as the renderer's call does, and never where that takes no memory.
+    /// It refuses as the renderer's call does, and never where that can't refuse.
     pub fn end<D: TextDecorator, W: CharWidth>(
         self,
         renderer: &mut SubRenderer<D, W>,

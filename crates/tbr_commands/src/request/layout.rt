@@ -27,8 +27,8 @@ pub enum Layout {
 }
 
 impl Layout {
-    /// Asks a renderer for it, which hasn't failed. It refuses as the renderer's call does, and the end of a block
-    /// never.
+    /// Asks a renderer that hasn't failed for it. It refuses as the renderer's call does, which the end of a block
+    /// never does.
     pub fn call<D: TextDecorator, W: CharWidth>(
         self,
         renderer: &mut SubRenderer<D, W>,

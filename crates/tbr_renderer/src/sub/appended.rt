@@ -57,7 +57,7 @@ impl<D: TextDecorator, W: CharWidth> SubRenderer<D, W> {
         text.insert_front_str(prefix, tag)
     }
 
-    /// Adds each line after its prefix, as long as there are both.
+    /// Adds each line after its prefix, until lines or prefixes run out.
     fn add_prefixed<P: AsStr + Drop, I: Iterator<Item = P>>(
         &mut self,
         lines: KeptLines<Annotations<D::Annotation>>,
@@ -81,14 +81,14 @@ impl<D: TextDecorator, W: CharWidth> SubRenderer<D, W> {
         self.add_each_after(lines.into_vec()?, given)
     }
 
-    /// Whether lines that are kept come as they are: neither padded, nor after markers that wait.
+    /// Whether kept lines are added as they are: lines aren't padded, and no marker waits.
     fn keeps_as_is(&self) -> bool
         ensures { result ≡ true → (self.now.options.pad_block_width ≡ false) × (self.now.waiting ≡ []) }
     {
         !self.options.pad_block_width && self.waiting.is_empty()
     }
 
-    /// Adds lines as they are kept, the first one after its own prefix, and each other one after that of the others.
+    /// Adds lines as they are kept, the first after one prefix, and each other line after another.
     fn append_after(
         &mut self,
         lines: KeptLines<Annotations<D::Annotation>>,
@@ -121,7 +121,7 @@ impl<D: TextDecorator, W: CharWidth> SubRenderer<D, W> {
         self.lines.append_prefixed(lines, first, others, tag)
     }
 
-    /// Adds each line as text after its prefix, as long as there are both.
+    /// Adds each line as text after its prefix, until lines or prefixes run out.
     fn add_each_after<P: AsStr + Drop>(
         &mut self,
         lines: Vec<RenderLine<Annotations<D::Annotation>>>,
@@ -252,7 +252,7 @@ impl<D: TextDecorator, W: CharWidth> SubRenderer<D, W> {
     }
 }
 
-/// What an iterator gives when it is asked so many times, or until it has no more.
+/// What an iterator gives when it is asked `count` times, or until it has no more.
 fn first_given<P: Drop, I: Iterator<Item = P>>(
     alloc: Global,
     mut prefixes: I,
@@ -280,7 +280,7 @@ fn next_of<P: Drop, I: Iterator<Item = P>>(prefixes: &mut I) -> Option<P>
     prefixes.next()
 }
 
-/// The first text, and the one that all others are, if they are alike.
+/// The first text, and the one that all the others are, if these are equal.
 fn first_and_others<P: AsStr>(given: &[P]) -> Option<(&str, &str)>
     ensures { IfSome result (λ r. AreAlike (chars r.0.now) (chars r.1.now) (texts_of P.text given.now)) }
 {

@@ -14,7 +14,7 @@ use tbr_annotations::Annotations;
 use tbr_decor::TextDecorator;
 use tbr_lines::{CharWidth, EndedLines, Error, OutOfMemory, TaggedLine, WrappedBlock};
 
-/// A block with at least so many lines keeps them in its one text, which takes less memory than each by itself.
+/// A block with at least this many lines keeps them in its one text, which takes less memory than lines by themselves.
 const MANY: usize = 4;
 
 impl<D: TextDecorator, W: CharWidth> SubRenderer<D, W> {
@@ -39,7 +39,7 @@ impl<D: TextDecorator, W: CharWidth> SubRenderer<D, W> {
         Ok(())
     }
 
-    /// Adds lines that a block has ended as they are. Where memory is refused lines are lost.
+    /// Adds lines that a block has ended as they are. Where memory is refused, lines are lost.
     fn push_ended(
         &mut self,
         ended: EndedLines<Annotations<D::Annotation>>,
@@ -51,7 +51,7 @@ impl<D: TextDecorator, W: CharWidth> SubRenderer<D, W> {
         self.lines.push_ended(ended)
     }
 
-    /// Whether a block's lines come as they are: neither padded, nor after markers that wait.
+    /// Whether a block's lines are added as they are: they aren't padded, and no marker waits.
     fn adds_as_is(&self, block: &WrappedBlock<Annotations<D::Annotation>, W>) -> bool
         ensures { result ≡ true → AddsAsIs self.now block.now }
     {
@@ -108,7 +108,7 @@ impl<D: TextDecorator, W: CharWidth> SubRenderer<D, W> {
         Ok(())
     }
 
-    /// Adds an empty line. Text that comes after it begins no block.
+    /// Adds an empty line. Text after it begins no block.
     fn put_empty_line(&mut self) -> Result<(), OutOfMemory>
         requires { self.old.failure ≡ None }
         ensures line { OnOk result (self.new ≡ with_empty_line W.columns self.old) }

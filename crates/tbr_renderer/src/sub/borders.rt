@@ -1,4 +1,4 @@
-//! Borders, and what becomes of them where lines are padded.
+//! Borders, and how they become text where lines are padded.
 ghost use Rattle.std.specs.Prelude.{◌≡◌, ◌≢◌, ◌≤◌, None, Err, OnOk, IfOk};
 ghost use Rattle.tbr_border.specs.Cell.{cell_of};
 ghost use Rattle.tbr_tagged.specs.declared.Error.TheVariants as E;
@@ -13,7 +13,7 @@ use tbr_decor::TextDecorator;
 use tbr_lines::{BorderHoriz, BorderSegHoriz, CharWidth, Error, OutOfMemory, RenderLine};
 
 impl<D: TextDecorator, W: CharWidth> SubRenderer<D, W> {
-    /// Adds a border, as text where lines are padded. Where memory is refused it is lost.
+    /// Adds a border, as text where lines are padded. Where memory is refused, it is lost.
     pub(crate) fn add_border(
         &mut self,
         border: BorderHoriz<Annotations<D::Annotation>>,

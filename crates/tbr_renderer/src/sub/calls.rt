@@ -35,7 +35,7 @@ impl<D: TextDecorator, W: CharWidth> SubRenderer<D, W> {
         Ok(())
     }
 
-    /// Takes the mode that was pushed last.
+    /// Removes the mode that was pushed last.
     fn pop_mode(&mut self)
         ensures { self.new ≡ record self.old { modes = without_last self.old.modes } }
     {
@@ -60,7 +60,7 @@ impl<D: TextDecorator, W: CharWidth> SubRenderer<D, W> {
         }
     }
 
-    /// Replaces the annotations of text that comes.
+    /// Replaces the annotations of later text.
     fn set_annotations(&mut self, annotations: Annotations<D::Annotation>)
         ensures { self.new
             ≡ record self.old { annotations = annotations } }

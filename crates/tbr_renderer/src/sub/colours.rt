@@ -37,7 +37,7 @@ impl<D: TextDecorator, W: CharWidth> SubRenderer<D, W> {
         }
     }
 
-    /// Adds the annotation of a colour, if it has one, to those of text that comes.
+    /// Adds the annotation of a colour, if it has one, to those of later text.
     pub(crate) fn try_push_colour(&mut self, ground: Ground, colour: Colour) -> Result<(), Error>
         ensures ok { OnOk result (self.new
             ≡ coloured (decoration_of D.TextDecorator D.Annotation.tells) (ground_of ground) colour self.old) }
@@ -50,7 +50,7 @@ impl<D: TextDecorator, W: CharWidth> SubRenderer<D, W> {
         Ok(())
     }
 
-    /// Whether the decorator says that the end of a colour takes an annotation.
+    /// Whether the decorator says that the end of a colour removes an annotation.
     fn ask_to_end_colour(&mut self, ground: Ground) -> bool
         ensures taken { result ≡ D.ends_colour self.old.decorator (ground_of ground) }
         ensures asked { self.new
@@ -62,7 +62,7 @@ impl<D: TextDecorator, W: CharWidth> SubRenderer<D, W> {
         }
     }
 
-    /// Takes the last annotation where the decorator says that the end of a colour does.
+    /// Removes the last annotation, if the decorator says that the end of a colour does so.
     pub(crate) fn take_colour(&mut self, ground: Ground)
         ensures { self.new
             ≡ uncoloured (decoration_of D.TextDecorator D.Annotation.tells) (ground_of ground) self.old }

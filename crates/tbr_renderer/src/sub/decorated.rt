@@ -82,7 +82,7 @@ impl<D: TextDecorator, W: CharWidth> SubRenderer<D, W> {
         }
     }
 
-    /// Adds an annotation to those of text that comes.
+    /// Adds an annotation to those of later text.
     pub(crate) fn push_annotation(&mut self, annotation: D::Annotation) -> Result<(), OutOfMemory>
         ensures ok { OnOk result
             (self.new ≡ with_annotation self.old (D.Annotation.meaning annotation)) }
@@ -93,14 +93,14 @@ impl<D: TextDecorator, W: CharWidth> SubRenderer<D, W> {
         self.annotations.push(self.alloc, annotation)
     }
 
-    /// Takes the last annotation, if there is one.
+    /// Removes the last annotation, if there is one.
     pub(crate) fn pop_annotation(&mut self)
         ensures { self.new ≡ without_annotation self.old }
     {
         self.annotations.pop();
     }
 
-    /// Adds the annotation of what is opened to those of text that comes. The decorator's text is for the caller to
+    /// Adds the annotation of what is opened to those of later text. It answers the decorator's text, for the caller to
     /// add.
     fn annotate(&mut self, start: Start) -> Result<String, OutOfMemory>
         ensures text { IfOk result (λ text. chars_of text ≡ D.start_text self.old.decorator (start_of start.entry)) }
@@ -137,7 +137,7 @@ impl<D: TextDecorator, W: CharWidth> SubRenderer<D, W> {
         self.keep(done)
     }
 
-    /// Adds the decorator's text for what is closed, and then takes the last annotation.
+    /// Adds the decorator's text for what is closed, and then removes the last annotation.
     pub(crate) fn try_close(&mut self, end: End) -> Result<(), Error>
         requires { self.old.failure ≡ None }
         ensures tries { let decoration = decoration_of D.TextDecorator D.Annotation.tells in

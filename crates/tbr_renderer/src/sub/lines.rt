@@ -27,11 +27,11 @@ use tbr_lines::{CharWidth, Error, OutOfMemory, RenderLine};
 use tbr_tags::Tag;
 
 impl<D: TextDecorator, W: CharWidth> SubRenderer<D, W> {
-    /// Ends the open line, and hands out all lines. Their pieces are the longest stretches under equal annotations.
-    /// There are none where nothing is in the renderer.
+    /// Ends the open line, and hands out all lines. Their pieces are the longest stretches under equal annotations. An
+    /// empty renderer has no lines.
     ///
-    /// It refuses as `new_line` does. The list takes memory for each line, and each piece for its annotations: where
-    /// many are open, [`into_shared_lines`](SubRenderer::into_shared_lines) takes little.
+    /// It refuses as `new_line` does. The list takes memory for each line, and for the annotations of each piece. Where
+    /// many are open, [`into_shared_lines`](SubRenderer::into_shared_lines) takes less.
     pub fn into_lines(self) -> Result<LinkedList<RenderLine<Vec<D::Annotation>>>, Error>
         ensures lines { IfOk result (λ lines. handed_out W.columns self
             ≡ done (map (map_line (vector_meant D.Annotation.meaning)) (map line_seen lines))) }
@@ -46,8 +46,8 @@ impl<D: TextDecorator, W: CharWidth> SubRenderer<D, W> {
         Ok(all_written_out(alloc, lines)?)
     }
 
-    /// Ends the open line, and hands out all lines under lists of annotations that share what they have in common. Their
-    /// pieces are the longest stretches under equal ones. `written_out` gives such a line vectors.
+    /// Ends the open line, and hands out all lines under lists of annotations that share what they have in common.
+    /// Their pieces are the longest stretches under equal ones. `written_out` gives such a line vectors.
     ///
     /// It refuses as `new_line` does.
     pub fn into_shared_lines(self) -> Result<Vec<RenderLine<Annotations<D::Annotation>>>, Error>
@@ -100,7 +100,7 @@ impl<D: TextDecorator, W: CharWidth> SubRenderer<D, W> {
     }
 }
 
-/// The same lines in a list, each list of annotations as a vector.
+/// These lines in a linked list, with each list of annotations as a vector.
 fn all_written_out<A: Tag>(
     alloc: Global,
     lines: Vec<RenderLine<Annotations<A>>>,

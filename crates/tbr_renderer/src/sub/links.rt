@@ -1,4 +1,4 @@
-//! The targets of links, which are after a document.
+//! The targets of links, listed after a document.
 ghost use Rattle.std.specs.Prelude.{◌≡◌, ◌≢◌, None, Some, Err, map, IfOk, IfErr, OnOk, OnErr};
 ghost use Rattle.std.specs.List.{AllByRecursion as Each};
 ghost use Rattle.tbr_annotations.specs.Annotations.{same_annotations};
@@ -21,11 +21,11 @@ use tbr_footnotes::FootnoteLines;
 use tbr_lines::{CharWidth, Error, OutOfMemory, TaggedLine};
 
 impl<D: TextDecorator, W: CharWidth> SubRenderer<D, W> {
-    /// The lines that the decorator makes of the targets of links in their order. Without footnotes it is asked for no
-    /// target. The targets are dropped.
+    /// The lines that the decorator makes of the targets of links, in their order. Without footnotes it is given no
+    /// targets. The targets are dropped.
     ///
-    /// The only refusal of its own is `OutOfMemory`, after which the renderer has failed. One that had failed answers
-    /// its refusal.
+    /// The only refusal of its own is `OutOfMemory`, after which the renderer has failed. A renderer that had failed
+    /// answers the refusal that it keeps.
     pub fn finalise(&mut self, links: Vec<String>) -> Result<Vec<TaggedLine<D::Annotation>>, Error>
         ensures lines { IfOk result (λ lines. lines_meant D.Annotation.meaning lines.items
             ≡ D.footnotes self.old.decorator (listed self.old.options (map chars_of links.items))) }
@@ -68,13 +68,12 @@ impl<D: TextDecorator, W: CharWidth> SubRenderer<D, W> {
     }
 
     /// Adds footnotes after the lines. Their markers are dropped, newlines become spaces, and each piece is under the
-    /// list of its one annotation. Where links are wrapped, a line ends before each character that passes the
-    /// renderer's width after what the line holds, even an empty line. Each footnote begins a line, and an empty one is
-    /// an empty line. The lines come after the markers that wait, and are filled where lines are padded. The open run
-    /// stays open.
+    /// list of its one annotation. Where links are wrapped, a line ends before each character with which it would pass
+    /// the renderer's width, even if the line is empty. Each footnote begins a line, and an empty one is an empty line.
+    /// Markers that wait come before the lines. Lines are filled where lines are padded. The open run stays open.
     ///
-    /// The only refusal of its own is `OutOfMemory`, which comes too where the columns of a line pass `usize`. The
-    /// renderer has then failed. One that had failed answers its refusal.
+    /// The only refusal of its own is `OutOfMemory`, where memory is refused or the columns of a line pass `usize`. The
+    /// renderer has then failed. A renderer that had failed answers the refusal that it keeps.
     pub fn fmt_links(&mut self, links: Vec<TaggedLine<D::Annotation>>) -> Result<(), Error>
         ensures ok { OnOk result (self.new
             ≡ with_footnotes W.columns self.old (lines_meant D.Annotation.meaning links.items)) }

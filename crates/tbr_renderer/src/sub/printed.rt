@@ -4,8 +4,8 @@ use std::fmt;
 use tbr_decor::TextDecorator;
 use tbr_lines::CharWidth;
 
-/// Its columns, and then each of its lines on a line of its own: a text between `<` and `>`, a border between `[` and
-/// `]`. Text of the open block is not among them; where one is open that is said last.
+/// Shows its columns, and then each of its lines on a line of its own: a text between `<` and `>`, a border between `[`
+/// and `]`. Text of an open block isn't shown; the last line says that one is open.
 impl<D: TextDecorator, W: CharWidth> fmt::Display for SubRenderer<D, W> {
     fn fmt<F: fmt::Write>(&self, f: &mut fmt::Formatter<F>) -> fmt::Result {
         writeln!(f, "{} columns", self.width)?;
@@ -17,7 +17,7 @@ impl<D: TextDecorator, W: CharWidth> fmt::Display for SubRenderer<D, W> {
     }
 }
 
-/// Its columns, lines, annotations, modes and kept refusal.
+/// Shows its columns, lines, annotations, modes and kept refusal.
 impl<D: TextDecorator, W: CharWidth> fmt::Debug for SubRenderer<D, W> {
     fn fmt<F: fmt::Write>(&self, f: &mut fmt::Formatter<F>) -> fmt::Result {
         f.debug_struct("SubRenderer")

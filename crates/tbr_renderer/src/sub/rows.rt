@@ -30,9 +30,9 @@ use tbr_rows::{Columns, Overhang, Row, RowStyle};
 
 impl<D: TextDecorator, W: CharWidth> SubRenderer<D, W> {
     /// Whether a row of these renderers, each with the rows that it spans, has a place for each cell that overhangs
-    /// from the rows before. That is the place of a renderer of the same width in which nothing is, or one after all of
-    /// them. It takes no memory, and doesn't look at a failure of its own. One of `cols` that has failed gives its
-    /// place to none.
+    /// from the rows before. That is the place of a renderer of the same width without lines and characters, or one
+    /// after all of them. It takes no memory, and a failure of this renderer changes nothing. One of `cols` that has
+    /// failed gives its place to no cell.
     pub fn row_fits(&self, cols: &Vec<(SubRenderer<D, W>, usize)>) -> bool
         ensures { result ≡ row_fits self.now.hanging (model.spots_of W.columns cols.now.items) }
     {
@@ -43,15 +43,15 @@ impl<D: TextDecorator, W: CharWidth> SubRenderer<D, W> {
         fitting.fits()
     }
 
-    /// Whether cells overhang from the rows before. It takes no memory, and doesn't look at a failure.
+    /// Whether cells overhang from the rows before. It takes no memory, and a failure changes nothing.
     pub fn has_overhang(&self) -> bool
         ensures { result ≡ not (length self.now.hanging == 0) }
     {
         !self.hanging.is_empty()
     }
 
-    /// Whether a cell that overhangs has lines which no row has shown. They are lost where no row comes any more. It
-    /// takes no memory, and doesn't look at a failure.
+    /// Whether a cell that overhangs has lines that no row has shown. They are lost if no more row is added. It takes
+    /// no memory, and a failure changes nothing.
     pub fn has_overhanging_lines(&self) -> bool
         ensures { result ≡ list_any has_lines self.now.hanging }
     {
@@ -173,7 +173,7 @@ impl<D: TextDecorator, W: CharWidth> SubRenderer<D, W> {
         self.lines.take_border()
     }
 
-    /// Adds a row that is laid out. Where memory is refused it is lost.
+    /// Adds a row that is laid out. Where memory is refused, it is lost.
     fn put_row(&mut self, row: Row<Annotations<D::Annotation>>) -> Result<(), OutOfMemory>
         requires unfailed { self.old.failure ≡ None }
         requires merged { Each (IsMerged (same_annotations D.Annotation.same)) row.lines.items }

@@ -12,7 +12,7 @@ use tbr_decor::TextDecorator;
 use tbr_lines::{CharWidth, Error};
 
 impl<D: TextDecorator, W: CharWidth> SubRenderer<D, W> {
-    /// Text that comes has one stroke more, if the options ask for strokes.
+    /// Gives later text one stroke more, if the options ask for strokes.
     fn strike(&mut self) -> Result<(), Error>
         ensures ok { OnOk result (self.new ≡ struck_from self.old) }
         ensures memory { IfErr result (λ e. e ≡ E.OutOfMemory) }
@@ -28,7 +28,7 @@ impl<D: TextDecorator, W: CharWidth> SubRenderer<D, W> {
         Ok(())
     }
 
-    /// Text that comes has one stroke less, if the options ask for strokes.
+    /// Gives later text one stroke less, if the options ask for strokes.
     fn end_strike(&mut self)
         requires { self.old.options.use_unicode_strikeout ≡ true → 0 < self.old.strikeouts }
         ensures ended { self.new ≡ struck_until self.old }
@@ -47,7 +47,7 @@ impl<D: TextDecorator, W: CharWidth> SubRenderer<D, W> {
         self.strikeouts = depth;
     }
 
-    /// Opens a strikeout, after whose own text characters have strokes.
+    /// Opens a strikeout. Characters after the decorator's text have strokes.
     pub(crate) fn try_start_strikeout(&mut self) -> Result<(), Error>
         requires { self.old.failure ≡ None }
         ensures tries { let decoration = decoration_of D.TextDecorator D.Annotation.tells in
@@ -59,7 +59,7 @@ impl<D: TextDecorator, W: CharWidth> SubRenderer<D, W> {
         self.strike()
     }
 
-    /// Closes a strikeout, whose own text has no strokes of it. Where that is refused, the strikeout stays open.
+    /// Closes a strikeout. The decorator's text has no strokes of it. Where that is refused, the strikeout stays open.
     pub(crate) fn try_end_strikeout(&mut self) -> Result<(), Error>
         requires unfailed { self.old.failure ≡ None }
         requires open { self.old.options.use_unicode_strikeout ≡ true → 0 < self.old.strikeouts }

@@ -39,7 +39,7 @@ impl<D: TextDecorator, W: CharWidth> SubRenderer<D, W> {
         }
     }
 
-    /// The annotations of text that comes.
+    /// The annotations of later text.
     pub(crate) fn tag(&self) -> Result<Annotations<D::Annotation>, OutOfMemory>
         ensures { IfOk result (λ tag. tag ≡ self.now.annotations) }
     {
@@ -79,7 +79,7 @@ impl<D: TextDecorator, W: CharWidth> SubRenderer<D, W> {
         }
     }
 
-    /// The annotations, and one more.
+    /// The annotations and one more.
     fn tag_with(&self, annotation: D::Annotation) -> Result<Annotations<D::Annotation>, OutOfMemory>
         ensures { IfOk result (λ tag. tag
             ≡ self.now.annotations ++ D.Annotation.meaning annotation ∷ []) }
@@ -173,7 +173,7 @@ impl<D: TextDecorator, W: CharWidth> SubRenderer<D, W> {
         self.block_ended && !self.mode().preserve_whitespace() && is_white_text(text)
     }
 
-    /// Whether text that comes begins a block.
+    /// Whether the next text begins a block.
     fn has_block_ended(&self) -> bool
         ensures { result ≡ self.now.block_ended }
     {
@@ -192,7 +192,7 @@ impl<D: TextDecorator, W: CharWidth> SubRenderer<D, W> {
         self.add_to_block(text)
     }
 
-    /// Adds text: to the open block or a new one, or after the end of a block to one that it begins.
+    /// Adds text to the open block, or to a new one. After the end of a block it begins one.
     pub(crate) fn try_add_text(&mut self, text: &str) -> Result<(), Error>
         requires { self.old.failure ≡ None }
         ensures tries { Tries
@@ -225,7 +225,7 @@ impl<D: TextDecorator, W: CharWidth> SubRenderer<D, W> {
     }
 }
 
-/// Whether a text is of white space alone.
+/// Whether a text is white space alone.
 fn is_white_text(text: &str) -> bool
     ensures { result ≡ is_white (chars text.now) }
 {

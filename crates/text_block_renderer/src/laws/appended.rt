@@ -1,4 +1,4 @@
-//! What follows for the lines of other renderers, and for borders.
+//! The laws of lines of other renderers, and of borders.
 ghost use Rattle.std.specs.Prelude.{◌≡◌, ◌≤◌, ℕ, true, false, Option, Some, List, [], ◌∷◌, ◌++◌, map, flat_map, length};
 ghost use Rattle.std.specs.List.{AllZip, AllByRecursion as Each, slice_get, zip};
 ghost use Rattle.tbr_model.specs.Run.{Entry, Item};
@@ -33,8 +33,8 @@ pub fn nested_blocks_are_their_prefixes_and_lines<T, D, A>()
         HandOn columns decoration levels inside lines → lines ≡ nested levels inside }
 {}
 
-/// Lines that are appended come after those that there are and after the open run: the first after the markers that
-/// wait, and each padded.
+/// Lines that are appended come after those that there are and after the open run. The first comes after the markers
+/// that wait, and each is padded.
 pub fn appended_lines_come_after_the_others<D, A>()
     ensures { (columns : ℕ → Option ℕ) (decoration : Decoration D A) (prefixes : List (List ℕ))
         (lines : List (Line (List A))) (r s : Renderer D A (List A)) →
@@ -43,8 +43,8 @@ pub fn appended_lines_come_after_the_others<D, A>()
         × (s.lines ≡ m.lines ++ lines_laid columns m (prefixed r.annotations prefixes lines)) }
 {}
 
-/// The visible characters of lines that are appended come after those of the prefixes, line by line and in order. Where
-/// there are as many prefixes as lines none is lost, and where prefixes are spaces there are no others.
+/// The visible characters of lines that are appended come after those of the prefixes, line by line and in order. If
+/// there are as many prefixes as lines, none is lost. If prefixes are spaces, there are no others.
 pub fn appended_characters_stand<D, A>()
     ensures prefixed { (columns : ℕ → Option ℕ) (decoration : Decoration D A) (prefixes : List (List ℕ))
         (lines : List (Line (List A))) (r s : Renderer D A (List A)) →
@@ -77,7 +77,7 @@ pub fn a_vertical_row_is_its_cells_and_borders<D, A>()
 {}
 
 /// The lines that a renderer hands out have the visible characters of all that was brought to it, once and in order.
-/// Borders that became text by padding are left out.
+/// Borders that became text by padding aren't counted.
 pub fn handed_out_lines_have_all_characters<D, A>()
     ensures lines { (columns : ℕ → Option ℕ) (r : Renderer D A (List A)) (borders : List (List Cell))
         (es : List (Entry (List A))) (lines : List (Line (List A))) → IsSound columns r →
@@ -89,11 +89,11 @@ pub fn handed_out_lines_have_all_characters<D, A>()
         AllZip (IsShown (λ a b. a ≡ b)) (visible_glyphs columns (text_of_lines lines)) (visible_entries columns es) }
 {}
 
-/// Renderers take lines from one another, after as many prefixes or as cells, among any calls and rows, and hand out
-/// their own, to any depth. The rows that a cell spans all come, or nothing overhangs in the end. Then the visible
+/// Suppose that renderers take lines from one another, to any depth, as cells or after as many prefixes, among any
+/// calls and rows. All the rows that a cell spans are added, or nothing overhangs in the end. Then the visible
 /// characters and the markers of the first lines are in the last, in order, also those in front of borders. So are
-/// those of all that was brought to a renderer that handed out the first. Of these only markers after the last visible
-/// character may be missing.
+/// those of all that was brought to the renderer that handed out the first lines. Of these only markers after the last
+/// visible character may be missing.
 pub fn nothing_visible_is_lost_to_any_depth<D, A>()
     ensures lines { (columns : ℕ → Option ℕ) (decoration : Decoration D A) (depth : ℕ)
         (inside outside : List (Line (List A))) → AreTakenIn columns decoration depth inside outside →

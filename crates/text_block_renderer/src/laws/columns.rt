@@ -1,4 +1,4 @@
-//! What follows for characters without columns, as control characters are.
+//! The laws of characters without columns, such as control characters.
 ghost use Rattle.std.specs.Prelude.{◌≡◌, ◌↔◌, ℕ, true, Option, None, List};
 ghost use Rattle.std.specs.Char.{is_control};
 ghost use Rattle.std.specs.List.{AllByRecursion as Each};
@@ -16,8 +16,9 @@ ghost use Rattle.tbr_renderer.specs.Calls.{Call, Steps};
 ghost use Rattle.text_block_renderer.specs.Acts.{Act, after_act};
 ghost use Rattle.text_block_renderer.specs.Columns.{LinesHaveColumns, CallHasColumns, ActHasColumns, RendererHasColumns};
 
-/// Each character of the lines that a renderer hands out has columns, after any calls, rows and footnotes. Texts, images
-/// and markers may have any characters. Those of prefixes, footnotes and lines of other renderers have to have columns.
+/// Each character of the lines that a renderer hands out has columns, after any calls, rows and footnotes. Texts,
+/// images and markers may have any characters. Those of prefixes, footnotes and lines of other renderers must have
+/// columns.
 pub fn characters_have_columns<D, A>()
     ensures new { (columns : ℕ → Option ℕ) (width : ℕ) (options : RenderOptions) (decorator : D) →
         RendererHasColumns columns (new_renderer {D = D} {A = A} width options decorator) }
@@ -40,7 +41,7 @@ pub fn characters_have_columns<D, A>()
         handed_out columns s ≡ done lines → LinesHaveColumns columns lines }
 {}
 
-/// By `unicode_columns` a control character has no columns, and any other character has.
+/// By `unicode_columns` exactly the control characters have no columns, not even 0.
 pub fn control_characters_have_no_columns()
     ensures { (c : ℕ) → (unicode_columns c ≡ None) ↔ (is_control c ≡ true) }
 {}

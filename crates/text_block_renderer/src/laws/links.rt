@@ -1,4 +1,4 @@
-//! What follows for the links of a stack.
+//! The laws of the links of a stack.
 ghost use Rattle.std.specs.Prelude.{◌≡◌, ℕ, ◌+◌, Option, Some, List, [], ◌∷◌, ◌++◌, length};
 ghost use Rattle.std.specs.List.{slice_get};
 ghost use Rattle.tbr_tagged.specs.Outcome.{done};
@@ -9,9 +9,9 @@ ghost use Rattle.tbr_stack.specs.Stack.{Stack, new_stack};
 ghost use Rattle.tbr_stack.specs.Links.{first_open, open_links, after_link_start, after_link_end};
 ghost use Rattle.tbr_stack.specs.StackCalls.{StackCall, targets_of, IsNextToEnd, IsNextNumber, StackSteps, after_end_as};
 
-/// A link that ends brings its own number: the place of its target, from 1. It does so whatever calls come in between,
-/// and however deep links and renderers are in one another. In a stack that began as a new one, a link that is open in
-/// the top is one that these calls started.
+/// A link that ends adds its own number: the place of its target, counted from 1. This holds whatever calls are in
+/// between, and however deeply links and renderers are nested. In a stack that began as a new one, a link that is open
+/// in the top is one that these calls started.
 pub fn a_link_ends_with_its_own_number<D, A>()
     ensures number { (columns : ℕ → Option ℕ) (decoration : Decoration D A) (target : List ℕ)
         (calls : List StackCall) (s m t : Stack (Renderer D A (List A))) →
@@ -24,8 +24,8 @@ pub fn a_link_ends_with_its_own_number<D, A>()
         IsNextNumber calls k }
 {}
 
-/// No call takes a target away or moves one: those of the links that start come after the others. So the default
-/// footnotes have a link's target on the line of its number.
+/// No call removes or moves a target: those of links that start later come after the others. So the default footnotes
+/// have a link's target on the line of its number.
 pub fn a_target_stands_at_the_number_of_its_link<D, A>()
     ensures targets { (columns : ℕ → Option ℕ) (decoration : Decoration D A) (calls : List StackCall)
         (s t : Stack (Renderer D A (List A))) → StackSteps columns decoration calls s t →

@@ -1,4 +1,4 @@
-//! What follows for rows of cells side by side.
+//! The laws of rows of cells side by side.
 ghost use Rattle.std.specs.Prelude.{◌≡◌, ◌↔◌, ℕ, Bool, false, Option, List, [], ◌++◌};
 ghost use Rattle.tbr_model.specs.Run.{Entry, Item};
 ghost use Rattle.std.specs.Cmp.Lexicographic.{pointwise};
@@ -14,8 +14,7 @@ ghost use Rattle.text_block_renderer.specs.Acts.{Act, after_act, acts_come};
 ghost use Rattle.text_block_renderer.specs.Taken.{IsWrittenSoFar};
 ghost use Rattle.text_block_renderer.specs.MarkersStand.{Stands, WaitForTextUnderRows};
 
-/// A row is what it means: what is computed of it is the one state that it may leave, where annotations can be told
-/// apart.
+/// Where annotations can be told apart, a row leaves exactly the state that is computed from what it means.
 pub fn a_row_is_computed<D, A>()
     ensures { (same : List A → List A → Bool) → TellsApart same → (columns : ℕ → Option ℕ) (collapses : Bool)
         (cells : List (GivenCell (List A))) (r s : Renderer D A (List A)) →
@@ -37,9 +36,9 @@ pub fn a_row_changes_no_settings<D, A>()
         after_row (pointwise decoration.same) columns collapses cells r ≡ done s → settings_of s ≡ settings_of r }
 {}
 
-/// After any calls, rows and footnotes the visible characters of what they brought are in the lines of text, but for
-/// those of the open run. They are there once and in order, each under an annotation of its call, where lines aren't
-/// padded. A row brings the texts of its lines. Footnotes come before the run that is open.
+/// Where lines aren't padded, after any calls, rows and footnotes the visible characters that they brought are in the
+/// lines of text, except those of the open run. They are there once and in order, each under an annotation of its call.
+/// A row brings the texts of its lines. Footnotes come before the run that is open.
 pub fn visible_characters_stand_once_with_rows_too<D, A>()
     ensures { (columns : ℕ → Option ℕ) (decoration : Decoration D A) (acts : List (Act A))
         (r s : Renderer D A (List A)) (ended : List (Entry (List A))) → IsSound columns r →
@@ -48,8 +47,8 @@ pub fn visible_characters_stand_once_with_rows_too<D, A>()
         Shows columns r before → Shows columns s (acts_come columns decoration acts r before) }
 {}
 
-/// And what calls, rows and footnotes brought is in the lines of text, or is a marker that waits, as
-/// [`what_was_brought_stands`] says it of calls, where lines aren't padded.
+/// Where lines aren't padded, what calls, rows and footnotes brought is in the lines of text, or is a marker that
+/// waits, as [`what_was_brought_stands`] says for calls.
 ///
 /// [`what_was_brought_stands`]: super::what_was_brought_stands
 pub fn what_was_brought_stands_with_rows_too<D, A>()
@@ -59,9 +58,9 @@ pub fn what_was_brought_stands_with_rows_too<D, A>()
         Stands columns r before → Stands columns s (acts_come columns decoration acts r before) }
 {}
 
-/// Where lines are padded too, what came is in the lines, with others between: its visible characters and its markers,
-/// once and in order, but for the open run and the markers that wait. A border that became text by padding is among the
-/// others.
+/// Even where lines are padded, the visible characters and markers that were brought are in the lines, once and in
+/// order, except the open run and waiting markers. Others may be between them, among these borders that became text by
+/// padding.
 pub fn what_was_brought_is_written<D, A>()
     ensures acts { (columns : ℕ → Option ℕ) (decoration : Decoration D A) (acts : List (Act A))
         (r s : Renderer D A (List A)) (before : List (Entry (List A))) → IsSound columns r →
@@ -71,8 +70,8 @@ pub fn what_was_brought_is_written<D, A>()
         IsWrittenSoFar columns (new_renderer {A = A} width options decorator) [] }
 {}
 
-/// Markers that wait begin the next line of text, by a call, a row or a footnote, and until then they wait, where lines
-/// aren't padded.
+/// Where lines aren't padded, markers that wait begin the next line of text, by a call, a row or a footnote. Until then
+/// they wait.
 pub fn waiting_markers_begin_the_next_text_with_rows_too<D, A>()
     ensures { (columns : ℕ → Option ℕ) (decoration : Decoration D A) (acts : List (Act A))
         (r s : Renderer D A (List A)) → IsSound columns r → r.options.pad_block_width ≡ false →
