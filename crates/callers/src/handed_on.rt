@@ -6,9 +6,10 @@ ghost use Rattle.tbr_wrap.specs.Block.{after_taking, grown, loose};
 ghost use Rattle.tbr_tagged.specs.Outcome.{done};
 
 use tbr_lines::{CharWidth, Error, WrappedBlock};
+use tbr_tags::Tag;
 
 /// Hands the markers that wait in a block on to another one, in order.
-pub fn hand_on<T: Eq + Clone + Drop, W: CharWidth>(
+pub fn hand_on<T: Tag, W: CharWidth>(
     block: &mut WrappedBlock<T, W>,
     other: &mut WrappedBlock<T, W>,
 ) -> Result<(), Error>

@@ -1,20 +1,12 @@
-//! Two texts, each under a tag of its own.
+//! A text under two tags.
 use std::alloc::Global;
 use tbr_lines::{Error, WhiteSpace, WrappedBlock};
 
-/// Who says a text.
-#[derive(Clone, Copy, PartialEq, Eq)]
-pub enum Voice {
-    First,
-    Second,
-}
-
-/// The lines of two texts, each with a newline.
+/// The lines of a text under two characters as tags, each with a newline.
 pub fn under_two_tags(alloc: Global) -> Result<String, Error> {
-    let (first, second) = (Voice::First, Voice::Second);
-    let mut block: WrappedBlock<Voice> = WrappedBlock::new(alloc, 20, false, false, first);
-    block.add_text("Words under a ", WhiteSpace::Normal, &first, &first)?;
-    block.add_text("second tag.", WhiteSpace::Normal, &second, &second)?;
+    let mut block: WrappedBlock<char> = WrappedBlock::new(alloc, 20, false, false, 'a');
+    block.add_text("Words under a ", WhiteSpace::Normal, &'a', &'a')?;
+    block.add_text("second tag.", WhiteSpace::Normal, &'b', &'b')?;
     let lines = block.into_lines()?;
     let mut all = String::new(alloc);
     for line in &lines {

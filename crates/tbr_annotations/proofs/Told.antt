@@ -2,16 +2,13 @@
 use Rattle.std.proofs.Common.{◌≡◌, ◌↔◌, Bool, true, IsTrue, List}
 use Rattle.tbr_model.specs.Run.{Item}
 use Rattle.tbr_tagged.specs.Elements.{Element, SameItems, SameElements}
-use Rattle.tbr_tags.specs.Tells.{lists_tell, equal_itself}
-use Rattle.tbr_tags.proofs.Told.{told_items, told_elements}
+use Rattle.tbr_tags.specs.Tells.{lists_tell}
+use Rattle.tbr_tagged.proofs.Told.{told_items, told_elements}
 use Rattle.tbr_annotations.specs.Annotations.{same_annotations}
 
 module _ {M : Type 0} (same : M → M → Bool) (tells : (a b : M) → IsTrue (same a b) ↔ (a ≡ b)) where
   pub annotations_tell : (v w : List M) → IsTrue (same_annotations same v w) ↔ (v ≡ w)
   annotations_tell = lists_tell same tells
-
-  pub copies_told : (v w : List M) → w ≡ v → same_annotations same v w ≡ true
-  copies_told = equal_itself (same_annotations same) annotations_tell
 
   pub items_told : (is js : List (Item (List M))) → SameItems (same_annotations same) is js → is ≡ js
   items_told = told_items (same_annotations same) annotations_tell

@@ -5,7 +5,7 @@ use Rattle.std.proofs.lemmas.List.{map-append}
 use Rattle.std.proofs.lemmas.List.Concat.{flat_map-append}
 use Rattle.tbr_model.specs.Run.{Item, glyph, marker}
 use Rattle.tbr_model.specs.Mapped.{map_items}
-use Rattle.tbr_tagged.specs.Copies.{equal_lists}
+use Rattle.tbr_tags.specs.Lists.{equal_lists}
 use Rattle.tbr_tagged.specs.Elements.{Element, piece, marker_element, element_items, items_of, text_items, SameItems}
 use Rattle.tbr_tagged.specs.Mapped.{MapsElement}
 use Rattle.tbr_tagged.specs.View.{element_of}

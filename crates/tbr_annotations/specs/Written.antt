@@ -5,7 +5,7 @@ use Rattle.tbr_model.specs.Mapped.{map_items}
 use Rattle.tbr_tagged.specs.Elements.{Element, items_of}
 use Rattle.tbr_border.specs.declared.RenderLine.{RenderLine}
 use Rattle.tbr_border.specs.declared.RenderLine.TheVariants.{Text, Line}
-use Rattle.tbr_tagged.specs.Copies.{equal_lists}
+use Rattle.tbr_tags.specs.Lists.{equal_lists}
 use Rattle.tbr_border.specs.Border.{MapsBorder}
 use Rattle.tbr_border.specs.RenderLine.{IsMergedText}
 

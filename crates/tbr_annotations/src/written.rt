@@ -1,6 +1,6 @@
 //! Lines as they are handed out, each list of annotations as a vector.
 ghost use Rattle.std.specs.Prelude.{IfOk};
-ghost use Rattle.tbr_tagged.specs.Copies.{equal_lists};
+ghost use Rattle.tbr_tags.specs.Lists.{equal_lists};
 ghost use Rattle.tbr_tagged.specs.Elements.{IsMerged};
 ghost use Rattle.tbr_tagged.specs.Mapped.{MapsElement};
 ghost use Rattle.tbr_tagged.specs.View.{element_of};

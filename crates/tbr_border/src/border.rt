@@ -6,7 +6,6 @@ ghost use Rattle.tbr_tagged.specs.Walks.{item_characters};
 ghost use Rattle.tbr_border.specs.Cell.{cell_of, cells_of, above, below, side_of, chopped_left, chopped_right, character};
 ghost use Rattle.tbr_border.specs.Border as model;
 ghost use Rattle.std.specs.List.{AllZip};
-ghost use Rattle.tbr_tagged.specs.Copies.{CopiesAreEqual};
 ghost use Rattle.tbr_tagged.specs.Mapped.{MapsElement};
 ghost use Rattle.tbr_border.specs.Border.{drawn, shown, shown_from, AreInOrder, SameBorder, SameHole};
 ghost use Rattle.tbr_border.specs.BorderView.{holes_of};
@@ -17,6 +16,7 @@ use std::alloc::Global;
 use std::marker::Model;
 use tbr_model::CharWidth;
 use tbr_tagged::{OutOfMemory, TaggedLine, TaggedLineElement, TaggedString};
+use tbr_tags::Tag;
 
 mod cell;
 
@@ -459,11 +459,10 @@ fn mapped_element<T: Drop, U: Drop, F: Fn(T) -> Result<U, OutOfMemory>>(
     }
 }
 
-impl<T: Eq + Clone + Drop> BorderHoriz<T> {
+impl<T: Tag> BorderHoriz<T> {
     /// The border as a line of pieces. Cells are under copies of its tag, and what is in front of them keeps tags and
     /// markers. Pieces are the longest stretches under equal tags. It refuses only where memory is refused.
     pub fn into_tagged_line(self) -> Result<TaggedLine<T>, OutOfMemory>
-        requires { CopiesAreEqual T.is_clone T.eq }
         ensures items { IfOk result (λ line. SameItems T.eq (items_of line) (shown self.tag self)) }
         ensures merged { IfOk result (λ line. IsMerged T.eq line) }
     {
@@ -478,7 +477,6 @@ impl<T: Eq + Clone + Drop> BorderHoriz<T> {
     /// The border as a line of pieces. Cells are under copies of the given tag, and what is in front of them keeps tags
     /// and markers. Pieces are the longest stretches under equal tags. It refuses only where memory is refused.
     pub fn into_tagged_line_with(self, tag: &T) -> Result<TaggedLine<T>, OutOfMemory>
-        requires { CopiesAreEqual T.is_clone T.eq }
         ensures items { IfOk result (λ line. SameItems T.eq (items_of line) (shown tag.now self)) }
         ensures merged { IfOk result (λ line. IsMerged T.eq line) }
     {
@@ -492,7 +490,6 @@ impl<T: Eq + Clone + Drop> BorderHoriz<T> {
 
     /// A border of these cells and holes, under copies of their tags. It refuses only where memory is refused.
     pub fn clone(&self) -> Result<BorderHoriz<T>, OutOfMemory>
-        requires { CopiesAreEqual T.is_clone T.eq }
         ensures { IfOk result (λ b. SameBorder T.eq b self.now) }
     {
         let shape = &*self.shape;
@@ -512,11 +509,10 @@ impl<T: Eq + Clone + Drop> BorderHoriz<T> {
 }
 
 /// These holes, with pieces under copies of their tags.
-fn copied<T: Eq + Clone + Drop>(
+fn copied<T: Tag>(
     alloc: Global,
     holes: &[Span<T>],
 ) -> Result<Vec<Span<T>>, OutOfMemory>
-    requires { CopiesAreEqual T.is_clone T.eq }
     ensures { IfOk result (λ copies. AllZip (SameHole T.eq) (holes_of copies.items) (holes_of holes.now)) }
 {
     let mut copies = Vec::with_capacity(alloc, holes.len())?;
@@ -531,12 +527,11 @@ fn copied<T: Eq + Clone + Drop>(
 }
 
 /// A line of pieces: the cells under copies of the tag, and what is in front of them.
-fn flattened<T: Eq + Clone + Drop>(
+fn flattened<T: Tag>(
     segments: &Vec<BorderSegHoriz>,
     holes: Vec<Span<T>>,
     tag: &T,
 ) -> Result<TaggedLine<T>, OutOfMemory>
-    requires copies { CopiesAreEqual T.is_clone T.eq }
     requires fit { AreInOrder 0 (holes_of holes.items) (length segments.now.items) }
     ensures items { IfOk result (λ line.
         SameItems T.eq (items_of line) (shown_from tag.now (cells_of segments.now.items) 0 (holes_of holes.items))) }
@@ -556,13 +551,12 @@ fn flattened<T: Eq + Clone + Drop>(
 }
 
 /// Appends the characters of cells under a copy of the tag.
-fn push_cells<T: Eq + Clone + Drop>(
+fn push_cells<T: Tag>(
     alloc: Global,
     line: &mut TaggedLine<T>,
     cells: &[BorderSegHoriz],
     tag: &T,
 ) -> Result<(), OutOfMemory>
-    requires { CopiesAreEqual T.is_clone T.eq }
     ensures items { OnOk result
         (SameItems T.eq (items_of line.new) (items_of line.old ++ drawn (cells_of cells.now) tag.now)) }
     ensures merged { IsMerged T.eq line.old → OnOk result (IsMerged T.eq line.new) }

@@ -1,6 +1,5 @@
 //! Lines as a renderer keeps them.
 ghost use Rattle.std.specs.Prelude.{◌≡◌, ◌++◌, IfOk, OnOk};
-ghost use Rattle.tbr_tagged.specs.Copies.{CopiesAreEqual};
 ghost use Rattle.tbr_tagged.specs.Elements.{items_of, SameItems, IsMerged};
 ghost use Rattle.tbr_tagged.specs.Walks.{item_characters};
 ghost use Rattle.tbr_tagged.specs.View.{chars_of};
@@ -8,6 +7,7 @@ ghost use Rattle.tbr_border.specs.RenderLine as model;
 
 use crate::border::BorderHoriz;
 use tbr_tagged::{OutOfMemory, TaggedLine};
+use tbr_tags::Tag;
 
 /// A line of text, or a border.
 #[derive(Debug, Drop)]
@@ -51,11 +51,10 @@ impl<T> RenderLine<T> {
     }
 }
 
-impl<T: Eq + Clone + Drop> RenderLine<T> {
+impl<T: Tag> RenderLine<T> {
     /// A line of text itself, or a border as a line of pieces, with its cells under copies of its tag. It refuses only
     /// where memory is refused.
     pub fn into_tagged_line(self) -> Result<TaggedLine<T>, OutOfMemory>
-        requires { CopiesAreEqual T.is_clone T.eq }
         ensures items { IfOk result (λ line. SameItems T.eq (items_of line) (model.line_items self)) }
         ensures text { IfOk result (λ line. model.IsItself self line) }
         ensures merged { model.IsMergedText T.eq self → IfOk result (λ line. IsMerged T.eq line) }
@@ -69,7 +68,6 @@ impl<T: Eq + Clone + Drop> RenderLine<T> {
     /// A line of text itself, or a border as a line of pieces, with its cells under copies of `tag`. It refuses only
     /// where memory is refused.
     pub fn into_tagged_line_with(self, tag: &T) -> Result<TaggedLine<T>, OutOfMemory>
-        requires { CopiesAreEqual T.is_clone T.eq }
         ensures items { IfOk result (λ line. SameItems T.eq (items_of line) (model.items_under tag.now self)) }
         ensures merged { model.IsMergedText T.eq self → IfOk result (λ line. IsMerged T.eq line) }
     {
@@ -81,7 +79,6 @@ impl<T: Eq + Clone + Drop> RenderLine<T> {
 
     /// A copy of the line, with pieces and cells under copies of their tags. It refuses only where memory is refused.
     pub fn clone(&self) -> Result<RenderLine<T>, OutOfMemory>
-        requires { CopiesAreEqual T.is_clone T.eq }
         ensures { IfOk result (λ line. model.SameLine T.eq line self.now) }
     {
         Ok(match self {

@@ -3,7 +3,7 @@ use Rattle.std.specs.Prelude.{◌≡◌, ℕ, ◌+◌, Bool, true, false, Option
 use Rattle.std.specs.Global.{Vec}
 use Rattle.tbr_border.specs.declared.RenderLine.{RenderLine}
 use Rattle.tbr_border.specs.declared.RenderLine.TheVariants.{Text, Line as Rule}
-use Rattle.tbr_tagged.specs.Copies.{equal_lists}
+use Rattle.tbr_tags.specs.Lists.{equal_lists}
 use Rattle.tbr_tagged.specs.Elements.{Element, piece, marker_element, element_characters, characters, items_of, line_width, SameItems}
 use Rattle.tbr_border.specs.RenderLine.{line_items, IsItself}
 use Rattle.tbr_tagged.specs.UnicodeColumns.{unicode_columns}

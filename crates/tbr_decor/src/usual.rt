@@ -9,6 +9,7 @@ use crate::colour::Colour;
 use crate::text;
 use std::alloc::Global;
 use tbr_tagged::{OutOfMemory, TaggedLine, TaggedString};
+use tbr_tags::Tag;
 
 /// The text before a superscript, `^{`, and the default annotation. It refuses only where memory is refused.
 pub fn superscript_start<A: Default>(alloc: Global) -> Result<(String, A), OutOfMemory>
@@ -57,7 +58,7 @@ pub fn pop_bgcolour() -> bool
 
 /// A line for each target, such as `[1]: target`: one piece under the default annotation. The numbers count from 1, and
 /// the targets are dropped. It refuses only where memory is refused.
-pub fn finalise<A: Eq + Default + Drop>(
+pub fn finalise<A: Tag + Default>(
     alloc: Global,
     urls: Vec<String>,
 ) -> Result<Vec<TaggedLine<A>>, OutOfMemory>
@@ -71,7 +72,7 @@ pub fn finalise<A: Eq + Default + Drop>(
 }
 
 /// The line of one target. It refuses only where memory is refused.
-fn footnote<A: Eq + Default + Drop>(
+fn footnote<A: Tag + Default>(
     alloc: Global,
     number: usize,
     url: &str,

@@ -1,7 +1,6 @@
 //! Characters under tags.
 ghost use Rattle.std.specs.Prelude.{◌≡◌, ◌<◌, ◌≤◌, ◌+◌, ◌++◌, ◌∷◌, [], true, List, length, take, drop, chars, string_bytes, MatchOption, OnOk, OnErr, IfOk, IsTrue, ◌↔◌};
 ghost use Rattle.std.specs.List.{AllByRecursion as Each};
-ghost use Rattle.tbr_tagged.specs.Copies.{CopiesAreEqual};
 ghost use Rattle.tbr_model.specs.Run.{Item, glyph, items_width};
 ghost use Rattle.tbr_model.specs.Entry.{is_glyph};
 ghost use Rattle.tbr_model.specs.Rule.{spaces, without_leading, without_trailing};
@@ -16,6 +15,7 @@ use std::alloc::Global;
 use std::marker::Model;
 use tbr_model::CharWidth;
 use tbr_tagged::{OutOfMemory, TaggedLine};
+use tbr_tags::Tag;
 
 /// Characters under tags: those that are placed on lines, and after them those of the current word.
 ///
@@ -176,12 +176,11 @@ impl<T: Drop> Characters<T> {
     }
 }
 
-impl<T: Eq + Clone + Drop> Characters<T> {
+impl<T: Tag> Characters<T> {
     /// Adds a character to the word. The tag is copied only if the tag before it isn't equal.
     ///
     /// If memory is refused, the characters may be lost.
     pub fn push(&mut self, c: char, tag: &T) -> Result<(), OutOfMemory>
-        requires { CopiesAreEqual T.is_clone T.eq }
         ensures { OnOk result ((a : T) × (T.eq a tag.now ≡ true)
             × (self.new ≡ record self.old { word = self.old.word ++ glyph c a ∷ [] })) }
     {
@@ -197,7 +196,6 @@ impl<T: Eq + Clone + Drop> Characters<T> {
     ///
     /// If memory is refused, the characters may be lost.
     pub fn push_text(&mut self, text: &str, count: usize, tag: &T) -> Result<(), OutOfMemory>
-        requires faithful { CopiesAreEqual T.is_clone T.eq }
         requires some { 0 < count }
         requires count { count ≡ length (chars text.now) }
         ensures { OnOk result ((a : T) × (T.eq a tag.now ≡ true)
@@ -216,7 +214,6 @@ impl<T: Eq + Clone + Drop> Characters<T> {
     ///
     /// If memory is refused, the characters may be lost.
     pub fn place_text(&mut self, text: &str, count: usize, tag: &T) -> Result<(), OutOfMemory>
-        requires faithful { CopiesAreEqual T.is_clone T.eq }
         requires none { self.old.word ≡ [] }
         requires some { 0 < count }
         requires count { count ≡ length (chars text.now) }
@@ -236,7 +233,6 @@ impl<T: Eq + Clone + Drop> Characters<T> {
     /// Where the spaces come between characters under one stored tag, that tag is copied, and the word's first
     /// characters are under the copy. If memory is refused, the characters may be lost.
     pub fn push_spaces(&mut self, count: usize, tag: T) -> Result<(), OutOfMemory>
-        requires faithful { CopiesAreEqual T.is_clone T.eq }
         requires some { 0 < count }
         ensures placed { OnOk result ((a : T) × (T.eq a tag ≡ true)
             × (self.new.placed ≡ self.old.placed ++ spaces count a)) }
@@ -262,7 +258,6 @@ impl<T: Eq + Clone + Drop> Characters<T> {
         most: usize,
         line: &mut TaggedLine<T>,
     ) -> Result<usize, OutOfMemory>
-        requires faithful { CopiesAreEqual T.is_clone T.eq }
         requires some { 0 < most }
         requires placed { most ≤ length self.old.placed }
         ensures some { IfOk result (λ n. (0 < n) × (n ≤ most)) }

@@ -1,6 +1,5 @@
 //! Characters under tags and markers.
 ghost use Rattle.std.specs.Prelude.{◌≡◌, ◌<◌, ◌≤◌, ◌+◌, ◌++◌, ◌∷◌, [], true, false, List, length, map, take, drop, chars, string_bytes, MatchOption, OnOk, OnErr, IfOk, IsTrue, ◌↔◌};
-ghost use Rattle.tbr_tagged.specs.Copies.{CopiesAreEqual};
 ghost use Rattle.tbr_model.specs.Run.{Item, glyph, marker, item_width, items_width, has_character};
 ghost use Rattle.tbr_model.specs.Rule.{spaces, without_leading, without_trailing};
 ghost use Rattle.tbr_model.specs.Markers.{names_in_items};
@@ -17,6 +16,7 @@ use std::alloc::Global;
 use std::marker::Model;
 use tbr_model::CharWidth;
 use tbr_tagged::{OutOfMemory, TaggedLine, TaggedLineElement};
+use tbr_tags::Tag;
 
 /// Characters under tags and markers: those that are placed on lines, and after them those of the current word.
 ///
@@ -308,12 +308,11 @@ impl<T: Drop> FlatText<T> {
     }
 }
 
-impl<T: Eq + Clone + Drop> FlatText<T> {
+impl<T: Tag> FlatText<T> {
     /// Adds a character to the word. The tag is copied only if the tag before it isn't equal.
     ///
     /// If memory is refused, the items may be lost.
     pub fn push(&mut self, c: char, tag: &T) -> Result<(), OutOfMemory>
-        requires { CopiesAreEqual T.is_clone T.eq }
         ensures { OnOk result ((a : T) × (T.eq a tag.now ≡ true)
             × (self.new ≡ record self.old { word = self.old.word ++ glyph c a ∷ [] })) }
     {
@@ -329,7 +328,6 @@ impl<T: Eq + Clone + Drop> FlatText<T> {
     ///
     /// If memory is refused, the items may be lost.
     pub fn push_text(&mut self, text: &str, count: usize, tag: &T) -> Result<(), OutOfMemory>
-        requires faithful { CopiesAreEqual T.is_clone T.eq }
         requires some { 0 < count }
         requires count { count ≡ length (chars text.now) }
         ensures { OnOk result ((a : T) × (T.eq a tag.now ≡ true)
@@ -348,7 +346,6 @@ impl<T: Eq + Clone + Drop> FlatText<T> {
     ///
     /// If memory is refused, the items may be lost.
     pub fn place_with(&mut self, text: &str, count: usize, tag: &T) -> Result<usize, OutOfMemory>
-        requires faithful { CopiesAreEqual T.is_clone T.eq }
         requires some { 0 < count }
         requires count { count ≡ length (chars text.now) }
         ensures markers { IfOk result (λ n. n ≡ length (names_in_items self.old.word)) }
@@ -367,7 +364,6 @@ impl<T: Eq + Clone + Drop> FlatText<T> {
 
     /// Places a text of `count` characters. The word must have no item. If memory is refused, items may be lost.
     fn place_text(&mut self, text: &str, count: usize, tag: &T) -> Result<(), OutOfMemory>
-        requires faithful { CopiesAreEqual T.is_clone T.eq }
         requires none { self.old.word ≡ [] }
         requires some { 0 < count }
         requires count { count ≡ length (chars text.now) }
@@ -387,7 +383,6 @@ impl<T: Eq + Clone + Drop> FlatText<T> {
     /// Where the spaces come between characters under one stored tag, that tag is copied, and the word's first
     /// characters are under the copy. If memory is refused, the items may be lost.
     pub fn push_spaces(&mut self, count: usize, tag: T) -> Result<(), OutOfMemory>
-        requires faithful { CopiesAreEqual T.is_clone T.eq }
         requires some { 0 < count }
         ensures placed { OnOk result ((a : T) × (T.eq a tag ≡ true)
             × (self.new.placed ≡ self.old.placed ++ spaces count a)) }
@@ -404,7 +399,6 @@ impl<T: Eq + Clone + Drop> FlatText<T> {
     /// Hands out the first `items` placed items as a line. Its time is in proportion to their number. If memory is
     /// refused, items may be lost.
     pub fn take_line(&mut self, items: usize) -> Result<TaggedLine<T>, OutOfMemory>
-        requires faithful { CopiesAreEqual T.is_clone T.eq }
         requires placed { items ≤ length self.old.placed }
         ensures items { IfOk result (λ line. SameItems T.eq (items_of line) (take items self.old.placed)) }
         ensures merged { IfOk result (λ line. IsMerged T.eq line) }
@@ -419,7 +413,6 @@ impl<T: Eq + Clone + Drop> FlatText<T> {
     ///
     /// Where memory is refused, the line stays as it was, and the items may be lost.
     pub fn move_line(&mut self, items: usize, line: &mut TaggedLine<T>) -> Result<(), OutOfMemory>
-        requires faithful { CopiesAreEqual T.is_clone T.eq }
         requires placed { items ≤ length self.old.placed }
         ensures items { OnOk result
             (SameItems T.eq (items_of line.new) (items_of line.old ++ take items self.old.placed)) }
@@ -438,7 +431,6 @@ impl<T: Eq + Clone + Drop> FlatText<T> {
     /// Moves the first `items` placed items to the end of a line. Where memory is refused, part of them may have been
     /// moved.
     fn move_elements(&mut self, items: usize, line: &mut TaggedLine<T>) -> Result<(), OutOfMemory>
-        requires faithful { CopiesAreEqual T.is_clone T.eq }
         requires placed { items ≤ length self.old.placed }
         ensures items { OnOk result
             (SameItems T.eq (items_of line.new) (items_of line.old ++ take items self.old.placed)) }
@@ -456,7 +448,6 @@ impl<T: Eq + Clone + Drop> FlatText<T> {
     /// Moves the first placed items to the end of a line, and answers how many they are. They are a marker, or at most
     /// `most` characters, all under one tag.
     fn move_element(&mut self, line: &mut TaggedLine<T>, most: usize) -> Result<usize, OutOfMemory>
-        requires faithful { CopiesAreEqual T.is_clone T.eq }
         requires some { 0 < most }
         requires placed { most ≤ length self.old.placed }
         ensures some { IfOk result (λ n. (0 < n) × (n ≤ most)) }

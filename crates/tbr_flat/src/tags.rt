@@ -1,5 +1,4 @@
 //! Tags of characters, each stored once for neighbouring characters.
-ghost use Rattle.tbr_tagged.specs.Copies.{CopiesAreEqual};
 ghost use Rattle.std.specs.Prelude.{◌≡◌, ◌<◌, ◌≤◌, ◌+◌, ◌-◌, ◌++◌, [], true, ℕ, suc, List, length, take, drop, replicate, OnOk, OnErr, IfOk};
 ghost use Rattle.std.specs.List.{AllZip};
 ghost use Rattle.tbr_flat.specs.Tags.{tags_of, IsPlace};
@@ -8,6 +7,7 @@ use std::alloc::Global;
 use std::collections::VecDeque;
 use std::marker::Model;
 use tbr_tagged::OutOfMemory;
+use tbr_tags::Tag;
 
 /// A tag of neighbouring characters.
 #[derive(Drop)]
@@ -91,12 +91,11 @@ impl<T: Drop> Tags<T> {
     }
 }
 
-impl<T: Eq + Clone> Tags<T> {
+impl<T: Tag> Tags<T> {
     /// Adds a tag `count` times at the end. It is copied only if the tag before it isn't equal.
     ///
     /// If memory is refused, the tags stay as they were.
     pub fn push(&mut self, tag: &T, count: usize) -> Result<(), OutOfMemory>
-        requires faithful { CopiesAreEqual T.is_clone T.eq }
         requires some { 0 < count }
         ensures ok { OnOk result ((a : T) × (T.eq a tag.now ≡ true) × (self.new ≡ self.old ++ replicate count a)) }
         ensures err { OnErr result (self.new ≡ self.old) }
@@ -116,7 +115,6 @@ impl<T: Eq + Clone> Tags<T> {
     ///
     /// If memory is refused, the tags stay as they were.
     pub fn take(&mut self, most: usize) -> Result<(usize, T), OutOfMemory>
-        requires faithful { CopiesAreEqual T.is_clone T.eq }
         requires some { 0 < most }
         requires within { most ≤ length self.old }
         ensures count { IfOk result (λ r. (0 < r.0) × (r.0 ≤ most)) }
@@ -141,7 +139,6 @@ impl<T: Eq + Clone> Tags<T> {
     /// Where it comes between characters under one stored tag, those after it are under a copy of that tag. If memory
     /// is refused, tags may be lost.
     pub fn insert_before(&mut self, last: usize, count: usize, tag: T) -> Result<(), OutOfMemory>
-        requires faithful { CopiesAreEqual T.is_clone T.eq }
         requires within { last ≤ length self.old }
         requires some { 0 < count }
         ensures { OnOk result ((a : T) × (after : List T) × (T.eq a tag ≡ true)
@@ -239,11 +236,10 @@ fn begin_at<T>(stored: &mut VecDeque<RepeatedTag<T>>, place: Place)
 /// Ends a stored tag after its first `offset` tags, and answers what came after them, under a copy.
 ///
 /// If memory is refused, it stays as it was.
-fn split_off<T: Eq + Clone>(
+fn split_off<T: Tag>(
     repeated: &mut RepeatedTag<T>,
     offset: usize,
 ) -> Result<RepeatedTag<T>, OutOfMemory>
-    requires faithful { CopiesAreEqual T.is_clone T.eq }
     requires some { 0 < offset }
     requires within { offset ≤ repeated.old.more }
     ensures front { OnOk result (repeated.new ≡ record repeated.old { more = offset - 1 }) }

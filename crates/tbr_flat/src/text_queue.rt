@@ -12,6 +12,7 @@ use std::alloc::Global;
 use std::marker::Model;
 use tbr_model::CharWidth;
 use tbr_tagged::{OutOfMemory, TaggedLine, append_spaces, text_width};
+use tbr_tags::Tag;
 
 /// Bytes that were taken stay in memory as long as they are fewer than this.
 const FEW: usize = 1024;
@@ -181,7 +182,7 @@ impl TextQueue {
     /// Moves the first `count` characters to the end of a line, under a tag. Its time is in proportion to their number.
     ///
     /// If memory is refused, both stay as they were.
-    pub fn move_under<T: Eq + Drop>(
+    pub fn move_under<T: Tag>(
         &mut self,
         count: usize,
         tag: T,

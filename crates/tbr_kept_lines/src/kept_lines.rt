@@ -1,7 +1,6 @@
 //! Lines as a renderer keeps them.
 ghost use Rattle.std.specs.Prelude.{◌≡◌, ◌≢◌, ◌+◌, ◌++◌, chars, ◌∷◌, [], List, None, Some, true, not, map, filter, length, IfOk, IfErr, IfSome, OnErr, OnOk};
 ghost use Rattle.std.specs.List.{AllZip, AllByRecursion as Each, list_any};
-ghost use Rattle.tbr_tagged.specs.Copies.{CopiesAreEqual};
 ghost use Rattle.tbr_tagged.specs.Elements.{SameItems, IsMerged, items_of, text_items};
 ghost use Rattle.tbr_border.specs.RenderLine.{IsMergedText};
 ghost use Rattle.tbr_wrap.specs.Runs.{is_some_list};
@@ -18,6 +17,7 @@ use std::alloc::Global;
 use std::marker::Model;
 use std::{fmt, mem};
 use tbr_lines::{BorderHoriz, EndedLines, OutOfMemory, RenderLine, TaggedLine};
+use tbr_tags::Tag;
 
 /// Lines, each kept by itself or, where a block has ended many, in the block's one text. A contract sees their list.
 #[derive(Drop)]
@@ -52,7 +52,7 @@ impl<T: Eq> Model for KeptLines<T> {
     ghost invariant = { λ k. HoldsKept T.eq k };
 }
 
-impl<T: Eq> KeptLines<T> {
+impl<T: Tag> KeptLines<T> {
     /// No lines. It takes no memory.
     pub fn new(alloc: Global) -> KeptLines<T>
         ensures { result ≡ [] }
@@ -88,7 +88,7 @@ impl<T: Eq> KeptLines<T> {
     }
 }
 
-impl<T: Eq + Drop> KeptLines<T> {
+impl<T: Tag> KeptLines<T> {
     /// Adds a line after the others. Its pieces are the longest stretches under equal tags. Where memory is refused, it
     /// is lost.
     pub fn push(&mut self, line: RenderLine<T>) -> Result<(), OutOfMemory>
@@ -164,7 +164,7 @@ impl<T: Eq + Drop> KeptLines<T> {
     }
 }
 
-impl<T: Eq + Clone + Drop> KeptLines<T> {
+impl<T: Tag> KeptLines<T> {
     /// Adds other lines after these, as texts with prefixes: one prefix for the first line, and another for each other
     /// line. Prefixes and the cells of borders are under copies of the tag. Where memory is refused, lines are lost.
     ///
@@ -176,7 +176,6 @@ impl<T: Eq + Clone + Drop> KeptLines<T> {
         others: &'a str,
         tag: &T,
     ) -> Result<(), OutOfMemory>
-        requires { CopiesAreEqual T.is_clone T.eq }
         ensures { let prefixed = prefixed_lines tag.now (chars first.now) (chars others.now) other in
             OnOk result (Appends T.eq self.old prefixed self.new) }
     {
@@ -197,7 +196,6 @@ impl<T: Eq + Clone + Drop> KeptLines<T> {
         others: &'a str,
         tag: &T,
     ) -> Result<(), OutOfMemory>
-        requires copies { CopiesAreEqual T.is_clone T.eq }
         requires part { HoldsPart T.eq part }
         ensures { let prefixed = prefixed_lines tag.now (chars first.now) (chars others.now) (part_seen part) in
             OnOk result (Appends T.eq self.old prefixed self.new) }
@@ -220,7 +218,6 @@ impl<T: Eq + Clone + Drop> KeptLines<T> {
         others: &'a str,
         tag: &T,
     ) -> Result<(), OutOfMemory>
-        requires copies { CopiesAreEqual T.is_clone T.eq }
         requires lines { Each (IsMergedText T.eq) lines.items }
         ensures { let seen = map line_seen lines.items in
             let prefixed = prefixed_lines tag.now (chars first.now) (chars others.now) seen in
@@ -254,7 +251,6 @@ impl<T: Eq + Clone + Drop> KeptLines<T> {
     /// All lines, each by itself. Their pieces are the longest stretches under equal tags. Where memory is refused, all
     /// are lost.
     pub fn into_vec(self) -> Result<Vec<RenderLine<T>>, OutOfMemory>
-        requires { CopiesAreEqual T.is_clone T.eq }
         ensures lines { IfOk result (λ lines. AllZip (SameSeen T.eq) (map line_seen lines.items) self) }
         ensures merged { IfOk result (λ lines. Each (IsMergedText T.eq) lines.items) }
     {
@@ -267,7 +263,7 @@ impl<T: Eq + Clone + Drop> KeptLines<T> {
     }
 }
 
-impl<T: Eq + Drop> Part<T> {
+impl<T: Tag> Part<T> {
     /// Its lines, if a block has ended all of them and they have no prefix. Otherwise it gives them back as they are.
     fn into_ended(self) -> Result<EndedLines<T>, Part<T>>
         ensures ended { IfOk result (λ ended. text_lines ended ≡ part_seen self) }
@@ -285,7 +281,7 @@ impl<T: Eq + Drop> Part<T> {
 }
 
 /// How many lines have content.
-fn count_content<T: Eq>(lines: &[RenderLine<T>]) -> usize
+fn count_content<T: Tag>(lines: &[RenderLine<T>]) -> usize
     requires { Each (IsMergedText T.eq) lines.now }
     ensures { result ≡ length (filter line_has_content (map line_seen lines.now)) }
 {
@@ -297,7 +293,7 @@ fn count_content<T: Eq>(lines: &[RenderLine<T>]) -> usize
 }
 
 /// How many lines parts have. It refuses where they pass `usize`.
-fn count_lines<T: Eq>(parts: &[Part<T>]) -> Result<usize, OutOfMemory>
+fn count_lines<T: Tag>(parts: &[Part<T>]) -> Result<usize, OutOfMemory>
     ensures { IfOk result (λ count. count ≡ length (parts_seen parts.now)) }
 {
     let mut count = 0usize;
@@ -346,11 +342,10 @@ fn is_border<T>(line: Option<&RenderLine<T>>) -> bool
 }
 
 /// The lines of parts, each by itself.
-fn lines_of<T: Eq + Clone + Drop>(
+fn lines_of<T: Tag>(
     alloc: Global,
     parts: Vec<Part<T>>,
 ) -> Result<Vec<RenderLine<T>>, OutOfMemory>
-    requires faithful { CopiesAreEqual T.is_clone T.eq }
     requires parts { Each (HoldsPart T.eq) parts.items }
     ensures lines { IfOk result (λ lines.
         AllZip (SameSeen T.eq) (map line_seen lines.items) (parts_seen parts.items)) }
@@ -378,14 +373,13 @@ fn append_all<X: Drop>(items: &mut Vec<X>, mut more: Vec<X>) -> Result<(), OutOf
 }
 
 /// Puts a prefix in front of the first line, and another one in front of each other line, under copies of the tag.
-fn put_prefixes<'a, T: Eq + Clone + Drop>(
+fn put_prefixes<'a, T: Tag>(
     alloc: Global,
     lines: &mut [RenderLine<T>],
     first: &'a str,
     others: &'a str,
     tag: &T,
 ) -> Result<(), OutOfMemory>
-    requires copies { CopiesAreEqual T.is_clone T.eq }
     requires lines { Each (IsMergedText T.eq) lines.old }
     ensures seen { let seen = map line_seen lines.old in
         let prefixed = prefixed_lines tag.now (chars first.now) (chars others.now) seen in
@@ -402,13 +396,12 @@ fn put_prefixes<'a, T: Eq + Clone + Drop>(
 
 /// Puts a prefix in front of a line, under a copy of the tag. A border becomes text. Where memory is refused, the line
 /// is lost.
-fn put_prefix<T: Eq + Clone + Drop>(
+fn put_prefix<T: Tag>(
     alloc: Global,
     line: &mut RenderLine<T>,
     prefix: &str,
     tag: &T,
 ) -> Result<(), OutOfMemory>
-    requires copies { CopiesAreEqual T.is_clone T.eq }
     requires merged { IsMergedText T.eq line.old }
     ensures seen { let shown = as_text tag.now (line_seen line.old) in
         OnOk result (SameSeen T.eq (line_seen line.new) (text (text_items (chars prefix.now) tag.now ++ shown))) }
@@ -425,7 +418,7 @@ fn put_prefix<T: Eq + Clone + Drop>(
 }
 
 /// Appends the text of each line of parts, and a newline to each.
-fn append_parts<T: Eq + Drop>(text: &mut String, parts: Vec<Part<T>>) -> Result<(), OutOfMemory>
+fn append_parts<T: Tag>(text: &mut String, parts: Vec<Part<T>>) -> Result<(), OutOfMemory>
     ensures { OnOk result (chars_of text.new ≡ chars_of text.old ++ lines_text (parts_seen parts.items)) }
 {
     for part in parts {

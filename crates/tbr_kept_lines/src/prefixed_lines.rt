@@ -2,7 +2,6 @@
 ghost use Rattle.std.specs.Prelude.{◌≡◌, ◌++◌, ◌&&◌, ◌||◌, [], map, length, nat_lt, chars, IfErr, IfOk, OnOk};
 ghost use Rattle.std.specs.List.{AllZip, list_any};
 ghost use Rattle.tbr_model.specs.Run.{has_character};
-ghost use Rattle.tbr_tagged.specs.Copies.{CopiesAreEqual};
 ghost use Rattle.tbr_tagged.specs.Elements.{SameItems, IsMerged, items_of, text_items, has_piece};
 ghost use Rattle.tbr_tagged.specs.View.{chars_of};
 ghost use Rattle.tbr_wrap.specs.EndedLines.{lines_characters};
@@ -12,6 +11,7 @@ use std::alloc::Global;
 use std::fmt;
 use std::marker::Model;
 use tbr_lines::{EndedLines, OutOfMemory, RenderLine, TaggedLine};
+use tbr_tags::Tag;
 
 /// Lines that a block has ended, in its one text. They may have prefixes: one for the first line, and another for each
 /// other line. These take no memory per line. A contract sees the lines, each as its items.
@@ -41,7 +41,7 @@ impl<T: Eq> Model for PrefixedLines<T> {
     ghost invariant = { λ l. AreMerged T.eq l.prefixes };
 }
 
-impl<T: Eq> PrefixedLines<T> {
+impl<T: Tag> PrefixedLines<T> {
     /// These lines, without prefixes.
     pub(crate) fn of(ended: EndedLines<T>) -> PrefixedLines<T>
         ensures { result ≡ ended }
@@ -70,7 +70,7 @@ impl<T: Eq> PrefixedLines<T> {
     }
 }
 
-impl<T: Eq + Drop> PrefixedLines<T> {
+impl<T: Tag> PrefixedLines<T> {
     /// The lines, if they have no prefix. Otherwise it gives them back as they are.
     pub(crate) fn into_ended(self) -> Result<EndedLines<T>, PrefixedLines<T>>
         ensures ended { IfOk result (λ ended. ended ≡ self) }
@@ -95,10 +95,9 @@ impl<T: Eq + Drop> PrefixedLines<T> {
     }
 }
 
-impl<T: Eq + Clone + Drop> PrefixedLines<T> {
+impl<T: Tag> PrefixedLines<T> {
     /// Adds each line to others, by itself. Where memory is refused, lines are lost.
     pub(crate) fn push_to(self, lines: &mut Vec<RenderLine<T>>) -> Result<(), OutOfMemory>
-        requires { CopiesAreEqual T.is_clone T.eq }
         ensures { OnOk result (Pushes T.eq lines.old.items self lines.new.items) }
     {
         let PrefixedLines { ended, prefixes } = self;
@@ -115,7 +114,6 @@ impl<T: Eq + Clone + Drop> PrefixedLines<T> {
         others: &str,
         tag: &T,
     ) -> Result<PrefixedLines<T>, OutOfMemory>
-        requires { CopiesAreEqual T.is_clone T.eq }
         ensures { let in_front = after_prefixes (text_items (chars first.now) tag.now)
             (text_items (chars others.now) tag.now) self in
             IfOk result (λ lines. AllZip (SameItems T.eq) lines in_front) }
@@ -152,12 +150,11 @@ impl<T> Prefixes<T> {
 }
 
 /// Puts text in front of a line, under a copy of the tag. An empty text changes nothing.
-pub(crate) fn put_in_front<T: Eq + Clone + Drop>(
+pub(crate) fn put_in_front<T: Tag>(
     line: &mut TaggedLine<T>,
     text: &str,
     tag: &T,
 ) -> Result<(), OutOfMemory>
-    requires { CopiesAreEqual T.is_clone T.eq }
     ensures items { OnOk result
         (SameItems T.eq (items_of line.new) (text_items (chars text.now) tag.now ++ items_of line.old)) }
     ensures merged { IsMerged T.eq line.old → OnOk result (IsMerged T.eq line.new) }
@@ -170,13 +167,12 @@ pub(crate) fn put_in_front<T: Eq + Clone + Drop>(
 
 /// Adds the lines that a block has ended, each by itself: the first one after its prefix, and each other one after the
 /// other prefix.
-fn push_after<'a, T: Eq + Clone + Drop>(
+fn push_after<'a, T: Tag>(
     lines: &mut Vec<RenderLine<T>>,
     mut ended: EndedLines<T>,
     first: &'a TaggedLine<T>,
     others: &'a TaggedLine<T>,
 ) -> Result<(), OutOfMemory>
-    requires copies { CopiesAreEqual T.is_clone T.eq }
     requires first { IsMerged T.eq first.now }
     requires others { IsMerged T.eq others.now }
     ensures { let texts = after_prefixes (items_of first.now) (items_of others.now) ended in

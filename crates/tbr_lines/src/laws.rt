@@ -5,7 +5,7 @@ pub use tbr_border::laws::{
     joins_commute, stretching_appends,
 };
 pub use tbr_tagged::laws::{
-    copies_of_lists_are_equal, equal_tags_mean_the_same, merged_pieces_have_characters,
+    equal_tags_mean_the_same, merged_pieces_have_characters,
 };
 pub use tbr_wrap::laws::{
     blocks_stay_sound, flushes_are_too_narrow_for_characters, flushes_leave_nothing_open,

@@ -8,6 +8,7 @@ pub use tbr_tagged::{
     TaggedString, TaggedStrings, TooNarrow, UnicodeColumns, always_takes_space, append_spaces,
     is_wordbreak_point, spaces, text_width,
 };
+pub use tbr_tags::{Meanings, Tag};
 pub use tbr_wrap::{EndedLines, WrappedBlock};
 
 pub mod laws;

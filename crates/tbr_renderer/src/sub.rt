@@ -24,6 +24,7 @@ use tbr_lines::{
     UnicodeColumns, WhiteSpace, WrappedBlock,
 };
 use tbr_rows::Overhang;
+use tbr_tags::Tag;
 
 mod appended;
 mod blocks;
@@ -303,7 +304,7 @@ impl<D: TextDecorator, W: CharWidth> SubRenderer<D, W> {
 }
 
 /// A line with markers in front.
-fn after_markers<T: Eq + Drop>(
+fn after_markers<T: Tag>(
     alloc: Global,
     markers: Vec<TaggedLineElement<T>>,
     line: TaggedLine<T>,

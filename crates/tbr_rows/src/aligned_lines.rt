@@ -1,7 +1,6 @@
 //! A block's lines, filled up to a width.
 ghost use Rattle.std.specs.Prelude.{◌≡◌, ◌-◌, ◌++◌, ◌∷◌, [], List, length, map, drop, IfOk, OnOk};
 ghost use Rattle.tbr_model.specs.Run.{Item, items_width};
-ghost use Rattle.tbr_tagged.specs.Copies.{CopiesAreEqual};
 ghost use Rattle.tbr_tagged.specs.Elements.{items_of, SameItems, IsMerged};
 ghost use Rattle.tbr_tagged.specs.Padding.{aligned_items};
 
@@ -11,6 +10,7 @@ use std::fmt;
 use std::marker::Model;
 use tbr_model::CharWidth;
 use tbr_tagged::{CellAlign, OutOfMemory, TaggedLine, columns_in_front};
+use tbr_tags::Tag;
 use tbr_wrap::EndedLines;
 
 /// Lines that a block has ended, in its one text, each filled up to a width with spaces under a tag. For each line a
@@ -72,10 +72,9 @@ impl<T: Drop> AlignedLines<T> {
     }
 }
 
-impl<T: Eq + Clone + Drop> AlignedLines<T> {
+impl<T: Tag> AlignedLines<T> {
     /// Moves the first line, if one is left, to the end of another. If memory is refused, lines may be lost.
     pub(crate) fn move_line(&mut self, line: &mut TaggedLine<T>) -> Result<(), OutOfMemory>
-        requires { CopiesAreEqual T.is_clone T.eq }
         ensures items { (is : List (Item T)) (rest : List (List (Item T))) → self.old ≡ is ∷ rest →
             OnOk result (SameItems T.eq (items_of line.new) (items_of line.old ++ is)) }
         ensures merged { IsMerged T.eq line.old → OnOk result (IsMerged T.eq line.new) }

@@ -9,10 +9,11 @@ use crate::line_set::{LineSet, row_width};
 use std::alloc::Global;
 use tbr_border::BorderHoriz;
 use tbr_tagged::OutOfMemory;
+use tbr_tags::Tag;
 
 /// Joins the separators of a row to the border above it and to the one below. It stretches the border above to the
 /// row's width. Where it refuses, both may be joined in part.
-pub(crate) fn join<T: Eq>(
+pub(crate) fn join<T: Tag>(
     above: &mut BorderHoriz<T>,
     next: &mut BorderHoriz<T>,
     cells: &[LineSet<T>],
@@ -29,7 +30,7 @@ pub(crate) fn join<T: Eq>(
 }
 
 /// Merges the first borders of cells into the border above their row, and removes them from the lines.
-pub(crate) fn merge_first<T: Eq + Drop>(
+pub(crate) fn merge_first<T: Tag>(
     alloc: Global,
     above: &mut BorderHoriz<T>,
     cells: Vec<LineSet<T>>,
@@ -48,7 +49,7 @@ pub(crate) fn merge_first<T: Eq + Drop>(
 }
 
 /// Merges the last borders of cells into the border below their row, and removes them from the lines.
-pub(crate) fn merge_last<T: Eq + Drop>(
+pub(crate) fn merge_last<T: Tag>(
     alloc: Global,
     next: &mut BorderHoriz<T>,
     cells: Vec<LineSet<T>>,
@@ -68,7 +69,7 @@ pub(crate) fn merge_last<T: Eq + Drop>(
 }
 
 /// Cells of which no border is merged.
-pub(crate) fn whole<T: Eq + Drop>(
+pub(crate) fn whole<T: Tag>(
     alloc: Global,
     cells: Vec<LineSet<T>>,
 ) -> Result<Vec<Column<T>>, OutOfMemory>

@@ -1,7 +1,6 @@
 //! The lines of a cell.
 ghost use Rattle.std.specs.Prelude.{◌≡◌, ◌==◌, ◌++◌, ◌∷◌, [], List, length, drop, IfOk, OnOk};
 ghost use Rattle.tbr_border.specs.declared.render_line.RenderLine.{RenderLine as Line};
-ghost use Rattle.tbr_tagged.specs.Copies.{CopiesAreEqual};
 ghost use Rattle.tbr_tagged.specs.Elements.{items_of, SameItems, IsMerged};
 ghost use Rattle.tbr_rows.specs.Borders as borders;
 ghost use Rattle.tbr_rows.specs.CellLines as model;
@@ -16,6 +15,7 @@ use std::fmt;
 use std::marker::Model;
 use tbr_border::{BorderHoriz, RenderLine};
 use tbr_tagged::{OutOfMemory, TaggedLine, spaces};
+use tbr_tags::Tag;
 
 /// The lines that a cell still has to show. They are taken from both ends. A contract sees their list.
 #[derive(Drop)]
@@ -41,7 +41,7 @@ impl<T: Eq> Model for CellLines<T> {
     ghost view = { λ c. lines_kept T.eq c.kept };
 }
 
-impl<T: Eq> CellLines<T> {
+impl<T: Tag> CellLines<T> {
     /// No lines. It takes no memory.
     pub(crate) fn none(alloc: Global) -> CellLines<T>
         ensures { result ≡ [] }
@@ -87,7 +87,7 @@ impl<T: Eq> CellLines<T> {
     }
 }
 
-impl<T: Eq + Drop> CellLines<T> {
+impl<T: Tag> CellLines<T> {
     /// Takes the first line, if it is a border without holes.
     pub(crate) fn take_first_border(&mut self) -> Option<BorderHoriz<T>>
         ensures border { result ≡ borders.first_mergeable self.old }
@@ -111,7 +111,7 @@ impl<T: Eq + Drop> CellLines<T> {
     }
 }
 
-impl<T: Eq + Clone + Drop> CellLines<T> {
+impl<T: Tag> CellLines<T> {
     /// Moves the first line, if there is one, to the end of another. A border's cells are drawn under a copy of the
     /// tag. If memory is refused, lines may be lost.
     pub(crate) fn move_first(
@@ -119,7 +119,6 @@ impl<T: Eq + Clone + Drop> CellLines<T> {
         line: &mut TaggedLine<T>,
         tag: &T,
     ) -> Result<(), OutOfMemory>
-        requires { CopiesAreEqual T.is_clone T.eq }
         ensures items { (l : Line T) (rest : List (Line T)) → self.old ≡ l ∷ rest →
             OnOk result (SameItems T.eq (items_of line.new) (items_of line.old ++ items_under tag.now l)) }
         ensures merged { IsMerged T.eq line.old → OnOk result (IsMerged T.eq line.new) }
@@ -144,7 +143,6 @@ impl<T: Eq + Clone + Drop> CellLines<T> {
         width: usize,
         tag: &T,
     ) -> Result<TaggedLine<T>, OutOfMemory>
-        requires { CopiesAreEqual T.is_clone T.eq }
         ensures text { IfOk result (λ text. IsGapText T.eq tag.now width (first_line self.old) text) }
         ensures rest { OnOk result (self.new ≡ drop 1 self.old) }
     {
@@ -192,13 +190,12 @@ fn is_mergeable<T>(line: Option<&RenderLine<T>>) -> bool
 }
 
 /// The text of a cell in the border below its row: a line, or spaces if it has none left.
-fn gap_text<T: Eq + Clone + Drop>(
+fn gap_text<T: Tag>(
     alloc: Global,
     line: Option<RenderLine<T>>,
     width: usize,
     tag: &T,
 ) -> Result<TaggedLine<T>, OutOfMemory>
-    requires { CopiesAreEqual T.is_clone T.eq }
     ensures { IfOk result (λ text. IsGapText T.eq tag.now width line text) }
 {
     match line {
@@ -209,13 +206,12 @@ fn gap_text<T: Eq + Clone + Drop>(
 
 /// The text of a cell in the border below its row, where the cell's lines are in a block's text. That is the first
 /// line, which it removes, or spaces if none is left.
-fn first_in_gap<T: Eq + Clone + Drop>(
+fn first_in_gap<T: Tag>(
     alloc: Global,
     lines: &mut AlignedLines<T>,
     width: usize,
     tag: &T,
 ) -> Result<TaggedLine<T>, OutOfMemory>
-    requires { CopiesAreEqual T.is_clone T.eq }
     ensures text { IfOk result (λ text.
         IsGapText T.eq tag.now width (first_line (model.as_lines T.eq lines.old)) text) }
     ensures rest { OnOk result (lines.new ≡ drop 1 lines.old) }

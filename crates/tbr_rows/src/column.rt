@@ -4,6 +4,7 @@ ghost use Rattle.tbr_rows.specs.Texts as model;
 
 use crate::line_set::LineSet;
 use tbr_border::BorderHoriz;
+use tbr_tags::Tag;
 
 /// A cell in a row, and its last border, where that is merged into the border below.
 #[derive(Drop)]
@@ -13,7 +14,7 @@ pub(crate) struct Column<T: Eq> {
 }
 
 /// How many lines a row of these has: the most that any of its cells asks for.
-pub(crate) fn height<T: Eq>(columns: &[Column<T>]) -> usize
+pub(crate) fn height<T: Tag>(columns: &[Column<T>]) -> usize
     ensures { result ≡ model.row_height columns.now }
 {
     let mut height = 0;

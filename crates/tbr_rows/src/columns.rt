@@ -2,7 +2,6 @@
 ghost use Rattle.std.specs.Prelude.{◌≡◌, ◌++◌, ◌∷◌, [], List, map, OnOk, OnErr};
 ghost use Rattle.std.specs.List.{AllZip};
 ghost use Rattle.tbr_border.specs.declared.render_line.RenderLine.{RenderLine as Line};
-ghost use Rattle.tbr_tagged.specs.Copies.{CopiesAreEqual};
 ghost use Rattle.tbr_rows.specs.Cells.{AreSideBySide, row_fits, spot_of};
 ghost use Rattle.tbr_rows.specs.Filled as model;
 
@@ -15,6 +14,7 @@ use std::marker::Model;
 use tbr_border::RenderLine;
 use tbr_model::CharWidth;
 use tbr_tagged::{CellAlign, OutOfMemory};
+use tbr_tags::Tag;
 use tbr_wrap::EndedLines;
 
 /// A row's own cells, side by side. A contract sees their list.
@@ -36,7 +36,7 @@ impl<T: Eq> Model for Columns<T> {
     ghost invariant = { λ c. AreSideBySide 0 c.cells.items };
 }
 
-impl<T: Eq> Columns<T> {
+impl<T: Tag> Columns<T> {
     /// No cells. It takes no memory.
     pub fn new(alloc: Global) -> Columns<T>
         ensures { result ≡ [] }
@@ -47,7 +47,7 @@ impl<T: Eq> Columns<T> {
     }
 }
 
-impl<T: Eq + Clone + Drop> Columns<T> {
+impl<T: Tag> Columns<T> {
     /// Adds a cell of `width` columns, after the others and a separator. It spans `span` rows. Each of its lines is
     /// filled up to its width: a text with spaces under copies of the tag, as the alignment says, and a border with
     /// `─`.
@@ -62,7 +62,6 @@ impl<T: Eq + Clone + Drop> Columns<T> {
         mut lines: Vec<RenderLine<T>>,
         tag: &T,
     ) -> Result<(), OutOfMemory>
-        requires { CopiesAreEqual T.is_clone T.eq }
         ensures ok { OnOk result ((filled : List (Line T))
             × AllZip (model.FillsLine W.columns T.eq align width tag.now) lines.items filled
             × (self.new ≡ self.old ++ model.cell_after self.old width span filled ∷ [])) }
@@ -81,7 +80,7 @@ impl<T: Eq + Clone + Drop> Columns<T> {
     }
 }
 
-impl<T: Eq + Clone + Drop> Columns<T> {
+impl<T: Tag> Columns<T> {
     /// Adds a cell as [`push`](Columns::push) does, of lines that a block has ended. They stay in the block's text
     /// until they are shown.
     ///
@@ -94,7 +93,6 @@ impl<T: Eq + Clone + Drop> Columns<T> {
         lines: EndedLines<T>,
         tag: &T,
     ) -> Result<(), OutOfMemory>
-        requires { CopiesAreEqual T.is_clone T.eq }
         ensures ok { OnOk result ((filled : List (Line T))
             × AllZip (model.FillsText W.columns T.eq align width tag.now) lines filled
             × (self.new ≡ self.old ++ model.cell_after self.old width span filled ∷ [])) }
@@ -114,7 +112,7 @@ impl<T: Eq + Clone + Drop> Columns<T> {
     }
 }
 
-impl<T: Eq + Drop> Columns<T> {
+impl<T: Tag> Columns<T> {
     /// Whether a row of these cells has a place for each cell that overhangs. It takes no memory.
     pub fn fits(&self, hanging: &Overhang<T>) -> bool
         ensures { result ≡ row_fits hanging.now (map spot_of self.now) }
@@ -128,13 +126,12 @@ impl<T: Eq + Drop> Columns<T> {
 }
 
 /// Fills each of these lines up to a width.
-fn fill_all<T: Eq + Clone + Drop, W: CharWidth>(
+fn fill_all<T: Tag, W: CharWidth>(
     lines: &mut [RenderLine<T>],
     width: usize,
     align: CellAlign,
     tag: &T,
 ) -> Result<(), OutOfMemory>
-    requires { CopiesAreEqual T.is_clone T.eq }
     ensures { OnOk result (AllZip (model.FillsLine W.columns T.eq align width tag.now) lines.old lines.new) }
 {
     for line in lines.iter_mut() {
@@ -144,13 +141,12 @@ fn fill_all<T: Eq + Clone + Drop, W: CharWidth>(
 }
 
 /// Fills a line up to a width.
-fn fill<T: Eq + Clone + Drop, W: CharWidth>(
+fn fill<T: Tag, W: CharWidth>(
     line: &mut RenderLine<T>,
     width: usize,
     align: CellAlign,
     tag: &T,
 ) -> Result<(), OutOfMemory>
-    requires { CopiesAreEqual T.is_clone T.eq }
     ensures { OnOk result (model.FillsLine W.columns T.eq align width tag.now line.old line.new) }
 {
     match line {

@@ -6,6 +6,7 @@ ghost use Rattle.tbr_rows.specs.Fitting.{fits_with};
 use crate::line_set::LineSet;
 use std::collections::linked_list;
 use std::marker::Model;
+use tbr_tags::Tag;
 
 /// A test whether a row has a place for each cell that overhangs. It gets the row's own cells one after another, and
 /// takes no memory.
@@ -28,7 +29,7 @@ impl<'a, T: Eq> Model for Fitting<'a, T> {
     ghost invariant = { λ f. AreApart f.at (waiting_cells f.first f.rest) };
 }
 
-impl<'a, T: Eq> Fitting<'a, T> {
+impl<'a, T: Tag> Fitting<'a, T> {
     /// A test of these overhanging cells, before any of the row's own.
     pub(crate) fn of(mut cells: linked_list::Iter<'a, LineSet<T>>) -> Fitting<'a, T>
         requires { AreApart 0 cells }

@@ -1,6 +1,5 @@
 //! The lines of spanning cells in the border below their row, and what overhangs.
 ghost use Rattle.std.specs.Prelude.{◌≡◌, ◌++◌, map, IfOk, OnOk};
-ghost use Rattle.tbr_tagged.specs.Copies.{CopiesAreEqual};
 ghost use Rattle.tbr_rows.specs.Gaps as model;
 ghost use Rattle.tbr_rows.specs.Gaps.{FillsGapIf, FillsGaps};
 
@@ -11,17 +10,17 @@ use std::collections::LinkedList;
 use tbr_border::BorderHoriz;
 use tbr_model::CharWidth;
 use tbr_tagged::{OutOfMemory, TaggedLine};
+use tbr_tags::Tag;
 
 /// Ends a row. Where borders are drawn, the first line of each spanning cell is put in front of the border below. The
 /// rest overhangs.
-pub(crate) fn hang<T: Eq + Clone + Drop, W: CharWidth>(
+pub(crate) fn hang<T: Tag, W: CharWidth>(
     alloc: Global,
     columns: Vec<Column<T>>,
     next: &mut BorderHoriz<T>,
     draws: bool,
     tag: &T,
 ) -> Result<LinkedList<LineSet<T>>, OutOfMemory>
-    requires { CopiesAreEqual T.is_clone T.eq }
     ensures gaps { OnOk result
         (FillsGaps draws W.columns T.eq tag.now (map model.cell_in columns.items) next.old next.new) }
     ensures rest { IfOk result (λ rest. rest ≡ model.overhang draws (map model.cell_in columns.items)) }
@@ -34,7 +33,7 @@ pub(crate) fn hang<T: Eq + Clone + Drop, W: CharWidth>(
 }
 
 /// Ends a row for one cell, and adds what overhangs of it to what overhangs already.
-fn hang_cell<T: Eq + Clone + Drop, W: CharWidth>(
+fn hang_cell<T: Tag, W: CharWidth>(
     alloc: Global,
     column: Column<T>,
     next: &mut BorderHoriz<T>,
@@ -42,7 +41,6 @@ fn hang_cell<T: Eq + Clone + Drop, W: CharWidth>(
     draws: bool,
     tag: &T,
 ) -> Result<(), OutOfMemory>
-    requires { CopiesAreEqual T.is_clone T.eq }
     ensures gap { OnOk result
         (FillsGapIf (model.has_gap draws column.cell) W.columns T.eq tag.now column.cell next.old next.new) }
     ensures rest { OnOk result (rest.new ≡ rest.old ++ model.overhang_of draws column.cell) }

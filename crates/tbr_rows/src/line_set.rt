@@ -6,6 +6,7 @@ use crate::cell_lines::CellLines;
 use std::alloc::Global;
 use std::fmt;
 use tbr_tagged::OutOfMemory;
+use tbr_tags::Tag;
 
 /// A cell of a row: the column at which it begins, its columns, how many rows it still spans, and the lines that it
 /// still has to show.
@@ -17,7 +18,7 @@ pub struct LineSet<T: Eq> {
     pub(crate) lines: CellLines<T>,
 }
 
-impl<T: Eq> LineSet<T> {
+impl<T: Tag> LineSet<T> {
     /// A cell without lines, in one row.
     pub(crate) fn empty(alloc: Global, place: usize, width: usize) -> LineSet<T>
         ensures { result ≡ model.empty_cell place width }
@@ -62,7 +63,7 @@ impl<T: Eq> fmt::Display for LineSet<T> {
 }
 
 /// How many columns cells side by side take. It refuses where that passes `usize`.
-pub(crate) fn row_width<T: Eq>(cells: &[LineSet<T>]) -> Result<usize, OutOfMemory>
+pub(crate) fn row_width<T: Tag>(cells: &[LineSet<T>]) -> Result<usize, OutOfMemory>
     ensures { IfOk result (λ width. width ≡ model.row_width cells.now) }
 {
     match cells.last() {
@@ -72,7 +73,7 @@ pub(crate) fn row_width<T: Eq>(cells: &[LineSet<T>]) -> Result<usize, OutOfMemor
 }
 
 /// The place of a cell after these. It refuses where that passes `usize`.
-pub(crate) fn next_place<T: Eq>(cells: &[LineSet<T>]) -> Result<usize, OutOfMemory>
+pub(crate) fn next_place<T: Tag>(cells: &[LineSet<T>]) -> Result<usize, OutOfMemory>
     ensures { IfOk result (λ place. place ≡ model.next_place cells.now) }
 {
     if cells.is_empty() {

@@ -13,6 +13,7 @@ use std::collections::LinkedList;
 use std::fmt;
 use std::marker::Model;
 use tbr_tagged::OutOfMemory;
+use tbr_tags::Tag;
 
 /// The cells that overhang from the rows before, in order. This is what has to be kept between two rows. A contract
 /// sees their list.
@@ -44,7 +45,7 @@ impl<T: Eq> fmt::Display for Overhang<T> {
     }
 }
 
-impl<T: Eq + Drop> Overhang<T> {
+impl<T: Tag> Overhang<T> {
     /// No cells. It takes no memory.
     pub fn new(alloc: Global) -> Overhang<T>
         ensures { result ≡ [] }

@@ -1,7 +1,6 @@
 //! Rows.
 ghost use Rattle.std.specs.Prelude.{◌≡◌, map, true, IfOk, OnOk};
 ghost use Rattle.std.specs.List.{AllByRecursion as Each};
-ghost use Rattle.tbr_tagged.specs.Copies.{CopiesAreEqual};
 ghost use Rattle.tbr_tagged.specs.Elements.{IsMerged};
 ghost use Rattle.tbr_rows.specs.Cells.{row_fits, spot_of};
 ghost use Rattle.tbr_rows.specs.Rows as model;
@@ -18,6 +17,7 @@ use std::alloc::Global;
 use tbr_border::BorderHoriz;
 use tbr_model::CharWidth;
 use tbr_tagged::{OutOfMemory, TaggedLine};
+use tbr_tags::Tag;
 
 /// How a row is drawn.
 #[derive(Clone, Copy, PartialEq, Eq, Debug)]
@@ -61,7 +61,7 @@ pub struct Row<T: Eq> {
     pub overhang: Overhang<T>,
 }
 
-impl<T: Eq + Clone + Drop> Columns<T> {
+impl<T: Tag> Columns<T> {
     /// Lays out a row of these cells and of those that overhang, under a border, if there is one. The row must fit, as
     /// [`fits`](Columns::fits) tells. What is drawn is under copies of the tag.
     ///
@@ -75,7 +75,6 @@ impl<T: Eq + Clone + Drop> Columns<T> {
         style: RowStyle,
         tag: &T,
     ) -> Result<Row<T>, OutOfMemory>
-        requires copies { CopiesAreEqual T.is_clone T.eq }
         requires fits { row_fits hanging (map spot_of self) ≡ true }
         ensures row { IfOk result (λ row. IsRow W.columns T.eq style tag.now hanging self above row) }
         ensures merged { IfOk result (λ row. Each (IsMerged T.eq) row.lines.items) }
@@ -97,19 +96,18 @@ impl<T: Eq + Clone + Drop> Columns<T> {
 }
 
 /// A border under a copy of a tag.
-fn plain<T: Eq + Clone + Drop>(
+fn plain<T: Tag>(
     alloc: Global,
     width: usize,
     tag: &T,
 ) -> Result<BorderHoriz<T>, OutOfMemory>
-    requires { CopiesAreEqual T.is_clone T.eq }
     ensures { IfOk result (λ border. IsPlain T.eq tag.now width border) }
 {
     BorderHoriz::new(alloc, width, tag.clone()?)
 }
 
 /// Joins a row to the border above it, if there is one, and merges into that what collapses.
-fn meet_above<T: Eq + Drop>(
+fn meet_above<T: Tag>(
     alloc: Global,
     above: Option<BorderHoriz<T>>,
     next: &mut BorderHoriz<T>,
@@ -132,7 +130,7 @@ fn meet_above<T: Eq + Drop>(
 }
 
 /// Merges what collapses into the border below a row.
-fn meet_next<T: Eq + Drop>(
+fn meet_next<T: Tag>(
     alloc: Global,
     next: &mut BorderHoriz<T>,
     cells: Vec<LineSet<T>>,

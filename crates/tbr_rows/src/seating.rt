@@ -6,10 +6,11 @@ use crate::line_set::{LineSet, next_place};
 use std::alloc::Global;
 use std::collections::LinkedList;
 use tbr_tagged::OutOfMemory;
+use tbr_tags::Tag;
 
 /// The cells of a row: its own, and overhanging ones in their places among them. Those that are after all own ones are
 /// appended, with an empty cell before them where columns are free.
-pub(crate) fn seated<T: Eq + Drop>(
+pub(crate) fn seated<T: Tag>(
     alloc: Global,
     cells: Vec<LineSet<T>>,
     mut hanging: LinkedList<LineSet<T>>,
@@ -25,7 +26,7 @@ pub(crate) fn seated<T: Eq + Drop>(
 }
 
 /// The cell at a place: the first overhanging one, if that is there, and otherwise the row's own.
-fn seat<T: Eq + Drop>(cell: LineSet<T>, hanging: &mut LinkedList<LineSet<T>>) -> LineSet<T>
+fn seat<T: Tag>(cell: LineSet<T>, hanging: &mut LinkedList<LineSet<T>>) -> LineSet<T>
     ensures cell { result ≡ model.taker hanging.old cell }
     ensures waiting { hanging.new ≡ model.still_waiting hanging.old cell }
 {
@@ -38,7 +39,7 @@ fn seat<T: Eq + Drop>(cell: LineSet<T>, hanging: &mut LinkedList<LineSet<T>>) ->
 }
 
 /// Whether the first of these cells is at a place.
-fn stands_first<T: Eq>(cells: &LinkedList<LineSet<T>>, place: usize) -> bool
+fn stands_first<T: Tag>(cells: &LinkedList<LineSet<T>>, place: usize) -> bool
     ensures { result ≡ model.stands_first cells.now place }
 {
     match cells.front() {
@@ -48,7 +49,7 @@ fn stands_first<T: Eq>(cells: &LinkedList<LineSet<T>>, place: usize) -> bool
 }
 
 /// Appends overhanging cells.
-fn append_all<T: Eq + Drop>(
+fn append_all<T: Tag>(
     alloc: Global,
     row: &mut Vec<LineSet<T>>,
     hanging: LinkedList<LineSet<T>>,
@@ -62,7 +63,7 @@ fn append_all<T: Eq + Drop>(
 }
 
 /// Appends an overhanging cell, after an empty one where columns are free.
-fn append<T: Eq + Drop>(
+fn append<T: Tag>(
     alloc: Global,
     row: &mut Vec<LineSet<T>>,
     cell: LineSet<T>,

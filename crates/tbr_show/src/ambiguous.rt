@@ -1,13 +1,9 @@
 //! The columns of characters in terminals that give East Asian ambiguous characters two.
-ghost use Rattle.std.specs.Prelude.{◌≡◌};
-ghost use Rattle.tbr_model.specs.Width as fixed;
 ghost use Rattle.tbr_show.specs.Ambiguous.{ambiguous_wide, ambiguous_wide_at_most_two, ambiguous_wide_drawn};
 
 use tbr_lines::CharWidth;
+use tbr_tagged::{STROKE, takes_one_column};
 use unicode_width::UnicodeWidthChar;
-
-/// U+0336, which strikes out the character before it.
-const STROKE: char = '\u{336}';
 
 /// The columns of characters, by the crate `unicode_width`, in a terminal that gives two to those that Unicode calls
 /// ambiguous.
@@ -38,27 +34,4 @@ impl CharWidth for AmbiguousWide {
         let width = c.width_cjk()?;
         Some(width.min(2))
     }
-}
-
-/// Whether the character is the space, the slash, or one that borders are drawn with.
-fn takes_one_column(c: char) -> bool
-    ensures { result ≡ fixed.takes_one_column c }
-{
-    c == ' ' || c == '/' || draws_border(c)
-}
-
-fn draws_border(c: char) -> bool
-    ensures { result ≡ fixed.draws_border c }
-{
-    c == '─'
-        || c == '│'
-        || c == '┌'
-        || c == '┐'
-        || c == '└'
-        || c == '┘'
-        || c == '├'
-        || c == '┤'
-        || c == '┬'
-        || c == '┴'
-        || c == '┼'
 }

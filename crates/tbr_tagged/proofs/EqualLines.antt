@@ -12,7 +12,7 @@ use Rattle.tbr_tagged.specs.declared.element.TaggedString.{TaggedString}
 use Rattle.tbr_tagged.specs.declared.element.TaggedLineElement.{TaggedLineElement}
 use Rattle.tbr_tagged.specs.declared.element.TaggedLineElement.TheVariants.{Str, FragmentStart}
 use Rattle.tbr_tagged.specs.Elements.{Element, piece, marker_element, SameElement, SameElements}
-use Rattle.tbr_tagged.proofs.Copies.{list_copies_equal}
+use Rattle.tbr_tags.specs.Lists.{list_copies_equal}
 use Rattle.tbr_tagged.specs.Equal.{same_text, equal_elements, equal_lines}
 use Rattle.tbr_tagged.specs.View.{element_of}
 

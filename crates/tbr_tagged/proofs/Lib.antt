@@ -1,6 +1,5 @@
 pub mod AppendedLines
 pub mod Outcomes
-pub mod Copies
 pub mod ElementLoops
 pub mod EqualLines
 pub mod GrownLines
@@ -11,4 +10,5 @@ pub mod SameItems
 pub mod TextAfter
 pub mod TextColumns
 pub mod TextInFront
+pub mod Told
 pub mod WideBlocks

@@ -1,4 +1,3 @@
-pub mod Copies
 pub mod Outcome
 pub mod Elements
 pub mod View

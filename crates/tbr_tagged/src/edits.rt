@@ -2,7 +2,6 @@
 ghost use Rattle.std.specs.Prelude.{◌≡◌, ◌<◌, ◌∷◌, ◌⊎◌, [], false, chars, length, string_len, IfOk, OnOk, OnErr};
 ghost use Rattle.std.specs.List.{slice_get};
 ghost use Rattle.std.specs.Option.{option_map};
-ghost use Rattle.tbr_tagged.specs.Copies.{CopiesAreEqual};
 ghost use Rattle.tbr_tagged.specs.Elements.{is_piece_under, push_text, insert_text, SameElements};
 ghost use Rattle.tbr_tagged.specs.Restored.{restored};
 ghost use Rattle.tbr_tagged.specs.Stored.{stored};
@@ -11,12 +10,13 @@ ghost use Rattle.tbr_tagged.specs.View.{chars_of, elements_of};
 use crate::element::{TaggedLineElement, TaggedString, new_piece};
 use crate::element_list::ElementList;
 use crate::error::OutOfMemory;
+use tbr_tags::Tag;
 
 /// The room that a copied text gets beyond its own bytes. A prefix or padding then usually needs no more memory.
 const SPARE_ROOM: usize = 24;
 
 /// Appends text that isn't empty. Where memory is refused, nothing changes, and the text is dropped.
-pub fn push_piece<T: Eq + Drop>(
+pub fn push_piece<T: Tag>(
     elements: &mut ElementList<T>,
     ts: TaggedString<T>,
 ) -> Result<(), OutOfMemory>
@@ -33,7 +33,7 @@ pub fn push_piece<T: Eq + Drop>(
 
 /// Appends a copy of a text that isn't empty. Where it begins a piece, that has room for a prefix or padding. Where
 /// memory is refused, nothing changes.
-pub fn push_copy<T: Eq + Drop>(
+pub fn push_copy<T: Tag>(
     elements: &mut ElementList<T>,
     text: &str,
     tag: T,
@@ -53,12 +53,11 @@ pub fn push_copy<T: Eq + Drop>(
 }
 
 /// Appends a character under a tag, of which a new piece gets a copy. Where memory is refused, nothing changes.
-pub fn push_glyph<T: Eq + Clone>(
+pub fn push_glyph<T: Tag>(
     elements: &mut ElementList<T>,
     c: char,
     tag: &T,
 ) -> Result<(), OutOfMemory>
-    requires { CopiesAreEqual T.is_clone T.eq }
     ensures ok { OnOk result (SameElements T.eq (elements_of (stored elements.new))
         (push_text T.eq (elements_of (stored elements.old)) (c ∷ []) tag.now)) }
     ensures err { OnErr result (elements_of (stored elements.new) ≡ elements_of (stored elements.old)) }
@@ -72,7 +71,7 @@ pub fn push_glyph<T: Eq + Clone>(
 
 /// Puts text in front. If that extends the first piece, it answers the text that the piece had before. Where memory is
 /// refused, nothing changes, and the text is dropped.
-pub fn put_in_front<T: Eq + Drop>(
+pub fn put_in_front<T: Tag>(
     elements: &mut ElementList<T>,
     ts: TaggedString<T>,
 ) -> Result<Option<String>, OutOfMemory>
@@ -93,7 +92,7 @@ pub fn put_in_front<T: Eq + Drop>(
 /// Puts text in front, which extends the first piece where that is under an equal tag. Where memory is refused, nothing
 /// changes, and the text is dropped. The empty text takes no memory if it extends that piece, or if there is no
 /// element.
-pub fn put_text_in_front<T: Eq + Drop>(
+pub fn put_text_in_front<T: Tag>(
     elements: &mut ElementList<T>,
     ts: TaggedString<T>,
 ) -> Result<(), OutOfMemory>
@@ -112,7 +111,7 @@ pub fn put_text_in_front<T: Eq + Drop>(
 
 /// Puts text in front, which extends the first piece where that is under an equal tag. Where memory is refused, nothing
 /// changes. The empty text takes no memory if it extends that piece, or if there is no element.
-pub fn put_str_in_front<T: Eq + Drop>(
+pub fn put_str_in_front<T: Tag>(
     elements: &mut ElementList<T>,
     text: &str,
     tag: T,
@@ -135,7 +134,7 @@ pub fn put_str_in_front<T: Eq + Drop>(
 
 /// Puts the empty text in front, unless it extends the first piece. Where memory is refused, nothing changes. If there
 /// is no element, it takes no memory.
-fn put_none_in_front<T: Eq + Drop>(elements: &mut ElementList<T>, tag: T) -> Result<(), OutOfMemory>
+fn put_none_in_front<T: Tag>(elements: &mut ElementList<T>, tag: T) -> Result<(), OutOfMemory>
     ensures ok { OnOk result (elements_of (stored elements.new)
         ≡ insert_text T.eq (elements_of (stored elements.old)) [] tag) }
     ensures err { OnErr result (elements_of (stored elements.new) ≡ elements_of (stored elements.old)) }

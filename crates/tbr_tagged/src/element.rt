@@ -1,7 +1,6 @@
 //! Pieces of text and markers, one by one.
 ghost use Rattle.std.specs.Prelude.{◌≡◌, ℕ, ◌∷◌, [], true, List, Option, chars, string_bytes, IfOk, OnOk, OnErr};
 ghost use Rattle.std.specs.Option.{option_copied, option_map};
-ghost use Rattle.tbr_tagged.specs.Copies.{CopiesAreEqual};
 ghost use Rattle.tbr_model.specs.Width.{width_of_text};
 ghost use Rattle.tbr_tagged.specs.Elements.{Element, piece, element_width, element_characters, is_piece_under, with_text, text_before, SameElement};
 ghost use Rattle.tbr_tagged.specs.Elements as model;
@@ -18,6 +17,7 @@ use crate::width::text_width;
 use std::alloc::Global;
 use std::mem;
 use tbr_model::CharWidth;
+use tbr_tags::Tag;
 
 /// Text under one tag.
 #[derive(PartialEq, Debug, Drop)]
@@ -63,8 +63,7 @@ impl<T> TaggedString<T> {
     /// This text under a copy of its tag. It refuses only where memory is refused.
     pub fn clone(&self) -> Result<TaggedString<T>, OutOfMemory>
     where
-        T: Eq + Clone,
-        requires { CopiesAreEqual T.is_clone T.eq }
+        T: Tag,
         ensures text { IfOk result (λ copy. string_bytes copy.s ≡ string_bytes self.now.s) }
         ensures tag { IfOk result (λ copy. T.eq copy.tag self.now.tag ≡ true) }
     {
@@ -129,8 +128,7 @@ impl<T> TaggedLineElement<T> {
     /// A copy of the element, and of its tag if it is a piece. It refuses only where memory is refused.
     pub fn clone(&self) -> Result<TaggedLineElement<T>, OutOfMemory>
     where
-        T: Eq + Clone,
-        requires { CopiesAreEqual T.is_clone T.eq }
+        T: Tag,
         ensures same { IfOk result (λ copy. SameElement T.eq (element_of copy) (element_of self.now)) }
         ensures equal { IfOk result (λ copy. ⟦<TaggedLineElement<T> as PartialEq>⟧.eq copy self.now ≡ true) }
     {
@@ -144,7 +142,7 @@ impl<T> TaggedLineElement<T> {
 }
 
 /// Whether it is a piece under an equal tag.
-pub fn is_under<T: Eq>(element: Option<&TaggedLineElement<T>>, tag: &T) -> bool
+pub fn is_under<T: Tag>(element: Option<&TaggedLineElement<T>>, tag: &T) -> bool
     ensures { result ≡ is_piece_under T.eq (option_map element_of (option_copied element.entry)) tag.now }
 {
     match element {
@@ -219,12 +217,11 @@ pub fn cut_text<T>(element: &mut TaggedLineElement<T>, bytes: usize)
 }
 
 /// A piece of one character under a copy of the tag. It refuses only where memory is refused.
-pub fn new_piece<T: Eq + Clone>(
+pub fn new_piece<T: Tag>(
     alloc: Global,
     c: char,
     tag: &T,
 ) -> Result<TaggedLineElement<T>, OutOfMemory>
-    requires { CopiesAreEqual T.is_clone T.eq }
     ensures { IfOk result (λ e. SameElement T.eq (element_of e) (piece (c ∷ []) tag.now)) }
 {
     let mut s = String::new(alloc);

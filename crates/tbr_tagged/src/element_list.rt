@@ -1,6 +1,5 @@
 //! The elements of a line, as they are stored.
 ghost use Rattle.std.specs.Prelude.{◌≡◌, ◌==◌, ◌++◌, ◌∷◌, ◌<◌, [], List, Some, chars, drop, length, slice_get, IfOk, OnOk, OnErr};
-ghost use Rattle.tbr_tagged.specs.Copies.{CopiesAreEqual};
 ghost use Rattle.tbr_tagged.specs.Elements.{Element, characters, is_piece_under, last_of, line_width, SameElements};
 ghost use Rattle.tbr_tagged.specs.Elements as model;
 ghost use Rattle.tbr_tagged.specs.Equal.{equal_lines};
@@ -23,6 +22,7 @@ use crate::iterators::{IntoIter, Iter, Rest};
 use std::alloc::Global;
 use std::mem;
 use tbr_model::CharWidth;
+use tbr_tags::Tag;
 
 /// The elements of a line, in order. A single one is kept in place, so that a line of one piece needs no list.
 #[derive(Debug, Drop)]
@@ -142,7 +142,7 @@ impl<T> ElementList<T> {
     /// Whether the last element is a piece under an equal tag.
     pub fn ends_under(&self, tag: &T) -> bool
     where
-        T: Eq,
+        T: Tag,
         ensures { result ≡ is_piece_under T.eq (last_of (elements_of (stored self.now))) tag.now }
     {
         match self {
@@ -154,7 +154,7 @@ impl<T> ElementList<T> {
     /// Whether the first element is a piece under an equal tag.
     pub fn begins_under(&self, tag: &T) -> bool
     where
-        T: Eq,
+        T: Tag,
         ensures { result ≡ is_piece_under T.eq (slice_get (elements_of (stored self.now)) 0) tag.now }
     {
         match self {
@@ -371,8 +371,7 @@ impl<T: Drop> ElementList<T> {
     /// Copies of the elements, each piece under a copy of its tag. It refuses only where memory is refused.
     pub fn clone(&self) -> Result<ElementList<T>, OutOfMemory>
     where
-        T: Eq + Clone,
-        requires { CopiesAreEqual T.is_clone T.eq }
+        T: Tag,
         ensures { IfOk result (λ copy.
             SameElements T.eq (elements_of (stored copy)) (elements_of (stored self.now))) }
     {

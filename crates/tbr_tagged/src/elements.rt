@@ -1,6 +1,5 @@
 //! Lists of pieces and markers.
 ghost use Rattle.std.specs.Prelude.{◌≡◌, ℕ, ◌++◌, ◌∷◌, [], Some, List, chars, length, IfOk, OnOk, OnErr};
-ghost use Rattle.tbr_tagged.specs.Copies.{CopiesAreEqual};
 ghost use Rattle.tbr_tagged.specs.Elements.{Element, last_of, line_width, characters, SameElements};
 ghost use Rattle.tbr_tagged.specs.Elements as model;
 ghost use Rattle.tbr_tagged.specs.Grown.{HasGrown, last_bytes};
@@ -17,6 +16,7 @@ use crate::element::{
 use crate::error::OutOfMemory;
 use crate::width::text_width;
 use tbr_model::CharWidth;
+use tbr_tags::Tag;
 
 /// Whether a piece is among them.
 pub fn has_piece<T>(elements: &[TaggedLineElement<T>]) -> bool
@@ -183,10 +183,9 @@ pub fn map_tag<T: Drop, U: Drop, F: Fn(T) -> U>(
 }
 
 /// Copies of the elements, each piece under a copy of its tag. It refuses only where memory is refused.
-pub fn clone<T: Eq + Clone + Drop>(
+pub fn clone<T: Tag>(
     elements: &Vec<TaggedLineElement<T>>,
 ) -> Result<Vec<TaggedLineElement<T>>, OutOfMemory>
-    requires { CopiesAreEqual T.is_clone T.eq }
     ensures { IfOk result (λ copy. SameElements T.eq (elements_of copy.items) (elements_of elements.now.items)) }
 {
     let mut copy = Vec::with_capacity(*elements.allocator(), elements.len())?;

@@ -1,17 +1,10 @@
-//! The laws of tags and of lines, each as the contract of a function that does nothing.
+//! The laws of lines, each as the contract of a function that does nothing.
 ghost use Rattle.std.specs.Prelude.{◌≡◌, Bool, List};
 ghost use Rattle.std.specs.List.{AllZip};
 ghost use Rattle.tbr_model.specs.Run.{Item, has_character};
 ghost use Rattle.tbr_model.specs.Mapped.{map_items, map_lines};
-ghost use Rattle.tbr_tagged.specs.Copies.{CopiesAreEqual, IsListClone, equal_lists};
 ghost use Rattle.tbr_tagged.specs.Elements.{Element, items_of, has_piece, SameItems, IsMerged};
 ghost use Rattle.tbr_tagged.specs.Mapped.{MeansEqual};
-
-/// If a copy of a tag equals its source, so does a copy of a list of tags. With this law a `Vec<T>` can be a tag.
-pub fn copies_of_lists_are_equal<T: Eq + Clone>()
-    requires { CopiesAreEqual T.is_clone T.eq }
-    ensures { CopiesAreEqual (IsListClone T.is_clone) (equal_lists T.eq) }
-{}
 
 /// A line of merged pieces has a piece exactly where it has a character.
 pub fn merged_pieces_have_characters<T>()

@@ -1,6 +1,5 @@
 //! Spaces in front of a line and after it.
 ghost use Rattle.std.specs.Prelude.{◌≡◌, ◌+◌, ◌<◌, ◌≤◌, true, IfOk, OnOk, OnErr};
-ghost use Rattle.tbr_tagged.specs.Copies.{CopiesAreEqual};
 ghost use Rattle.tbr_tagged.specs.Elements.{push_text, SameElements};
 ghost use Rattle.tbr_tagged.specs.declared.padding.CellAlign.TheVariants as A;
 ghost use Rattle.tbr_tagged.specs.Padding as model;
@@ -13,6 +12,7 @@ use crate::element_list::ElementList;
 use crate::error::OutOfMemory;
 use crate::space::spaces;
 use std::alloc::Global;
+use tbr_tags::Tag;
 
 /// Where a line is placed in more columns than it takes. In the middle, the odd column is on the right.
 #[derive(Clone, Copy, PartialEq, Eq, Debug)]
@@ -48,13 +48,12 @@ pub fn columns_in_front(align: CellAlign, missing: usize) -> usize
 
 /// Puts `front` spaces in front of the elements and `after` spaces after them, under copies of the tag. Where memory is
 /// refused, nothing changes.
-pub fn pad<T: Eq + Clone + Drop>(
+pub fn pad<T: Tag>(
     elements: &mut ElementList<T>,
     front: usize,
     after: usize,
     tag: &T,
 ) -> Result<(), OutOfMemory>
-    requires { CopiesAreEqual T.is_clone T.eq }
     ensures ok { OnOk result (SameElements T.eq (elements_of (stored elements.new))
         (model.padded T.eq (elements_of (stored elements.old)) front after tag.now)) }
     ensures unchanged_by_none { front + after ≡ 0 →
@@ -75,12 +74,11 @@ pub fn pad<T: Eq + Clone + Drop>(
 }
 
 /// Appends `count` spaces under a copy of the tag. Where memory is refused, nothing changes.
-pub fn push_spaces<T: Eq + Clone + Drop>(
+pub fn push_spaces<T: Tag>(
     elements: &mut ElementList<T>,
     count: usize,
     tag: &T,
 ) -> Result<(), OutOfMemory>
-    requires { CopiesAreEqual T.is_clone T.eq }
     ensures ok { OnOk result (SameElements T.eq (elements_of (stored elements.new))
         (push_text T.eq (elements_of (stored elements.old)) (model.spaces count) tag.now)) }
     ensures unchanged_by_none { count ≡ 0 →
@@ -99,12 +97,11 @@ pub fn push_spaces<T: Eq + Clone + Drop>(
 }
 
 /// A text of `count` spaces under a copy of the tag. It refuses only where memory is refused.
-fn spaces_under<T: Eq + Clone>(
+fn spaces_under<T: Tag>(
     alloc: Global,
     count: usize,
     tag: &T,
 ) -> Result<TaggedString<T>, OutOfMemory>
-    requires { CopiesAreEqual T.is_clone T.eq }
     ensures text { IfOk result (λ ts. chars_of ts.s ≡ model.spaces count) }
     ensures tag { IfOk result (λ ts. T.eq ts.tag tag.now ≡ true) }
 {

@@ -1,6 +1,5 @@
 //! Lines of text under tags.
 ghost use Rattle.std.specs.Prelude.{◌≡◌, ℕ, ◌^◌, ◌≤◌, ◌<◌, ◌++◌, ◌∷◌, ◌⊎◌, [], true, false, max, not, List, Option, chars, fold, map, length, string_len, IfOk, OnOk, OnErr};
-ghost use Rattle.tbr_tagged.specs.Copies.{CopiesAreEqual};
 ghost use Rattle.tbr_model.specs.Run.{glyph};
 ghost use Rattle.std.specs.List.{slice_get};
 ghost use Rattle.tbr_tagged.specs.Elements.{Element, items_of, line_width, element_items, is_piece_under, last_of, characters, piece, push_text, push_element, insert_text, text_items, SameItems, SameElements, IsMerged};
@@ -23,6 +22,7 @@ use crate::padding::{CellAlign, columns_in_front, pad, push_spaces};
 use std::alloc::Global;
 use std::marker::Model;
 use tbr_model::CharWidth;
+use tbr_tags::Tag;
 
 /// A line of pieces of text, each under its tag, and of markers. A contract sees the list of these elements.
 #[derive(Debug, Drop)]
@@ -90,8 +90,7 @@ impl<T> TaggedLine<T> {
     /// A line of one piece under a copy of the tag, even for the empty text. It refuses only where memory is refused.
     pub fn from_string(alloc: Global, s: String, tag: &T) -> Result<TaggedLine<T>, OutOfMemory>
     where
-        T: Eq + Clone + Drop,
-        requires { CopiesAreEqual T.is_clone T.eq }
+        T: Tag,
         ensures { IfOk result (λ line. SameElements T.eq line (piece (chars_of s) tag.now ∷ [])) }
     {
         let tag = tag.clone()?;
@@ -118,8 +117,7 @@ impl<T> TaggedLine<T> {
     /// A copy of the line, with each piece under a copy of its tag. It refuses only where memory is refused.
     pub fn clone(&self) -> Result<TaggedLine<T>, OutOfMemory>
     where
-        T: Eq + Clone + Drop,
-        requires { CopiesAreEqual T.is_clone T.eq }
+        T: Tag,
         ensures elements { IfOk result (λ line. SameElements T.eq line self.now) }
         ensures equal { IfOk result (λ line. equal_lines T.eq line self.now ≡ true) }
     {
@@ -128,14 +126,12 @@ impl<T> TaggedLine<T> {
     }
 }
 
-impl<T: Eq> TaggedLine<T> {
+impl<T: Tag> TaggedLine<T> {
     /// Appends text. It extends the last piece if that is under an equal tag, and otherwise is a piece of its own. The
     /// empty text changes nothing.
     ///
     /// Where memory is refused, the line stays as it was, and the text is dropped. The empty text takes no memory.
     pub fn push_str(&mut self, ts: TaggedString<T>) -> Result<(), OutOfMemory>
-    where
-        T: Drop,
         ensures ok { OnOk result (self.new ≡ push_text T.eq self.old (chars_of ts.s) ts.tag) }
         ensures items { OnOk result
             (SameItems T.eq (items_of self.new) (items_of self.old ++ text_items (chars_of ts.s) ts.tag)) }
@@ -153,8 +149,6 @@ impl<T: Eq> TaggedLine<T> {
     ///
     /// Where memory is refused, the line stays as it was. The empty text takes no memory.
     pub fn push_text(&mut self, text: &str, tag: T) -> Result<(), OutOfMemory>
-    where
-        T: Drop,
         ensures ok { OnOk result (self.new ≡ push_text T.eq self.old (chars text.now) tag) }
         ensures items { OnOk result
             (SameItems T.eq (items_of self.new) (items_of self.old ++ text_items (chars text.now) tag)) }
@@ -180,9 +174,6 @@ impl<T: Eq> TaggedLine<T> {
     ///
     /// Where memory is refused, the line stays as it was.
     pub fn push_char(&mut self, c: char, tag: &T) -> Result<(), OutOfMemory>
-    where
-        T: Clone,
-        requires { CopiesAreEqual T.is_clone T.eq }
         ensures ok { OnOk result (SameElements T.eq self.new (push_text T.eq self.old (c ∷ []) tag.now)) }
         ensures items { OnOk result (SameItems T.eq (items_of self.new) (items_of self.old ++ glyph c tag.now ∷ [])) }
         ensures merged { IsMerged T.eq self.old → OnOk result (IsMerged T.eq self.new) }
@@ -192,7 +183,7 @@ impl<T: Eq> TaggedLine<T> {
     }
 }
 
-impl<T: Eq + Drop> TaggedLine<T> {
+impl<T: Tag> TaggedLine<T> {
     /// Appends an element: text as [`TaggedLine::push_str`] does, and a marker as an element of its own.
     ///
     /// Where memory is refused, the line stays as it was, and the element is dropped. A piece of the empty text takes
@@ -273,13 +264,12 @@ impl<T: Eq + Drop> TaggedLine<T> {
     }
 }
 
-impl<T: Eq + Clone + Drop> TaggedLine<T> {
+impl<T: Tag> TaggedLine<T> {
     /// Appends `count` spaces. They extend the last piece if that is under an equal tag, and otherwise begin a piece
     /// under a copy of the tag.
     ///
     /// Where memory is refused, the line stays as it was. If `count` is 0, it takes no memory.
     pub fn push_spaces(&mut self, count: usize, tag: &T) -> Result<(), OutOfMemory>
-        requires { CopiesAreEqual T.is_clone T.eq }
         ensures ok { OnOk result (SameElements T.eq self.new (push_text T.eq self.old (spaces count) tag.now)) }
         ensures items { OnOk result
             (SameItems T.eq (items_of self.new) (items_of self.old ++ text_items (spaces count) tag.now)) }
@@ -296,7 +286,6 @@ impl<T: Eq + Clone + Drop> TaggedLine<T> {
     /// It refuses where memory is refused, or where the line's columns pass `usize`. The line then stays as it was. A
     /// line that is already as wide takes no memory.
     pub fn pad_to<W: CharWidth>(&mut self, width: usize, tag: &T) -> Result<(), OutOfMemory>
-        requires { CopiesAreEqual T.is_clone T.eq }
         ensures ok { OnOk result (SameElements T.eq self.new
             (push_text T.eq self.old (spaces (columns_missing W.columns width self.old)) tag.now)) }
         ensures items { OnOk result (SameItems T.eq (items_of self.new)
@@ -323,7 +312,6 @@ impl<T: Eq + Clone + Drop> TaggedLine<T> {
         align: CellAlign,
         tag: &T,
     ) -> Result<(), OutOfMemory>
-        requires { CopiesAreEqual T.is_clone T.eq }
         ensures ok { OnOk result (SameElements T.eq self.new
             (aligned T.eq align self.old (columns_missing W.columns width self.old) tag.now)) }
         ensures items { OnOk result (SameItems T.eq (items_of self.new)

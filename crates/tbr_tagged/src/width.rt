@@ -10,7 +10,7 @@ use tbr_model::CharWidth;
 use unicode_width::UnicodeWidthChar;
 
 /// U+0336, which strikes out the character before it.
-const STROKE: char = '\u{336}';
+pub const STROKE: char = '\u{336}';
 
 /// The columns that terminals give characters, by the crate `unicode_width`.
 ///
@@ -80,8 +80,9 @@ fn is_in_wide_block(c: char) -> bool
         || (c >= '\u{ff01}' && c <= '\u{ff60}')
 }
 
-/// Whether the character is the space, the slash, or one that borders are drawn with.
-fn takes_one_column(c: char) -> bool
+/// Whether the character is the space, the slash, or one that borders are drawn with. Any instance of [`CharWidth`]
+/// gives it one column.
+pub fn takes_one_column(c: char) -> bool
     ensures { result ≡ fixed.takes_one_column c }
 {
     c == ' ' || c == '/' || draws_border(c)

@@ -1,9 +1,14 @@
 -- Lists of tags are equal exactly where they mean the same, and copies of them are equal.
-use Rattle.std.specs.Prelude.{◌≡◌, ◌↔◌, Bool, true, false, ◌&&◌, List, [], ◌∷◌, map, IsTrue, refl}
+use Rattle.std.specs.Prelude.{◌≡◌, ◌↔◌, Bool, true, false, ◌&&◌, List, [], ◌∷◌, map, Vec, IsTrue, refl}
+use Rattle.std.specs.declared.alloc.Global.{Global}
 use Rattle.std.proofs.Common.{sym}
 use Rattle.std.specs.List.{AllZip}
 use Rattle.std.specs.Cmp.Lexicographic.{pointwise}
 use Rattle.tbr_tags.specs.Tells.{both_true, true_both, equal_as_told, lists_tell}
+
+-- the equality of `Vec`
+abbrev pub equal_lists : {A : Type 0} → (A → A → Bool) → Vec A Global → Vec A Global → Bool
+equal_lists eq v w = pointwise eq v.items w.items
 
 module _ {A M : Type 0} (meaning : A → M) (eq : A → A → Bool)
     (equal_by_meaning : (a b : A) → IsTrue (eq a b) ↔ (meaning a ≡ meaning b)) where

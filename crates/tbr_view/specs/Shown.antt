@@ -3,7 +3,7 @@ use Rattle.std.specs.Prelude.{◌≡◌, ℕ, ◌==◌, Bool, true, false, if◌
 use Rattle.std.specs.Global.{Vec}
 use Rattle.std.specs.Option.{unwrap_or}
 use Rattle.tbr_model.specs.Codes.{newline_character}
-use Rattle.tbr_tagged.specs.Copies.{equal_lists}
+use Rattle.tbr_tags.specs.Lists.{equal_lists}
 use Rattle.tbr_tagged.specs.Elements.{Element, items_of, characters, SameItems}
 use Rattle.tbr_tagged.specs.Mapped.{MapsElements}
 use Rattle.tbr_border.specs.RenderLine.{line_items, IsItself}

@@ -4,7 +4,6 @@ ghost use Rattle.std.specs.List.{AllZip};
 ghost use Rattle.std.specs.Str.{IsUtf8};
 ghost use Rattle.tbr_model.specs.Run.{Item};
 ghost use Rattle.tbr_model.specs.Rule.{call, entry, run_of};
-ghost use Rattle.tbr_tagged.specs.Copies.{CopiesAreEqual};
 ghost use Rattle.tbr_tagged.specs.Elements.{items_of, SameItems, IsMerged};
 ghost use Rattle.tbr_wrap.specs.Wrapped.{HasBestLines, ShowsText, padding_of};
 ghost use Rattle.tbr_wrap.specs.Runs.{text_entries};
@@ -17,6 +16,7 @@ use std::alloc::Global;
 use std::marker::{Model, PhantomData};
 use tbr_model::{CharWidth, History, WhiteSpace};
 use tbr_tagged::{Error, OutOfMemory, TaggedLine, TaggedLineElement, UnicodeColumns};
+use tbr_tags::Tag;
 
 /// Text under tags that is wrapped into lines of a width in columns.
 ///
@@ -55,7 +55,7 @@ impl<T: Eq + Clone, W: CharWidth> Model for WrappedBlock<T, W> {
     ghost invariant = { λ b. HoldsBlock W.columns T.eq b };
 }
 
-impl<T: Eq + Clone, W: CharWidth> WrappedBlock<T, W> {
+impl<T: Tag, W: CharWidth> WrappedBlock<T, W> {
     ghost use Rattle.tbr_model.specs.Run.{marker_entry};
     ghost use Rattle.tbr_tagged.specs.Elements.{marker_element};
     ghost use Rattle.tbr_tagged.specs.View.{element_of};
@@ -191,7 +191,6 @@ impl<T: Eq + Clone, W: CharWidth> WrappedBlock<T, W> {
     ) -> Result<&'a str, Error>
     where
         T: Drop,
-        requires faithful { CopiesAreEqual T.is_clone T.eq }
         requires unfailed { self.old.failure ≡ None }
         requires some { 0 < length text.now }
         ensures ok { IfOk result (λ rest.
@@ -227,7 +226,6 @@ impl<T: Eq + Clone, W: CharWidth> WrappedBlock<T, W> {
     ) -> Result<(), Error>
     where
         T: Drop,
-        requires { CopiesAreEqual T.is_clone T.eq }
         ensures answers { let after = after_text W.columns (chars text.now) main_tag.now wrap_tag.now ws_mode in
             Answers failure_of settings_of (after self.old) self.old result self.new }
         ensures two_columns { self.old.failure ≡ None → 2 ≤ self.old.width → result ≢ Err E.TooNarrow }
@@ -245,7 +243,6 @@ impl<T: Eq + Clone, W: CharWidth> WrappedBlock<T, W> {
     ) -> Result<(), Error>
     where
         T: Drop,
-        requires { CopiesAreEqual T.is_clone T.eq }
         ensures answers { let after = after_text W.columns (chars text.now) main_tag.now wrap_tag.now ws_mode in
             Answers failure_of settings_of (after self.old) self.old result self.new }
     {
@@ -325,7 +322,6 @@ impl<T: Eq + Clone, W: CharWidth> WrappedBlock<T, W> {
     pub fn flush(&mut self) -> Result<(), Error>
     where
         T: Drop,
-        requires { CopiesAreEqual T.is_clone T.eq }
         ensures answers { Answers failure_of settings_of (after_flush W.columns self.old) self.old result self.new }
         ensures best { let run = run_of self.old.events in WrapsNormally self.old →
             OnOk result (HasBestLines W.columns self.old.width run (all_lines W.columns self.old)) }
@@ -338,7 +334,6 @@ impl<T: Eq + Clone, W: CharWidth> WrappedBlock<T, W> {
     fn end_run(&mut self) -> Result<(), Error>
     where
         T: Drop,
-        requires { CopiesAreEqual T.is_clone T.eq }
         ensures answers { Answers failure_of settings_of (after_flush W.columns self.old) self.old result self.new }
         ensures best { let run = run_of self.old.events in WrapsNormally self.old →
             OnOk result (HasBestLines W.columns self.old.width run (all_lines W.columns self.old)) }
@@ -357,7 +352,6 @@ impl<T: Eq + Clone, W: CharWidth> WrappedBlock<T, W> {
     pub fn next_line(&mut self) -> Result<Option<TaggedLine<T>>, Error>
     where
         T: Drop,
-        requires { CopiesAreEqual T.is_clone T.eq }
         ensures answers { Answers failure_of settings_of (after_line W.columns self.old) self.old result self.new }
         ensures line { IfOk result (HandsOutFirst W.columns T.eq self.old (left W.columns self.old)) }
         ensures memory { self.old.failure ≡ None → IfErr result (λ e. e ≡ E.OutOfMemory) }
@@ -375,7 +369,6 @@ impl<T: Eq + Clone, W: CharWidth> WrappedBlock<T, W> {
     fn take_line(&mut self) -> Result<Option<TaggedLine<T>>, Error>
     where
         T: Drop,
-        requires faithful { CopiesAreEqual T.is_clone T.eq }
         requires unfailed { self.old.failure ≡ None }
         ensures some { (text : List (Item T)) (rest : List (List (Item T))) → left W.columns self.old ≡ text ∷ rest →
             IfOk result (λ o. IsSomeAnd o (λ line. SameItems T.eq (items_of line) text)) }
@@ -402,7 +395,6 @@ impl<T: Eq + Clone, W: CharWidth> WrappedBlock<T, W> {
     fn pad(&self, line: &mut TaggedLine<T>) -> Result<(), OutOfMemory>
     where
         T: Drop,
-        requires { CopiesAreEqual T.is_clone T.eq }
         ensures items { OnOk result (SameItems T.eq (items_of line.new)
             (items_of line.old ++ padding_of W.columns self.now.padding self.now.width (items_of line.old))) }
         ensures merged { IsMerged T.eq line.old → OnOk result (IsMerged T.eq line.new) }
@@ -420,7 +412,6 @@ impl<T: Eq + Clone, W: CharWidth> WrappedBlock<T, W> {
     pub fn into_lines(mut self) -> Result<Vec<TaggedLine<T>>, Error>
     where
         T: Drop,
-        requires { CopiesAreEqual T.is_clone T.eq }
         ensures gives { IfOk result (λ lines. (s : Block T) × (after_flush W.columns self ≡ done s)
             × AllZip (ShowsText W.columns T.eq self.padding self.width) lines.items s.ended) }
         ensures best { let run = run_of self.events in WrapsNormally self →
@@ -460,7 +451,6 @@ impl<T: Eq + Clone, W: CharWidth> WrappedBlock<T, W> {
     fn hand_out(&mut self) -> Result<Vec<TaggedLine<T>>, Error>
     where
         T: Drop,
-        requires faithful { CopiesAreEqual T.is_clone T.eq }
         requires live { self.old.failure ≡ None }
         ensures lines { IfOk result (λ lines.
             AllZip (ShowsText W.columns T.eq self.old.padding self.old.width) lines.items (left W.columns self.old)) }

@@ -3,7 +3,6 @@ ghost use Rattle.std.specs.Prelude.{◌≡◌, ◌==◌, ◌-◌, ◌++◌, ◌�
 ghost use Rattle.std.specs.List.{list_any};
 ghost use Rattle.std.specs.VecDeque.{deque_len};
 ghost use Rattle.tbr_model.specs.Run.{Item, has_character, items_width};
-ghost use Rattle.tbr_tagged.specs.Copies.{CopiesAreEqual};
 ghost use Rattle.tbr_tagged.specs.Elements.{SameItems, IsMerged, items_of};
 ghost use Rattle.tbr_tagged.specs.View.{chars_of};
 ghost use Rattle.tbr_wrap.specs.EndedLines.{AreLines, line_characters, prefixed_characters};
@@ -15,6 +14,7 @@ use std::marker::Model;
 use tbr_flat::{FlatText, PlacedItems};
 use tbr_model::CharWidth;
 use tbr_tagged::{OutOfMemory, TaggedLine};
+use tbr_tags::Tag;
 
 /// Lines that a block has ended, kept in its one text. A line takes a number, and no allocation of its own. A contract
 /// sees the lines that are left, each as its items.
@@ -198,11 +198,10 @@ impl<T: Drop> EndedLines<T> {
     }
 }
 
-impl<T: Eq + Clone + Drop> EndedLines<T> {
+impl<T: Tag> EndedLines<T> {
     /// Moves the first line, if one is left, to the end of another. Where memory is refused, that one stays as it was,
     /// and lines may be lost.
     pub fn move_line(&mut self, line: &mut TaggedLine<T>) -> Result<(), OutOfMemory>
-        requires { CopiesAreEqual T.is_clone T.eq }
         ensures items { (is : List (Item T)) (rest : List (List (Item T))) → self.old ≡ is ∷ rest →
             OnOk result (SameItems T.eq (items_of line.new) (items_of line.old ++ is)) }
         ensures merged { IsMerged T.eq line.old → OnOk result (IsMerged T.eq line.new) }

@@ -2,7 +2,6 @@
 //! lost.
 ghost use Rattle.std.specs.Prelude.{◌≡◌, ◌≤◌, ◌<◌, ◌+◌, ◌++◌, ◌∷◌, [], ℕ, List, Option, None, Some, true, false, OnOk, IfOk, IfSome, MatchOption, Ok, Err, length, take, drop, chars, Bool};
 ghost use Rattle.std.specs.VecDeque.{deque_len};
-ghost use Rattle.tbr_tagged.specs.Copies.{CopiesAreEqual};
 ghost use Rattle.tbr_model.specs.Run.{Item};
 ghost use Rattle.tbr_tagged.specs.Elements.{SameItems, text_items};
 
@@ -11,6 +10,7 @@ use std::collections::VecDeque;
 use tbr_flat::FlatText;
 use tbr_model::CharWidth;
 use tbr_tagged::{Error, OutOfMemory, TaggedLine};
+use tbr_tags::Tag;
 
 /// The columns from one tab stop to the next.
 const TAB_STOP: usize = 8;
@@ -61,7 +61,7 @@ impl<T> LaidLines<T> {
     }
 }
 
-impl<T: Eq + Clone + Drop> LaidLines<T> {
+impl<T: Tag> LaidLines<T> {
     ghost use Rattle.tbr_model.specs.Run.{item_width, items_width, has_character};
     ghost use Rattle.tbr_model.specs.Laid.{Laid, extended, end_line, end_if_character, end_if_columns, put_items};
     ghost use Rattle.tbr_model.specs.Rule.{spaces, trimmed, without_leading, put_spaces, put_tab};
@@ -249,7 +249,6 @@ impl<T: Eq + Clone + Drop> LaidLines<T> {
         width: usize,
         tag: &T,
     ) -> Result<(), OutOfMemory>
-        requires faithful { CopiesAreEqual T.is_clone T.eq }
         requires some { 0 < count }
         requires count { count ≡ length (chars text.now) }
         requires room { self.old.line_width + width ≤ self.old.width }
@@ -276,7 +275,6 @@ impl<T: Eq + Clone + Drop> LaidLines<T> {
 
     /// Puts `count` spaces on the open line.
     pub fn place_spaces(&mut self, count: usize, tag: T) -> Result<(), OutOfMemory>
-        requires faithful { CopiesAreEqual T.is_clone T.eq }
         requires some { 0 < count }
         requires room { self.old.line_width + count ≤ self.old.width }
         ensures placed { (columns : ℕ → Option ℕ) (a : T) → columns 32 ≡ Some 1 → T.eq tag a ≡ true →
@@ -324,7 +322,6 @@ impl<T: Eq + Clone + Drop> LaidLines<T> {
 
     /// Puts `count` spaces on the open line, which has room, and on the next ones. A line that they fill is ended.
     pub fn put_spaces(&mut self, count: usize, tag: T) -> Result<(), OutOfMemory>
-        requires faithful { CopiesAreEqual T.is_clone T.eq }
         requires some { 0 < count }
         requires room { self.old.line_width < self.old.width }
         ensures put { (columns : ℕ → Option ℕ) (a : T) → columns 32 ≡ Some 1 → T.eq tag a ≡ true →
@@ -344,7 +341,6 @@ impl<T: Eq + Clone + Drop> LaidLines<T> {
 
     /// Puts spaces from `column` up to the next tab stop, or up to the end of the line, which is then ended.
     pub fn put_tab(&mut self, column: usize, tag: &T) -> Result<(), OutOfMemory>
-        requires faithful { CopiesAreEqual T.is_clone T.eq }
         requires within { column < self.old.width }
         requires after { self.old.line_width ≤ column }
         ensures put { (columns : ℕ → Option ℕ) (a : T) → columns 32 ≡ Some 1 → T.eq tag.now a ≡ true →
@@ -380,7 +376,6 @@ impl<T: Eq + Clone + Drop> LaidLines<T> {
 
     /// Hands out the first ended line, if there is one.
     pub fn take_line(&mut self) -> Result<Option<TaggedLine<T>>, OutOfMemory>
-        requires faithful { CopiesAreEqual T.is_clone T.eq }
         requires holds { (before : List (List (Item T))) × (l : Laid T) × HoldsLaid self.old before l }
         ensures none { self.old.ended.items ≡ [] → (result ≡ Ok None) × (self.new ≡ self.old) }
         ensures some { IfOk result (λ o. IfSome o (λ _. 0 < length self.old.ended.items)) }

@@ -14,7 +14,6 @@
 //!   next ones (`put_pending`, `put_fresh`, `put_tab`).
 //! - Ended lines are *taken*, the first one first ([`LaidLines::take_line`]).
 ghost use Rattle.std.specs.Prelude.{◌≡◌, ◌≤◌, ◌<◌, ◌+◌, ◌&&◌, ◌↔◌, [], ℕ, List, fold, length, take, map, chars, string_bytes, Bool, if◌then◌else◌, IsTrue, Option, None, Some, true, false, OnOk, IfOk, IfSome, Err};
-ghost use Rattle.tbr_tagged.specs.Copies.{CopiesAreEqual};
 ghost use Rattle.tbr_model.specs.Width.{width_of_text};
 ghost use Rattle.tbr_model.specs.Run.{Item, items_width, character, marker_entry, has_character, is_break};
 ghost use Rattle.tbr_model.specs.Laid.{extended, put_items};
@@ -34,6 +33,7 @@ use std::alloc::Global;
 use std::mem;
 use tbr_model::{CharWidth, WhiteSpace};
 use tbr_tagged::{Error, OutOfMemory, TaggedLineElement, always_takes_space, is_wordbreak_point};
+use tbr_tags::Tag;
 
 /// U+200B, at which a word may end without a space.
 const ZERO_WIDTH_SPACE: char = '\u{200b}';
@@ -109,7 +109,7 @@ impl<T> Wrapper<T> {
     }
 }
 
-impl<T: Eq + Clone + Drop> Wrapper<T> {
+impl<T: Tag> Wrapper<T> {
     ghost use Rattle.tbr_wrap.specs.LaidLines.{KeepsLimits};
     ghost use Rattle.tbr_wrap.specs.Plain.{JoinWord, IsFront, IsStretch, AreWords};
     ghost use Rattle.tbr_wrap.specs.Runs.{text_entries};
@@ -129,7 +129,6 @@ impl<T: Eq + Clone + Drop> Wrapper<T> {
 
     /// Puts the pending space on the open line, where it fits.
     fn place_pending<W: CharWidth>(&mut self) -> Result<(), OutOfMemory>
-        requires faithful { CopiesAreEqual T.is_clone T.eq }
         requires room { self.old.lines.line_width + held_width self.old.space ≤ self.old.lines.width }
         ensures placed { WrapperFollows W.columns T.eq self.old self.new result (λ p.
             record p { laid = extended p.laid (space_text p.space) (pending_width p.space); space = None }) }
@@ -146,7 +145,6 @@ impl<T: Eq + Clone + Drop> Wrapper<T> {
 
     /// Puts the pending space on the open line, which has room, and on lines after it.
     fn put_pending<W: CharWidth>(&mut self) -> Result<(), OutOfMemory>
-        requires faithful { CopiesAreEqual T.is_clone T.eq }
         requires room { self.old.lines.line_width < self.old.lines.width }
         ensures put { WrapperFollows W.columns T.eq self.old self.new result (λ p.
             record p { laid = put_pending self.old.lines.width p.space p.laid; space = None }) }
@@ -160,7 +158,6 @@ impl<T: Eq + Clone + Drop> Wrapper<T> {
 
     /// Puts the word after the pending space on the open line, where both fit.
     fn lay_here<W: CharWidth>(&mut self) -> Result<(), OutOfMemory>
-        requires faithful { CopiesAreEqual T.is_clone T.eq }
         requires room { self.old.lines.line_width + (held_width self.old.space + self.old.word_width) ≤
             self.old.lines.width }
         ensures laid { WrapperFollows W.columns T.eq self.old self.new result (lay_here W.columns) }
@@ -175,7 +172,6 @@ impl<T: Eq + Clone + Drop> Wrapper<T> {
 
     /// Does with the pending space what its mode asks for, if the word after it doesn't fit.
     fn wrap_space<W: CharWidth>(&mut self) -> Result<(), OutOfMemory>
-        requires faithful { CopiesAreEqual T.is_clone T.eq }
         requires stands { IsUnderWay W.columns T.eq self.old }
         ensures wrapped { WrapperFollows W.columns T.eq self.old self.new result (λ p.
             wrap_space W.columns self.old.lines.width p p.space) }
@@ -193,7 +189,6 @@ impl<T: Eq + Clone + Drop> Wrapper<T> {
 
     /// Shortens the pending space by the room of the open line. If the space is shorter than that, it is written there.
     fn shorten_space<W: CharWidth>(&mut self, space: Space<T>) -> Result<(), OutOfMemory>
-        requires faithful { CopiesAreEqual T.is_clone T.eq }
         requires taken { self.old.space ≡ None }
         requires mode { space.mode ≡ Pre }
         ensures shortened { (before given : List (List (Item T))) (p : Progress T) (s : model.Space T) →
@@ -255,7 +250,6 @@ impl<T: Eq + Clone + Drop> Wrapper<T> {
 
     /// Puts the word on a new line, after what is still pending. A word that has lost its characters stays.
     fn lay_fresh<W: CharWidth>(&mut self) -> Result<(), Error>
-        requires faithful { CopiesAreEqual T.is_clone T.eq }
         requires stands { IsUnderWay W.columns T.eq self.old }
         ensures laid { WrapperFollows W.columns T.eq self.old self.new result
             (lay_fresh W.columns self.old.lines.width) }
@@ -274,7 +268,6 @@ impl<T: Eq + Clone + Drop> Wrapper<T> {
 
     /// Lays the word: after the pending space if both fit the open line, and otherwise on a new one.
     fn lay<W: CharWidth>(&mut self) -> Result<(), Error>
-        requires faithful { CopiesAreEqual T.is_clone T.eq }
         requires stands { IsUnderWay W.columns T.eq self.old }
         ensures laid { WrapperFollows W.columns T.eq self.old self.new result (lay W.columns self.old.lines.width) }
         ensures wider { RefusesWider W.columns T.eq self.old result (λ p.
@@ -291,7 +284,6 @@ impl<T: Eq + Clone + Drop> Wrapper<T> {
 
     /// Lays the word, if it has a character.
     pub fn flush_word<W: CharWidth>(&mut self) -> Result<(), Error>
-        requires faithful { CopiesAreEqual T.is_clone T.eq }
         requires stands { IsUnderWay W.columns T.eq self.old }
         ensures laid { WrapperFollows W.columns T.eq self.old self.new result
             (flush_word W.columns self.old.lines.width) }
@@ -307,7 +299,6 @@ impl<T: Eq + Clone + Drop> Wrapper<T> {
 
     /// Lays the word, if it has columns.
     pub fn break_word<W: CharWidth>(&mut self) -> Result<(), Error>
-        requires faithful { CopiesAreEqual T.is_clone T.eq }
         requires stands { IsUnderWay W.columns T.eq self.old }
         ensures laid { WrapperFollows W.columns T.eq self.old self.new result
             (break_word W.columns self.old.lines.width) }
@@ -341,7 +332,6 @@ impl<T: Eq + Clone + Drop> Wrapper<T> {
         tag: &T,
         mode: WhiteSpace,
     ) -> Result<(), OutOfMemory>
-        requires faithful { CopiesAreEqual T.is_clone T.eq }
         ensures joined { (columns : ℕ → Option ℕ) (a : T) → columns c ≡ Some width → T.eq tag.now a ≡ true →
             WrapperFollows columns T.eq self.old self.new result (join c a mode) }
         ensures limits { KeepsLimits self.old.lines self.new.lines }
@@ -365,7 +355,6 @@ impl<T: Eq + Clone + Drop> Wrapper<T> {
         tag: &T,
         mode: WhiteSpace,
     ) -> Result<(), OutOfMemory>
-        requires faithful { CopiesAreEqual T.is_clone T.eq }
         requires some { 0 < count }
         requires count { count ≡ length (chars text.now) }
         ensures joined { (columns : ℕ → Option ℕ) (a : T) → width ≡ width_of_text columns (chars text.now) →
@@ -398,7 +387,6 @@ impl<T: Eq + Clone + Drop> Wrapper<T> {
 
     /// Notes white space that collapses, after what the line has.
     fn collapse(&mut self, c: char, tag: &T) -> Result<(), OutOfMemory>
-        requires faithful { CopiesAreEqual T.is_clone T.eq }
         requires is_break { is_break c ≡ true }
         ensures after_change { (columns : ℕ → Option ℕ) (a : T) → T.eq tag.now a ≡ true →
             WrapperFollows columns T.eq self.old self.new result (collapse c a) }
@@ -429,7 +417,6 @@ impl<T: Eq + Clone + Drop> Wrapper<T> {
 
     /// Puts the spaces of a tab.
     fn tab(&mut self, tag: &T) -> Result<(), OutOfMemory>
-        requires faithful { CopiesAreEqual T.is_clone T.eq }
         requires stands { (columns : ℕ → Option ℕ) × IsUnderWay columns T.eq self.old }
         ensures put { (columns : ℕ → Option ℕ) (a : T) → columns 32 ≡ Some 1 → T.eq tag.now a ≡ true →
             WrapperFollows columns T.eq self.old self.new result (tab self.old.lines.width a) }
@@ -452,7 +439,6 @@ impl<T: Eq + Clone + Drop> Wrapper<T> {
         tag: &T,
         mode: WhiteSpace,
     ) -> Result<(), OutOfMemory>
-        requires faithful { CopiesAreEqual T.is_clone T.eq }
         ensures kept { (columns : ℕ → Option ℕ) (a : T) → columns c ≡ Some width → T.eq tag.now a ≡ true →
             WrapperFollows columns T.eq self.old self.new result (keep_space c a mode (Some width)) }
         ensures limits { KeepsLimits self.old.lines self.new.lines }
@@ -502,7 +488,6 @@ impl<T: Eq + Clone + Drop> Wrapper<T> {
         wrap_tag: &T,
         mode: WhiteSpace,
     ) -> Result<(), OutOfMemory>
-        requires faithful { CopiesAreEqual T.is_clone T.eq }
         ensures kept { (columns : ℕ → Option ℕ) → columns c ≡ Some width →
             WrapperFollows columns T.eq self.old self.new result
             (keep_character columns self.old.lines.width c main_tag.now wrap_tag.now mode (Some width)) }
@@ -525,7 +510,6 @@ impl<T: Eq + Clone + Drop> Wrapper<T> {
         wrap_tag: &T,
         mode: WhiteSpace,
     ) -> Result<(), Error>
-        requires faithful { CopiesAreEqual T.is_clone T.eq }
         requires stands { IsUnderWay W.columns T.eq self.old }
         ensures preserved { WrapperFollows W.columns T.eq self.old self.new result
             (preserve W.columns self.old.lines.width c main_tag.now wrap_tag.now mode) }
@@ -560,7 +544,6 @@ impl<T: Eq + Clone + Drop> Wrapper<T> {
 
     /// Adds a character where white space collapses.
     fn enter_normal<W: CharWidth>(&mut self, c: char, tag: &T) -> Result<(), Error>
-        requires faithful { CopiesAreEqual T.is_clone T.eq }
         requires stands { IsUnderWay W.columns T.eq self.old }
         ensures entered { (a : T) → T.eq tag.now a ≡ true →
             WrapperFollows W.columns T.eq self.old self.new result (enter_normal W.columns self.old.lines.width c a) }
@@ -587,7 +570,6 @@ impl<T: Eq + Clone + Drop> Wrapper<T> {
         wrap_tag: &T,
         mode: WhiteSpace,
     ) -> Result<(), Error>
-        requires faithful { CopiesAreEqual T.is_clone T.eq }
         requires stands { IsUnderWay W.columns T.eq self.old }
         ensures entered { WrapperFollows W.columns T.eq self.old self.new result (λ p.
             enter W.columns self.old.lines.width p (character c main_tag.now wrap_tag.now mode)) }
@@ -670,7 +652,6 @@ impl<T: Eq + Clone + Drop> Wrapper<T> {
         wrap_tag: &T,
         mode: WhiteSpace,
     ) -> Result<(), OutOfMemory>
-        requires faithful { CopiesAreEqual T.is_clone T.eq }
         requires some { 0 < count }
         requires count { count ≡ length (chars text.now) }
         requires join { JoinWord W.columns (model.is_pre mode && has_character self.old.lines.flat.word)
@@ -712,7 +693,6 @@ impl<T: Eq + Clone + Drop> Wrapper<T> {
         main_tag: &T,
         wrap_tag: &T,
     ) -> Result<(), OutOfMemory>
-        requires faithful { CopiesAreEqual T.is_clone T.eq }
         requires word { has_character self.old.lines.flat.word ≡ false }
         requires words { AreWords W.columns text.now }
         requires room { self.old.lines.line_width + (held_width self.old.space + (self.old.word_width
@@ -736,7 +716,6 @@ impl<T: Eq + Clone + Drop> Wrapper<T> {
         count: usize,
         tag: &T,
     ) -> Result<(), OutOfMemory>
-        requires faithful { CopiesAreEqual T.is_clone T.eq }
         requires some { 0 < count }
         requires count { count ≡ length (chars text.now) }
         requires room { self.old.lines.line_width + (held_width self.old.space + (self.old.word_width + count)) ≤
@@ -796,7 +775,6 @@ impl<T: Eq + Clone + Drop> Wrapper<T> {
         main_tag: &T,
         wrap_tag: &T,
     ) -> Result<(), OutOfMemory>
-        requires faithful { CopiesAreEqual T.is_clone T.eq }
         requires stands { IsUnderWay W.columns T.eq self.old }
         requires word { has_character self.old.lines.flat.word ≡ false }
         requires moved { AreMoved W.columns self.old text.now }
@@ -820,7 +798,6 @@ impl<T: Eq + Clone + Drop> Wrapper<T> {
         wrap_tag: &T,
         mode: WhiteSpace,
     ) -> Result<(usize, usize), Error>
-        requires faithful { CopiesAreEqual T.is_clone T.eq }
         requires stands { IsUnderWay W.columns T.eq self.old }
         requires some { 0 < length text.now }
         ensures some { IfOk result (λ n. 0 < n.0) }
@@ -878,7 +855,6 @@ impl<T: Eq + Clone + Drop> Wrapper<T> {
     /// Ends the run: lays the last word, ends the line, and drops the pending space. Markers that are on no ended
     /// line become the next run's word.
     pub fn finish<W: CharWidth>(&mut self) -> Result<(), Error>
-        requires faithful { CopiesAreEqual T.is_clone T.eq }
         requires stands { IsUnderWay W.columns T.eq self.old }
         ensures finished { (before given : List (List (Item T))) (p : Progress T) →
             IsAtProgress W.columns T.eq self.old before given p →

@@ -7,6 +7,7 @@ use tbr_annotations::{Annotations, OpenAnnotations, written_out};
 use tbr_lines::{
     BorderHoriz, OutOfMemory, RenderLine, TaggedLine, TaggedLineElement, TaggedString,
 };
+use tbr_tags::Tag;
 
 /// The list has these annotations.
 fn expect(
@@ -71,7 +72,7 @@ fn list_of(alloc: Global, first: char, second: char) -> Result<Annotations<char>
 }
 
 /// `ab`, a marker and `c`, under these tags.
-fn line_under<T: Eq + Drop>(alloc: Global, ab: T, c: T) -> Result<TaggedLine<T>, OutOfMemory> {
+fn line_under<T: Tag>(alloc: Global, ab: T, c: T) -> Result<TaggedLine<T>, OutOfMemory> {
     let mut line = TaggedLine::new(alloc);
     let s = String::from_str(alloc, "ab")?;
     line.push_str(TaggedString { s, tag: ab })?;

@@ -1,3 +1,4 @@
 pub mod EveryOne
 pub mod NoEmSpace
 pub mod Marks
+pub mod Voices

@@ -1,13 +1,31 @@
 //! Texts of lines, as tests compare them.
+ghost use Rattle.std.proofs.Common.{rules};
+ghost use Rattle.test_support.specs.Voices.{same_voice, voices_apart};
+
 use std::alloc::Global;
 use std::fmt::Debug;
 use tbr_lines::{OutOfMemory, TaggedLine, TaggedLineElement, TaggedString};
+use tbr_tags::Tag;
 
 /// A second type of tags.
 #[derive(Clone, Copy, PartialEq, Eq, Debug)]
 pub enum Voice {
     First,
     Second,
+}
+
+impl Tag for Voice {
+    type Meaning = Voice;
+
+    ghost meaning = { λ v. v };
+
+    ghost same = { same_voice };
+
+    ghost tells = { voices_apart };
+
+    ghost equal_by_meaning = { Prim.search rules };
+
+    ghost copies_equal = { Prim.search rules };
 }
 
 /// A piece of text under a tag.

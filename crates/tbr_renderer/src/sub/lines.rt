@@ -1,7 +1,7 @@
 //! Lines that are handed out.
 ghost use Rattle.std.specs.Prelude.{◌≡◌, ◌≢◌, ◌≤◌, None, Some, Err, true, [], ◌++◌, map, IfOk, OnOk, List};
 ghost use Rattle.std.specs.List.{AllZip, AllByRecursion as Each};
-ghost use Rattle.tbr_tagged.specs.Copies.{equal_lists};
+ghost use Rattle.tbr_tags.specs.Lists.{equal_lists};
 ghost use Rattle.tbr_annotations.specs.Annotations.{same_annotations};
 ghost use Rattle.tbr_annotations.specs.Written.{WritesOut, vector_meant};
 ghost use Rattle.tbr_border.specs.RenderLine.{IsMergedText};

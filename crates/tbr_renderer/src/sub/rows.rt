@@ -5,7 +5,6 @@ ghost use Rattle.std.specs.Cmp.Lexicographic.{pointwise};
 ghost use Rattle.std.specs.List.{AllZip, AllByRecursion as Each, list_any};
 ghost use Rattle.tbr_annotations.specs.Annotations.{same_annotations};
 ghost use Rattle.tbr_border.specs.declared.RenderLine.{RenderLine};
-ghost use Rattle.tbr_tagged.specs.Copies.{CopiesAreEqual};
 ghost use Rattle.tbr_tagged.specs.Elements.{items_of, IsMerged};
 ghost use Rattle.tbr_rows.specs.Filled.{cell_after};
 ghost use Rattle.tbr_tagged.specs.declared.Error.TheVariants as E;
@@ -27,6 +26,7 @@ use tbr_decor::TextDecorator;
 use tbr_kept_lines::KeptLines;
 use tbr_lines::{BorderHoriz, CellAlign, CharWidth, Error, OutOfMemory, RenderLine, TaggedLine};
 use tbr_rows::{Columns, Overhang, Row, RowStyle};
+use tbr_tags::Tag;
 
 impl<D: TextDecorator, W: CharWidth> SubRenderer<D, W> {
     /// Whether a row of these renderers, each with the rows that it spans, has a place for each cell that overhangs
@@ -246,7 +246,7 @@ impl<D: TextDecorator, W: CharWidth> SubRenderer<D, W> {
 }
 
 /// Adds a cell of these lines to a row, each filled up to its width. Those in a block's text stay there.
-fn push_cell<T: Eq + Clone + Drop, W: CharWidth>(
+fn push_cell<T: Tag, W: CharWidth>(
     columns: &mut Columns<T>,
     lines: KeptLines<T>,
     width: usize,
@@ -254,7 +254,6 @@ fn push_cell<T: Eq + Clone + Drop, W: CharWidth>(
     align: CellAlign,
     tag: &T,
 ) -> Result<(), OutOfMemory>
-    requires { CopiesAreEqual T.is_clone T.eq }
     ensures ok { OnOk result ((filled : List (RenderLine T))
         × AllZip (model.FillsKept W.columns T.eq align width tag.now) lines filled
         × (columns.new ≡ columns.old ++ cell_after columns.old width span filled ∷ [])) }

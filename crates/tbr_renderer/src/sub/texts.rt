@@ -14,9 +14,7 @@ use std::alloc::Global;
 use tbr_annotations::Annotations;
 use tbr_decor::TextDecorator;
 use tbr_lines::{CharWidth, Error, OutOfMemory, TaggedLineElement, WhiteSpace, WrappedBlock};
-
-/// The stroke through the character before it.
-const STROKE: char = '\u{336}';
+use tbr_tagged::STROKE;
 
 impl<D: TextDecorator, W: CharWidth> SubRenderer<D, W> {
     /// The mode that was pushed last.

@@ -1,5 +1,5 @@
 use Rattle.std.proofs.Common.{map}
-use Rattle.tbr_tagged.specs.Copies.{equal_lists}
+use Rattle.tbr_tags.specs.Lists.{equal_lists}
 use Rattle.tbr_tagged.specs.Elements.{IsMerged}
 use Rattle.tbr_tagged.specs.View.{element_of}
 use Rattle.tbr_annotations.specs.Written.{WritesItems}

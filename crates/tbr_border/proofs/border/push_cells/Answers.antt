@@ -21,7 +21,7 @@ returns-clause-items g c =
     let laws = g.met.T.Eq.laws in
     let text : chars (string_bytes c.draw.new.text) ≡ map character (map cell_of c.args.cells.now) =
     rw (c.in_ok-draw.ensures, c.new-s.ensures.bytes, chars-nil) refl in
-    let tag = laws.symm _ _ ∙ c.requires _ _ c.in_ok-tag.ensures.cases in
+    let tag = laws.symm _ _ ∙ g.met.T.Tag.copies_equal _ _ c.in_ok-tag.ensures.cases in
     let same : SameItems eq (text_items (chars (string_bytes c.draw.new.text)) c.in_ok-tag.tag) (drawn (map cell_of c.args.cells.now) c.args.tag.now) =
     rw text (same_texts eq laws (map character (map cell_of c.args.cells.now)) c.in_ok-tag.tag c.args.tag.now tag) in
     on_ok_weaker c.push_str.result (λ pushed. same_items_trans eq laws (items_of c.push_str.new.self)

@@ -2,12 +2,8 @@ use Rattle.std.proofs.Common.{refl, [], ◌∷◌, ◌++◌, ap, ◌∙◌, appe
 use Rattle.std.proofs.lemmas.Result.{on_ok_weaker}
 use Rattle.tbr_model.specs.Codes.{newline_character}
 use Rattle.tbr_tagged.specs.View.{chars_of}
-use Rattle.tbr_annotations.proofs.Told.{copies_told}
 use Rattle.tbr_c_lines.specs.Formats.{line_as}
 use Rattle.tbr_c_lines.proofs.lines.append_shown.Goals as goal
-
-pub clone-requires : goal.clone-requires
-clone-requires g c = copies_told g.A.Tag.same g.A.Tag.tells
 
 pub returns : goal.returns
 returns g c =

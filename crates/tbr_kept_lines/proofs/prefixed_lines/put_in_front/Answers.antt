@@ -13,5 +13,5 @@ returns-then-is_empty-clause-items g c =
 pub returns-clause-items : goal.returns-clause-items
 returns-clause-items g c =
     on_ok_weaker c.insert_front_str.result
-    (under_copy g.T.PartialEq.eq g.met.T.Eq.laws (chars c.args.text.now) c.args.tag.now c.in_ok-clone.field-0 (items_of c.insert_front_str.new.self) (items_of c.args.line.now) (g.met.T.Eq.laws.symm _ _ ∙ c.requires _ _ c.in_ok-clone.ensures.cases))
+    (under_copy g.T.PartialEq.eq g.met.T.Eq.laws (chars c.args.text.now) c.args.tag.now c.in_ok-clone.field-0 (items_of c.insert_front_str.new.self) (items_of c.args.line.now) (g.met.T.Eq.laws.symm _ _ ∙ g.met.T.Tag.copies_equal _ _ c.in_ok-clone.ensures.cases))
     c.insert_front_str.ensures.items

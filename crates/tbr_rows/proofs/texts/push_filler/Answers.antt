@@ -8,7 +8,7 @@ pub returns-clause-items : goal.returns-clause-items
 returns-clause-items g c =
     let eq = g.T.PartialEq.eq in
     let tag = c.args.tag.now in
-    let copied = g.met.T.Eq.laws.symm _ _ ∙ c.requires _ _ c.in_ok-tag.ensures.cases in
+    let copied = g.met.T.Eq.laws.symm _ _ ∙ g.met.T.Tag.copies_equal _ _ c.in_ok-tag.ensures.cases in
     let cs = lines_above c.in-Some.border in
     rw c.in-Some.is (on_ok_weaker c.push_str.result
     (text_after eq g.met.T.Eq.laws c.args.line.now c.push_str.new.self cs _ tag c.in_ok-tag.tag c.in_ok-s.ensures copied)

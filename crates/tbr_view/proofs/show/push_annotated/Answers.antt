@@ -1,11 +1,7 @@
 use Rattle.std.proofs.Common.{ap, ◌∙◌}
 use Rattle.std.proofs.lemmas.Result.{on_ok_weaker}
-use Rattle.tbr_tagged.proofs.Copies.{list_copies_equal}
 use Rattle.tbr_view.specs.Shown.{elements_in}
 use Rattle.tbr_view.proofs.show.push_annotated.Goals as goal
-
-pub into_tagged_line-requires : goal.into_tagged_line-requires
-into_tagged_line-requires g c = λ v w copy. list_copies_equal g.T.Clone.is_clone g.T.PartialEq.eq g.met.T.Tag.copies_equal v.items w.items copy.0
 
 pub returns : goal.returns
 returns g c =

@@ -1,11 +1,7 @@
 use Rattle.std.proofs.Common.{◌∙◌, ap}
-use Rattle.tbr_tagged.proofs.Copies.{list_copies_equal}
 use Rattle.tbr_c_lines.specs.Line.{line_of}
 use Rattle.tbr_c_lines.proofs.Places.{whole_line}
 use Rattle.tbr_c_lines.proofs.line.Line.new.Goals as goal
-
-pub into_tagged_line-requires : goal.into_tagged_line-requires
-into_tagged_line-requires g c = λ v w copy. list_copies_equal g.A.Clone.is_clone g.A.PartialEq.eq g.met.A.Tag.copies_equal v.items w.items copy.0
 
 pub returns : goal.returns
 returns g c =

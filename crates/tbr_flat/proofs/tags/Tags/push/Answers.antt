@@ -29,6 +29,6 @@ pub returns-clause-ok : goal.returns-clause-ok
 returns-clause-ok g c =
     let a = c.in_ok-tag.tag in let n : suc (c.args.count - 1) ≡ c.args.count = omega (arith, c.requires.some) in (
       a,
-      g.met.T.Eq.laws.symm _ _ ∙ c.requires.faithful _ _ c.in_ok-tag.ensures.cases,
+      g.met.T.Eq.laws.symm _ _ ∙ g.met.T.Tag.copies_equal _ _ c.in_ok-tag.ensures.cases,
       ap tags_of c.in_ok-push_back.ensures.items ∙ tags_of-append c.self.inside.stored.items _ ∙ (λ k. c.self.view_is k ++ (append-nil (replicate (suc (c.args.count - 1)) a) ∙ ap (λ j. replicate j a) n) k),
     )

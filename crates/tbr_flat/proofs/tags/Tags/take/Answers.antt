@@ -9,7 +9,7 @@ returns-then-most-index-clause-tags g c =
     let within : c.args.most ≤ length (tags_of xs) = omega (arith, ap length c.self.view_is, c.requires.within) in
     rw (← c.self.view_is) (
       s.tag,
-      g.met.T.Eq.laws.symm _ _ ∙ c.requires.faithful _ _ c.in_ok-tag.ensures.cases,
+      g.met.T.Eq.laws.symm _ _ ∙ g.met.T.Tag.copies_equal _ _ c.in_ok-tag.ensures.cases,
       (skip_part xs zero c.args.most c.index.result.now s _ c.requires.some within c.index.ensures c.index_mut-first.ensures.value c.if-most-index.true refl).0,
     )
 

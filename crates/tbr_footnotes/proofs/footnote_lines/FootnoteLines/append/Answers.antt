@@ -1,11 +1,7 @@
 use Rattle.std.proofs.Common.{◌≡◌, ◌+◌, ◌∷◌, [], ◌∙◌, ap, unwrap_or, arith}
 use Rattle.tbr_model.specs.Width.{width_of_text}
 use Rattle.tbr_footnotes.proofs.CutLines.{line_extended, holds_extended}
-use Rattle.tbr_annotations.proofs.Told.{copies_told}
 use Rattle.tbr_footnotes.proofs.footnote_lines.FootnoteLines.append.Goals as goal
-
-pub push_char-requires : goal.push_char-requires
-push_char-requires g c = copies_told g.D.Annotation.Tag.same g.D.Annotation.Tag.tells
 
 pub invariant_of-self-2 : goal.invariant_of-self-2
 invariant_of-self-2 g c =

@@ -17,8 +17,8 @@ holds g c =
     let whole = sym c.into_iter-part-iterator.ensures.into_iter_gives.0 ∙ items_left start start c.loop-part.part-iterator c.next.new.self c.loop-part.yielded c.in-Some.part refl c.loop-part.yielded_by c.in-Some.ensures.steps.0 in
     each_at (HoldsPart g.T.PartialEq.eq) c.loop-part.yielded c.in-Some.part _ (subst (Each (HoldsPart g.T.PartialEq.eq)) whole c.other.invariant.parts)
 
-pub append_part-requires-clause-part : goal.append_part-requires-clause-part
-append_part-requires-clause-part g c = holds g (goal.at.append_part-requires-clause-part g c).In-Some
+pub append_part-requires : goal.append_part-requires
+append_part-requires g c = record { part = holds g (goal.at.append_part-requires g c).In-Some }
 
 pub loop-part-preserved : goal.loop-part-preserved
 loop-part-preserved g c =

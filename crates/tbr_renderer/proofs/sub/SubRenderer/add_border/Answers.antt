@@ -5,12 +5,8 @@ use Rattle.tbr_annotations.specs.Annotations.{same_annotations}
 use Rattle.tbr_tagged.specs.Elements.{items_of}
 use Rattle.tbr_annotations.proofs.Told.{items_told}
 use Rattle.tbr_renderer.specs.Renderer.{Renderer}
-use Rattle.tbr_annotations.proofs.Told.{copies_told}
 use Rattle.tbr_renderer.proofs.JoinedLines.{border_drawn}
 use Rattle.tbr_renderer.proofs.sub.SubRenderer.add_border.Goals as goal
-
-pub into_tagged_line-requires : goal.into_tagged_line-requires
-into_tagged_line-requires g c = copies_told g.D.Annotation.Tag.same g.D.Annotation.Tag.tells
 
 pub returns-clause-border : goal.returns-clause-border
 returns-clause-border g c =

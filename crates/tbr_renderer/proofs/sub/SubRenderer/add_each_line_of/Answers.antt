@@ -3,7 +3,6 @@ use Rattle.tbr_annotations.specs.Annotations.{same_annotations}
 use Rattle.tbr_wrap.specs.Block.{Block, left}
 use Rattle.tbr_wrap.proofs.runs.LinesLeft.{left_after}
 use Rattle.tbr_wrap.proofs.runs.BlockLaws.{HandsOne, one_handed}
-use Rattle.tbr_annotations.proofs.Told.{copies_told}
 use Rattle.tbr_renderer.proofs.BlockEnds.{one_line_more}
 use Rattle.tbr_renderer.proofs.sub.SubRenderer.add_each_line_of.Given.{Over}
 use Rattle.tbr_renderer.proofs.sub.SubRenderer.add_each_line_of.Goals.{In-Some}
@@ -12,9 +11,6 @@ use Rattle.tbr_renderer.proofs.sub.SubRenderer.add_each_line_of.Goals as goal
 -- the line that the block hands out
 one : (g : Over) (c : In-Some g) → HandsOne g.W.CharWidth.columns (same_annotations g.D.Annotation.Tag.same) c.loop-block.block c.in-Some.line c.next_line.new.self
 one g c = search (rules, one_handed, c.in_ok-line.ensures.answers.ok, c.in-Some.is, c.in_ok-line.ensures.line)
-
-pub next_line-requires : goal.next_line-requires
-next_line-requires g c = copies_told g.D.Annotation.Tag.same g.D.Annotation.Tag.tells
 
 pub add_line-requires-clause-merged : goal.add_line-requires-clause-merged
 add_line-requires-clause-merged g c = (one g (goal.at.add_line-requires-clause-merged g c).In-Some).shows.merged

@@ -1,13 +1,9 @@
 use Rattle.std.proofs.Common.{◌≡◌, length, map, ap, sym, ◌∙◌, subst}
 use Rattle.std.proofs.lemmas.Result.{on_ok_weaker}
-use Rattle.tbr_annotations.proofs.Told.{copies_told}
 use Rattle.tbr_kept_lines.specs.Line.{line_seen}
 use Rattle.tbr_renderer.specs.Appended.{GivesFirst, texts_of, with_prefixed}
 use Rattle.tbr_renderer.proofs.JoinedLines.{lines_told}
 use Rattle.tbr_renderer.proofs.sub.SubRenderer.add_prefixed.Goals as goal
-
-pub into_vec-requires : goal.into_vec-requires
-into_vec-requires g c = copies_told g.D.Annotation.Tag.same g.D.Annotation.Tag.tells
 
 pub returns-2-clause-lines : goal.returns-2-clause-lines
 returns-2-clause-lines g c =

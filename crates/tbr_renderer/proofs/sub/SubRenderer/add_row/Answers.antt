@@ -2,12 +2,8 @@ use Rattle.std.proofs.Common.{List, ap}
 use Rattle.std.proofs.lemmas.Result.{on_ok_weaker}
 use Rattle.tbr_renderer.specs.Renderer.{Renderer}
 use Rattle.tbr_renderer.specs.Rows.{style_in}
-use Rattle.tbr_annotations.proofs.Told.{copies_told}
 use Rattle.tbr_renderer.proofs.PutRows.{row_laid}
 use Rattle.tbr_renderer.proofs.sub.SubRenderer.add_row.Goals as goal
-
-pub lay_out-requires-clause-copies : goal.lay_out-requires-clause-copies
-lay_out-requires-clause-copies g c = copies_told g.D.Annotation.Tag.same g.D.Annotation.Tag.tells
 
 pub returns-clause-row : goal.returns-clause-row
 returns-clause-row g c =

@@ -4,12 +4,9 @@ use Rattle.tbr_border.specs.RenderLine.{items_under}
 use Rattle.tbr_tagged.specs.Elements.{items_of}
 use Rattle.tbr_renderer.specs.Appended.{as_text}
 use Rattle.tbr_kept_lines.specs.Line.{line_seen}
-use Rattle.tbr_annotations.proofs.Told.{copies_told, items_told}
+use Rattle.tbr_annotations.proofs.Told.{items_told}
 use Rattle.tbr_kept_lines.proofs.Prefixes.{under_seen}
 use Rattle.tbr_renderer.proofs.sub.SubRenderer.as_text.Goals as goal
-
-pub into_tagged_line_with-requires : goal.into_tagged_line_with-requires
-into_tagged_line_with-requires g c = copies_told g.D.Annotation.Tag.same g.D.Annotation.Tag.tells
 
 pub returns-clause-items : goal.returns-clause-items
 returns-clause-items g c =

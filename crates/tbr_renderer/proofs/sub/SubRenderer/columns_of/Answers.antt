@@ -8,7 +8,6 @@ use Rattle.tbr_rows.specs.Meant.{map_line as map_row_line}
 use Rattle.tbr_renderer.specs.Rows.{LeavesFree, FillsCell, cells_handed_out}
 use Rattle.tbr_renderer.specs.Appended.{handed_out}
 use Rattle.tbr_renderer.proofs.GivenCells.{given_stops}
-use Rattle.tbr_annotations.proofs.Told.{copies_told}
 use Rattle.tbr_kept_lines.proofs.ItemsLeft.{items_left, items_taken}
 use Rattle.tbr_kept_lines.proofs.KeptParts.{each_at}
 use Rattle.tbr_renderer.proofs.OutcomeParts.{passed_on}
@@ -35,9 +34,6 @@ returns-in_err-lines-clause-two_columns g c = λ wide is.
     let whole = sym c.into_iter-col-iterator.ensures.into_iter_gives.0 ∙ items_left all all c.loop-col.col-iterator c.next.new.self c.loop-col.yielded (c.in-Some.col, c.in-Some.span) refl c.loop-col.yielded_by c.in-Some.ensures.steps.0 in
     let here = each_at _ c.loop-col.yielded (c.in-Some.col, c.in-Some.span) (into_iter_items c.next.new.self) (subst (Each _) whole wide) in
     c.into_kept.ensures.two_columns here.0 here.1 e
-
-pub push_cell-requires : goal.push_cell-requires
-push_cell-requires g c = copies_told g.D.Annotation.Tag.same g.D.Annotation.Tag.tells
 
 pub loop-col-preserved : goal.loop-col-preserved
 loop-col-preserved g c =

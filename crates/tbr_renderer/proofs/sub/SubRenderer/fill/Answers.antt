@@ -4,12 +4,8 @@ use Rattle.tbr_annotations.specs.Annotations.{same_annotations}
 use Rattle.tbr_tagged.specs.Elements.{items_of}
 use Rattle.tbr_renderer.specs.Renderer.{Renderer}
 use Rattle.tbr_annotations.proofs.Told.{items_told}
-use Rattle.tbr_annotations.proofs.Told.{copies_told}
 use Rattle.tbr_renderer.proofs.JoinedLines.{filled}
 use Rattle.tbr_renderer.proofs.sub.SubRenderer.fill.Goals as goal
-
-pub pad_to-requires : goal.pad_to-requires
-pad_to-requires g c = copies_told g.D.Annotation.Tag.same g.D.Annotation.Tag.tells
 
 pub returns-clause-items : goal.returns-clause-items
 returns-clause-items g c =

@@ -2,11 +2,7 @@ use Rattle.std.proofs.Common.{map, ap, sym, ◌∙◌}
 use Rattle.tbr_tagged.specs.Outcome.{done}
 use Rattle.tbr_kept_lines.specs.Line.{line_seen}
 use Rattle.tbr_renderer.proofs.JoinedLines.{lines_told}
-use Rattle.tbr_annotations.proofs.Told.{copies_told}
 use Rattle.tbr_renderer.proofs.sub.SubRenderer.into_shared_lines.Goals as goal
-
-pub into_vec-requires : goal.into_vec-requires
-into_vec-requires g c = copies_told g.D.Annotation.Tag.same g.D.Annotation.Tag.tells
 
 pub returns-clause-lines : goal.returns-clause-lines
 returns-clause-lines g c =

@@ -2,7 +2,6 @@ use Rattle.std.proofs.Common.{List, ◌≡◌, None, Some, Err, map, refl, arith
 use Rattle.tbr_wrap.specs.Block.{Block, loose}
 use Rattle.tbr_tagged.specs.View.{element_of}
 use Rattle.tbr_wrap.proofs.runs.BlockLaws.{flush_in_two, flush_leaves, none_open_taken}
-use Rattle.tbr_annotations.proofs.Told.{copies_told}
 use Rattle.tbr_renderer.specs.Renderer.{block_width, may_overflow}
 use Rattle.tbr_renderer.specs.View.{block_seen, names_of, IsFresh}
 use Rattle.tbr_renderer.proofs.OutcomeParts.{passed_on, never_narrow, tries_ok, tries_err}
@@ -10,9 +9,6 @@ use Rattle.tbr_renderer.proofs.BlockEnds.{markers_named, are_markers, block_flus
 use Rattle.tbr_renderer.proofs.sub.SubRenderer.try_flush.Given.{Over}
 use Rattle.tbr_renderer.proofs.sub.SubRenderer.try_flush.Goals.{In_ok-flush}
 use Rattle.tbr_renderer.proofs.sub.SubRenderer.try_flush.Goals as goal
-
-pub flush-requires : goal.flush-requires
-flush-requires g c = copies_told g.D.Annotation.Tag.same g.D.Annotation.Tag.tells
 
 pub returns-in_err-flush-clause-tries : goal.returns-in_err-flush-clause-tries
 returns-in_err-flush-clause-tries g c =

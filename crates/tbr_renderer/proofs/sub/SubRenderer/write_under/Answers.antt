@@ -1,11 +1,7 @@
 use Rattle.std.proofs.Common.{rules}
 use Rattle.tbr_wrap.proofs.runs.BlockLaws.{text_in_two}
-use Rattle.tbr_annotations.proofs.Told.{copies_told}
 use Rattle.tbr_renderer.proofs.JoinedTexts.{writes}
 use Rattle.tbr_renderer.proofs.sub.SubRenderer.write_under.Goals as goal
-
-pub add_text-requires : goal.add_text-requires
-add_text-requires g c = copies_told g.D.Annotation.Tag.same g.D.Annotation.Tag.tells
 
 pub returns-clause-writes : goal.returns-clause-writes
 returns-clause-writes g c = search (rules, writes, c.requires.fresh, c.requires.main, c.requires.continued, c.mode.ensures, c.add_text.ensures.answers.ok, c.add_text.ensures.answers.too_narrow)

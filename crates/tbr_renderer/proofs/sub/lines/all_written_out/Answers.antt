@@ -1,6 +1,6 @@
 use Rattle.std.proofs.lemmas.Slice.Zip.{all_zipped_more}
 use Rattle.tbr_kept_lines.proofs.KeptParts.{each_after}
-use Rattle.tbr_tagged.specs.Copies.{equal_lists}
+use Rattle.tbr_tags.specs.Lists.{equal_lists}
 use Rattle.tbr_border.specs.RenderLine.{IsMergedText}
 use Rattle.tbr_annotations.specs.Written.{WritesOut}
 use Rattle.tbr_renderer.proofs.sub.lines.all_written_out.Goals as goal

@@ -24,7 +24,7 @@ returns-clause-ok g c =
     let tag = c.args.tag.now in
     let copy = c.in_ok-clone.field-0 in
     let cells = c.self.inside.cells.items in
-    let under : eq copy tag ≡ true = g.met.T.Eq.laws.symm copy tag ∙ c.requires tag copy c.in_ok-clone.ensures.cases in
+    let under : eq copy tag ≡ true = g.met.T.Eq.laws.symm copy tag ∙ g.met.T.Tag.copies_equal tag copy c.in_ok-clone.ensures.cases in
     let fill = map (λ is. aligned_items c.args.align is (c.args.width - items_width columns is) copy) in
     let filled : c.in_text.result ≡ as_lines eq (fill c.args.lines) = c.in_text.ensures ∙ ap (as_lines eq) (c.in_ok-lines.ensures ∙ ap fill c.lines.view_is) in (
       c.in_text.result,

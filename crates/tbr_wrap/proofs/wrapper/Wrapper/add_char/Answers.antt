@@ -7,8 +7,8 @@ use Rattle.tbr_model.proofs.rule.WiderLines.{unfit_by}
 use Rattle.tbr_model.proofs.rule.DoneLines.{preserve_after}
 use Rattle.tbr_wrap.proofs.wrapper.Wrapper.add_char.Goals as goal
 
-pub preserve-requires-then-is_wordbreak_point-clause-stands : goal.preserve-requires-then-is_wordbreak_point-clause-stands
-preserve-requires-then-is_wordbreak_point-clause-stands g c = search (rules, c.requires.stands, c.in_ok-break_word-in-PreWrap.ensures.laid)
+pub preserve-requires-then-is_wordbreak_point : goal.preserve-requires-then-is_wordbreak_point
+preserve-requires-then-is_wordbreak_point g c = search (rules, c.requires.stands, c.in_ok-break_word-in-PreWrap.ensures.laid)
 
 pub returns-in-Normal-clause-wider : goal.returns-in-Normal-clause-wider
 returns-in-Normal-clause-wider g c = λ e before given p s.

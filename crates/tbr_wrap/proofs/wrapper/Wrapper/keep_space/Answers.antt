@@ -15,7 +15,7 @@ pub returns-in_ok-tag-clause-kept : goal.returns-in_ok-tag-clause-kept
 returns-in_ok-tag-clause-kept g c = λ columns a wide same before given p s.
     let eq = g.T.PartialEq.eq in let laws = g.met.T.Eq.laws in let b = c.args.self.now in
     let none : has_character p.word ≡ false = sym (same_has eq b.lines.flat.word p.word s.word) ∙ sym c.has_word.ensures ∙ c.if-has_word.false in
-    let copy : eq c.in_ok-tag.tag c.args.tag.now ≡ true = laws.symm _ _ ∙ c.requires.faithful _ _ c.in_ok-tag.ensures.cases in
+    let copy : eq c.in_ok-tag.tag c.args.tag.now ≡ true = laws.symm _ _ ∙ g.met.T.Tag.copies_equal _ _ c.in_ok-tag.ensures.cases in
     let pending : c.pending_width.result ≡ pending_width p.space = c.pending_width.ensures ∙ same_held_width eq b.space p.space s.space in
     let all : c.in-Some.width ≡ pending_width p.space + c.args.width = omega (arith, c.in-Some.ensures, pending) in
     rw (keep_waits c.args.c a c.args.mode c.args.width p none ∙ ap (λ o. record p { space = o }) (some_space (pending_width p.space + c.args.width) a c.args.mode (omega (arith, c.if-width-gt0.true, all))))

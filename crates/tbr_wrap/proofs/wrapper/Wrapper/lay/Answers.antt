@@ -14,8 +14,8 @@ returns-then-has_room-clause-laid g c = λ before given p s.
     le-leb _ _ (omega (arith, c.has_room.ensures.0 c.if-has_room.true, same_held_width g.T.PartialEq.eq b.space p.space s.space, s.word_width, s.lays.holds.width, s.lays.shows.width)) in
     rw fits (c.in_ok-lay_here.ensures.laid before given p s)
 
-pub lay_fresh-requires-clause-stands : goal.lay_fresh-requires-clause-stands
-lay_fresh-requires-clause-stands g c = search (rules, c.requires.stands, c.in_ok-wrap_space.ensures.wrapped)
+pub lay_fresh-requires : goal.lay_fresh-requires
+lay_fresh-requires g c = search (rules, c.requires.stands, c.in_ok-wrap_space.ensures.wrapped)
 
 pub returns-clause-wider : goal.returns-clause-wider
 returns-clause-wider g c = λ refused before given p s.

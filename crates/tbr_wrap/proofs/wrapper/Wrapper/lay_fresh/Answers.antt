@@ -6,8 +6,8 @@ use Rattle.tbr_tagged.proofs.SameItems.{same_has}
 use Rattle.tbr_wrap.proofs.words.WordsLaid.{stands_laid, flagged_stands, lay_fresh_some, lay_fresh_none}
 use Rattle.tbr_wrap.proofs.wrapper.Wrapper.lay_fresh.Goals as goal
 
-pub put_pending-requires-clause-room : goal.put_pending-requires-clause-room
-put_pending-requires-clause-room g c =
+pub put_pending-requires : goal.put_pending-requires
+put_pending-requires g c =
     let w = c.requires.stands in
     omega (arith, (c.in_ok-end_if_character.ensures.ended g.W.CharWidth.columns w.0 w.1 w.2.laid w.3.lays).1, c.end_if_character.new.self.positive)
 

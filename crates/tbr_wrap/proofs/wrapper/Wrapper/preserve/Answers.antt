@@ -14,10 +14,12 @@ returns-then-c-eq10-clause-preserved g c = λ before given p s.
     rw (preserve_newline columns width c.args.c c.args.main_tag.now c.args.wrap_tag.now c.args.mode p c.if-c-eq10.true)
     (c.in_ok-newline.ensures.ended columns before given (flush_word columns width p) (c.in_ok-flush_word.ensures.laid before given p s))
 
-pub tab-requires-clause-stands : goal.tab-requires-clause-stands
-tab-requires-clause-stands g c =
+pub tab-requires : goal.tab-requires
+tab-requires g c =
     let w = c.requires.stands in
-    (g.W.CharWidth.columns, (w.0, w.1, flush_word g.W.CharWidth.columns c.args.self.now.lines.width w.2, c.in_ok-flush_word-2.ensures.laid w.0 w.1 w.2 w.3))
+    let columns = g.W.CharWidth.columns in
+    let laid = flush_word columns c.args.self.now.lines.width w.2 in
+    record { stands = (columns, (w.0, w.1, laid, c.in_ok-flush_word-2.ensures.laid w.0 w.1 w.2 w.3)) }
 
 pub returns-then-c-eq9-clause-preserved : goal.returns-then-c-eq9-clause-preserved
 returns-then-c-eq9-clause-preserved g c = λ before given p s.
