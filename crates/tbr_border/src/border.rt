@@ -509,10 +509,7 @@ impl<T: Tag> BorderHoriz<T> {
 }
 
 /// These holes, with pieces under copies of their tags.
-fn copied<T: Tag>(
-    alloc: Global,
-    holes: &[Span<T>],
-) -> Result<Vec<Span<T>>, OutOfMemory>
+fn copied<T: Tag>(alloc: Global, holes: &[Span<T>]) -> Result<Vec<Span<T>>, OutOfMemory>
     ensures { IfOk result (λ copies. AllZip (SameHole T.eq) (holes_of copies.items) (holes_of holes.now)) }
 {
     let mut copies = Vec::with_capacity(alloc, holes.len())?;

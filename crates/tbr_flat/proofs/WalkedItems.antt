@@ -1,18 +1,22 @@
 -- What a walk over items gives.
-use Rattle.std.proofs.Common.{◌≡◌, ℕ, suc, zero, ◌+◌, ◌-◌, ◌≤◌, true, Option, None, Some, List, [], ◌∷◌, ◌++◌, map, length, take, drop, chars, refl, ap, sym, ◌∙◌, arith}
+use Rattle.std.proofs.Common.{◌≡◌, ℕ, suc, zero, ◌+◌, ◌-◌, ◌≤◌, true, Option, None, Some, unwrap_or, min, List, [], ◌∷◌, ◌++◌, map, length, take, drop, chars, refl, ap, sym, ◌∙◌, subst, arith}
 use Rattle.std.specs.Str.Iter.{chars_rest, chars_steps}
 use Rattle.std.specs.declared.str.Chars.{Chars}
-use Rattle.std.proofs.Math.Seq.{take-nil, drop-nil}
+use Rattle.std.proofs.Math.Seq.{take-nil, drop-nil, take-append_seam, drop-append_seam}
 use Rattle.std.specs.String.{string_bytes}
 use Rattle.std.specs.List.{slice_get, AllByRecursion as Each}
-use Rattle.std.specs.Str.{is_utf8}
+use Rattle.std.specs.Option.{option_map}
+use Rattle.std.specs.Str.{IsUtf8, is_utf8}
 use Rattle.std.proofs.lemmas.Bool.{false≢true}
-use Rattle.std.proofs.lemmas.List.{length-drop, map-append, take-append-drop}
+use Rattle.std.proofs.lemmas.List.{length-drop, length-map, length-take-le, map-append, take-append-drop}
 use Rattle.std.proofs.lemmas.Str.{IsUtf8-past_char, is_utf8-from_IsUtf8, IsUtf8-from_is_utf8, chars_past_char}
 use Rattle.tbr_model.specs.Entry.{is_glyph}
 use Rattle.tbr_model.proofs.lists.Each.{each_back}
 use Rattle.tbr_model.specs.Run.{Item, glyph, marker, items_width}
+use Rattle.tbr_model.specs.Width.{width_of_text}
+use Rattle.tbr_tagged.specs.Narrow.{AreNarrow}
 use Rattle.tbr_tagged.specs.Walks.{item_characters}
+use Rattle.tbr_tagged.proofs.NarrowText.{narrow_characters, narrow_width}
 use Rattle.tbr_tagged.proofs.TextAfter.{chars_none}
 use Rattle.tbr_flat.specs.Flat.{marked, before_last}
 use Rattle.tbr_flat.specs.Walk.{character_in, first_given, first_characters, given, given_width, places_of, places_left}
@@ -115,3 +119,51 @@ module _ (columns : ℕ → Option ℕ) where
   width_given [] = refl
   width_given (glyph c a ∷ is) = omega (arith, width_given is)
   width_given (marker name ∷ is) = omega (arith, width_given is)
+
+-- ---- several characters at once
+
+-- no more than come before the next marker
+pub before_marker : (before : Option ℕ) (most n : ℕ) → n ≤ min (unwrap_or before most) most → n ≤ unwrap_or before n
+before_marker None most n h = omega arith
+before_marker (Some m) most n h = omega (arith, h)
+
+-- characters that come before the next marker
+text_first : (front cs : List ℕ) (before : Option ℕ) (ms : List Marker) → length front ≤ unwrap_or before (length front) →
+    given (front ++ cs) (places_left before ms) ≡ map (λ c. Some c) front ++ given cs (places_left (option_map (λ n. n - length front) before) ms)
+text_first front cs None ms h = map-append (λ c. Some c) front cs
+text_first front cs (Some n) ms h = go front n h
+  where
+    go : (front : List ℕ) (n : ℕ) → length front ≤ n → given (front ++ cs) (n ∷ places_of ms) ≡ map (λ c. Some c) front ++ given cs ((n - length front) ∷ places_of ms)
+    go [] n h = let same : n - 0 ≡ n = omega arith in rw same refl
+    go (c ∷ front) zero h = absurd (omega arith)
+    go (c ∷ front) (suc n) h = let less : suc n - suc (length front) ≡ n - length front = omega arith in rw less (ap (λ os. Some c ∷ os) (go front n (omega arith)))
+
+module _ (columns : ℕ → Option ℕ) where
+  width_text : (cs : List ℕ) → given_width columns (map (λ c. Some c) cs) ≡ width_of_text columns cs
+  width_text [] = refl
+  width_text (c ∷ cs) = ap (λ n. unwrap_or (columns c) 0 + n) (width_text cs)
+
+  module _ (before : Option ℕ) (ms : List Marker) (text : List ℕ) (k : ℕ) (utf8 : IsUtf8 text) (within : k ≤ length text) (are : AreNarrow columns (take k text)) (first : k ≤ unwrap_or before k) where
+    abbrev front : List (Option ℕ)
+    front = map (λ c. Some c) (take k text)
+
+    abbrev after : List (Option ℕ)
+    after = given (chars (drop k text)) (places_left (option_map (λ n. n - k) before) ms)
+
+    long : length (take k text) ≡ k
+    long = length-take-le k text within
+
+    split : given (chars text) (places_left before ms) ≡ front ++ after
+    split = ap (λ cs. given cs (places_left before ms)) (narrow_characters columns text k utf8 within are)
+        ∙ subst (λ m. m ≤ unwrap_or before m → given (take k text ++ chars (drop k text)) (places_left before ms) ≡ front ++ given (chars (drop k text)) (places_left (option_map (λ n. n - m) before) ms)) long
+        (text_first (take k text) (chars (drop k text)) before ms) first
+
+    all : length front ≡ k
+    all = length-map (take k text) (λ c. Some c) ∙ long
+
+    -- narrow characters that are passed at once, and their columns
+    pub narrow_rest : after ≡ drop k (given (chars text) (places_left before ms))
+    narrow_rest = sym (ap (drop k) split ∙ subst (λ m. drop m (front ++ after) ≡ after) all (drop-append_seam front after))
+
+    pub narrow_columns : given_width columns (take k (given (chars text) (places_left before ms))) ≡ k
+    narrow_columns = ap (given_width columns) (ap (take k) split ∙ subst (λ m. take m (front ++ after) ≡ front) all (take-append_seam front after)) ∙ width_text (take k text) ∙ narrow_width columns (take k text) are ∙ long

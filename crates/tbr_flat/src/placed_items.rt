@@ -1,5 +1,6 @@
 //! A walk over placed items.
-ghost use Rattle.std.specs.Prelude.{◌≡◌, ◌-◌, ◌^◌, min, take, drop, chars};
+ghost use Rattle.std.specs.Prelude.{◌≡◌, ◌≤◌, ◌-◌, ◌^◌, min, take, drop, chars};
+ghost use Rattle.std.specs.Option.{option_map};
 ghost use Rattle.std.specs.VecDeque.Iter.{deque_iter_rest};
 ghost use Rattle.tbr_flat.specs.Walk.{first_given, given, given_width, places_of, places_left};
 
@@ -8,6 +9,7 @@ use std::collections::vec_deque::Iter;
 use std::marker::Model;
 use std::str::Chars;
 use tbr_model::CharWidth;
+use tbr_tagged::narrow_in_front;
 
 /// A walk over placed items, which gives their characters. A contract sees what it has still to give: for each item its
 /// character, or `None` for a marker.
@@ -61,13 +63,29 @@ impl<'a> PlacedItems<'a> {
         self.characters.next()
     }
 
+    /// Moves past the ASCII characters of one column each that come before the next marker and any other character, at
+    /// most `most`, and answers how many these are.
+    fn skip_narrow<W: CharWidth>(&mut self, most: usize) -> usize
+        ensures within { result ≤ most }
+        ensures width { given_width W.columns (take result self.old) ≡ result }
+        ensures rest { self.new ≡ drop result self.old }
+    {
+        let most = self.before.unwrap_or(most).min(most);
+        let text = self.characters.as_str();
+        let count = narrow_in_front::<W>(text, most);
+        self.characters = text[count..].chars();
+        self.before = left_before(self.before, count);
+        count
+    }
+
     /// Moves past the next `count` items, and answers their columns, or `usize::MAX` where these are more.
     pub fn next_width<W: CharWidth>(&mut self, count: usize) -> usize
         ensures width { result ≡ min (given_width W.columns (take count self.old)) (2 ^ 64 - 1) }
         ensures rest { self.new ≡ drop count self.old }
     {
-        let mut width = 0usize;
-        for _ in 0..count {
+        let narrow = self.skip_narrow::<W>(count);
+        let mut width = narrow;
+        for _ in narrow..count {
             if let Some(c) = self.next_character() {
                 width = width.saturating_add(W::width(c).unwrap_or(0));
             }
@@ -82,4 +100,12 @@ fn next_place(markers: &mut Iter<'_, Marker>) -> Option<usize>
 {
     let marker = markers.next()?;
     Some(marker.before)
+}
+
+/// How many characters come before the next marker once so many are passed.
+fn left_before(before: Option<usize>, passed: usize) -> Option<usize>
+    ensures { result ≡ option_map (λ n. n - passed) before }
+{
+    let before = before?;
+    Some(before.saturating_sub(passed))
 }

@@ -342,10 +342,7 @@ fn is_border<T>(line: Option<&RenderLine<T>>) -> bool
 }
 
 /// The lines of parts, each by itself.
-fn lines_of<T: Tag>(
-    alloc: Global,
-    parts: Vec<Part<T>>,
-) -> Result<Vec<RenderLine<T>>, OutOfMemory>
+fn lines_of<T: Tag>(alloc: Global, parts: Vec<Part<T>>) -> Result<Vec<RenderLine<T>>, OutOfMemory>
     requires parts { Each (HoldsPart T.eq) parts.items }
     ensures lines { IfOk result (λ lines.
         AllZip (SameSeen T.eq) (map line_seen lines.items) (parts_seen parts.items)) }

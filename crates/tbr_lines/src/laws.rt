@@ -4,9 +4,7 @@ pub use tbr_border::laws::{
     cell_has_two_arms, cells_keep_two_arms, chops_are_idempotent, joins_are_idempotent,
     joins_commute, stretching_appends,
 };
-pub use tbr_tagged::laws::{
-    equal_tags_mean_the_same, merged_pieces_have_characters,
-};
+pub use tbr_tagged::laws::{equal_tags_mean_the_same, merged_pieces_have_characters};
 pub use tbr_wrap::laws::{
     blocks_stay_sound, flushes_are_too_narrow_for_characters, flushes_leave_nothing_open,
     lines_are_handed_out_in_order, lines_join_after_those_left, loose_markers_are_last,

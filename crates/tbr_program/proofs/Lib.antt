@@ -1,5 +1,4 @@
 pub mod Common
-pub mod GivenPrefixes
 pub mod Levels
 pub mod CommandParts
 pub mod MadeCommands

@@ -7,14 +7,10 @@ ghost use Rattle.tbr_decor.specs.Prefix.{asked_prefix};
 ghost use Rattle.tbr_renderer.specs.Outcomes.{Tries};
 ghost use Rattle.tbr_program.specs.Commands.{block_made};
 
-use std::iter;
 use tbr_decor::{DecoratorPrefix, TextDecorator};
 use tbr_lines::{CharWidth, Error};
 use tbr_script::TextPair;
 use text_block_renderer::{Renderer, SubRenderer};
-
-/// How many prefixes come after the first.
-const OTHERS: usize = usize::MAX - 1;
 
 /// Adds the lines of a renderer to another one: the first line after the first text, each other after the second. The
 /// other one must not have failed.
@@ -30,9 +26,7 @@ pub fn append_after<D: TextDecorator, W: CharWidth>(
         (string_bytes texts.now.first) (string_bytes texts.now.second) in
         Tries (texts inside) renderer.old result renderer.new }
 {
-    let first = iter::once(texts.first.as_str());
-    let others = iter::repeat_n(texts.second.as_str(), OTHERS);
-    renderer.append_subrender(inside, first.chain(others))
+    renderer.append_prefixed(inside, texts.first.as_str(), texts.second.as_str())
 }
 
 /// The text of a prefix of the renderer's decorator. It refuses only where memory is refused, and changes nothing.

@@ -1,7 +1,7 @@
 -- Lines of other renderers, one after another.
 use Rattle.std.proofs.Common.{◌≡◌, ◌↔◌, IsTrue, ℕ, zero, suc, arith, ◌+◌, ◌-◌, ◌<◌, Bool, true, false, Option, None, Result, Ok, Err, List, [], ◌∷◌, ◌++◌, map, fold, take, get_or, replicate, length, refl, ap, sym, ◌∙◌, append-nil, append_assoc}
 use Rattle.std.specs.Prelude.{chars, OnOk}
-use Rattle.std.proofs.lemmas.List.{map-append, length-append, length-map, take_more}
+use Rattle.std.proofs.lemmas.List.{map-append, length-append, length-map, length-replicate, replicate_more, take_more}
 use Rattle.std.proofs.lemmas.Grind.{fold-append}
 use Rattle.tbr_model.specs.Run.{Item}
 use Rattle.tbr_tagged.specs.Outcome.{Outcome, done}
@@ -15,7 +15,7 @@ use Rattle.tbr_renderer.proofs.JoinedLines.{lines_told, added_at_once}
 use Rattle.tbr_annotations.specs.Annotations.{same_annotations}
 use Rattle.tbr_renderer.specs.Renderer.{Renderer, Settings, KeepsSettings, with_line}
 use Rattle.tbr_border.specs.Cell.{slash}
-use Rattle.tbr_renderer.specs.Appended.{AreAlike, texts_of, prefixed, handed_out, with_prefixed, with_divider, with_cell, with_cell_below}
+use Rattle.tbr_renderer.specs.Appended.{AreAlike, alike, texts_of, prefixed, handed_out, with_prefixed, with_divider, with_cell, with_cell_below}
 
 -- ---- prefixes
 
@@ -66,12 +66,35 @@ module _ {T : Type 0} (tag : T) (first others : List ℕ) where
   rest_alike (l ∷ lines) = ap (λ ts. (text_items others tag ++ as_text tag l) ∷ ts) (rest_alike lines)
 
   -- lines after them
-  pub prefixed_alike : (prefixes : List (List ℕ)) (lines : List (Line T)) → AreAlike first others prefixes → length prefixes ≡ length lines →
-      map text (prefixed tag prefixes lines) ≡ prefixed_lines tag first others lines
-  prefixed_alike prefixes [] alike same = absurd (omega (arith, same, ap length alike))
-  prefixed_alike prefixes (l ∷ lines) alike same =
-      let count : length prefixes - 1 ≡ length lines = omega (arith, same) in
-      ap (λ ps. map text (prefixed tag ps (l ∷ lines))) (alike ∙ ap (λ n. first ∷ replicate n others) count) ∙ ap (λ ts. map text ((text_items first tag ++ as_text tag l) ∷ ts)) (rest_alike lines)
+  pub prefixed_alike : (lines : List (Line T)) → map text (prefixed tag (alike first others (length lines)) lines) ≡ prefixed_lines tag first others lines
+  prefixed_alike [] = refl
+  prefixed_alike (l ∷ lines) = ap (λ ts. map text ((text_items first tag ++ as_text tag l) ∷ ts)) (rest_alike lines)
+
+-- prefixes that are alike are as many as they are
+pub alike_all : (first others : List ℕ) (prefixes : List (List ℕ)) (n : ℕ) → AreAlike first others prefixes → length prefixes ≡ n → prefixes ≡ alike first others n
+alike_all first others [] n alike is = absurd (omega (arith, ap length alike))
+alike_all first others (p ∷ prefixes) n alike_ is =
+    let count : length (p ∷ prefixes) - 1 ≡ length prefixes = omega arith in
+    alike_ ∙ ap (λ m. first ∷ replicate m others) count ∙ ap (alike first others) is
+
+module _ (first others : List ℕ) where
+  -- the prefix of a line with so many before it
+  abbrev pub prefix_after : ℕ → List ℕ
+  prefix_after zero = first
+  prefix_after (suc n) = others
+
+  pub later_prefix : {X : Type 0} (xs : List X) (x : X) → others ≡ prefix_after (length (xs ++ x ∷ []))
+  later_prefix [] x = refl
+  later_prefix (y ∷ xs) x = refl
+
+  pub length-alike : (n : ℕ) → length (alike first others n) ≡ n
+  length-alike zero = refl
+  length-alike (suc n) = omega (arith, length-replicate n others)
+
+  -- one more
+  alike_more : (n : ℕ) → alike first others (n + 1) ≡ alike first others n ++ prefix_after n ∷ []
+  alike_more zero = refl
+  alike_more (suc n) = let more : suc n + 1 ≡ suc (n + 1) = omega arith in rw more (ap (λ ps. first ∷ ps) (sym (replicate_more n others)))
 
 -- ---- lines after prefixes, one by one
 
@@ -118,6 +141,38 @@ module _ {D A P : Type 0} (columns : ℕ → Option ℕ) (first : Renderer D A (
   no_line [] = refl
   no_line (p ∷ more) = refl
 
+-- ---- lines after two prefixes, one by one
+
+module _ {D A : Type 0} (columns : ℕ → Option ℕ) (start : Renderer D A (List A)) (first others : List ℕ) where
+  abbrev texts_after : List (RenderLine (List A)) → List (List (Item (List A)))
+  texts_after lines = prefixed start.annotations (alike first others (length lines)) (seen lines)
+
+  -- These lines have come.
+  abbrev pub HasTexts : List (RenderLine (List A)) → Renderer D A (List A) → Type 0
+  HasTexts lines now = HasPut columns start (texts_after lines) now
+
+  one_more : (lines : List (RenderLine (List A))) (line : RenderLine (List A)) →
+      texts_after (lines ++ line ∷ []) ≡ texts_after lines ++ (text_items (prefix_after first others (length lines)) start.annotations ++ as_text start.annotations (line_seen line)) ∷ []
+  one_more lines line =
+      let n = length lines in let tag = start.annotations in
+      let longer : length (lines ++ line ∷ []) ≡ n + 1 = length-append lines (line ∷ []) in
+      let same : length (alike first others n) ≡ length (seen lines) = omega (arith, length-alike first others n, length-seen lines) in
+      (λ i. prefixed tag (alike first others (longer i)) (map-append line_seen lines (line ∷ []) i))
+      ∙ ap (λ ps. prefixed tag ps (seen lines ++ seen (line ∷ []))) (alike_more first others n)
+      ∙ prefixed-append tag (alike first others n) (prefix_after first others n ∷ []) (seen lines) (seen (line ∷ [])) same
+
+  pub texts_more : (lines : List (RenderLine (List A))) (line : RenderLine (List A)) (now next : Renderer D A (List A)) (prefix : List ℕ) (shown : List (Item (List A))) → HasTexts lines now →
+      prefix ≡ prefix_after first others (length lines) → shown ≡ text_items prefix now.annotations ++ as_text now.annotations (line_seen line) →
+      next ≡ with_line columns now shown → KeepsSettings now next → next.failure ≡ None → HasTexts (lines ++ line ∷ []) next
+  texts_more lines line now next prefix shown h at is added kept live =
+      let under : now.annotations ≡ start.annotations = ap (λ (s : Settings D A). s.annotations) h.settings in
+      let more = is ∙ (λ i. text_items (at i) (under i) ++ as_text (under i) (line_seen line)) in record {
+        unfailed = live;
+        settings = kept ∙ h.settings;
+        lines = added ∙ ap (λ (r : Renderer D A (List A)). with_line columns r shown) h.lines ∙ sym (fold-append (with_line columns) start (texts_after lines) (shown ∷ []))
+            ∙ ap (fold (with_line columns) start) (ap (λ t. texts_after lines ++ t ∷ []) more ∙ sym (one_more lines line));
+      }
+
 -- ---- cells below one another
 
 module _ {D A : Type 0} (columns : ℕ → Option ℕ) (first : Renderer D A (List A)) where
@@ -148,12 +203,13 @@ module _ {D A : Type 0} (columns : ℕ → Option ℕ) (first : Renderer D A (Li
 -- ---- lines that are kept, after prefixes
 
 module _ {D A : Type 0} (same : A → A → Bool) (tells : (a b : A) → IsTrue (same a b) ↔ (a ≡ b)) (columns : ℕ → Option ℕ) where
-  pub kept_after : {E : Type 0} (r s : Renderer D A (List A)) {X : Type 0} (result : Result X E) (tag : List A) → tag ≡ r.annotations → (first others : List ℕ) (prefixes : List (List ℕ)) (lines : List (Line (List A))) →
-      AreAlike first others prefixes → length prefixes ≡ length lines → r.options.pad_block_width ≡ false → r.waiting ≡ [] → OnOk result (s ≡ record r { lines = s.lines }) →
-      OnOk result (Appends (same_annotations same) r.lines (prefixed_lines tag first others lines) s.lines) → OnOk result (s ≡ with_prefixed columns r prefixes lines)
-  kept_after r s (Ok u) tag under first others prefixes lines alike long unpadded none rest (more, is, seen) =
+  pub kept_after : {E : Type 0} (r s : Renderer D A (List A)) {X : Type 0} (result : Result X E) (tag : List A) → tag ≡ r.annotations → (first others : List ℕ) (lines : List (Line (List A))) →
+      r.options.pad_block_width ≡ false → r.waiting ≡ [] → OnOk result (s ≡ record r { lines = s.lines }) →
+      OnOk result (Appends (same_annotations same) r.lines (prefixed_lines tag first others lines) s.lines) → OnOk result (s ≡ with_prefixed columns r (alike first others (length lines)) lines)
+  kept_after r s (Ok u) tag under first others lines unpadded none rest (more, is, seen) =
+      let prefixes = alike first others (length lines) in
       let shown : more ≡ map text (prefixed r.annotations prefixes lines) =
       lines_told same tells more (prefixed_lines tag first others lines) seen ∙ ap (λ t. prefixed_lines t first others lines) under
-      ∙ sym (prefixed_alike r.annotations first others prefixes lines alike long) in
+      ∙ sym (prefixed_alike r.annotations first others lines) in
       added_at_once columns r s more (prefixed r.annotations prefixes lines) shown unpadded none (rest ∙ ap (λ ls. record r { lines = ls }) is)
-  kept_after r s (Err e) tag under first others prefixes lines alike long unpadded none rest appended = tt
+  kept_after r s (Err e) tag under first others lines unpadded none rest appended = tt

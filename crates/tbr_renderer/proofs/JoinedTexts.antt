@@ -19,7 +19,7 @@ use Rattle.tbr_renderer.specs.Steps.{at_line_start, block_is_empty}
 use Rattle.tbr_renderer.proofs.OpenBlocks.{fits_grown_seen, line_start_seen, any_line_seen, text_narrow}
 
 -- a fresh block whose run has grown
-fresh_grown : {T : Type 0} (columns : ℕ → Option ℕ) (width : ℕ) (overflows : Bool) (old new : Block T) (es : List (Event T)) → new ≡ grown old es → IsSound columns new → IsFresh columns width overflows old → IsFresh columns width overflows new
+pub fresh_grown : {T : Type 0} (columns : ℕ → Option ℕ) (width : ℕ) (overflows : Bool) (old new : Block T) (es : List (Event T)) → new ≡ grown old es → IsSound columns new → IsFresh columns width overflows old → IsFresh columns width overflows new
 fresh_grown {T} columns width overflows old new es is sound fresh = grind arith
 
 -- what the block is then

@@ -1,5 +1,5 @@
 -- Borders, and the lines of other renderers: prefixed, or one renderer's below another's.
-use Rattle.std.specs.Prelude.{◌≡◌, ℕ, ◌-◌, ◌<◌, ◌⊎◌, Option, None, if◌then◌else◌, List, [], ◌∷◌, ◌++◌, map, fold, length, replicate, chars}
+use Rattle.std.specs.Prelude.{◌≡◌, ℕ, zero, suc, ◌-◌, ◌<◌, ◌⊎◌, Option, None, if◌then◌else◌, List, [], ◌∷◌, ◌++◌, map, fold, length, replicate, chars}
 use Rattle.std.specs.Iterator.{Yields}
 use Rattle.tbr_model.specs.Run.{Item}
 use Rattle.tbr_border.specs.Border.{Border, shown, without_holes}
@@ -45,6 +45,11 @@ texts_of read ss = map (λ s. chars (read s)) ss
 -- from the second one on they are alike
 abbrev pub AreAlike : List ℕ → List ℕ → List (List ℕ) → Type 0
 AreAlike first others prefixes = prefixes ≡ first ∷ replicate (length prefixes - 1) others
+
+-- so many prefixes that are alike from the second one on
+abbrev pub alike : List ℕ → List ℕ → ℕ → List (List ℕ)
+alike first others zero = []
+alike first others (suc n) = first ∷ replicate n others
 
 -- ---- lines of other renderers
 

@@ -83,6 +83,10 @@ seats_are (waits {h = h} {c = c} left ends w) done here =
     let later : end_of c + 1 ≤ h.place = leb-true _ _ ends in
     simp (ne_eqb h.place c.place (λ e. let no : ⊥ = omega (arith, later, e) in no)) (seats_are w (done ++ c ∷ []) (sym (place_push done c)) ∙ rw append_assoc)
 
+-- where none overhangs
+pub seated_none : {A : Type 0} (cs : List (Cell A)) → seated [] cs ≡ cs
+seated_none cs = seats_are (rest {at = 0} {cs = cs}) [] refl
+
 some_is : {X : Type 0} (o : Option X) → is_some o ≡ true → (x : X) × (o ≡ Some x)
 some_is None e = cc
 some_is (Some x) e = (x, refl)

@@ -96,11 +96,7 @@ impl<T: Tag> Columns<T> {
 }
 
 /// A border under a copy of a tag.
-fn plain<T: Tag>(
-    alloc: Global,
-    width: usize,
-    tag: &T,
-) -> Result<BorderHoriz<T>, OutOfMemory>
+fn plain<T: Tag>(alloc: Global, width: usize, tag: &T) -> Result<BorderHoriz<T>, OutOfMemory>
     ensures { IfOk result (λ border. IsPlain T.eq tag.now width border) }
 {
     BorderHoriz::new(alloc, width, tag.clone()?)

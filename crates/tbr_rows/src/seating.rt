@@ -17,7 +17,10 @@ pub(crate) fn seated<T: Tag>(
 ) -> Result<Vec<LineSet<T>>, OutOfMemory>
     ensures { IfOk result (λ row. row.items ≡ model.seated hanging cells.items) }
 {
-    let mut row = Vec::new(alloc);
+    if hanging.is_empty() {
+        return Ok(cells);
+    }
+    let mut row = Vec::with_capacity(alloc, cells.len())?;
     for cell in cells {
         row.push(seat(cell, &mut hanging))?;
     }

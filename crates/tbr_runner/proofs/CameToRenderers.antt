@@ -1,10 +1,10 @@
 -- Where in a script is what came to one of its renderers: in it, or in lines that others took from it.
-use Rattle.tbr_runner.proofs.Common.{◌∙◌, ◌≡◌, ◌≤◌, ◌<◌, ◌^◌, ◌⊎◌, inl, inr, ℕ, zero, suc, Option, None, Some, Ok, List, [], ◌∷◌, ◌++◌, length, replicate, chars, refl, ap, sym, subst, arith, append_assoc, AllZip, Each, length-take, length-replicate, Entry, done, Decoration, Line, run, Renderer, handed_out, append_subrender, append_vert_row, Act, call, row_of_cells, after_act, act_brought, act_comes, acts_come, Takes, NothingOverhangs, TakesIn, AreTakenIn, Level, first_renderer, others, prefixes, Opened, Progress, after_line, IsLed, EndsWhole, KeepsAll, IsShort}
+use Rattle.tbr_runner.proofs.Common.{◌∙◌, ◌≡◌, ◌≤◌, ◌<◌, ◌^◌, ◌⊎◌, inl, inr, ℕ, zero, suc, Option, None, Some, Ok, List, [], ◌∷◌, ◌++◌, length, chars, refl, ap, sym, subst, arith, append_assoc, AllZip, Each, Entry, done, Decoration, Line, run, Renderer, handed_out, append_subrender, append_vert_row, Act, call, row_of_cells, after_act, act_brought, act_comes, acts_come, Takes, NothingOverhangs, TakesIn, AreTakenIn, Level, first_renderer, prefixes, Opened, Progress, after_line, IsLed, EndsWhole, KeepsAll, IsShort}
 use Rattle.tbr_model.proofs.lists.Each.{each_map}
 use Rattle.tbr_rows.specs.CellsShown.{StandsAmong}
 use Rattle.tbr_rows.proofs.Among.{among_front}
 use Rattle.text_block_renderer.proofs.ActSteps.{acts_then}
-use Rattle.tbr_program.proofs.GivenPrefixes.{is_others}
+use Rattle.tbr_renderer.proofs.AppendedLines.{length-alike}
 use Rattle.tbr_runner.proofs.LedRenderers.{led_on}
 use Rattle.tbr_runner.proofs.ScriptLevels.{each_any, Sized, sized, any_ready}
 use Rattle.tbr_runner.proofs.Walks.{Holds, At, renderers, HandsOut, GivesCell, TakesCells, Walk, line_makes}
@@ -26,9 +26,8 @@ module _ {X : Type 0} where
   some_before P (x ∷ xs) ys (inr h) = inr (some_before P xs ys h)
 
 -- as many prefixes as lines
-as_many : (first next : List ℕ) (n : ℕ) → n < 2 ^ 64 → n ≤ length (prefixes first next n)
-as_many first next n few =
-    omega (arith, few, is_others 18446744073709551614 refl, length-replicate others (chars next), length-take n (chars first ∷ replicate others (chars next)))
+as_many : (first next : List ℕ) (n : ℕ) → n ≤ length (prefixes first next n)
+as_many first next n = omega (arith, length-alike (chars first) (chars next) n)
 
 module _ {D M : Type 0} (columns : ℕ → Option ℕ) (decoration : Decoration D M) where
   abbrev Top : Type 0
@@ -205,7 +204,7 @@ module _ {D M : Type 0} (columns : ℕ → Option ℕ) (decoration : Decoration 
       joins = λ one next lines inside r s rs left levels ends gives does h.
           let more = call (append_subrender (prefixes one next (length lines)) lines) in
           elim (ended_has inside (r ∷ rs) left.cells levels h.1) [
-            | inl has ↦ inl (inl (takes_on more lines 1 r s (refl, as_many one next (length lines) (ends.1 lines gives)) h.0.0.1.0 does (gives_on inside lines (let led = h.0.0.0 in led.live) ends.0 gives has)))
+            | inl has ↦ inl (inl (takes_on more lines 1 r s (refl, as_many one next (length lines)) h.0.0.1.0 does (gives_on inside lines (let led = h.0.0.0 in led.live) ends.0 gives has)))
             | inr on ↦ first_goes r s rs left.cells levels (has_on more r s (λ fs. refl) does) on
           ];
       waits = λ span align inside rs left levels ends h. elim (ended_has inside rs left.cells levels h.1) [

@@ -36,7 +36,7 @@ pub use Rattle.tbr_commands.specs.declared.opening.Decorator.TheVariants.{Plain,
 pub use Rattle.tbr_commands.specs.declared.opening.Opening.{Opening}
 pub use Rattle.tbr_program.specs.Closing.{closed as lines_closed, closed_text, footnotes_of, with_notes}
 pub use Rattle.tbr_program.specs.Commands.{Made, Place, after_command, after_line, after_read, answered, block_made, cells_waiting, ended, ended_as, if_some_are, joins, level_ended, level_opened, on_top, request_made, row_made, started, vertical_made, waits, with_stack}
-pub use Rattle.tbr_program.specs.Prefixes.{others, prefixes}
+pub use Rattle.tbr_program.specs.Prefixes.{prefixes}
 pub use Rattle.tbr_program.specs.Progress.{GoesOn, Opened, Pending, Progress, renderers_of, without_cells}
 pub use Rattle.tbr_program.specs.declared.opened.Opener.{Opener}
 pub use Rattle.tbr_program.specs.declared.opened.Opener.TheVariants.{Sub}

@@ -11,4 +11,5 @@ pub mod TextAfter
 pub mod TextColumns
 pub mod TextInFront
 pub mod Told
+pub mod NarrowText
 pub mod WideBlocks

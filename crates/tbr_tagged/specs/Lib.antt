@@ -9,4 +9,5 @@ pub mod Grown
 pub mod Equal
 pub mod Padding
 pub mod Sums
+pub mod Narrow
 pub mod UnicodeColumns

@@ -8,7 +8,7 @@ pub use line_end::LineEnd;
 pub use padding::{CellAlign, columns_in_front};
 pub use space::{always_takes_space, append_spaces, is_wordbreak_point, spaces};
 pub use tagged_line::TaggedLine;
-pub use width::{STROKE, UnicodeColumns, takes_one_column, text_width};
+pub use width::{STROKE, UnicodeColumns, narrow_in_front, takes_one_column, text_width};
 
 mod edits;
 mod element;

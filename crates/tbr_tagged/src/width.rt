@@ -1,7 +1,8 @@
 //! How many columns characters take in a terminal.
 ghost use Rattle.std.specs.Int.{is_in_range};
-ghost use Rattle.std.specs.Prelude.{◌≡◌, chars};
+ghost use Rattle.std.specs.Prelude.{◌≡◌, ◌≤◌, true, length, take, chars};
 ghost use Rattle.tbr_model.specs.Width as fixed;
+ghost use Rattle.tbr_tagged.specs.Narrow.{IsNarrow, AreNarrow};
 ghost use Rattle.tbr_tagged.specs.Sums.{GivesSum};
 ghost use Rattle.tbr_tagged.specs.UnicodeColumns.{is_in_wide_block, unicode_columns, unicode_columns_at_most_two, unicode_columns_drawn};
 
@@ -110,8 +111,9 @@ fn draws_border(c: char) -> bool
 pub fn text_width<W: CharWidth>(s: &str) -> Result<usize, OutOfMemory>
     ensures { GivesSum result (fixed.width_of_text W.columns (chars s.now)) }
 {
-    let mut width = 0usize;
-    for c in s.chars() {
+    let narrow = narrow_in_front::<W>(s, s.len());
+    let mut width = narrow;
+    for c in s[narrow..].chars() {
         let more = W::width(c).unwrap_or(0);
         let Some(sum) = width.checked_add(more) else {
             return Err(OutOfMemory);
@@ -119,4 +121,26 @@ pub fn text_width<W: CharWidth>(s: &str) -> Result<usize, OutOfMemory>
         width = sum;
     }
     Ok(width)
+}
+
+/// How many ASCII characters of one column each a text begins with, `most` of them at most.
+// They are bytes, so that a text of them is measured without its characters.
+pub fn narrow_in_front<W: CharWidth>(text: &str, most: usize) -> usize
+    ensures within { (result ≤ most) × (result ≤ length text.now) }
+    ensures narrow { AreNarrow W.columns (take result text.now) }
+{
+    let bytes = text.as_bytes();
+    let most = bytes.len().min(most);
+    let mut count = 0;
+    while count < most && is_narrow::<W>(bytes[count]) {
+        count += 1;
+    }
+    count
+}
+
+/// Whether a byte is an ASCII character of one column.
+fn is_narrow<W: CharWidth>(byte: u8) -> bool
+    ensures { result ≡ true → IsNarrow W.columns byte }
+{
+    byte.is_ascii() && W::width(char::from(byte)) == Some(1)
 }

@@ -74,8 +74,6 @@ impl<T: Tag, W: CharWidth> WrappedBlock<T, W> {
         allow_overflow: bool,
         default_tag: T,
     ) -> WrappedBlock<T, W>
-    where
-        T: Drop,
         requires { 0 < width }
         ensures { let padding = if pad_blocks then Some default_tag else None in
             result ≡ new_block width (allow_overflow && nat_lt width 2) padding }
@@ -169,8 +167,6 @@ impl<T: Tag, W: CharWidth> WrappedBlock<T, W> {
 
     /// Begins a call whose text has `bytes` bytes.
     fn begin_call(&mut self, bytes: usize)
-    where
-        T: Drop,
         requires { self.old.failure ≡ None }
         ensures begun { self.new ≡ grown self.old (call ∷ []) }
         ensures allowed { allows W.columns self.new (lines W.columns self.new) ≡ true }
@@ -189,8 +185,6 @@ impl<T: Tag, W: CharWidth> WrappedBlock<T, W> {
         main_tag: &T,
         wrap_tag: &T,
     ) -> Result<&'a str, Error>
-    where
-        T: Drop,
         requires unfailed { self.old.failure ≡ None }
         requires some { 0 < length text.now }
         ensures ok { IfOk result (λ rest.
@@ -224,8 +218,6 @@ impl<T: Tag, W: CharWidth> WrappedBlock<T, W> {
         main_tag: &T,
         wrap_tag: &T,
     ) -> Result<(), Error>
-    where
-        T: Drop,
         ensures answers { let after = after_text W.columns (chars text.now) main_tag.now wrap_tag.now ws_mode in
             Answers failure_of settings_of (after self.old) self.old result self.new }
         ensures two_columns { self.old.failure ≡ None → 2 ≤ self.old.width → result ≢ Err E.TooNarrow }
@@ -241,8 +233,6 @@ impl<T: Tag, W: CharWidth> WrappedBlock<T, W> {
         main_tag: &T,
         wrap_tag: &T,
     ) -> Result<(), Error>
-    where
-        T: Drop,
         ensures answers { let after = after_text W.columns (chars text.now) main_tag.now wrap_tag.now ws_mode in
             Answers failure_of settings_of (after self.old) self.old result self.new }
     {
@@ -255,12 +245,20 @@ impl<T: Tag, W: CharWidth> WrappedBlock<T, W> {
         Ok(())
     }
 
+    /// Adds the empty text, as [`add_text`](WrappedBlock::add_text) does, under any tags. It takes no memory.
+    pub fn add_empty_text(&mut self) -> Result<(), Error>
+        ensures answers { (a b : T) (mode : _) → let after = after_text W.columns [] a b mode in
+            Answers failure_of settings_of (after self.old) self.old result self.new }
+    {
+        self.refusal()?;
+        self.begin_call(0);
+        Ok(())
+    }
+
     /// Adds a marker to the current word. The element must be a marker, not text.
     ///
     /// It refuses only where memory is refused.
     pub fn add_element(&mut self, element: TaggedLineElement<T>) -> Result<(), Error>
-    where
-        T: Drop,
         requires { (name : List ℕ) × (element_of element ≡ marker_element name) }
         ensures answers { (name : List ℕ) → element_of element ≡ marker_element name →
             Answers failure_of settings_of (after_marker name self.old) self.old result self.new }
@@ -275,8 +273,6 @@ impl<T: Tag, W: CharWidth> WrappedBlock<T, W> {
 
     /// Adds a marker to the run.
     fn add_marker(&mut self, name: String) -> Result<(), Error>
-    where
-        T: Drop,
         requires { self.old.failure ≡ None }
         ensures ok { OnOk result (self.new ≡ grown self.old (entry (marker_entry (string_bytes name)) ∷ [])) }
         ensures failed { IfErr result (λ e. (e ≡ E.OutOfMemory) × (self.new.failure ≡ Some e)) }
@@ -294,8 +290,6 @@ impl<T: Tag, W: CharWidth> WrappedBlock<T, W> {
     ///
     /// It refuses only where memory is refused.
     pub fn take_trailing_fragments(&mut self) -> Result<Vec<TaggedLineElement<T>>, Error>
-    where
-        T: Drop,
         ensures answers { Answers failure_of settings_of (after_taking W.columns self.old) self.old result self.new }
         ensures markers { IfOk result (λ es. map element_of es.items ≡ map marker_element (loose W.columns self.old)) }
         ensures memory { self.old.failure ≡ None → IfErr result (λ e. e ≡ E.OutOfMemory) }
@@ -320,8 +314,6 @@ impl<T: Tag, W: CharWidth> WrappedBlock<T, W> {
     /// run has such a character, and always where that is visible. It answers `OutOfMemory` only where memory is
     /// refused. Where the open line and the word have no character, no line ends.
     pub fn flush(&mut self) -> Result<(), Error>
-    where
-        T: Drop,
         ensures answers { Answers failure_of settings_of (after_flush W.columns self.old) self.old result self.new }
         ensures best { let run = run_of self.old.events in WrapsNormally self.old →
             OnOk result (HasBestLines W.columns self.old.width run (all_lines W.columns self.old)) }
@@ -332,8 +324,6 @@ impl<T: Tag, W: CharWidth> WrappedBlock<T, W> {
 
     /// Ends the run.
     fn end_run(&mut self) -> Result<(), Error>
-    where
-        T: Drop,
         ensures answers { Answers failure_of settings_of (after_flush W.columns self.old) self.old result self.new }
         ensures best { let run = run_of self.old.events in WrapsNormally self.old →
             OnOk result (HasBestLines W.columns self.old.width run (all_lines W.columns self.old)) }
@@ -350,8 +340,6 @@ impl<T: Tag, W: CharWidth> WrappedBlock<T, W> {
     ///
     /// It refuses only where memory is refused, and then the block has failed.
     pub fn next_line(&mut self) -> Result<Option<TaggedLine<T>>, Error>
-    where
-        T: Drop,
         ensures answers { Answers failure_of settings_of (after_line W.columns self.old) self.old result self.new }
         ensures line { IfOk result (HandsOutFirst W.columns T.eq self.old (left W.columns self.old)) }
         ensures memory { self.old.failure ≡ None → IfErr result (λ e. e ≡ E.OutOfMemory) }
@@ -367,8 +355,6 @@ impl<T: Tag, W: CharWidth> WrappedBlock<T, W> {
 
     /// Hands out the first ended line, as it is without padding.
     fn take_line(&mut self) -> Result<Option<TaggedLine<T>>, Error>
-    where
-        T: Drop,
         requires unfailed { self.old.failure ≡ None }
         ensures some { (text : List (Item T)) (rest : List (List (Item T))) → left W.columns self.old ≡ text ∷ rest →
             IfOk result (λ o. IsSomeAnd o (λ line. SameItems T.eq (items_of line) text)) }
@@ -393,8 +379,6 @@ impl<T: Tag, W: CharWidth> WrappedBlock<T, W> {
 
     /// Fills a line with spaces, where lines are padded.
     fn pad(&self, line: &mut TaggedLine<T>) -> Result<(), OutOfMemory>
-    where
-        T: Drop,
         ensures items { OnOk result (SameItems T.eq (items_of line.new)
             (items_of line.old ++ padding_of W.columns self.now.padding self.now.width (items_of line.old))) }
         ensures merged { IsMerged T.eq line.old → OnOk result (IsMerged T.eq line.new) }
@@ -410,8 +394,6 @@ impl<T: Tag, W: CharWidth> WrappedBlock<T, W> {
     ///
     /// It refuses as [`flush`](WrappedBlock::flush) does, and where memory is refused.
     pub fn into_lines(mut self) -> Result<Vec<TaggedLine<T>>, Error>
-    where
-        T: Drop,
         ensures gives { IfOk result (λ lines. (s : Block T) × (after_flush W.columns self ≡ done s)
             × AllZip (ShowsText W.columns T.eq self.padding self.width) lines.items s.ended) }
         ensures best { let run = run_of self.events in WrapsNormally self →
@@ -438,8 +420,6 @@ impl<T: Tag, W: CharWidth> WrappedBlock<T, W> {
     /// The block must not have failed, and the open line and the word must have no character, as after a
     /// [`flush`](WrappedBlock::flush).
     pub fn into_ended(self) -> EndedLines<T>
-    where
-        T: Drop,
         requires unfailed { self.failure ≡ None }
         requires ended { has_no_character W.columns self ≡ true }
         ensures { AllZip (SameItems T.eq) result (left W.columns self) }
@@ -449,8 +429,6 @@ impl<T: Tag, W: CharWidth> WrappedBlock<T, W> {
 
     /// Hands out all ended lines that aren't handed out yet.
     fn hand_out(&mut self) -> Result<Vec<TaggedLine<T>>, Error>
-    where
-        T: Drop,
         requires live { self.old.failure ≡ None }
         ensures lines { IfOk result (λ lines.
             AllZip (ShowsText W.columns T.eq self.old.padding self.old.width) lines.items (left W.columns self.old)) }

@@ -6,13 +6,16 @@ ghost use Rattle.tbr_annotations.specs.Annotations.{same_annotations};
 ghost use Rattle.tbr_tagged.specs.Elements.{items_of, text_items, IsMerged};
 ghost use Rattle.tbr_border.specs.RenderLine.{IsMergedText};
 ghost use Rattle.tbr_tagged.specs.declared.Error.TheVariants as E;
+ghost use Rattle.tbr_decor.specs.Decoration.{decoration_of};
 ghost use Rattle.tbr_kept_lines.specs.Line.{Line, line_seen};
 ghost use Rattle.tbr_kept_lines.specs.Prefixed.{as_text, prefixed_lines, Appends};
 ghost use Rattle.tbr_renderer.specs.Renderer.{KeepsSettings, with_line, block_width};
 ghost use Rattle.tbr_tagged.specs.Outcome.{done, refused};
 ghost use Rattle.tbr_renderer.specs.Outcomes.{and_then, gathered, taking};
 ghost use Rattle.tbr_renderer.specs.Flush.{after_flush};
-ghost use Rattle.tbr_renderer.specs.Appended.{GivesFirst, AreAlike, texts_of, with_prefixed, with_cell, with_cell_below, with_cells, after_lines, after_cells, handed_out};
+ghost use Rattle.tbr_renderer.specs.Calls as call;
+ghost use Rattle.tbr_renderer.specs.Calls.{Takes, IsWide, calls_by};
+ghost use Rattle.tbr_renderer.specs.Appended.{GivesFirst, AreAlike, alike, texts_of, with_prefixed, with_cell, with_cell_below, with_cells, after_lines, after_cells, handed_out};
 
 use crate::sub::SubRenderer;
 use std::alloc::Global;
@@ -96,9 +99,8 @@ impl<D: TextDecorator, W: CharWidth> SubRenderer<D, W> {
         others: &str,
     ) -> Result<(), OutOfMemory>
         requires { (self.old.options.pad_block_width ≡ false) × (self.old.waiting ≡ []) }
-        ensures lines { (prefixes : List (List ℕ)) → AreAlike (chars first.now) (chars others.now) prefixes →
-            length prefixes ≡ length lines → let shown = lines in
-            OnOk result (self.new ≡ with_prefixed W.columns self.old prefixes shown) }
+        ensures lines { let prefixes = alike (chars first.now) (chars others.now) (length lines) in
+            OnOk result (self.new ≡ with_prefixed W.columns self.old prefixes lines) }
         ensures settings { KeepsSettings self.old self.new }
     {
         let tag = self.tag()?;
@@ -145,6 +147,47 @@ impl<D: TextDecorator, W: CharWidth> SubRenderer<D, W> {
         Ok(())
     }
 
+    /// Adds lines, the first after one prefix, and each other line after another.
+    fn add_after<'a>(
+        &mut self,
+        lines: KeptLines<Annotations<D::Annotation>>,
+        first: &'a str,
+        others: &'a str,
+    ) -> Result<(), OutOfMemory>
+        requires { self.old.failure ≡ None }
+        ensures lines { let prefixes = alike (chars first.now) (chars others.now) (length lines) in
+            OnOk result (self.new ≡ with_prefixed W.columns self.old prefixes lines) }
+        ensures settings { KeepsSettings self.old self.new }
+    {
+        if self.keeps_as_is() {
+            return self.append_after(lines, first, others);
+        }
+        self.add_texts_after(lines.into_vec()?, first, others)
+    }
+
+    /// Adds each line as text, the first after one prefix, and each other line after another.
+    fn add_texts_after<'a>(
+        &mut self,
+        lines: Vec<RenderLine<Annotations<D::Annotation>>>,
+        first: &'a str,
+        others: &'a str,
+    ) -> Result<(), OutOfMemory>
+        requires unfailed { self.old.failure ≡ None }
+        requires merged { Each (IsMergedText (same_annotations D.Annotation.same)) lines.items }
+        ensures lines { let prefixes = alike (chars first.now) (chars others.now) (length lines.items) in
+            OnOk result (self.new ≡ with_prefixed W.columns self.old prefixes (map line_seen lines.items)) }
+        ensures settings { KeepsSettings self.old self.new }
+    {
+        let mut prefix = first;
+        for line in lines {
+            let mut text = self.as_text(line)?;
+            self.put_in_front(&mut text, prefix)?;
+            self.add_line(text)?;
+            prefix = others;
+        }
+        Ok(())
+    }
+
     /// Adds each line as text.
     fn add_cell(
         &mut self,
@@ -186,6 +229,49 @@ impl<D: TextDecorator, W: CharWidth> SubRenderer<D, W> {
         self.try_flush()?;
         let lines = other.into_kept()?;
         self.add_prefixed(lines, prefixes)?;
+        Ok(())
+    }
+
+    /// Ends the open line, and then that of another renderer, and adds the lines of that one as
+    /// [`append_subrender`](Renderer::append_subrender) does: the first one after a prefix of its own, and each other
+    /// one after that of the others. A refusal of the other renderer is passed on.
+    pub fn append_prefixed<'a>(
+        &mut self,
+        other: SubRenderer<D, W>,
+        first: &'a str,
+        others: &'a str,
+    ) -> Result<(), Error>
+        ensures takes { let calls = calls_by W.columns (decoration_of D.TextDecorator D.Annotation.tells) in
+            let prefixes = alike (chars first.now) (chars others.now) in
+            Takes calls (handed_out W.columns other) (IsWide calls other)
+            (λ lines. calls.after (call.append_subrender (prefixes (length lines)) lines)) self.old result self.new }
+    {
+        self.refusal()?;
+        let done = self.try_append_prefixed(other, first, others);
+        self.keep(done)
+    }
+
+    /// Ends the run, and then that of another renderer, whose lines it adds after two prefixes.
+    fn try_append_prefixed<'a>(
+        &mut self,
+        other: SubRenderer<D, W>,
+        first: &'a str,
+        others: &'a str,
+    ) -> Result<(), Error>
+        requires { self.old.failure ≡ None }
+        ensures ok { let prefixes = alike (chars first.now) (chars others.now) in
+            let made = taking (after_flush W.columns) (handed_out W.columns other)
+            (λ lines. after_lines W.columns (prefixes (length lines)) lines) in
+            OnOk result (made self.old ≡ done self.new) }
+        ensures too_narrow { result ≡ Err E.TooNarrow → and_then (after_flush W.columns self.old)
+            (λ _. handed_out W.columns other) ≡ refused E.TooNarrow }
+        ensures two_columns { 2 ≤ block_width self.old → (other.failure ≡ None) × (2 ≤ block_width other) →
+            result ≢ Err E.TooNarrow }
+        ensures settings { KeepsSettings self.old self.new }
+    {
+        self.try_flush()?;
+        let kept = other.into_kept()?;
+        self.add_after(kept, first, others)?;
         Ok(())
     }
 

@@ -130,6 +130,19 @@ impl<D: TextDecorator, W: CharWidth> SubRenderer<D, W> {
         self.write_under(block, text, &first, &continued)
     }
 
+    /// Writes the empty text into a block.
+    fn write_nothing(
+        &self,
+        block: &mut WrappedBlock<Annotations<D::Annotation>, W>,
+    ) -> Result<(), Error>
+        requires fresh { IsFresh W.columns (block_width self.now) (may_overflow self.now) block.old }
+        ensures fresh { OnOk result (IsFresh W.columns (block_width self.now) (may_overflow self.now) block.new) }
+        ensures writes { Writes W.columns self.now (called []) block.old result block.new }
+        ensures two_columns { 2 ≤ block_width self.now → result ≢ Err E.TooNarrow }
+    {
+        block.add_empty_text()
+    }
+
     /// Writes text into a block, with strokes inside strikeouts.
     fn write(
         &self,
@@ -143,6 +156,9 @@ impl<D: TextDecorator, W: CharWidth> SubRenderer<D, W> {
             Writes W.columns r (called es) block.old result block.new }
         ensures two_columns { 2 ≤ block_width self.now → result ≢ Err E.TooNarrow }
     {
+        if text.is_empty() {
+            return self.write_nothing(block);
+        }
         if self.strikeouts == 0 {
             return self.write_plain(block, text);
         }

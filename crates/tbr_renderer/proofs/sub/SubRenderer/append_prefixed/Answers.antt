@@ -1,0 +1,7 @@
+use Rattle.std.proofs.Common.{rules}
+use Rattle.tbr_tagged.proofs.Outcomes.{live_goes}
+use Rattle.tbr_renderer.proofs.KeptRefusals.{settled_takes}
+use Rattle.tbr_renderer.proofs.sub.SubRenderer.append_prefixed.Goals as goal
+
+pub returns : goal.returns
+returns g c = search (rules, settled_takes, live_goes, c.keep.ensures, c.try_append_prefixed-done.ensures, c.in_ok-refusal.ensures)

@@ -1,0 +1,11 @@
+use Rattle.std.proofs.Common.{ap, sym, ◌∙◌}
+use Rattle.std.proofs.lemmas.Bool.{eqb-true}
+use Rattle.std.proofs.lemmas.List.{nil_from_length}
+use Rattle.tbr_rows.specs.Cells.{seated}
+use Rattle.tbr_rows.proofs.Seats.{seated_none}
+use Rattle.tbr_rows.proofs.seating.seated.Goals as goal
+
+pub returns-then-is_empty : goal.returns-then-is_empty
+returns-then-is_empty g c =
+    let none = nil_from_length c.args.hanging (eqb-true _ _ (sym c.is_empty.ensures ∙ c.if-is_empty.true)) in
+    sym (seated_none c.args.cells.items) ∙ ap (λ hs. seated hs c.args.cells.items) (sym none)
