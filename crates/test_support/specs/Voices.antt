@@ -10,7 +10,7 @@ same_voice First Second = false
 same_voice Second First = false
 same_voice Second Second = true
 
-pub voices_apart : (m n : Mark) → IsTrue (same_voice m n) ↔ (m ≡ n)
+pub voices_apart : (v w : Voice) → IsTrue (same_voice v w) ↔ (v ≡ w)
 voices_apart First First = (λ _. refl, λ _. refl)
 voices_apart First Second = (λ h. absurd (false≢true h), λ e. absurd (let no : ⊥ = cc in no))
 voices_apart Second First = (λ h. absurd (false≢true h), λ e. absurd (let no : ⊥ = cc in no))

@@ -1,5 +1,5 @@
 -- What calls, rows and footnotes add to the lines, piece by piece.
-use Rattle.text_block_renderer.proofs.Common.{◌≡◌, ℕ, Bool, Option, None, List, [], ◌∷◌, ◌++◌, map, flat_map, fold, refl, ap, sym, ◌∙◌, subst, append_assoc, append-nil, arith, rules, AllZip, Each, map-append, flat_map-append, Entry, Item, Border, BorderCell, SeenRow, Decoration, Open, Renderer, with_line, open_run, IsSound, listed, footnote_lines, GivenCell, border_lines, with_next, with_row, PutsRow, before_border, Call, Does, entries_brought, Brings, laid_entries, text_of_lines, done, told_by, Added, text_laid, flush_ends, Part, lines_laid, IsPart, Act, call, row, fmt_links, finalise, rows_of, after_act, act_enters, acts_enter, Piece, part, put, noted, cells_in, rows_in, border_lines_of, lines_of_piece, entries_of_piece, added_of_piece, act_adds, acts_add, IsPiece, StaysLine, ComesInPieces}
+use Rattle.text_block_renderer.proofs.Common.{◌≡◌, ℕ, Bool, Option, None, List, [], ◌∷◌, ◌++◌, map, flat_map, fold, refl, ap, sym, ◌∙◌, subst, append_assoc, append-nil, arith, rules, AllZip, Each, map-append, flat_map-append, Entry, Item, Border, BorderCell, SeenRow, Decoration, Open, Renderer, with_line, open_run, IsSound, listed, footnote_lines, Line, GivenCell, border_lines, with_next, with_row, PutsRow, before_border, Call, Does, entries_brought, Brings, laid_entries, text_of_lines, done, told_by, Added, text_laid, flush_ends, Part, lines_laid, IsPart, lines_of_part, Act, call, row, fmt_links, finalise, rows_of, after_act, act_enters, acts_enter, Piece, part, put, noted, cells_in, rows_in, border_lines_of, lines_of_piece, entries_of_piece, added_of_piece, act_adds, acts_add, IsPiece, StaysLine, ComesInPieces}
 use Rattle.std.proofs.lemmas.List.Folds.{flat_map-map}
 use Rattle.tbr_model.specs.Layout.{joined}
 use Rattle.tbr_model.proofs.lists.Each.{each_append, each_map}
@@ -7,6 +7,7 @@ use Rattle.tbr_rows.specs.declared.LineSet.{LineSet as Cell}
 use Rattle.tbr_decor.specs.Change as change
 use Rattle.tbr_renderer.proofs.OutcomeParts.{one_done, done_first}
 use Rattle.text_block_renderer.specs.Added.{row_put}
+use Rattle.text_block_renderer.specs.LastBorders.{BecomeBy}
 use Rattle.text_block_renderer.proofs.Moves.{any, flush, beside, lines_beside, sound_alike, flushed_none, Frame, Course, one, path_frame}
 use Rattle.text_block_renderer.proofs.CallMoves.{call_moves}
 use Rattle.text_block_renderer.proofs.LineParts.{part_of_other, course_parts}
@@ -46,12 +47,26 @@ module _ {D A : Type 0} (columns : ℕ → Option ℕ) where
   pub top_stays : (collapses : Bool) (cells : List (GivenCell (List A))) (m s : Renderer D A (List A)) (puts : PutsRow columns collapses cells m s) → AllZip StaysLine m.lines (under_row m puts.row).lines
   top_stays collapses cells m s puts = subst (λ (o : Option (Border (List A))). AllZip StaysLine m.lines (before_border m.lines ++ border_lines o)) (sym puts.means.upper) (top_put_back collapses puts.means.cells m.lines)
 
+  -- ---- what pieces make of lines
+
+  become_on : (ps qs : List (Piece D A columns)) (ls ms ns : List (Line (List A))) → BecomeBy columns ps ls ms → BecomeBy columns qs ms ns → BecomeBy columns (ps ++ qs) ls ns
+  become_on [] qs ls ms ns h k = subst (λ ks. BecomeBy columns qs ks ns) h k
+  become_on (put p ∷ ps) qs ls ms ns h k = (h.0, become_on ps qs _ ms ns h.1 k)
+  become_on (other ∷ ps) qs ls ms ns h k = become_on ps qs _ ms ns h k
+
+  parts_become : (ps : List (Part D A)) (ls : List (Line (List A))) → BecomeBy columns (map part ps) ls (ls ++ flat_map (lines_of_part columns) ps)
+  parts_become [] ls = append-nil ls
+  parts_become (p ∷ ps) ls =
+      let here = lines_of_part columns p in
+      subst (BecomeBy columns (map part ps) (ls ++ here)) (append_assoc ls here (flat_map (lines_of_part columns) ps)) (parts_become ps (ls ++ here))
+
   -- What came in pieces, to a renderer that is the same but for what calls and rows may change.
   pub record Along (xs : List (List (GivenCell (List A)))) (rs : List (Added D A)) (r : Renderer D A (List A)) (es : List (Entry (List A))) (s : Renderer D A (List A)) : Type 0 where
     pub width : s.width ≡ r.width
     pub options : s.options ≡ r.options
     pub came : ComesInPieces columns xs r es s
     pub added : flat_map (added_of_piece columns) came.pieces ≡ rs
+    pub become : BecomeBy columns came.pieces r.lines s.lines
     pub chain : Chain columns r.options.draw_borders r.hanging (rows_in came.pieces) s.hanging
 
   along_on : (xs ys : List (List (GivenCell (List A)))) (rs ss : List (Added D A)) (r q s : Renderer D A (List A)) (es fs : List (Entry (List A))) → Along xs rs r es q → Along ys ss q fs s → Along (xs ++ ys) (rs ++ ss) r (es ++ fs) s
@@ -74,15 +89,16 @@ module _ {D A : Type 0} (columns : ℕ → Option ℕ) where
           put_rows = ap (map cells_in) (rows_append front back) ∙ map-append cells_in (rows_in front) (rows_in back) ∙ ap (λ zs. zs ++ map cells_in (rows_in back)) h.came.put_rows ∙ ap (λ zs. xs ++ zs) k.came.put_rows;
         };
         added = flat_map-append (added_of_piece columns) front back ∙ ap (λ ts. ts ++ flat_map (added_of_piece columns) back) h.added ∙ ap (λ ts. rs ++ ts) k.added;
+        become = become_on front back r.lines q.lines s.lines h.become k.become;
         chain = grind (arith, rows_append, chain_append);
       }
 
   -- these pieces came
   these : (r s : Renderer D A (List A)) (es : List (Entry (List A))) (ps : List (Piece D A columns)) → s.width ≡ r.width → s.options ≡ r.options → Each (IsPiece columns r) ps →
       AllZip StaysLine (r.lines ++ flat_map (lines_of_piece columns) ps) s.lines → open_run r.block ++ es ≡ flat_map (entries_of_piece columns) ps ++ open_run s.block →
-      Chain columns r.options.draw_borders r.hanging (rows_in ps) s.hanging → Along (map cells_in (rows_in ps)) (flat_map (added_of_piece columns) ps) r es s
-  these r s es ps width options are lines entries chain =
-      record { width = width; options = options; came = record { pieces = ps; are = are; lines = lines; entries = entries; put_rows = refl }; added = refl; chain = chain }
+      BecomeBy columns ps r.lines s.lines → Chain columns r.options.draw_borders r.hanging (rows_in ps) s.hanging → Along (map cells_in (rows_in ps)) (flat_map (added_of_piece columns) ps) r es s
+  these r s es ps width options are lines entries become chain =
+      record { width = width; options = options; came = record { pieces = ps; are = are; lines = lines; entries = entries; put_rows = refl }; added = refl; become = become; chain = chain }
 
   -- parts of calls
   course_along : (r s : Renderer D A (List A)) (es : List (Entry (List A))) (bs : List (List BorderCell)) (xs : List (Added D A)) → Course columns any r s es bs xs → IsSound columns r → Along [] xs r es s
@@ -101,6 +117,7 @@ module _ {D A : Type 0} (columns : ℕ → Option ℕ) where
           put_rows = ap (map cells_in) (no_rows parts);
         };
         added = flat_map-map (added_of_piece columns) part parts ∙ came.added;
+        become = subst (BecomeBy columns (map part parts) r.lines) (sym came.parts.lines) (parts_become parts r.lines);
         chain = subst (λ rows. Chain columns r.options.draw_borders r.hanging rows s.hanging) (sym (no_rows parts)) (ap (λ (f : Frame A). f.hanging) same);
       }
 
@@ -117,11 +134,12 @@ module _ {D A : Type 0} (columns : ℕ → Option ℕ) where
       these m s es (put (record { before = m; after = s; collapses = collapses; cells = cells; puts = puts }) ∷ [])
       (ap (λ (q : Renderer D A (List A)). q.width) same) (ap (λ (q : Renderer D A (List A)). q.options) same) (record { width = refl; options = refl; block = none }, tt) whole
       (ap (λ (o : Option (Open (List A))). open_run o ++ es) none ∙ sym (append-nil es) ∙ sym (append-nil (es ++ [])) ∙ ap (λ (o : Option (Open (List A))). (es ++ []) ++ open_run o) (sym closed))
+      (refl, ap (λ (q : Renderer D A (List A)). q.lines) puts.is ∙ row_lines m seen ∙ ap (λ (o : Option (Border (List A))). (before_border m.lines ++ border_lines o) ++ new) puts.means.upper)
       (refl, refl, ap (λ (q : Renderer D A (List A)). q.hanging) same)
 
   -- one that adds nothing, whatever it makes of the decorator
   asked_along : (d : D) (r : Renderer D A (List A)) → Along [] [] r [] (record r { decorator = d })
-  asked_along d r = these r (record r { decorator = d }) [] [] refl refl tt (subst (λ ls. AllZip StaysLine ls r.lines) (sym (append-nil r.lines)) (all_stay r.lines)) (append-nil (open_run r.block)) refl
+  asked_along d r = these r (record r { decorator = d }) [] [] refl refl tt (subst (λ ls. AllZip StaysLine ls r.lines) (sym (append-nil r.lines)) (all_stay r.lines)) (append-nil (open_run r.block)) refl refl
 
   -- footnotes' lines
   noted_along : (ts : List (List (Item (List A)))) (r : Renderer D A (List A)) → Along [] (map text_laid ts) r [] (fold (with_line columns) r ts)
@@ -129,7 +147,7 @@ module _ {D A : Type 0} (columns : ℕ → Option ℕ) where
   noted_along (t ∷ ts) r =
       let q : Renderer D A (List A) = with_line columns r t in
       along_on [] [] (text_laid t ∷ []) (map text_laid ts) r q (fold (with_line columns) q ts) [] []
-      (these r q [] (noted r t ∷ []) refl refl ((refl, refl), tt) (all_stay q.lines) (append-nil (open_run r.block)) refl) (noted_along ts q)
+      (these r q [] (noted r t ∷ []) refl refl ((refl, refl), tt) (all_stay q.lines) (append-nil (open_run r.block)) refl refl) (noted_along ts q)
 
   module _ (decoration : Decoration D A) where
     -- ---- calls and rows

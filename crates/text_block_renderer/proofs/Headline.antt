@@ -23,6 +23,7 @@ module _ {D A : Type 0} (columns : ℕ → Option ℕ) where
         record {
           came = along.came;
           added = along.added;
+          become = along.become;
           no_layout_is_ahead = each_gives (IsPiece columns r) (NoLayoutIsAhead columns) (no_layout r) along.came.pieces along.came.are;
           visible_characters_stand_once = each_gives (IsPiece columns r) (StandsOnce columns) (once r) along.came.pieces along.came.are;
           each_cell_shows_its_texts_once = λ one none fit before rows after cell are is_cell span.

@@ -34,3 +34,5 @@ pub mod LineCharacters
 pub mod CallCharacters
 pub mod RowCharacters
 pub mod ControlCharacters
+pub mod LastBorders
+pub mod LevelsOfStacks

@@ -15,6 +15,7 @@ use Rattle.tbr_renderer.specs.Renderer.{Renderer, block_width, may_overflow}
 use Rattle.tbr_renderer.specs.Rows.{GivenCell, style_in}
 use Rattle.tbr_kept_lines.specs.LastBorder.{last_border}
 use Rattle.text_block_renderer.specs.Stretches.{ended, NoneIsAhead}
+use Rattle.text_block_renderer.specs.LastBorders.{BecomeBy}
 use Rattle.text_block_renderer.specs.Acts.{Act, rows_of, acts_enter, acts_add, ActIsTooNarrow, PutRow, Piece, part, rows_in, added_of_piece, ComesInPieces}
 
 module _ {D A : Type 0} (columns : ℕ → Option ℕ) where
@@ -76,6 +77,8 @@ pub record Headline {D A : Type 0} (columns : ℕ → Option ℕ) (decoration : 
   -- what each of these adds
   pub came : ComesInPieces columns (rows_of acts) r (acts_enter columns decoration acts r) s
   pub added : flat_map (added_of_piece columns) came.pieces ≡ acts_add columns decoration acts r
+  -- and no piece changes a line that was there before it, but a row a border right above it
+  pub become : BecomeBy columns came.pieces r.lines s.lines
   pub no_layout_is_ahead : Each (NoLayoutIsAhead columns) came.pieces
   pub visible_characters_stand_once : Each (StandsOnce columns) came.pieces
   -- Where no cell overhung before, and the lines of all cells fit: of each cell of a row, over the rows of its span.

@@ -31,3 +31,5 @@ pub mod Settings
 pub mod Acts
 pub mod Headline
 pub mod Columns
+pub mod LastBorders
+pub mod Levels

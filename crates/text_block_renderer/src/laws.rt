@@ -2,6 +2,7 @@
 pub mod appended;
 pub mod columns;
 pub mod headline;
+pub mod levels;
 pub mod links;
 pub mod rows;
 

@@ -10,7 +10,11 @@ ghost use Rattle.tbr_tagged.specs.Outcome.{done};
 ghost use Rattle.tbr_renderer.specs.Outcomes.{run};
 ghost use Rattle.tbr_rows.specs.Computed.{TellsApart};
 ghost use Rattle.tbr_renderer.specs.Rows.{GivenCell, AppendsRow, after_row};
-ghost use Rattle.text_block_renderer.specs.Acts.{Act, after_act, acts_come};
+ghost use Rattle.tbr_kept_lines.specs.LastBorder.{before_border};
+ghost use Rattle.tbr_kept_lines.specs.Line.{Line};
+ghost use Rattle.tbr_renderer.specs.Flush.{after_flush};
+ghost use Rattle.text_block_renderer.specs.Acts.{Act, rows_of, after_act, acts_come, PutRow, put, lines_of_piece};
+ghost use Rattle.text_block_renderer.specs.LastBorders.{lines_above};
 ghost use Rattle.text_block_renderer.specs.Taken.{IsWrittenSoFar};
 ghost use Rattle.text_block_renderer.specs.MarkersStand.{Stands, WaitForTextUnderRows};
 
@@ -27,6 +31,22 @@ pub fn a_row_takes_no_text_back<D, A>()
         (cells : List (GivenCell (List A))) (r s : Renderer D A (List A)) →
         after_row (pointwise decoration.same) columns collapses cells r ≡ done s →
         (more : List (Item (List A))) × (text_of_lines s.lines ≡ text_of_lines r.lines ++ more) }
+{}
+
+/// No call, row or footnote changes a line that is there, but for a border that is the last one where a row comes. Where
+/// the open run of that moment puts no line between, the row makes that border what `border_above` says.
+pub fn a_border_changes_only_by_the_row_right_after_it<D, A>()
+    ensures acts { (columns : ℕ → Option ℕ) (decoration : Decoration D A) (acts : List (Act A))
+        (r s : Renderer D A (List A)) → run (after_act columns decoration) acts r ≡ done s →
+        (more : List (Line (List A))) × (s.lines ≡ before_border r.lines ++ more) }
+    ensures call { (columns : ℕ → Option ℕ) (decoration : Decoration D A) (acts : List (Act A))
+        (r s : Renderer D A (List A)) → rows_of acts ≡ [] → run (after_act columns decoration) acts r ≡ done s →
+        (more : List (Line (List A))) × (s.lines ≡ r.lines ++ more) }
+    ensures row { (columns : ℕ → Option ℕ) (decoration : Decoration D A) (collapses : Bool)
+        (cells : List (GivenCell (List A))) (r s : Renderer D A (List A)) →
+        after_row (pointwise decoration.same) columns collapses cells r ≡ done s →
+        (p : PutRow D A columns) × (after_flush columns r ≡ done p.before) × (p.collapses ≡ collapses)
+        × (p.cells ≡ cells) × (s.lines ≡ lines_above columns p p.before.lines ++ lines_of_piece columns (put p)) }
 {}
 
 /// A row changes no settings.
