@@ -13,3 +13,4 @@ pub mod TerminalColumns
 pub mod Tables
 pub mod Footnotes
 pub mod Commands
+pub mod RefusedAnswers

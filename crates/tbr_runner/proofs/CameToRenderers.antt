@@ -195,11 +195,11 @@ module _ {D M : Type 0} (columns : ℕ → Option ℕ) (decoration : Decoration 
     ended_has inside rs cells levels (inr (inl none)) = absurd none
     ended_has inside rs cells levels (inr (inr rest)) = inr (inr rest)
 
-    has_walk : Walk columns decoration (Unit {0}) Sized Ends Before IsSomewhere
+    has_walk : Walk columns decoration (Unit {0}) Sized (λ command. Ends) Before IsSomewhere
     has_walk = record {
       ready = λ rs cells levels h. (each_any _ (any_ready columns decoration) rs, each_any _ (λ c. any_ready columns decoration c.0) cells);
       kept = λ rs cells levels h. h.1;
-      called = λ c r s rs cells levels does h. (((led_on columns decoration (call c) r s does h.0.0.0, h.0.0.1), h.0.1, h.0.2), first_goes r s rs cells levels (has_on (call c) r s (λ fs. refl) does) h.1);
+      called = λ c r s rs cells levels own does h. (((led_on columns decoration (call c) r s does h.0.0.0, h.0.0.1), h.0.1, h.0.2), first_goes r s rs cells levels (has_on (call c) r s (λ fs. refl) does) h.1);
       opens = λ by width r rs left levels wide h. elim h.1 [ inl on ↦ inl (inr on) | inr rest ↦ inr (inr rest) ];
       joins = λ one next lines inside r s rs left levels ends gives does h.
           let more = call (append_subrender (prefixes one next (length lines)) lines) in
@@ -224,6 +224,6 @@ module _ {D M : Type 0} (columns : ℕ → Option ℕ) (decoration : Decoration 
         EndsWhole (line ∷ []) p → after_line columns decoration number line p ≡ Ok next → IsIn p → IsIn next
     line_has number line p next keeps short whole does h =
         let led = keeps.renderers in
-        line_makes columns decoration Sized Ends Before IsSomewhere has_walk p next number line
+        line_makes columns decoration Sized (λ command. Ends) Before IsSomewhere has_walk p next number line
         (λ command is. (sized columns decoration line command is, λ ends r top. (whole (command, is, ends) r top, λ lines. short r lines top)))
         ((each_map (λ l. l.renderer) _ (IsLed columns decoration) (λ l is. is) p.stack.levels led.on_stack, led.waiting, keeps.waiting), h) does

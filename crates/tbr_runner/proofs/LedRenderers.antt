@@ -106,26 +106,29 @@ module _ {D M : Type 0} (columns : ℕ → Option ℕ) (decoration : Decoration 
       let begun = led_on (call start_block) r q starts k in
       led_on (fmt_links (note ∷ notes)) q (with_footnotes columns q (note ∷ notes)) (live_goes q.failure (done (with_footnotes columns q (note ∷ notes))) begun.live) begun
 
-  pub closed_led : (targets : List (List ℕ)) (r : Top) (text : List ℕ) → Led r → closed_text columns decoration targets r ≡ done text →
-      (of : IsTextOfLed columns decoration targets text) × (handed_out columns r ≡ done (let m = of.renderer in m.lines))
-  closed_led targets r text k h =
+  -- the text of the lines after a flush, and of the footnotes
+  pub closed_is : (targets : List (List ℕ)) (r : Top) (text : List ℕ) → closed_text columns decoration targets r ≡ done text →
+      (m : Top) × (after_flush columns r ≡ done m) × (text ≡ encode_utf8_all (lines_text (let s = with_notes columns (footnotes_of columns decoration targets m) m in s.lines)))
+  closed_is targets r text h =
       let d = decoration.after r.decorator (change.finalise (listed r.options targets)) in
       let notes = footnotes_of columns decoration targets r in
       let (lines, made, is) = done_before (λ ls. encode_utf8_all (lines_text ls)) (lines_closed columns decoration targets r) text h in
       let (s, ended, are) = done_before (λ (q : Top). let t = with_notes columns notes q in t.lines) (after_flush columns (with_decorator d r)) lines made in
       let (m, first, same) = done_before (with_decorator d) (after_flush columns r) s (sym (block_alike d r r.block) ∙ ended) in
-      let stay = flush_keeps columns r m (footnotes_of columns decoration targets) (λ texts names. ap (λ (q : Top). footnotes_of columns decoration targets q) (lines_beside columns texts (record r { block = None }))) first in
+      let stay = flush_keeps columns r m (footnotes_of columns decoration targets) (λ texts names. ap (λ (q : Top). footnotes_of columns decoration targets q) (lines_beside columns texts (record r { block = None }))) first in (
+        m,
+        first,
+        is ∙ ap (λ ls. encode_utf8_all (lines_text ls)) (are ∙ ap (λ (q : Top). let t = with_notes columns notes q in t.lines) same ∙ notes_alike d notes m)
+            ∙ ap (λ (ns : List (List (Element M))). encode_utf8_all (lines_text (let t = with_notes columns ns m in t.lines))) (sym stay),
+      )
+
+  pub closed_led : (targets : List (List ℕ)) (r : Top) (text : List ℕ) → Led r → closed_text columns decoration targets r ≡ done text →
+      (of : IsTextOfLed columns decoration targets text) × (handed_out columns r ≡ done (let m = of.renderer in m.lines))
+  closed_led targets r text k h =
+      let (m, first, is) = closed_is targets r text h in
       let led = led_on (call new_line) r m (live_goes r.failure (after_flush columns r) k.live ∙ first) k in
       let whole = flushed_none columns r m (flushes columns r m first) in (
-        record {
-          renderer = m;
-          led = led;
-          whole = whole;
-          noted = noted_led (footnotes_of columns decoration targets m) m whole led;
-          is =
-              is ∙ ap (λ ls. encode_utf8_all (lines_text ls)) (are ∙ ap (λ (q : Top). let t = with_notes columns notes q in t.lines) same ∙ notes_alike d notes m)
-              ∙ ap (λ (ns : List (List (Element M))). encode_utf8_all (lines_text (let t = with_notes columns ns m in t.lines))) (sym stay);
-        },
+        record { renderer = m; led = led; whole = whole; noted = noted_led (footnotes_of columns decoration targets m) m whole led; is = is },
         live_goes r.failure (changed (λ (q : Top). q.lines) (after_flush columns r)) k.live ∙ ap (changed (λ (q : Top). q.lines)) first,
       )
 

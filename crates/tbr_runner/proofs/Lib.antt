@@ -11,3 +11,7 @@ pub mod Walks
 pub mod ScriptLevels
 pub mod KeptTexts
 pub mod OneRowCells
+pub mod TextsOfCommands
+pub mod Controls
+pub mod BlocksOfLines
+pub mod LinesOnStack

@@ -26,7 +26,7 @@ no_lines [] h = refl
 no_lines (l ∷ ls) h = absurd h.0
 
 module _ {X Y : Type 0} (P : X → Type 0) (R : X → Y → Type 0) (Q : Y → Type 0) (gives : (x : X) (y : Y) → R x y → P x → Q y) where
-  zip_gives : (xs : List X) (ys : List Y) → AllZip R xs ys → Each P xs → Each Q ys
+  pub zip_gives : (xs : List X) (ys : List Y) → AllZip R xs ys → Each P xs → Each Q ys
   zip_gives [] [] zip h = tt
   zip_gives [] (y ∷ ys) zip h = absurd zip
   zip_gives (x ∷ xs) [] zip h = absurd zip
@@ -108,7 +108,7 @@ module _ {D M : Type 0} (columns : ℕ → Option ℕ) (decoration : Decoration 
   lines_keep number (line ∷ lines) p q h one (next, does, lead) =
       let walk = fits_walk columns decoration (Unit {0}) (λ by width. IsOfOneRow by) (λ r. Unit {0}) NothingOverhangs IsOfOneRow Waits (λ r is. any_ready columns decoration r) (λ c is. any_ready columns decoration c.0) call_none takes_none
       (λ by width r one none. (tt, one)) (λ span align r ends none one. (none, one)) in
-      lines_keep (number + 1) lines next q (line_makes columns decoration (λ by width. IsOfOneRow by) (λ r. Unit {0}) _ _ walk p next number line (λ command is. (one.0 command is, λ ends r top. tt)) h does) one.1 lead
+      lines_keep (number + 1) lines next q (line_makes columns decoration (λ by width. IsOfOneRow by) (λ command r. Unit {0}) _ _ walk p next number line (λ command is. (one.0 command is, λ ends r top. tt)) h does) one.1 lead
 
   pub lines_none : (p there : Progress D M (List M)) (number : ℕ) (front back : List (List ℕ)) → KeepsAll columns decoration p → OverhangsNowhere p →
       Each LineAsksForOneRow front → LinesDo columns decoration p number front there → OverhangsNowhere there × EndsWhole back there

@@ -77,7 +77,7 @@ module _ {D M : Type 0} (columns : ℕ → Option ℕ) (decoration : Decoration 
       let walk = fits_walk columns decoration ⊥ (λ by width. 2 ≤ width) (λ r. Unit {0}) Two Any (λ c. Two c.0) two_ready (λ c. two_ready c.0) (λ c. two_on (call c)) (λ act r s cells into wait. two_on act r s)
       (λ by width r wide k. (two_inside width r wide k, tt)) (λ span align r ends is by. is) in
       rest_meets ⊥ AllTwo (λ text. Unit {0}) (rendered_on columns decoration (number + 1) lines) (after_line columns decoration number line p)
-      (line_meets columns decoration ⊥ (λ by width. 2 ≤ width) (λ r. Unit {0}) _ _ walk number p line (λ command is. (asks.0 command is, λ ends r top. tt)) h) (λ next two. no_lines next (number + 1) lines two asks.1)
+      (line_meets columns decoration ⊥ (λ by width. 2 ≤ width) (λ command r. Unit {0}) _ _ walk number p line (λ command is. (asks.0 command is, λ ends r top. tt)) h) (λ next two. no_lines next (number + 1) lines two asks.1)
 
   pub not_too_narrow : (opening : Opening) (decorator : D) → 2 ≤ least opening.width opening.options.wrap_width → (number : ℕ) (lines : List (List ℕ)) →
       Each LineAsksForTwo lines → rendered_on columns decoration number lines (started opening decorator) ≡ Err TooNarrow → ⊥

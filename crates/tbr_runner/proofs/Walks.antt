@@ -1,10 +1,10 @@
 -- One walk over what commands and lines make of a script's renderers, and over what they are refused with.
-use Rattle.tbr_runner.proofs.Common.{◌≡◌, ℕ, Option, None, Some, Result, Ok, Err, List, [], ◌∷◌, ◌++◌, drop, map, length, chars, refl, subst, rules, cond_both, AllZip, Each, Outcome, done, refused, CellAlign, row_fits, Decoration, and_then, changed, taking, gathered, Renderer, Line, spots_of, GivenCell, cells_given, handed_out, sub_renderer, Call, new_line, begin, finish, add_inline_text, append_subrender, append_vert_row, after, Act, call, row_of_cells, after_act, IsOfScript, RunError, OutOfMemory, NothingToEnd, RowDoesNotFit, Level, Stack, first_renderer, top_of, in_first, with_top, in_top, link_number, shown_number, open_links, with_link, without_open_link, after_end_with, ends_nothing, counted, Command, ask, link, end_link, sub, append, cell, end_cell, vertical_row, IsCommand, command_read, Opener, Sub, prefixes, Pending, Opened, Progress, renderers_of, without_cells, Place, Made, answered, on_top, if_some_are, with_stack, level_opened, ended_as, level_ended, block_made, joins, waits, cells_waiting, request_made, after_command, after_read, after_line, ended, closed_text, unless_refused, EndsOne}
+use Rattle.tbr_runner.proofs.Common.{◌≡◌, ℕ, Option, None, Some, Result, Ok, Err, List, [], ◌∷◌, ◌++◌, drop, map, length, chars, refl, subst, arith, rules, cond_both, AllZip, Each, Outcome, done, refused, CellAlign, row_fits, Decoration, and_then, changed, taking, gathered, Renderer, Line, spots_of, GivenCell, cells_given, handed_out, sub_renderer, Call, new_line, begin, finish, add_inline_text, append_subrender, append_vert_row, after, Act, call, row_of_cells, after_act, IsOfScript, RunError, OutOfMemory, NothingToEnd, RowDoesNotFit, Level, Stack, first_renderer, top_of, in_first, with_top, in_top, link_number, shown_number, open_links, with_link, without_open_link, after_end_with, ends_nothing, counted, Command, ask, link, end_link, sub, append, cell, end_cell, vertical_row, IsCommand, command_read, Opener, Sub, prefixes, Pending, Opened, Progress, renderers_of, without_cells, Place, Made, answered, on_top, if_some_are, with_stack, level_opened, ended_as, level_ended, block_made, joins, waits, cells_waiting, request_made, after_command, after_read, after_line, ended, closed_text, unless_refused, EndsOne}
 use Rattle.tbr_tagged.specs.declared.Error.TheVariants as E
 use Rattle.tbr_decor.specs.Start as start
 use Rattle.tbr_decor.specs.End as end
 use Rattle.tbr_script.specs.declared.error.RunError.TheVariants.{TooNarrow}
-use Rattle.tbr_commands.specs.Request.{call_of}
+use Rattle.tbr_commands.specs.Request.{Request, call_of}
 use Rattle.tbr_commands.specs.Command.{row}
 use Rattle.tbr_commands.proofs.Reading.{read_command}
 use Rattle.tbr_program.specs.declared.opened.Opener.TheVariants.{Cell}
@@ -101,19 +101,29 @@ module _ {D M : Type 0} (columns : ℕ → Option ℕ) (decoration : Decoration 
   TakesCells cells (call (append_vert_row lines)) = AllZip HandsOut cells lines
   TakesCells cells other = ⊥
 
+  -- a call that takes no lines of others
+  abbrev pub TakesNoLines : Call (List M) → Type 0
+  TakesNoLines (append_subrender prefixes lines) = ⊥
+  TakesNoLines (append_vert_row cells) = ⊥
+  TakesNoLines other = Unit {0}
+
+  -- as all that a command asks for directly
+  asks_own : (width : ℕ) (request : Request) → TakesNoLines (call_of width request)
+  asks_own width request = grind arith
+
   -- What holds before a command and after it: how each of its steps leads from the one to the other. `Asked` is what a
   -- level that opens has been asked for with, and `Ends` holds of the renderer of one that ends.
-  pub record Walk (narrow : Type 0) (Asked : Opener → ℕ → Type 0) (Ends : Top → Type 0) (Before After : Holds) : Type 0 where
+  pub record Walk (narrow : Type 0) (Asked : Opener → ℕ → Type 0) (Ends : Command → Top → Type 0) (Before After : Holds) : Type 0 where
     pub ready : (rs : List Top) (cells : Cells) (levels : Levels) → Before rs cells levels → Each (IsReady narrow) rs × Each (λ (c : Top × ℕ). IsReady narrow c.0) cells
     pub kept : (rs : List Top) (cells : Cells) (levels : Levels) → Before rs cells levels → After rs cells levels
-    pub called : (c : Call (List M)) (r s : Top) (rs : List Top) (cells : Cells) (levels : Levels) → after columns decoration c r ≡ done s →
+    pub called : (c : Call (List M)) (r s : Top) (rs : List Top) (cells : Cells) (levels : Levels) → TakesNoLines c → after columns decoration c r ≡ done s →
         Before (r ∷ rs) cells levels → Before (s ∷ rs) cells levels
     pub opens : (by : Opener) (width : ℕ) (r : Top) (rs : List Top) (left : Pending D M (List M)) (levels : Levels) → Asked by width →
         Before (r ∷ rs) left.cells levels → After (sub_renderer decoration width r ∷ r ∷ rs) [] (record { by = by; below = left } ∷ levels)
     pub joins : (first others : List ℕ) (lines : Lines) (inside r s : Top) (rs : List Top) (left : Pending D M (List M)) (levels : Levels) →
-        Ends inside → handed_out columns inside ≡ done lines → after columns decoration (append_subrender (prefixes first others (length lines)) lines) r ≡ done s →
+        Ends (append first others) inside → handed_out columns inside ≡ done lines → after columns decoration (append_subrender (prefixes first others (length lines)) lines) r ≡ done s →
         Before (inside ∷ r ∷ rs) [] (record { by = Sub; below = left } ∷ levels) → After (s ∷ rs) left.cells levels
-    pub waits : (span : ℕ) (align : CellAlign) (inside : Top) (rs : List Top) (left : Pending D M (List M)) (levels : Levels) → Ends inside →
+    pub waits : (span : ℕ) (align : CellAlign) (inside : Top) (rs : List Top) (left : Pending D M (List M)) (levels : Levels) → Ends end_cell inside →
         Before (inside ∷ rs) [] (record { by = Cell span align; below = left } ∷ levels) → After rs (left.cells ++ (inside, span) ∷ []) levels
     pub takes : (act : Act M) (r s : Top) (rs : List Top) (cells : Cells) (levels : Levels) → TakesCells cells act → after_act columns decoration act r ≡ done s →
         Before (r ∷ rs) cells levels → After (s ∷ rs) [] levels
@@ -157,7 +167,7 @@ module _ {D M : Type 0} (columns : ℕ → Option ℕ) (decoration : Decoration 
         Meets narrow (λ text. Unit {0}) (ended columns decoration number p)
     end_meets number p may = search (rules, ℕ, some_meet, top_meets, fine_by)
 
-  module _ (narrow : Type 0) (Asked : Opener → ℕ → Type 0) (Ends : Top → Type 0) (Before After : Holds) (walk : Walk narrow Asked Ends Before After) where
+  module _ (narrow : Type 0) (Asked : Opener → ℕ → Type 0) (Ends : Command → Top → Type 0) (Before After : Holds) (walk : Walk narrow Asked Ends Before After) where
     abbrev Makes : Made columns decoration → Type 0
     Makes made = Meets narrow (At After) made
 
@@ -177,12 +187,12 @@ module _ {D M : Type 0} (columns : ℕ → Option ℕ) (decoration : Decoration 
       IsBelow by rs cells = Before rs cells (record { by = by; below = left } ∷ others)
 
       -- there, with these levels and cells, it ends
-      abbrev Ended : (Opener → Option (Top → Place columns decoration → Made columns decoration)) → Opener → List (Level Top) → Cells → Type 0
-      Ended end by levels cells =
-          ((r : Top) → first_renderer levels ≡ Some r → Ends r) → IsBelow by (renderers levels) cells →
+      abbrev Ended : Command → (Opener → Option (Top → Place columns decoration → Made columns decoration)) → Opener → List (Level Top) → Cells → Type 0
+      Ended command end by levels cells =
+          ((r : Top) → first_renderer levels ≡ Some r → Ends command r) → IsBelow by (renderers levels) cells →
           Makes (ended_as columns decoration number (end by) (record p { stack = record p.stack { levels = levels }; pending = record p.pending { cells = cells } }) left others)
 
-      block_meets : (first next : List ℕ) (by : Opener) (levels : List (Level Top)) (cells : Cells) → Ended (joins columns decoration first next) by levels cells
+      block_meets : (first next : List ℕ) (by : Opener) (levels : List (Level Top)) (cells : Cells) → Ended (append first next) (joins columns decoration first next) by levels cells
       block_meets first next (Cell span align) levels cells ends h = tt
       block_meets first next Sub levels (c ∷ cells) ends h = tt
       block_meets first next Sub [] [] ends h = tt
@@ -194,32 +204,32 @@ module _ {D M : Type 0} (columns : ℕ → Option ℕ) (decoration : Decoration 
           taking_fine narrow _ (λ lines. handed_out columns inside ≡ done lines) (handed_out columns inside) (λ lines. call (append_subrender (prefixes first next (length lines)) lines)) r may.1.0
           (hands_fine narrow inside may.0) (λ lines t gives does. walk.joins first next lines inside r t rs left others (ends inside refl) gives does k))
 
-      cell_meets : (by : Opener) (levels : List (Level Top)) (cells : Cells) → Ended (waits columns decoration) by levels cells
+      cell_meets : (by : Opener) (levels : List (Level Top)) (cells : Cells) → Ended end_cell (waits columns decoration) by levels cells
       cell_meets Sub levels cells ends h = tt
       cell_meets (Cell span align) levels (c ∷ cells) ends h = tt
       cell_meets (Cell span align) [] [] ends h = tt
       cell_meets (Cell span align) (l ∷ ls) [] ends h = walk.waits span align l.renderer (renderers ls) left others (ends l.renderer refl) h
 
-    ended_meets : (number : ℕ) (end : Opener → Option (Top → Place columns decoration → Made columns decoration)) (p : Place columns decoration) (opens : Levels) →
-        ((r : Top) → top_of p.stack ≡ Some r → Ends r) →
-        ((by : Opener) (left : Pending D M (List M)) (others : Levels) → Ended number p left others end by p.stack.levels p.pending.cells) → Before (renderers p.stack.levels) p.pending.cells opens →
+    ended_meets : (number : ℕ) (command : Command) (end : Opener → Option (Top → Place columns decoration → Made columns decoration)) (p : Place columns decoration) (opens : Levels) →
+        ((r : Top) → top_of p.stack ≡ Some r → Ends command r) →
+        ((by : Opener) (left : Pending D M (List M)) (others : Levels) → Ended number p left others command end by p.stack.levels p.pending.cells) → Before (renderers p.stack.levels) p.pending.cells opens →
         Makes (level_ended columns decoration number end p opens)
-    ended_meets number end p [] ends does h = tt
-    ended_meets number end p (level ∷ others) ends does h = does level.by level.below others ends h
+    ended_meets number command end p [] ends does h = tt
+    ended_meets number command end p (level ∷ others) ends does h = does level.by level.below others ends h
 
     module _ (number : ℕ) (p : Place columns decoration) where
       abbrev Here : List Top → Type 0
       Here rs = Before rs (let left = p.pending in left.cells) p.opened
 
-      called_fine : (c : Call (List M)) (r : Top) (rs : List Top) → Here (r ∷ rs) → Fine narrow (λ s. Here (s ∷ rs)) (after columns decoration c r)
-      called_fine c r rs h =
+      called_fine : (c : Call (List M)) → TakesNoLines c → (r : Top) (rs : List Top) → Here (r ∷ rs) → Fine narrow (λ s. Here (s ∷ rs)) (after columns decoration c r)
+      called_fine c own r rs h =
           let may = (walk.ready (r ∷ rs) p.pending.cells p.opened h).0.0 in
-          fine_by narrow (λ s. Here (s ∷ rs)) (after columns decoration c r) (λ s does. walk.called c r s rs p.pending.cells p.opened does h) (may.acts (call c))
+          fine_by narrow (λ s. Here (s ∷ rs)) (after columns decoration c r) (λ s does. walk.called c r s rs p.pending.cells p.opened own does h) (may.acts (call c))
 
       link_ends : (k : Option ℕ) (r : Top) (rs : List Top) → Here (r ∷ rs) → Fine narrow (λ s. Here (s ∷ rs)) (after_end_with columns decoration k r)
-      link_ends None r rs h = called_fine (finish end.link) r rs h
+      link_ends None r rs h = called_fine (finish end.link) tt r rs h
       link_ends (Some k) r rs h =
-          fine_then narrow (λ s. Here (s ∷ rs)) _ (after columns decoration (finish end.link) r) _ (called_fine (finish end.link) r rs h) (λ s still. called_fine (add_inline_text (link_number k)) s rs still)
+          fine_then narrow (λ s. Here (s ∷ rs)) _ (after columns decoration (finish end.link) r) _ (called_fine (finish end.link) tt r rs h) (λ s still. called_fine (add_inline_text (link_number k)) tt s rs still)
 
       -- the cells that wait, as they are taken
       row_meets : {X : Type 0} (Gives : X → Type 0) (given : Outcome X) (act : X → Act M) → (AreReady narrow p.pending.cells → Fine narrow Gives given) →
@@ -227,15 +237,15 @@ module _ {D M : Type 0} (columns : ℕ → Option ℕ) (decoration : Decoration 
           Makes (with_stack columns decoration (record p { pending = without_cells p.pending }) (in_top (taking (after columns decoration new_line) given (λ x. after_act columns decoration (act x))) p.stack))
       row_meets Gives given act gives takes h = search (rules, changed_meets, taking_fine)
 
-      pub command_meets : (command : Command) → Asks Asked command → (EndsOne command → (r : Top) → top_of p.stack ≡ Some r → Ends r) → At Before p →
+      pub command_meets : (command : Command) → Asks Asked command → (EndsOne command → (r : Top) → top_of p.stack ≡ Some r → Ends command r) → At Before p →
           Makes (after_command columns decoration number command p)
       command_meets (ask request) asked ends h =
           let q : Place columns decoration = record p { pending = record p.pending { begun = counted p.pending.begun request } } in
           cond_both (ends_nothing p.pending.begun request) (Err (NothingToEnd number)) _ Makes (λ none. tt)
-          (λ some. changed_meets Here Here q p.stack (request_made columns decoration request) (λ rs is. walk.kept rs p.pending.cells p.opened is) h (λ r rs k. called_fine (call_of r.width request) r rs k))
+          (λ some. changed_meets Here Here q p.stack (request_made columns decoration request) (λ rs is. walk.kept rs p.pending.cells p.opened is) h (λ r rs k. called_fine (call_of r.width request) (asks_own r.width request) r rs k))
       command_meets (link target) asked ends h =
           let starts = begin (start.link (chars target)) in
-          changed_meets Here Here p (with_link (chars target) p.stack) (after columns decoration starts) (λ rs is. walk.kept rs p.pending.cells p.opened is) (subst Here (same_renderers _ p.stack.levels) h) (λ r rs k. called_fine starts r rs k)
+          changed_meets Here Here p (with_link (chars target) p.stack) (after columns decoration starts) (λ rs is. walk.kept rs p.pending.cells p.opened is) (subst Here (same_renderers _ p.stack.levels) h) (λ r rs k. called_fine starts tt r rs k)
       command_meets end_link asked ends h =
           let make = λ (r : Top). after_end_with columns decoration (shown_number r (open_links p.stack)) r in
           let Still = λ (t : Stack Top). Here (renderers t.levels) in
@@ -244,9 +254,9 @@ module _ {D M : Type 0} (columns : ℕ → Option ℕ) (decoration : Decoration 
           (fine_changed narrow (λ t. Still (without_open_link t)) Still without_open_link (in_top make p.stack) (λ t is. is)
           (in_top_fine narrow Here (λ t. Still (without_open_link t)) make p.stack p.stack.levels h (λ l ls k. link_ends (shown_number l.renderer (open_links p.stack)) l.renderer (renderers ls) k)))) tt
       command_meets (sub width) asked ends h = level_meets Sub width p p.stack.levels asked h
-      command_meets (append first next) asked ends h = ended_meets number (joins columns decoration first next) p p.opened (ends tt) (λ by left others. block_meets number p left others first next by p.stack.levels p.pending.cells) h
+      command_meets (append first next) asked ends h = ended_meets number (append first next) (joins columns decoration first next) p p.opened (ends tt) (λ by left others. block_meets number p left others first next by p.stack.levels p.pending.cells) h
       command_meets (cell width span align) asked ends h = level_meets (Cell span align) width p p.stack.levels asked h
-      command_meets end_cell asked ends h = ended_meets number (waits columns decoration) p p.opened (ends tt) (λ by left others. cell_meets number p left others by p.stack.levels p.pending.cells) h
+      command_meets end_cell asked ends h = ended_meets number end_cell (waits columns decoration) p p.opened (ends tt) (λ by left others. cell_meets number p left others by p.stack.levels p.pending.cells) h
       command_meets (row collapse) asked ends h =
           top_meets narrow (At After) (top_of p.stack) _ (λ top there. cond_both (row_fits top.hanging (spots_of columns p.pending.cells)) _ (Err (RowDoesNotFit number)) Makes
           (λ fits. row_meets (AllZip GivesCell p.pending.cells) (cells_waiting columns decoration p.pending) (row_of_cells collapse) (cells_fine narrow p.pending.cells p.pending.aligns) (λ given give. give) h) (λ not. tt))
@@ -255,7 +265,7 @@ module _ {D M : Type 0} (columns : ℕ → Option ℕ) (decoration : Decoration 
 
       -- a line, by what it asks for
       abbrev pub AsksOf : List ℕ → Type 0
-      AsksOf line = (command : Command) → IsCommand line command → Asks Asked command × (EndsOne command → (r : Top) → top_of p.stack ≡ Some r → Ends r)
+      AsksOf line = (command : Command) → IsCommand line command → Asks Asked command × (EndsOne command → (r : Top) → top_of p.stack ≡ Some r → Ends command r)
 
       pub line_meets : (line : List ℕ) → AsksOf line → At Before p → Makes (after_line columns decoration number line p)
       line_meets [] asks h = walk.kept (renderers p.stack.levels) p.pending.cells p.opened h
@@ -266,6 +276,6 @@ module _ {D M : Type 0} (columns : ℕ → Option ℕ) (decoration : Decoration 
           read_meets (Some command) is = let (asked, ends) = asks command (is command refl) in command_meets command asked ends h
 
   -- what a line leaves that is done, where anything may be too narrow
-  pub line_makes : (Asked : Opener → ℕ → Type 0) (Ends : Top → Type 0) (Before After : Holds) (walk : Walk (Unit {0}) Asked Ends Before After) (p next : Place columns decoration) (number : ℕ) (line : List ℕ) →
+  pub line_makes : (Asked : Opener → ℕ → Type 0) (Ends : Command → Top → Type 0) (Before After : Holds) (walk : Walk (Unit {0}) Asked Ends Before After) (p next : Place columns decoration) (number : ℕ) (line : List ℕ) →
       AsksOf (Unit {0}) Asked Ends Before After walk number p line → At Before p → after_line columns decoration number line p ≡ Ok next → At After next
   line_makes Asked Ends Before After walk p next number line asks h does = subst (Meets (Unit {0}) (At After)) does (line_meets (Unit {0}) Asked Ends Before After walk number p line asks h)

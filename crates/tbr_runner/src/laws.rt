@@ -4,7 +4,7 @@ ghost use Rattle.tbr_decor.specs.Decoration.{Decoration};
 ghost use Rattle.tbr_commands.specs.declared.opening.Opening.{Opening};
 ghost use Rattle.tbr_stack.specs.Links.{after_link_end};
 ghost use Rattle.tbr_stack.specs.StackCalls.{IsNextToEnd, StackSteps, after_end_as};
-ghost use Rattle.text_block_renderer.specs.Renderer.{Renderer, least};
+ghost use Rattle.text_block_renderer.specs.Renderer.{Renderer, least, new_renderer};
 ghost use Rattle.text_block_renderer.specs.Calls.{Shows};
 ghost use Rattle.text_block_renderer.specs.MarkersStand.{Stands};
 ghost use Rattle.text_block_renderer.specs.Taken.{IsWrittenSoFar};
@@ -23,7 +23,15 @@ ghost use Rattle.tbr_runner.specs.Kept.{EndsWhole, LineAsksForOneRow, OverhangsN
 ghost use Rattle.tbr_runner.specs.Led.{IsLed, AreLed, IsTextOfLed, IsTextOfScript, LineAsksForTwo};
 ghost use Rattle.std.specs.List.{AllByRecursion as Each};
 ghost use Rattle.tbr_script.specs.declared.error.RunError.TheVariants.{TooNarrow};
-ghost use Rattle.tbr_runner.specs.Scripts.{rendered_on, rendered};
+ghost use Rattle.tbr_runner.specs.Scripts.{rendered_on, rendered, shown};
+ghost use Rattle.tbr_runner.specs.Blocks.{GiveText, Gives};
+ghost use Rattle.tbr_runner.specs.LinesOnStack.{AreCalls};
+ghost use Rattle.text_block_renderer.specs.Levels.{OnStack, after_on_stack};
+ghost use Rattle.tbr_renderer.specs.Outcomes.{run};
+ghost use Rattle.tbr_tagged.specs.Outcome.{done};
+ghost use Rattle.tbr_runner.specs.Controls.{ControlsHaveNone, HasNoControls};
+ghost use Rattle.tbr_rows.specs.Shown.{DrawsInOne};
+ghost use Rattle.tbr_tagged.specs.UnicodeColumns.{unicode_columns};
 
 /// A line is read as the command that it is, and as none where it is none. This holds for the first command too.
 pub fn a_line_is_read_as_the_command_that_it_is()
@@ -31,6 +39,26 @@ pub fn a_line_is_read_as_the_command_that_it_is()
         IsCommand line command ↔ (command_read line ≡ Some command) }
     ensures first { (line : List ℕ) (opening : Opening) →
         IsOpening line opening ↔ (opening_read line ≡ Some opening) }
+{}
+
+/// A script's text is what the calls give that its lines name. Each line calls the renderer that is open there, as its
+/// words say, one after another. From a `sub` to its `append` that is a block's own renderer, and the lines of that come
+/// to the one below once, at the `append`. So the lines of a cell do, at the next `row` or `vrow`. The text is that of
+/// the lines of the script's own renderer, and then of its footnotes, and nothing else. Lines that end no script yet are
+/// calls on a stack, so [each level goes as one renderer does][levels].
+///
+/// [levels]: text_block_renderer::laws::levels::each_level_goes_as_one_renderer_does
+pub fn a_script_is_the_calls_that_its_lines_name<D, M>()
+    ensures lines { (columns : ℕ → Option ℕ) (decoration : Decoration D M) (opening : Opening) (decorator : D)
+        (number : ℕ) (lines : List (List ℕ)) (text : List ℕ) →
+        rendered_on columns decoration number lines (started opening decorator) ≡ Ok text →
+        GiveText columns decoration (new_renderer opening.width opening.options decorator) lines text }
+    ensures script { (columns : ℕ → Option ℕ) (script text : List ℕ) → rendered columns script ≡ Ok text →
+        Gives columns (lines_of script) text }
+    ensures stack { (columns : ℕ → Option ℕ) (decoration : Decoration D M) (number : ℕ) (lines : List (List ℕ))
+        (p q : Progress D M (List M)) → LinesDo columns decoration p number lines q →
+        (calls : List (OnStack D M)) × AreCalls lines calls
+        × (run (after_on_stack columns decoration) calls p.stack ≡ done q.stack) }
 {}
 
 /// Each renderer that a script fills, also one of a cell that waits, is made by calls and rows from a sound and empty
@@ -117,4 +145,12 @@ pub fn links_of_scripts_end_with_their_own_numbers<D, M>()
         LinesDo columns decoration m (number + 1) lines q → IsNextToEnd (0 ∷ []) (stack_calls commands) →
         after_link_end columns decoration q.stack
         ≡ after_end_as columns decoration (length p.stack.links + 1) q.stack }
+{}
+
+/// Where prefixes and footnotes are shown without control characters, no script gives any but newlines: each character
+/// of its lines has columns, and by `unicode_columns` these are all but control characters.
+pub fn no_control_character_is_given()
+    ensures given { (columns : ℕ → Option ℕ) → DrawsInOne columns → ControlsHaveNone columns →
+        (script text : List ℕ) → shown false columns script ≡ Ok text → HasNoControls text }
+    ensures unicode { (script text : List ℕ) → shown false unicode_columns script ≡ Ok text → HasNoControls text }
 {}
