@@ -13,8 +13,8 @@ WATCHED = [
         ["crates/tbr_renderer/src/sub/calls.rt:" + it for it in ("calls", "handed_out", "has_places_for")],
         314,
     ),
-    ("crates/tbr_runner/src/runner.rt", "run", [], 382),
-    ("crates/text_block_renderer/src/laws/headline.rt", "the_headline", [], 505),
+    ("crates/tbr_runner/src/runner.rt", "run", [], 383),
+    ("crates/text_block_renderer/src/laws/headline.rt", "the_headline", [], 507),
 ]
 WORD = re.compile(r"[^\s(){}\[\],;.]+")
 USE = re.compile(r"^\s*(?:pub |ghost )?use (Rattle[^\s{]*?)(?:\.\{([^}]*)\})?(?: as (\S+?))?;?\s*$", re.M)
