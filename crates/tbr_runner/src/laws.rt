@@ -43,7 +43,7 @@ pub fn a_line_is_read_as_the_command_that_it_is()
 
 /// A script's text is what the calls give that its lines name. Each line calls the renderer that is open there, as its
 /// words say, one after another. From a `sub` to its `append` that is a block's own renderer, and the lines of that come
-/// to the one below once, at the `append`. So the lines of a cell do, at the next `row` or `vrow`. The text is that of
+/// to the one below once, at the `append`. Those of a cell come once at the next `row` or `vrow`. The text is that of
 /// the lines of the script's own renderer, and then of its footnotes, and nothing else. Lines that end no script yet are
 /// calls on a stack, so [each level goes as one renderer does][levels].
 ///

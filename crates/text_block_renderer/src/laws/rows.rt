@@ -33,7 +33,7 @@ pub fn a_row_takes_no_text_back<D, A>()
         (more : List (Item (List A))) × (text_of_lines s.lines ≡ text_of_lines r.lines ++ more) }
 {}
 
-/// No call, row or footnote changes a line that is there, but for a border that is the last one where a row comes. Where
+/// No call, row or footnote changes a line that is there, except a border that is the last one where a row comes. Where
 /// the open run of that moment puts no line between, the row makes that border what `border_above` says.
 pub fn a_border_changes_only_by_the_row_right_after_it<D, A>()
     ensures acts { (columns : ℕ → Option ℕ) (decoration : Decoration D A) (acts : List (Act A))
