@@ -14,7 +14,7 @@ WATCHED = [
         314,
     ),
     ("crates/tbr_runner/src/runner.rt", "run", [], 383),
-    ("crates/text_block_renderer/src/laws/headline.rt", "the_headline", [], 507),
+    ("crates/text_block_renderer/src/laws/headline.rt", "the_headline", [], 510),
 ]
 WORD = re.compile(r"[^\s(){}\[\],;.]+")
 USE = re.compile(r"^\s*(?:pub |ghost )?use (Rattle[^\s{]*?)(?:\.\{([^}]*)\})?(?: as (\S+?))?;?\s*$", re.M)

@@ -12,5 +12,6 @@ pub mod WaitingMarkers
 pub mod TerminalColumns
 pub mod Tables
 pub mod Footnotes
+pub mod Added
 pub mod Commands
 pub mod RefusedAnswers

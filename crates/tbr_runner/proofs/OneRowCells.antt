@@ -78,7 +78,7 @@ module _ {D M : Type 0} (columns : ℕ → Option ℕ) (decoration : Decoration 
   row_none : (collapse : Bool) (cells : List (GivenCell (List M))) → Each IsOne cells → (r s : Top) →
       after_act columns decoration (row_of_cells collapse cells) r ≡ done s → NothingOverhangs r → NothingOverhangs s
   row_none collapse cells one r s does none =
-      let (m, flushed, puts, brings) = act_step columns decoration (row_of_cells collapse cells) r s does in
+      let (m, flushed, puts, brings, computed) = act_step columns decoration (row_of_cells collapse cells) r s does in
       let means = puts.means in
       let before = each_gives HasNone LeavesNone (λ c e. inr e) m.hanging (subst (Each HasNone) (sym (flush_hangs columns r m (live_done r.failure (after_flush columns r) m flushed).1)) none) in
       let seats = each_seated LeavesNone (λ place width. inl refl) 0 m.hanging puts.own means.cells before (zip_gives IsOne (ComesAs columns m.annotations) LeavesNone (λ g c come span. inl (come.1 ∙ span)) cells puts.own puts.come one) means.seated in

@@ -9,6 +9,7 @@ ghost use Rattle.text_block_renderer.specs.Calls.{Shows};
 ghost use Rattle.text_block_renderer.specs.MarkersStand.{Stands};
 ghost use Rattle.text_block_renderer.specs.Taken.{IsWrittenSoFar};
 ghost use Rattle.text_block_renderer.specs.Acts.{acts_come};
+ghost use Rattle.text_block_renderer.specs.Drawn.{WithoutDrawnBorders, borders_drawn, DrawNone};
 ghost use Rattle.text_block_renderer.specs.Headline.{Headline, TakeTwoAtMost};
 ghost use Rattle.tbr_program.specs.Progress.{Progress};
 ghost use Rattle.tbr_program.specs.Commands.{after_command, after_line, started};
@@ -65,8 +66,8 @@ pub fn a_script_is_the_calls_that_its_lines_name<D, M>()
 /// one. This holds at the beginning and after each line. The script's text is that of the lines of such a renderer,
 /// without an open run, and then of the footnotes of all its links, in their order. So the laws of lists of calls and
 /// rows hold for it, also with its footnotes. One is the first promise. Another is that its lines show the visible
-/// characters and the markers of all that was added to it, once and in order, where lines aren't padded. Where they are
-/// padded, borders that became text are between these.
+/// characters and the markers of all that was added to it, once and in order. Where lines are padded, borders that
+/// became text are between these.
 pub fn the_renderers_of_a_script_are_led_to<D, M>()
     ensures first { (columns : ℕ → Option ℕ) (decoration : Decoration D M) → columns 32 ≡ Some 1 →
         (opening : Opening) (decorator : D) → 0 < opening.width → opening.options.wrap_width ≢ Some 0 →
@@ -84,11 +85,14 @@ pub fn the_renderers_of_a_script_are_led_to<D, M>()
     ensures headline { (columns : ℕ → Option ℕ) (decoration : Decoration D M) (r : Renderer D M (List M)) →
         (led : IsLed columns decoration r) → Headline columns decoration led.acts led.first r }
     ensures shows { (columns : ℕ → Option ℕ) (decoration : Decoration D M) (r : Renderer D M (List M)) →
-        (led : IsLed columns decoration r) → led.first.options.pad_block_width ≡ false →
-        Shows columns r (acts_come columns decoration led.acts led.first []) }
+        (led : IsLed columns decoration r) → WithoutDrawnBorders (borders_drawn columns decoration led.acts led.first)
+        (λ q. Shows columns q (acts_come columns decoration led.acts led.first [])) r }
     ensures stands { (columns : ℕ → Option ℕ) (decoration : Decoration D M) (r : Renderer D M (List M)) →
-        (led : IsLed columns decoration r) → led.first.options.pad_block_width ≡ false →
-        Stands columns r (acts_come columns decoration led.acts led.first []) }
+        (led : IsLed columns decoration r) → WithoutDrawnBorders (borders_drawn columns decoration led.acts led.first)
+        (λ q. Stands columns q (acts_come columns decoration led.acts led.first [])) r }
+    ensures undrawn { (columns : ℕ → Option ℕ) (decoration : Decoration D M) (r : Renderer D M (List M)) →
+        (led : IsLed columns decoration r) → DrawNone columns decoration led.acts led.first →
+        let came = acts_come columns decoration led.acts led.first [] in Shows columns r came × Stands columns r came }
     ensures written { (columns : ℕ → Option ℕ) (decoration : Decoration D M) (r : Renderer D M (List M)) →
         (led : IsLed columns decoration r) →
         IsWrittenSoFar columns r (acts_come columns decoration led.acts led.first []) }

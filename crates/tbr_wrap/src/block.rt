@@ -1,5 +1,5 @@
 //! A block of wrapped text.
-ghost use Rattle.std.specs.Prelude.{◌≡◌, ◌≢◌, ℕ, ◌≤◌, ◌<◌, ◌++◌, ◌∷◌, [], not, ◌&&◌, nat_lt, is_none, is_some, if◌then◌else◌, None, Some, List, OnOk, IfOk, IfErr, IsErr, IsSomeAnd, MatchResult, Err, Ok, true, chars, string_bytes, length, map, IsTrue};
+ghost use Rattle.std.specs.Prelude.{◌≡◌, ◌≢◌, ℕ, ◌≤◌, ◌<◌, ◌++◌, ◌∷◌, [], not, ◌&&◌, nat_lt, is_none, is_some, if◌then◌else◌, None, Some, List, OnOk, IfOk, IfErr, IsErr, IsSomeAnd, MatchResult, Err, Ok, true, chars, string_bytes, length, map, drop, IsTrue};
 ghost use Rattle.std.specs.List.{AllZip};
 ghost use Rattle.std.specs.Str.{IsUtf8};
 ghost use Rattle.tbr_model.specs.Run.{Item};
@@ -418,11 +418,15 @@ impl<T: Tag, W: CharWidth> WrappedBlock<T, W> {
     /// memory.
     ///
     /// The block must not have failed, and the open line and the word must have no character, as after a
-    /// [`flush`](WrappedBlock::flush).
+    /// [`flush`](WrappedBlock::flush). The lines of the run that this ended are the last ones. After any number of lines
+    /// of a `Normal` run, where none may be wider than the block, no legal layout has placed more of it.
     pub fn into_ended(self) -> EndedLines<T>
         requires unfailed { self.failure ≡ None }
         requires ended { has_no_character W.columns self ≡ true }
-        ensures { AllZip (SameItems T.eq) result (left W.columns self) }
+        ensures gives { AllZip (SameItems T.eq) result (left W.columns self) }
+        ensures best { (before : Block T) → after_flush W.columns before ≡ done self → WrapsNormally before →
+            let texts = all_lines W.columns before in HasBestLines W.columns before.width (run_of before.events) texts
+            × AllZip (SameItems T.eq) result (before.ended ++ drop before.handed texts) }
     {
         EndedLines::new(self.wrapper.lines.flat, self.wrapper.lines.ended)
     }

@@ -1,12 +1,12 @@
 -- What calls, rows and footnotes add to the lines, piece by piece.
-use Rattle.text_block_renderer.proofs.Common.{◌≡◌, ℕ, Bool, Option, None, List, [], ◌∷◌, ◌++◌, map, flat_map, fold, refl, ap, sym, ◌∙◌, subst, append_assoc, append-nil, arith, rules, AllZip, Each, map-append, flat_map-append, Entry, Item, Border, BorderCell, SeenRow, Decoration, Open, Renderer, with_line, open_run, IsSound, listed, footnote_lines, Line, GivenCell, border_lines, with_next, with_row, PutsRow, before_border, Call, Does, entries_brought, Brings, laid_entries, text_of_lines, done, told_by, Added, text_laid, flush_ends, Part, lines_laid, IsPart, lines_of_part, Act, call, row, fmt_links, finalise, rows_of, after_act, act_enters, acts_enter, Piece, part, put, noted, cells_in, rows_in, border_lines_of, lines_of_piece, entries_of_piece, added_of_piece, act_adds, acts_add, IsPiece, StaysLine, ComesInPieces}
+use Rattle.text_block_renderer.proofs.Common.{◌≡◌, ℕ, Bool, Option, None, List, [], ◌∷◌, ◌++◌, map, flat_map, fold, refl, ap, sym, ◌∙◌, subst, append_assoc, append-nil, arith, rules, AllZip, Each, map-append, map-map, flat_map-append, Outcome, Entry, Item, Border, BorderCell, SeenRow, Decoration, Open, Renderer, with_line, open_run, IsSound, listed, footnote_lines, Line, GivenCell, border_lines, with_next, with_row, PutsRow, before_border, Call, Does, entries_brought, Brings, laid_entries, text_of_lines, done, told_by, after_flush, Added, part_added, row_added, note_added, notes_add, flush_ends, Part, lines_laid, IsPart, lines_of_part, Act, call, row, fmt_links, finalise, rows_of, after_act, act_enters, acts_enter, Piece, part, put, noted, cells_in, rows_in, border_lines_of, lines_of_piece, entries_of_piece, added_of_piece, act_adds, acts_add, IsPiece, StaysLine, ComesInPieces}
 use Rattle.std.proofs.lemmas.List.Folds.{flat_map-map}
 use Rattle.tbr_model.specs.Layout.{joined}
 use Rattle.tbr_model.proofs.lists.Each.{each_append, each_map}
 use Rattle.tbr_rows.specs.declared.LineSet.{LineSet as Cell}
 use Rattle.tbr_decor.specs.Change as change
+use Rattle.tbr_tagged.proofs.Outcomes.{live_done}
 use Rattle.tbr_renderer.proofs.OutcomeParts.{one_done, done_first}
-use Rattle.text_block_renderer.specs.Added.{row_put}
 use Rattle.text_block_renderer.specs.LastBorders.{BecomeBy}
 use Rattle.text_block_renderer.proofs.Moves.{any, flush, beside, lines_beside, sound_alike, flushed_none, Frame, Course, one, path_frame}
 use Rattle.text_block_renderer.proofs.CallMoves.{call_moves}
@@ -65,7 +65,7 @@ module _ {D A : Type 0} (columns : ℕ → Option ℕ) where
     pub width : s.width ≡ r.width
     pub options : s.options ≡ r.options
     pub came : ComesInPieces columns xs r es s
-    pub added : flat_map (added_of_piece columns) came.pieces ≡ rs
+    pub added : map added_of_piece came.pieces ≡ rs
     pub become : BecomeBy columns came.pieces r.lines s.lines
     pub chain : Chain columns r.options.draw_borders r.hanging (rows_in came.pieces) s.hanging
 
@@ -88,7 +88,7 @@ module _ {D A : Type 0} (columns : ℕ → Option ℕ) where
           entries = grind (arith, append_assoc, flat_map-append);
           put_rows = ap (map cells_in) (rows_append front back) ∙ map-append cells_in (rows_in front) (rows_in back) ∙ ap (λ zs. zs ++ map cells_in (rows_in back)) h.came.put_rows ∙ ap (λ zs. xs ++ zs) k.came.put_rows;
         };
-        added = flat_map-append (added_of_piece columns) front back ∙ ap (λ ts. ts ++ flat_map (added_of_piece columns) back) h.added ∙ ap (λ ts. rs ++ ts) k.added;
+        added = map-append added_of_piece front back ∙ ap (λ ts. ts ++ map added_of_piece back) h.added ∙ ap (λ ts. rs ++ ts) k.added;
         become = become_on front back r.lines q.lines s.lines h.become k.become;
         chain = grind (arith, rows_append, chain_append);
       }
@@ -96,32 +96,31 @@ module _ {D A : Type 0} (columns : ℕ → Option ℕ) where
   -- these pieces came
   these : (r s : Renderer D A (List A)) (es : List (Entry (List A))) (ps : List (Piece D A columns)) → s.width ≡ r.width → s.options ≡ r.options → Each (IsPiece columns r) ps →
       AllZip StaysLine (r.lines ++ flat_map (lines_of_piece columns) ps) s.lines → open_run r.block ++ es ≡ flat_map (entries_of_piece columns) ps ++ open_run s.block →
-      BecomeBy columns ps r.lines s.lines → Chain columns r.options.draw_borders r.hanging (rows_in ps) s.hanging → Along (map cells_in (rows_in ps)) (flat_map (added_of_piece columns) ps) r es s
+      BecomeBy columns ps r.lines s.lines → Chain columns r.options.draw_borders r.hanging (rows_in ps) s.hanging → Along (map cells_in (rows_in ps)) (map added_of_piece ps) r es s
   these r s es ps width options are lines entries become chain =
       record { width = width; options = options; came = record { pieces = ps; are = are; lines = lines; entries = entries; put_rows = refl }; added = refl; become = become; chain = chain }
 
   -- parts of calls
-  course_along : (r s : Renderer D A (List A)) (es : List (Entry (List A))) (bs : List (List BorderCell)) (xs : List (Added D A)) → Course columns any r s es bs xs → IsSound columns r → Along [] xs r es s
+  course_along : (r s : Renderer D A (List A)) (es : List (Entry (List A))) (bs : List (List BorderCell)) (xs : List (Part D A)) → Course columns any r s es bs xs → IsSound columns r → Along [] (map part_added xs) r es s
   course_along r s es bs xs path sound =
-      let came = course_parts columns any r s es bs path sound in
-      let parts = came.parts.parts in
+      let came = (let in_parts = course_parts columns any r s es bs path sound in in_parts.came) in
       let same = path_frame columns any r s es bs path in
       record {
         width = ap (λ (f : Frame A). f.width) same;
         options = ap (λ (f : Frame A). f.options) same;
         came = record {
-          pieces = map part parts;
-          are = each_map part (IsPart columns r) (IsPiece columns r) (λ p k. k) parts came.parts.are;
-          lines = subst (λ ls. AllZip StaysLine ls s.lines) (came.parts.lines ∙ ap (λ ls. r.lines ++ ls) (sym (flat_map-map (lines_of_piece columns) part parts))) (all_stay s.lines);
-          entries = came.parts.entries ∙ ap (λ fs. fs ++ open_run s.block) (sym (flat_map-map (entries_of_piece columns) part parts));
-          put_rows = ap (map cells_in) (no_rows parts);
+          pieces = map part xs;
+          are = each_map part (IsPart columns r) (IsPiece columns r) (λ p k. k) xs came.are;
+          lines = subst (λ ls. AllZip StaysLine ls s.lines) (came.lines ∙ ap (λ ls. r.lines ++ ls) (sym (flat_map-map (lines_of_piece columns) part xs))) (all_stay s.lines);
+          entries = came.entries ∙ ap (λ fs. fs ++ open_run s.block) (sym (flat_map-map (entries_of_piece columns) part xs));
+          put_rows = ap (map cells_in) (no_rows xs);
         };
-        added = flat_map-map (added_of_piece columns) part parts ∙ came.added;
-        become = subst (BecomeBy columns (map part parts) r.lines) (sym came.parts.lines) (parts_become parts r.lines);
-        chain = subst (λ rows. Chain columns r.options.draw_borders r.hanging rows s.hanging) (sym (no_rows parts)) (ap (λ (f : Frame A). f.hanging) same);
+        added = map-map added_of_piece part xs;
+        become = subst (BecomeBy columns (map part xs) r.lines) (sym came.lines) (parts_become xs r.lines);
+        chain = subst (λ rows. Chain columns r.options.draw_borders r.hanging rows s.hanging) (sym (no_rows xs)) (ap (λ (f : Frame A). f.hanging) same);
       }
 
-  row_along : (collapses : Bool) (cells : List (GivenCell (List A))) (m s : Renderer D A (List A)) → m.block ≡ None → s.block ≡ None → (puts : PutsRow columns collapses cells m s) → Along (cells ∷ []) (row_put collapses cells ∷ []) m (laid_entries (joined puts.row.lines)) s
+  row_along : (collapses : Bool) (cells : List (GivenCell (List A))) (m s : Renderer D A (List A)) → m.block ≡ None → s.block ≡ None → (puts : PutsRow columns collapses cells m s) → Along (cells ∷ []) (row_added m collapses cells ∷ []) m (laid_entries (joined puts.row.lines)) s
   row_along collapses cells m s none closed puts =
       let seen = puts.row in
       let same = ap (λ (q : Renderer D A (List A)). beside q) puts.is ∙ row_beside columns m seen in
@@ -142,11 +141,11 @@ module _ {D A : Type 0} (columns : ℕ → Option ℕ) where
   asked_along d r = these r (record r { decorator = d }) [] [] refl refl tt (subst (λ ls. AllZip StaysLine ls r.lines) (sym (append-nil r.lines)) (all_stay r.lines)) (append-nil (open_run r.block)) refl refl
 
   -- footnotes' lines
-  noted_along : (ts : List (List (Item (List A)))) (r : Renderer D A (List A)) → Along [] (map text_laid ts) r [] (fold (with_line columns) r ts)
+  noted_along : (ts : List (List (Item (List A)))) (r : Renderer D A (List A)) → Along [] (notes_add columns ts r) r [] (fold (with_line columns) r ts)
   noted_along [] r = asked_along r.decorator r
   noted_along (t ∷ ts) r =
       let q : Renderer D A (List A) = with_line columns r t in
-      along_on [] [] (text_laid t ∷ []) (map text_laid ts) r q (fold (with_line columns) q ts) [] []
+      along_on [] [] (note_added r t ∷ []) (notes_add columns ts q) r q (fold (with_line columns) q ts) [] []
       (these r q [] (noted r t ∷ []) refl refl ((refl, refl), tt) (all_stay q.lines) (append-nil (open_run r.block)) refl refl) (noted_along ts q)
 
   module _ (decoration : Decoration D A) where
@@ -159,7 +158,7 @@ module _ {D A : Type 0} (columns : ℕ → Option ℕ) where
     -- a row takes no text back
     pub texts_only_come : (collapses : Bool) (cells : List (GivenCell (List A))) (r s : Renderer D A (List A)) → after_act columns decoration (row collapses cells) r ≡ done s → (more : List (Item (List A))) × (text_of_lines s.lines ≡ text_of_lines r.lines ++ more)
     texts_only_come collapses cells r s h =
-        let (m, flushed, puts, is) = act_step columns decoration (row collapses cells) r s h in
+        let (m, flushed, puts, is, computed) = act_step columns decoration (row collapses cells) r s h in
         let first = moves_grow columns (flush r ∷ []) r m (m, (refl, row_flushes columns r m flushed), refl) in
         let new = lines_laid columns m puts.row.lines ++ border_lines_of columns m puts.row.next in (
           text_of_lines first.0 ++ text_of_lines new,
@@ -171,16 +170,18 @@ module _ {D A : Type 0} (columns : ℕ → Option ℕ) where
     rows_one act acts = grind arith
 
     act_along : (act : Act A) (r s : Renderer D A (List A)) → IsSound columns r → ActStep columns decoration act r s → Along (rows_of (act ∷ [])) (act_adds columns decoration act r) r (act_enters columns decoration act r) s
-    act_along (call c) r s sound h = course_along r s _ _ _ (call_moves columns any decoration c r s ((λ appends is. tt), λ adds appends. tt) h) sound
+    act_along (call c) r s sound h = course_along r s _ _ _ (call_moves columns any decoration c r s (λ appends. tt) h) sound
     act_along (fmt_links links) r s sound h = subst (λ (q : Renderer D A (List A)). Along [] (act_adds columns decoration (fmt_links links) r) r [] q) (sym h) (noted_along (flat_map (footnote_lines columns r) links) r)
     act_along (finalise targets) r s sound h = subst (λ (q : Renderer D A (List A)). Along [] [] r [] q) (sym h) (asked_along (decoration.after r.decorator (change.finalise (listed r.options targets))) r)
     act_along (row collapses cells) r s sound h =
-        let (m, flushed, puts, is) = h in
+        let (m, flushed, puts, is, computed) = h in
         let first = course_along r m [] [] (flush_ends r) (one columns any (flush r) r m (refl, row_flushes columns r m flushed)) sound in
         let closed = row_closed columns r s (m, flushed, puts.row, puts.is) in
         let second = row_along collapses cells m s (flushed_none columns r m (row_flushes columns r m flushed)) closed puts in
-        let puts_it : List (Added D A) = row_put collapses cells ∷ [] in
-        subst (λ fs. Along (cells ∷ []) (flush_ends r ++ puts_it) r fs s) (sym is) (along_on [] (cells ∷ []) (flush_ends r) puts_it r m s [] (laid_entries (joined puts.row.lines)) first second)
+        let ends = map part_added (flush_ends r) in
+        let put_it = λ (o : Outcome (Renderer D A (List A))). told_by (λ q. row_added q collapses cells ∷ []) o in
+        subst (λ xs. Along (cells ∷ []) (ends ++ xs) r (act_enters columns decoration (row collapses cells) r) s) (sym (ap put_it (live_done r.failure (after_flush columns r) m flushed).1))
+        (subst (λ fs. Along (cells ∷ []) (ends ++ row_added m collapses cells ∷ []) r fs s) (sym is) (along_on [] (cells ∷ []) ends (row_added m collapses cells ∷ []) r m s [] (laid_entries (joined puts.row.lines)) first second))
 
     pub acts_along : (acts : List (Act A)) (r s : Renderer D A (List A)) → IsSound columns r → after_acts columns decoration acts r ≡ done s → Along (rows_of acts) (acts_add columns decoration acts r) r (acts_enter columns decoration acts r) s
     acts_along [] r s sound h = subst (λ (q : Renderer D A (List A)). Along [] [] r [] q) (sym (one_done r s h)) (asked_along r.decorator r)

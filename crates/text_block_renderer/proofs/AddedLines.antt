@@ -25,9 +25,6 @@ module _ {D A : Type 0} (columns : ℕ → Option ℕ) where
       let q : Renderer D A (List A) = with_line columns r t in
       laid_lines ts q ∙ ap (λ ls. q.lines ++ ls) (unmarked q ts refl) ∙ append_assoc r.lines (padded_line columns r (marker_items r.waiting ++ t) ∷ []) (map (padded_line columns r) ts)
 
-  pub unmarked_lines : (ts : List (List (Item (List A)))) (r : Renderer D A (List A)) → r.waiting ≡ [] → (fold (with_line columns) r ts).lines ≡ r.lines ++ map (padded_line columns r) ts
-  unmarked_lines ts r none = laid_lines ts r ∙ ap (λ ls. r.lines ++ ls) (unmarked r ts none)
-
   pub lines_grow : (texts : List (List (Item (List A)))) (r : Renderer D A (List A)) → Grows r (fold (with_line columns) r texts)
   lines_grow texts r = (lines_laid columns r texts, laid_lines texts r)
 

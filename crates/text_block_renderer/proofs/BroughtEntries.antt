@@ -1,5 +1,5 @@
 -- What was brought is in the lines of text, or waits.
-use Rattle.text_block_renderer.proofs.Common.{◌≡◌, ℕ, zero, suc, Bool, true, false, not, if◌then◌else◌, Option, List, [], ◌∷◌, ◌++◌, filter, fold, refl, ap, sym, ◌∙◌, subst, append_assoc, append-nil, arith, rules, AllZip, filter-append, flat_map-append, map-map, fold-append, Entry, character, marker_entry, Item, glyph, marker, is_kept, kept_items, names_in_items, names_in_run, marker_items, marker_run, marked_after, names_after, HasMode, is_visible, without_spaces, is_visible_or_marker, is_entry_to_show, ShowsEntry, is_space_item, run_of, text_items, spaces, IsNormal, AreLastOf, EndsRun, Decoration, Open, Renderer, new_renderer, with_line, block_width, may_overflow, IsSound, RenderOptions, block_lines, flushed, lines_at_end, names_at_end, run, done, with_border, laid_entry, laid_entries, text_of_lines, items_so_far, Stands, Act, after_act, acts_come}
+use Rattle.text_block_renderer.proofs.Common.{◌≡◌, ℕ, zero, suc, Bool, true, false, not, if◌then◌else◌, Option, List, [], ◌∷◌, ◌++◌, filter, fold, refl, ap, sym, ◌∙◌, subst, append_assoc, append-nil, arith, rules, AllZip, filter-append, flat_map-append, map-map, fold-append, Entry, character, marker_entry, Item, glyph, marker, is_kept, kept_items, names_in_items, names_in_run, marker_items, marker_run, marked_after, names_after, HasMode, is_visible, without_spaces, is_visible_or_marker, is_entry_to_show, ShowsEntry, is_space_item, run_of, text_items, spaces, IsNormal, AreLastOf, EndsRun, Decoration, Open, Renderer, new_renderer, with_line, block_width, may_overflow, IsSound, RenderOptions, block_lines, flushed, lines_at_end, names_at_end, open_run, border, run, done, laid_entry, laid_entries, text_of_lines, items_so_far, Stands, WithoutDrawnBorders, borders_drawn, DrawNone, Act, after_act, acts_come}
 use Rattle.tbr_model.specs.Run.{items_of}
 use Rattle.tbr_model.specs.Layout.{joined}
 use Rattle.tbr_model.specs.declared.white_space.WhiteSpace.TheVariants.{Normal}
@@ -7,11 +7,10 @@ use Rattle.tbr_model.proofs.lists.Each.{each_front, each_back}
 use Rattle.tbr_model.proofs.rule.Markers.{names_in_items-append, names_in_run-append}
 use Rattle.tbr_tagged.proofs.SameItems.{all_zip_append}
 use Rattle.tbr_renderer.proofs.FlushedBlocks.{EndsBlock}
-use Rattle.text_block_renderer.proofs.Moves.{Move, brought_by, Makes, undrawn}
-use Rattle.text_block_renderer.proofs.DrawnBorders.{border_unseen}
-use Rattle.text_block_renderer.proofs.LineContents.{Looks, seen_line, seen_flushed}
+use Rattle.text_block_renderer.proofs.DrawnBorders.{Keeps, Less, less_goes_on, none_among, holds_of_all}
+use Rattle.text_block_renderer.proofs.LineContents.{Looks, no_text_after, seen_line, seen_flushed}
 use Rattle.text_block_renderer.proofs.LastingLines.{stay_texts}
-use Rattle.text_block_renderer.proofs.EndedEntries.{Ended, GoesOn, move_on, acts_on}
+use Rattle.text_block_renderer.proofs.EndedEntries.{Texts, acts_on}
 use Rattle.text_block_renderer.proofs.VisibleCharacters.{space_unseen}
 
 -- ---- three ways to look at items
@@ -153,14 +152,14 @@ module _ {T : Type 0} (columns : ℕ → Option ℕ) where
       last_after (is_kept columns) (without_spaces is) names (names_after (is_kept columns) es)
       (ap (fold (item_after (is_kept columns)) []) (sym (unspaced_before columns is names) ∙ h.kept normal) ∙ after_kept [] es)
 
--- ---- moves and acts
+-- ---- acts
 
 module _ {D A : Type 0} (columns : ℕ → Option ℕ) where
   abbrev InLines : Renderer D A (List A) → List (Entry (List A)) → Type 0
   InLines r es = StandFor columns (items_so_far r) es
 
-  stands : (r : Renderer D A (List A)) (es : List (Entry (List A))) → Ended InLines r es → Stands columns r es
-  stands r es (ended, whole, h) = record {
+  stands : (r : Renderer D A (List A)) (ended es : List (Entry (List A))) → ended ++ open_run r.block ≡ es → InLines r ended → Stands columns r es
+  stands r ended es whole h = record {
     ended = ended;
     whole = whole;
     order = h.order;
@@ -170,8 +169,8 @@ module _ {D A : Type 0} (columns : ℕ → Option ℕ) where
     waits_kept = waits_after_kept columns (text_of_lines r.lines) r.waiting ended h;
   }
 
-  less_open : (r : Renderer D A (List A)) (es : List (Entry (List A))) → Stands columns r es → Ended InLines r es
-  less_open r es h = (h.ended, h.whole, record { order = h.order; names = names_before columns (text_of_lines r.lines) r.waiting ∙ h.markers; kept = h.kept })
+  in_lines : (r : Renderer D A (List A)) (es : List (Entry (List A))) → (h : Stands columns r es) → InLines r h.ended
+  in_lines r es h = record { order = h.order; names = names_before columns (text_of_lines r.lines) r.waiting ∙ h.markers; kept = h.kept }
 
   pub new_stands : (width : ℕ) (options : RenderOptions) (decorator : D) → Stands columns (new_renderer {D = D} {A = A} width options decorator) []
   new_stands width options decorator = grind (arith, stands)
@@ -189,17 +188,27 @@ module _ {D A : Type 0} (columns : ℕ → Option ℕ) where
   same_stand : (r s : Renderer D A (List A)) (es : List (Entry (List A))) → text_of_lines s.lines ≡ text_of_lines r.lines → s.waiting ≡ r.waiting → InLines r es → InLines s es
   same_stand r s es lines waiting k = subst (λ is. StandFor columns is es) (sym (ap (λ is. is ++ marker_items s.waiting) lines ∙ ap (λ names. text_of_lines r.lines ++ marker_items names) waiting)) k
 
-  stands_on : GoesOn columns undrawn InLines
+  stands_on : Keeps columns InLines
   stands_on = record {
     flushed = end_stands;
     laid = λ r t es k. stand_after columns (items_so_far r) t (items_so_far (with_line columns r t)) es (laid_entries t) (λ Y look looks. seen_line look looks columns r t) k (laid_stand columns t);
-    ruled = λ r b es unpadded k. same_stand r (with_border columns r b) es (border_unseen columns r b unpadded) refl k;
+    ruled = λ r b es k. same_stand r (record r { lines = r.lines ++ border b ∷ [] }) es (no_text_after r.lines b) refl k;
     stays = λ r s es stay waiting k. same_stand r s es (stay_texts r.lines s.lines stay) waiting k;
   }
 
-  pub move_stands : (m : Move D A) (r s : Renderer D A (List A)) (es : List (Entry (List A))) → Makes columns undrawn m r s → IsSound columns r → Stands columns r es → Stands columns s (es ++ brought_by m)
-  move_stands m r s es h sound k = stands s (es ++ brought_by m) (move_on columns undrawn InLines stands_on m r s es h sound (less_open r es k))
+  pub acts_stand : (decoration : Decoration D A) (acts : List (Act A)) (r s : Renderer D A (List A)) (borders : Texts A) (before : List (Entry (List A))) → IsSound columns r → run (after_act columns decoration) acts r ≡ done s →
+      WithoutDrawnBorders borders (λ q. Stands columns q before) r → WithoutDrawnBorders (borders ++ borders_drawn columns decoration acts r) (λ q. Stands columns q (acts_come columns decoration acts r before)) s
+  acts_stand decoration acts r s borders before sound h (rest, among, k) =
+      let start : InLines (record r { lines = rest }) k.ended = in_lines (record r { lines = rest }) before k in
+      let (last, whole, (left, there, all)) = acts_on columns (Less columns InLines stands_on) (less_goes_on columns InLines stands_on) decoration acts r s before borders sound h (k.ended, k.whole, (rest, among, start)) in
+      (left, there, stands (record s { lines = left }) last (acts_come columns decoration acts r before) whole all)
 
-  pub acts_stand : (decoration : Decoration D A) (acts : List (Act A)) (r s : Renderer D A (List A)) (before : List (Entry (List A))) → IsSound columns r → r.options.pad_block_width ≡ false → run (after_act columns decoration) acts r ≡ done s → Stands columns r before →
-      Stands columns s (acts_come columns decoration acts r before)
-  acts_stand decoration acts r s before sound unpadded h k = stands s _ (acts_on columns undrawn InLines stands_on decoration acts r s before sound unpadded h (less_open r before k))
+  pub new_acts_stand : (decoration : Decoration D A) (width : ℕ) (options : RenderOptions) (decorator : D) (acts : List (Act A)) (s : Renderer D A (List A)) → (let r : Renderer D A (List A) = new_renderer width options decorator in
+      IsSound columns r → run (after_act columns decoration) acts r ≡ done s → WithoutDrawnBorders (borders_drawn columns decoration acts r) (λ q. Stands columns q (acts_come columns decoration acts r [])) s)
+  new_acts_stand decoration width options decorator acts s sound h =
+      acts_stand decoration acts (new_renderer width options decorator) s [] [] sound h ([], none_among [], new_stands width options decorator)
+
+  pub acts_stand_all : (decoration : Decoration D A) (acts : List (Act A)) (r s : Renderer D A (List A)) (before : List (Entry (List A))) → IsSound columns r → DrawNone columns decoration acts r → run (after_act columns decoration) acts r ≡ done s →
+      Stands columns r before → Stands columns s (acts_come columns decoration acts r before)
+  acts_stand_all decoration acts r s before sound none h k =
+      holds_of_all columns decoration (λ q. Stands columns q (acts_come columns decoration acts r before)) acts r s sound h none (acts_stand decoration acts r s [] before sound h (r.lines, none_among r.lines, k))

@@ -13,17 +13,17 @@ module _ {D A : Type 0} (columns : ℕ → Option ℕ) (draws : DrawsInOne colum
   -- moves of calls that append nothing
   move_keeps : (m : Move D A) (r s : Renderer D A (List A)) → Makes columns own m r s → Has columns draws r → Has columns draws s
   move_keeps (flush q) r s h k = flush_keeps columns draws r s r.block h.1 k
-  move_keeps (line is) r s h k =
+  move_keeps (line p is) r s h k =
       subst (λ (q : Renderer D A (List A)). Has columns draws q) (sym h.2)
       (subst (λ (js : List (Item (List A))). Has columns draws (with_line columns r js)) (sym h.0) (line_put columns draws r [] tt k))
-  move_keeps (rule cells) r s h k = absurd h.0
+  move_keeps (rule p cells) r s h k = absurd h.0
   move_keeps (join es) r s h k = subst (λ (q : Renderer D A (List A)). Has columns draws q) (sym h) k
   move_keeps turn r s h k = (subst (LinesHaveColumns columns) (sym h.lines) k.0, rw h.hanging k.1)
 
   module _ (decoration : Decoration D A) where
     own_keeps : (c : Call (List A)) (r s : Renderer D A (List A)) → AppendsNothing c → Does columns decoration c r s → Has columns draws r → Has columns draws s
     own_keeps c r s nothing h =
-        let path = call_moves columns own decoration c r s ((λ appends is. absurd (appends nothing)), (λ adds appends. absurd (appends nothing))) h in
+        let path = call_moves columns own decoration c r s (λ appends. absurd (appends nothing)) h in
         through columns own (λ p q. Has columns draws p → Has columns draws q) (λ p q e k. subst (λ (t : Renderer D A (List A)). Has columns draws t) (sym e) k)
         (λ p q t f g k. g (f k)) move_keeps path.moves r s path.makes
 

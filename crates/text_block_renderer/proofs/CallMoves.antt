@@ -1,14 +1,14 @@
 -- Calls as the moves of which they consist.
-use Rattle.text_block_renderer.proofs.Common.{◌≡◌, ℕ, inl, inr, suc, Bool, true, false, if◌then◌else◌, Option, Some, None, List, [], ◌∷◌, ◌++◌, flat_map, fold, refl, ap, sym, subst, append-nil, arith, Each, cond_both, entry, Entry, marker_entry, Item, Decoration, RenderOptions, Open, Renderer, with_line, without_annotation, entries_of, ignores, with_events, done, run, told_by, after_block, with_empty_line, block_started, text_brings, at_line_start, with_border, border_of_cells, prefixed, with_divider, with_cells, horizontal, shown_title, struck_from, struck_until, asked_to_close, annotated, Call, add_empty_line, new_line, new_line_hard, start_block, start_table, add_inline_text, record_frag_start, begin, finish, start_strikeout, end_strikeout, add_image, push_colour, pop_colour, add_border, append_subrender, append_vert_row, after, Does, Steps, text_brought, image_brought, entries_brought, brought, Brings, borders_added, AddsNoBorder, text_laid, flush_ends, empty_adds, start_lays, start_adds, text_adds, image_adds, call_adds, calls_add, AppendsNothing}
+use Rattle.text_block_renderer.proofs.Common.{◌≡◌, ℕ, suc, Bool, true, false, if◌then◌else◌, Option, Some, None, List, [], ◌∷◌, ◌++◌, flat_map, fold, refl, ap, sym, append-nil, arith, Each, cond_both, entry, Entry, marker_entry, Item, Decoration, Renderer, with_line, without_annotation, entries_of, ignores, with_events, done, run, told_by, with_empty_line, block_started, text_brings, at_line_start, with_border, border_of_cells, prefixed, with_divider, with_cells, horizontal, shown_title, struck_from, struck_until, asked_to_close, annotated, Call, add_empty_line, new_line, new_line_hard, start_block, start_table, add_inline_text, record_frag_start, begin, finish, start_strikeout, end_strikeout, add_image, push_colour, pop_colour, add_border, append_subrender, append_vert_row, after, Does, Steps, text_brought, image_brought, entries_brought, brought, Brings, borders_added, laid, flush_ends, empty_adds, start_lays, start_adds, text_adds, image_adds, call_adds, calls_add, AppendsNothing}
 use Rattle.tbr_wrap.proofs.runs.BlockLaws.{entries_run}
 use Rattle.tbr_decor.specs.Start as start
 use Rattle.tbr_decor.specs.End as end
 use Rattle.tbr_tagged.proofs.Outcomes.{live_done}
 use Rattle.tbr_renderer.proofs.OutcomeParts.{one_done, done_first}
-use Rattle.tbr_renderer.proofs.FlushedBlocks.{FlushesBlock, flushes}
+use Rattle.tbr_renderer.proofs.FlushedBlocks.{flushes}
 use Rattle.tbr_renderer.proofs.CallParts.{FlushesThen, flushed_then, BreaksLine, break_parts, AddsTextBy, AddsText, text_parts, close_parts, open_parts, AddsImage, image_parts}
 use Rattle.tbr_renderer.specs.Calls.{made}
-use Rattle.text_block_renderer.proofs.Moves.{flush_beside, flush, line, join, SameText, alike, Kind, any, undrawn, own, Fits, MayLay, MayRule, Frame, Course, onward, one, same_course, flushed_first, stays, turned, path_frame, flushed_none}
+use Rattle.text_block_renderer.proofs.Moves.{flush_beside, flush, line, join, SameText, alike, Kind, any, own, Fits, MayLay, MayRule, Frame, Course, onward, one, same_course, flushed_first, stays, turned, path_frame, flushed_none}
 use Rattle.text_block_renderer.proofs.AppendedMoves.{lines_appended, border_added, cells_appended}
 
 -- ---- kinds
@@ -16,41 +16,38 @@ use Rattle.text_block_renderer.proofs.AppendedMoves.{lines_appended, border_adde
 may_lay_nothing : (T : Type 0) (kind : Kind) → MayLay {T = T} kind []
 may_lay_nothing T kind = grind arith
 
--- What a call that appends something may lay, and what one that adds a border may put.
-abbrev pub Suits : {T : Type 0} → Kind → RenderOptions → Call T → Type 0
-Suits {T} kind options c = ((AppendsNothing c → ⊥) → (is : List (Item T)) → MayLay kind is) × ((AddsNoBorder c → ⊥) → (AppendsNothing c → ⊥) → MayRule kind options)
+-- A call that appends something is of any kind.
+abbrev pub Suits : {T : Type 0} → Kind → Call T → Type 0
+Suits kind c = (AppendsNothing c → ⊥) → MayRule kind
 
-all_suit : {D A : Type 0} (kind : Kind) (r : Renderer D A (List A)) (calls : List (Call (List A))) → Fits kind r calls → Each (Suits kind r.options) calls
-all_suit kind r [] h = tt
-all_suit any r (c ∷ cs) h = ((λ appends is. tt, λ adds appends. tt), all_suit any r cs h)
-all_suit undrawn r (c ∷ cs) (inl h) = ((λ appends is. tt, λ adds appends. h), all_suit undrawn r cs (inl h))
-all_suit undrawn r (c ∷ cs) (inr h) = ((λ appends is. tt, λ adds appends. absurd (adds h.0)), all_suit undrawn r cs (inr h.1))
-all_suit own r (c ∷ cs) h = ((λ appends is. absurd (appends h.0), λ adds appends. absurd (appends h.0)), all_suit own r cs h.1)
+may_lay : {T : Type 0} (kind : Kind) → MayRule kind → (is : List (Item T)) → MayLay kind is
+may_lay any h is = tt
+may_lay own h is = absurd h
+
+all_suit : {T : Type 0} (kind : Kind) (calls : List (Call T)) → Fits kind calls → Each (Suits kind) calls
+all_suit kind [] h = tt
+all_suit any (c ∷ cs) h = ((λ appends. tt), all_suit any cs tt)
+all_suit own (c ∷ cs) h = ((λ appends. absurd (appends h.0)), all_suit own cs h.1)
 
 -- ---- calls
 
 module _ {D A : Type 0} (columns : ℕ → Option ℕ) (kind : Kind) where
-  empty_put : (r : Renderer D A (List A)) → r.block ≡ None → Course columns kind r (with_empty_line columns r) [] [] (text_laid [] ∷ [])
+  empty_put : (r : Renderer D A (List A)) → r.block ≡ None → Course columns kind r (with_empty_line columns r) [] [] (laid r [] ∷ [])
   empty_put r none =
       let q : Renderer D A (List A) = with_line columns r [] in
-      onward columns kind r q (with_empty_line columns r) [] [] (one columns kind (line []) r q (may_lay_nothing (List A) kind, none, refl))
+      onward columns kind r q (with_empty_line columns r) [] [] (one columns kind (line r []) r q (may_lay_nothing (List A) kind, none, refl, refl))
       (turned columns kind q (with_empty_line columns r) (with_empty_line columns r) (alike q) refl)
 
-  empty_added : (r s : Renderer D A (List A)) → FlushesThen columns (with_empty_line columns) r s → Course columns kind r s [] [] (empty_adds r)
-  empty_added r s h = flushed_first columns kind (with_empty_line columns) r s [] h (empty_put h.0 (flushed_none columns r h.0 h.1))
+  empty_added : (r s : Renderer D A (List A)) → FlushesThen columns (with_empty_line columns) r s → Course columns kind r s [] [] (empty_adds columns r)
+  empty_added r s h = flushed_first columns kind (with_empty_line columns) (λ m. laid m [] ∷ []) r s [] h (empty_put h.0 (flushed_none columns r h.0 h.1))
 
   begun : (r : Renderer D A (List A)) → r.block ≡ None → Course columns kind r (block_started columns r) [] [] (start_lays r)
   begun r none = grind (arith, empty_put, turned, alike)
 
-  flush_done : (r s : Renderer D A (List A)) (o : Option (Open (List A))) → FlushesBlock columns r o s → after_block columns r o ≡ done s
-  flush_done r s o h = grind arith
-
   started : (r s : Renderer D A (List A)) → FlushesThen columns (block_started columns) r s → Course columns kind r s [] [] (start_adds columns r)
-  started r s h =
-      same_course columns kind r s refl refl (ap (λ o. flush_ends r ++ told_by start_lays o) (sym (flush_done r h.0 r.block h.1)))
-      (flushed_first columns kind (block_started columns) r s [] h (begun h.0 (flushed_none columns r h.0 h.1)))
+  started r s h = flushed_first columns kind (block_started columns) start_lays r s [] h (begun h.0 (flushed_none columns r h.0 h.1))
 
-  broken : (r s : Renderer D A (List A)) (at : Bool) → BreaksLine columns at r s → Course columns kind r s [] [] (if at then empty_adds r else flush_ends r)
+  broken : (r s : Renderer D A (List A)) (at : Bool) → BreaksLine columns at r s → Course columns kind r s [] [] (if at then empty_adds columns r else flush_ends r)
   broken r s true h = empty_added r s h
   broken r s false h = one columns kind (flush r) r s (refl, h)
 
@@ -95,7 +92,7 @@ module _ {D A : Type 0} (columns : ℕ → Option ℕ) (kind : Kind) where
         let image = start.image source title in
         text_between (decoration.start_text r.decorator image) (λ m. without_annotation m) r (annotated decoration image r) s (alike r) (λ m. alike m) h
 
-    made_moves : (c : Call (List A)) (r s : Renderer D A (List A)) → Suits kind r.options c → made columns decoration c r ≡ done s → Course columns kind r s (entries_brought columns decoration c r) (borders_added r.width r.options c) (call_adds columns decoration c r)
+    made_moves : (c : Call (List A)) (r s : Renderer D A (List A)) → Suits kind c → made columns decoration c r ≡ done s → Course columns kind r s (entries_brought columns decoration c r) (borders_added r.width r.options c) (call_adds columns decoration c r)
     made_moves add_empty_line r s suits h = empty_added r s (flushed_then columns (with_empty_line columns) r s h)
     made_moves new_line r s suits h = one columns kind (flush r) r s (refl, flushes columns r s h)
     made_moves new_line_hard r s suits h = broken r s (at_line_start columns r r.block) (break_parts columns (at_line_start columns r r.block) r s h)
@@ -120,15 +117,15 @@ module _ {D A : Type 0} (columns : ℕ → Option ℕ) (kind : Kind) where
     made_moves (add_image source title) r s suits h = image_added source (shown_title r.options.img_mode source title) r s (image_parts columns decoration source (shown_title r.options.img_mode source title) r s h)
     made_moves (push_colour g colour) r s suits h = grind (arith, turned, alike, one_done)
     made_moves (pop_colour g) r s suits h = grind (arith, turned, alike, one_done)
-    made_moves (add_border width) r s suits h = border_added columns kind width r s (suits.1 (λ no. no) (λ no. no)) (flushed_then columns (λ m. with_border columns m (border_of_cells horizontal width r)) r s h)
-    made_moves (append_subrender prefixes lines) r s suits h = lines_appended columns kind prefixes lines r s (suits.0 (λ no. no)) (flushed_then columns (λ m. fold (with_line columns) m (prefixed r.annotations prefixes lines)) r s h)
-    made_moves (append_vert_row cells) r s suits h = cells_appended columns kind (suits.0 (λ no. no)) cells r s (suits.1 (λ no. no) (λ no. no)) (flushed_then columns (λ m. with_divider columns horizontal (with_cells columns m cells)) r s h)
+    made_moves (add_border width) r s suits h = border_added columns kind width r s (suits (λ no. no)) (flushed_then columns (λ m. with_border columns m (border_of_cells horizontal width r)) r s h)
+    made_moves (append_subrender prefixes lines) r s suits h = lines_appended columns kind prefixes lines r s (may_lay kind (suits (λ no. no))) (flushed_then columns (λ m. fold (with_line columns) m (prefixed r.annotations prefixes lines)) r s h)
+    made_moves (append_vert_row cells) r s suits h = cells_appended columns kind (may_lay kind (suits (λ no. no))) cells r s (suits (λ no. no)) (flushed_then columns (λ m. with_divider columns horizontal (with_cells columns m cells)) r s h)
     made_moves call r s suits h = turned columns kind r _ s (alike r) (one_done _ s h)
 
-    pub call_moves : (c : Call (List A)) (r s : Renderer D A (List A)) → Suits kind r.options c → Does columns decoration c r s → Course columns kind r s (entries_brought columns decoration c r) (borders_added r.width r.options c) (call_adds columns decoration c r)
+    pub call_moves : (c : Call (List A)) (r s : Renderer D A (List A)) → Suits kind c → Does columns decoration c r s → Course columns kind r s (entries_brought columns decoration c r) (borders_added r.width r.options c) (call_adds columns decoration c r)
     call_moves c r s suits h = made_moves c r s suits (live_done r.failure (made columns decoration c r) s h).1
 
-    steps_move : (calls : List (Call (List A))) (r s : Renderer D A (List A)) → Each (Suits kind r.options) calls → Steps columns decoration calls r s →
+    steps_move : (calls : List (Call (List A))) (r s : Renderer D A (List A)) → Each (Suits kind) calls → Steps columns decoration calls r s →
         Course columns kind r s (brought columns decoration calls r) (flat_map (borders_added r.width r.options) calls) (calls_add columns decoration calls r)
     steps_move [] r s suit h = stays columns kind r s (one_done r s h)
     steps_move (c ∷ cs) r s suit h =
@@ -137,11 +134,11 @@ module _ {D A : Type 0} (columns : ℕ → Option ℕ) (kind : Kind) where
         let adds = call_adds columns decoration c r in
         let path = call_moves c r m suit.0 does in
         let same = path_frame columns kind r m first _ path in
-        let others = steps_move cs m s (subst (λ (o : RenderOptions). Each (Suits kind o) cs) (sym (ap (λ (f : Frame A). f.options) same)) suit.1) steps in
+        let others = steps_move cs m s suit.1 steps in
         same_course columns kind r s (ap (λ o. first ++ told_by (brought columns decoration cs) o) (sym does))
         (ap (λ (f : Frame A). borders_added r.width r.options c ++ flat_map (borders_added f.width f.options) cs) same)
         (ap (λ o. adds ++ told_by (calls_add columns decoration cs) o) (sym does)) (onward columns kind r m s first (brought columns decoration cs m) path others)
 
-    pub calls_move : (calls : List (Call (List A))) (r s : Renderer D A (List A)) (es : List (Entry (List A))) → Fits kind r calls → Brings columns decoration calls r es s →
+    pub calls_move : (calls : List (Call (List A))) (r s : Renderer D A (List A)) (es : List (Entry (List A))) → Fits kind calls → Brings columns decoration calls r es s →
         Course columns kind r s es (flat_map (borders_added r.width r.options) calls) (calls_add columns decoration calls r)
-    calls_move calls r s es fits h = same_course columns kind r s (sym h.1) refl refl (steps_move calls r s (all_suit kind r calls fits) h.0)
+    calls_move calls r s es fits h = same_course columns kind r s (sym h.1) refl refl (steps_move calls r s (all_suit kind calls fits) h.0)

@@ -47,11 +47,11 @@ pub use Rattle.tbr_renderer.specs.Renderer.{IsSound, Open, Renderer, Settings, b
 pub use Rattle.tbr_renderer.specs.Rows.{ComesAs, FillsCell, GivenCell, PutsRow, after_row, border_lines, cells_from, style_in, with_next, with_row}
 pub use Rattle.tbr_renderer.specs.Steps.{after_block_start, after_first_text, after_joining, after_text, at_line_start, block_started, text_brings, with_empty_line}
 pub use Rattle.tbr_renderer.specs.declared.options.RenderOptions.{RenderOptions}
-pub use Rattle.text_block_renderer.specs.Acts.{Act, ActIsTooNarrow, ComesInPieces, IsPiece, KeepsText, Piece, PutRow, StaysLine, act_adds, act_brought, act_comes, act_enters, acts_add, acts_come, acts_enter, added_of_piece, after_act, before_run, border_lines_of, call, cells_in, entries_of_piece, finalise, fmt_links, lines_of_piece, noted, part, put, row, row_seen, rows_in, rows_of, texts_of_row}
-pub use Rattle.text_block_renderer.specs.Added.{Added, below_adds, border_put, call_adds, calls_add, cell_lays, cells_add, divider_adds, empty_adds, flush_ends, image_adds, run_of_block, start_adds, start_lays, text_adds, text_laid}
-pub use Rattle.text_block_renderer.specs.Drawn.{AddsNoBorder, AreDrawnAmong, CameWithoutDrawnBorders, DrawNone, WithoutDrawnBorders, as_it_is, borders_added, borders_drawn, cells_drawn, drawn, line_put, not_drawn, row_borders}
+pub use Rattle.text_block_renderer.specs.Acts.{Act, ActIsTooNarrow, Added, ComesInPieces, IsPiece, KeepsText, Piece, PutRow, StaysLine, act_adds, act_brought, act_comes, act_enters, acts_add, acts_come, acts_enter, added_of_piece, after_act, before_run, border_lines_of, call, cells_in, entries_of_piece, finalise, fmt_links, lines_of_piece, note_added, noted, notes_add, part, part_added, put, row, row_added, row_seen, rows_in, rows_of, texts_of_row}
+pub use Rattle.text_block_renderer.specs.Added.{Part, below_add, call_adds, calls_add, cell_adds, cells_add, divider_adds, empty_adds, ended, flush_adds, flush_ends, image_adds, laid, ruled, run_of_block, start_adds, start_lays, text_adds, texts_add, vert_row_adds}
+pub use Rattle.text_block_renderer.specs.Drawn.{AreDrawnAmong, DrawNone, WithoutDrawnBorders, as_it_is, border_drawn, borders_added, borders_drawn, drawn, drawn_below, drawn_of_added, drawn_of_part, drawn_of_row, line_put, not_drawn, row_borders, text_drawn}
 pub use Rattle.text_block_renderer.specs.Headline.{CellsFit, FitsCell, Headline, IsCellOf, LinesFit, NoLayoutIsAhead, StandsOnce, TakeTwoAtMost}
-pub use Rattle.text_block_renderer.specs.MarkersStand.{BeginsWith, FlushStands, Stands, WaitForText, WaitForTextUnderRows, first_text, items_so_far}
-pub use Rattle.text_block_renderer.specs.Nested.{HandOn, HandsOn, IsFront, nested, shortest, visible_after}
-pub use Rattle.text_block_renderer.specs.Stretches.{AppendsNothing, ComesInParts, EndsAsStretch, IsOwnPart, IsPart, NoneIsAhead, Part, StandsAsStretch, StaysOpen, added_of_part, borders_of_part, ended, entries_of_part, items_on, laid, lines_laid, lines_of_part, padded_line, ruled, stretch}
+pub use Rattle.text_block_renderer.specs.MarkersStand.{BeginsWith, FlushStands, Stands, WaitForText, first_text, items_so_far}
+pub use Rattle.text_block_renderer.specs.Nested.{BecomesLine, HandOn, HandsOn, Level, lines_left, markers_before, nested, visible_after}
+pub use Rattle.text_block_renderer.specs.Stretches.{AppendsNothing, ComesInParts, EndsAsStretch, IsOwnPart, IsPart, NoneIsAhead, StandsAsStretch, StaysOpen, borders_of_part, entries_of_part, items_on, lines_laid, lines_of_part, padded_line, stretch}
 pub use Rattle.text_block_renderer.specs.Taken.{AreTakenIn, AreWrittenIn, CallTakes, IsWrittenSoFar, NothingOverhangs, StandWithin, Takes, text_before, to_show, written}

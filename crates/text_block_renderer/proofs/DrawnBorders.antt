@@ -1,109 +1,72 @@
--- What holds of moves of which no border becomes text, holds of all moves on the lines less the borders drawn as text.
-use Rattle.text_block_renderer.proofs.Common.{◌≡◌, ℕ, ◌-◌, if◌then◌else◌, Bool, true, false, Option, Some, None, List, [], ◌∷◌, ◌++◌, map, flat_map, fold, refl, ap, sym, ◌∙◌, subst, append_assoc, append-nil, arith, map-append, flat_map-append, Entry, Item, items_width, Border, shown, without_holes, Decoration, RenderOptions, Line, text, border, Open, Renderer, new_renderer, line_padding, with_line, IsSound, marker_items, block_lines, flushed, lines_at_end, names_at_end, border_line, with_border, Call, Steps, Brings, all_brought, text_of_lines, as_it_is, drawn, line_put, not_drawn, cells_drawn, AreDrawnAmong, WithoutDrawnBorders, CameWithoutDrawnBorders, borders_drawn, DrawNone}
-use Rattle.tbr_border.specs.Cell.{Cell}
-use Rattle.tbr_renderer.proofs.FlushedBlocks.{EndsBlock, FlushesBlock}
-use Rattle.text_block_renderer.proofs.Moves.{Kind, Fits, Move, flush, line, rule, join, turn, brought_by, brought, brought-append, ruled_by, ruled, Makes, MakesAll, makes-append, move_options, sound_moved, along, through, any, undrawn}
-use Rattle.text_block_renderer.proofs.CallMoves.{calls_move}
-use Rattle.text_block_renderer.proofs.LineContents.{no_text_after}
+-- Borders that were drawn as text, and what holds of a renderer with its lines less these.
+use Rattle.text_block_renderer.proofs.Common.{◌≡◌, ℕ, inl, inr, Bool, true, false, if◌then◌else◌, Option, Some, None, List, [], ◌∷◌, ◌++◌, map, flat_map, fold, refl, ap, sym, ◌∙◌, subst, append_assoc, append-nil, arith, AllZip, Each, map-append, flat_map-append, run_of, Entry, Item, Border, shown, without_holes, SeenRow, Decoration, Line, text, border, Open, Renderer, RenderOptions, line_padding, with_line, IsSound, marker_items, block_lines, flushed, lines_at_end, names_at_end, with_border, laid_entries, run, done, ended, laid, ruled, Act, after_act, row_seen, Piece, part, put, noted, added_of_piece, IsPiece, StaysLine, as_it_is, drawn, line_put, not_drawn, text_drawn, AreDrawnAmong, WithoutDrawnBorders, border_drawn, drawn_of_row, drawn_of_added, borders_drawn, DrawNone}
+use Rattle.text_block_renderer.specs.Drawn.{Put}
+use Rattle.tbr_renderer.proofs.FlushedBlocks.{EndsBlock}
+use Rattle.text_block_renderer.proofs.ActParts.{acts_along}
+use Rattle.text_block_renderer.proofs.EndedEntries.{Texts, GoesOn}
+
+-- ---- lines less borders
 
 module _ {T : Type 0} where
   -- more lines after lines
-  among_both : (bs cs : List (List Cell)) (ls ms ks ns : List (Line T)) → AreDrawnAmong bs ls ks → AreDrawnAmong cs ms ns → AreDrawnAmong (bs ++ cs) (ls ++ ms) (ks ++ ns)
+  pub among_both : (bs cs : List (List (Item T))) (ls ms ks ns : List (Line T)) → AreDrawnAmong bs ls ks → AreDrawnAmong cs ms ns → AreDrawnAmong (bs ++ cs) (ls ++ ms) (ks ++ ns)
   among_both bs cs ls ms ks ns g h = (
     g.0 ++ h.0,
     ap (λ us. us ++ ms) g.1 ∙ ap (λ us. map line_put g.0 ++ us) h.1 ∙ sym (map-append line_put g.0 h.0),
-    ap (λ us. us ++ cs) g.2 ∙ ap (λ us. flat_map cells_drawn g.0 ++ us) h.2 ∙ sym (flat_map-append cells_drawn g.0 h.0),
+    ap (λ us. us ++ cs) g.2 ∙ ap (λ us. flat_map text_drawn g.0 ++ us) h.2 ∙ sym (flat_map-append text_drawn g.0 h.0),
     ap (λ us. us ++ ns) g.3 ∙ ap (λ us. flat_map not_drawn g.0 ++ us) h.3 ∙ sym (flat_map-append not_drawn g.0 h.0),
   )
 
-  none_among : (ls : List (Line T)) → AreDrawnAmong [] ls ls
+  pub none_among : (ls : List (Line T)) → AreDrawnAmong [] ls ls
   none_among [] = ([], refl, refl, refl)
   none_among (l ∷ ls) = among_both [] [] (l ∷ []) ls (l ∷ []) ls (as_it_is l ∷ [], refl, refl, refl) (none_among ls)
 
--- borders, each where it is drawn
-abbrev pub if_drawn : Bool → List (List Cell) → List (List Cell)
-if_drawn pads bs = flat_map (λ b. if pads then b ∷ [] else []) bs
+  -- lines that aren't drawn after them
+  pub among_more : (bs : List (List (Item T))) (ls ks more : List (Line T)) → AreDrawnAmong bs ls ks → AreDrawnAmong bs (ls ++ more) (ks ++ more)
+  among_more bs ls ks more h = subst (λ cs. AreDrawnAmong cs (ls ++ more) (ks ++ more)) (append-nil bs) (among_both bs [] ls more ks more h (none_among more))
 
-all_or_none : (pads : Bool) (bs : List (List Cell)) → if_drawn pads bs ≡ (if pads then bs else [])
-all_or_none true [] = refl
-all_or_none true (b ∷ bs) = ap (λ cs. b ∷ cs) (all_or_none true bs)
-all_or_none false [] = refl
-all_or_none false (b ∷ bs) = all_or_none false bs
+  -- and one that is
+  pub among_drawn : (bs : List (List (Item T))) (ls ks : List (Line T)) (is : List (Item T)) → AreDrawnAmong bs ls ks → AreDrawnAmong (bs ++ is ∷ []) (ls ++ text is ∷ []) ks
+  among_drawn bs ls ks is h = subst (AreDrawnAmong (bs ++ is ∷ []) (ls ++ text is ∷ [])) (append-nil ks) (among_both bs (is ∷ []) ls (text is ∷ []) ks [] h (drawn is ∷ [], refl, refl, refl))
+
+  all_put : (puts : List (Put T)) → [] ≡ flat_map text_drawn puts → flat_map not_drawn puts ≡ map line_put puts
+  all_put [] none = refl
+  all_put (as_it_is l ∷ puts) none = ap (λ ls. l ∷ ls) (all_put puts none)
+  all_put (drawn is ∷ puts) none = absurd (let no : ⊥ = cc in no)
+
+  -- where none is drawn the rest is all
+  pub all_are_left : (ls ks : List (Line T)) → AreDrawnAmong [] ls ks → ks ≡ ls
+  all_are_left ls ks (puts, lines, none, rest) = rest ∙ all_put puts none ∙ sym lines
+
+  puts_stay : (puts : List (Put T)) (ms : List (Line T)) → AllZip StaysLine (map line_put puts) ms →
+      (qs : List (Put T)) × (ms ≡ map line_put qs) × (flat_map text_drawn puts ≡ flat_map text_drawn qs) × AllZip StaysLine (flat_map not_drawn puts) (flat_map not_drawn qs)
+  puts_stay [] [] h = ([], refl, refl, tt)
+  puts_stay (as_it_is l ∷ puts) (m ∷ ms) h = let (qs, are, same, stay) = puts_stay puts ms h.1 in (as_it_is m ∷ qs, ap (λ ns. m ∷ ns) are, same, (h.0, stay))
+  puts_stay (drawn is ∷ puts) (text js ∷ ms) h =
+      let (qs, are, same, stay) = puts_stay puts ms h.1 in
+      (drawn js ∷ qs, ap (λ ns. text js ∷ ns) are, ap (λ ks. ks ∷ flat_map text_drawn puts) (sym h.0) ∙ ap (λ ts. js ∷ ts) same, stay)
+  puts_stay (drawn is ∷ puts) (border b ∷ ms) h = absurd h.0
+  puts_stay puts ms h = absurd h
+
+  -- lines that stay
+  pub among_stay : (bs : List (List (Item T))) (ls ks ms : List (Line T)) → AreDrawnAmong bs ls ks → AllZip StaysLine ls ms → (ns : List (Line T)) × AreDrawnAmong bs ms ns × AllZip StaysLine ks ns
+  among_stay bs ls ks ms (puts, lines, drawn_are, rest) h =
+      let (qs, are, same, stay) = puts_stay puts ms (subst (λ us. AllZip StaysLine us ms) lines h) in
+      (flat_map not_drawn qs, (qs, are, drawn_are ∙ same, refl), subst (λ us. AllZip StaysLine us (flat_map not_drawn qs)) (sym rest) stay)
 
 module _ {D A : Type 0} (columns : ℕ → Option ℕ) where
-  pub border_stays : (r : Renderer D A (List A)) (b : Border (List A)) → r.options.pad_block_width ≡ false → border_line columns r b ≡ border b
-  border_stays r b e = rw e refl
-
-  pub border_unseen : (r : Renderer D A (List A)) (b : Border (List A)) → r.options.pad_block_width ≡ false → text_of_lines (r.lines ++ border_line columns r b ∷ []) ≡ text_of_lines r.lines
-  border_unseen r b e = ap (λ l. text_of_lines (r.lines ++ l ∷ [])) (border_stays r b e) ∙ no_text_after r.lines b
-
-  abbrev line_laid : Renderer D A (List A) → List (Item (List A)) → Line (List A)
-  line_laid r is = let marked = marker_items r.waiting ++ is in text (marked ++ line_padding columns r marked)
-
   -- the renderer with other lines
   abbrev on : Renderer D A (List A) → List (Line (List A)) → Renderer D A (List A)
   on r ls = record r { lines = ls }
-
-  -- Moves lead from one renderer to the other, where lines that came are after other lines, but for the borders drawn
-  -- as text.
-  record Less (r s : Renderer D A (List A)) (ls : List (Line (List A))) (es : List (Entry (List A))) (bs : List (List Cell)) : Type 0 where
-    more : List (Line (List A))
-    rest : List (Line (List A))
-    came : s.lines ≡ r.lines ++ more
-    among : AreDrawnAmong bs more rest
-    moves : List (Move D A)
-    makes : MakesAll columns undrawn moves (on r ls) (on s (ls ++ rest))
-    brings : brought moves ≡ es
-
-  less_on : (r q s : Renderer D A (List A)) (ls : List (Line (List A))) (es fs : List (Entry (List A))) (bs cs : List (List Cell)) → (g : Less r q ls es bs) → Less q s (ls ++ g.rest) fs cs → Less r s ls (es ++ fs) (bs ++ cs)
-  less_on r q s ls es fs bs cs g h = record {
-    more = g.more ++ h.more;
-    rest = g.rest ++ h.rest;
-    came = h.came ∙ ap (λ ms. ms ++ h.more) g.came ∙ append_assoc r.lines g.more h.more;
-    among = among_both bs cs g.more h.more g.rest h.rest g.among h.among;
-    moves = g.moves ++ h.moves;
-    makes = grind (arith, undrawn, append_assoc, makes-append);
-    brings = brought-append g.moves h.moves ∙ ap (λ gs. gs ++ brought h.moves) g.brings ∙ ap (λ gs. es ++ gs) h.brings;
-  }
-
-  -- the lines that came are as they are
-  as_they_are : (m : Move D A) (r s : Renderer D A (List A)) (ls more : List (Line (List A))) → s.lines ≡ r.lines ++ more → Makes columns undrawn m (on r ls) (on s (ls ++ more)) → Less r s ls (brought_by m) []
-  as_they_are m r s ls more lines makes = record {
-    more = more;
-    rest = more;
-    came = lines;
-    among = none_among more;
-    moves = m ∷ [];
-    makes = (on s (ls ++ more), makes, refl);
-    brings = append-nil (brought_by m);
-  }
-
-  no_line : (m : Move D A) (r s : Renderer D A (List A)) (ls : List (Line (List A))) → s.lines ≡ r.lines → Makes columns undrawn m (on r ls) (on s ls) → Less r s ls (brought_by m) []
-  no_line m r s ls lines makes =
-      as_they_are m r s ls [] (lines ∙ sym (append-nil r.lines)) (subst (λ ms. Makes columns undrawn m (on r ls) (on s ms)) (sym (append-nil ls)) makes)
-
-  -- no move is left
-  nothing : (r s : Renderer D A (List A)) (ls more : List (Line (List A))) (bs : List (List Cell)) → s.lines ≡ r.lines ++ more → AreDrawnAmong bs more [] → on s ls ≡ on r ls → Less r s ls [] bs
-  nothing r s ls more bs came among same = record {
-    more = more;
-    rest = [];
-    came = came;
-    among = among;
-    moves = [];
-    makes = ap (on s) (append-nil ls) ∙ same;
-    brings = refl;
-  }
-
-  -- ---- each move
 
   -- lines come alike, whatever lines there are
   come_alike : (ts : List (List (Item (List A)))) (r : Renderer D A (List A)) (ls : List (Line (List A))) →
       (more : List (Line (List A))) × ((fold (with_line columns) r ts).lines ≡ r.lines ++ more) × (fold (with_line columns) (on r ls) ts ≡ on (fold (with_line columns) r ts) (ls ++ more))
   come_alike [] r ls = ([], sym (append-nil r.lines), ap (on r) (sym (append-nil ls)))
   come_alike (t ∷ ts) r ls =
-      let marked = line_laid r t in
-      let (more, lines, others) = come_alike ts (with_line columns r t) (ls ++ marked ∷ []) in
-      (marked ∷ more, lines ∙ append_assoc r.lines (marked ∷ []) more, others ∙ ap (on (fold (with_line columns) (with_line columns r t) ts)) (append_assoc ls (marked ∷ []) more))
+      let put_line = (let marked = marker_items r.waiting ++ t in text (marked ++ line_padding columns r marked)) in
+      let (more, lines, others) = come_alike ts (with_line columns r t) (ls ++ put_line ∷ []) in
+      (put_line ∷ more, lines ∙ append_assoc r.lines (put_line ∷ []) more, others ∙ ap (on (fold (with_line columns) (with_line columns r t) ts)) (append_assoc ls (put_line ∷ []) more))
 
   -- a run ends alike too
   pub end_alike : (r s : Renderer D A (List A)) (ls : List (Line (List A))) (b : Open (List A)) → EndsBlock columns r b s → (more : List (Line (List A))) × (s.lines ≡ r.lines ++ more) × EndsBlock columns (on r ls) b (on s (ls ++ more))
@@ -112,94 +75,81 @@ module _ {D A : Type 0} (columns : ℕ → Option ℕ) where
       let same : on s (ls ++ more) ≡ flushed columns (on r ls) (block_lines columns r b (lines_at_end columns r b)) (names_at_end columns r b) = grind arith in
       (more, ap (λ (q : Renderer D A (List A)). q.lines) h.is ∙ lines, record { fits = h.fits; ends = λ sound. h.ends (record { space = sound.space; wide = sound.wide }); is = same })
 
-  flush_less : (r s : Renderer D A (List A)) (ls : List (Line (List A))) (o : Option (Open (List A))) → o ≡ r.block → FlushesBlock columns r o s → Less r s ls [] []
-  flush_less r s ls None e h =
-      nothing r s ls [] [] (ap (λ (q : Renderer D A (List A)). q.lines) h ∙ sym (append-nil r.lines)) (none_among []) (ap (λ (q : Renderer D A (List A)). on q ls) h)
-  flush_less r s ls (Some b) e h =
-      let (more, lines, ends) = end_alike r s ls b h in
-      as_they_are (flush (on r ls)) r s ls more lines (refl, subst (λ (p : Option (Open (List A))). FlushesBlock columns (on r ls) p (on s (ls ++ more))) e ends)
+  -- ---- what goes on to hold of the lines less borders drawn as text
 
-  rule_less : (r s : Renderer D A (List A)) (ls : List (Line (List A))) (cells : List Cell) (pads : Bool) → r.options.pad_block_width ≡ pads → r.block ≡ None → s ≡ with_border columns r (without_holes cells r.annotations) → Less r s ls [] (if_drawn pads (cells ∷ []))
-  rule_less r s ls cells true e none h =
-      let b = without_holes cells r.annotations in
-      let put = drawn cells (r.width - items_width columns (shown b.tag b)) r.annotations in
-      let line_is : border_line columns r b ≡ line_put put = rw e refl in
-      nothing r s ls (line_put put ∷ []) (cells ∷ []) (ap (λ (q : Renderer D A (List A)). q.lines) h ∙ ap (λ l. r.lines ++ l ∷ []) line_is)
-      (put ∷ [], refl, refl, refl) (ap (λ (q : Renderer D A (List A)). on q ls) h)
-  rule_less r s ls cells false e none h =
-      let b = without_holes cells r.annotations in
-      let line_is = border_stays r b e in
-      as_they_are (rule cells) r s ls (border b ∷ []) (ap (λ (q : Renderer D A (List A)). q.lines) h ∙ ap (λ l. r.lines ++ l ∷ []) line_is)
-      (e, none, ap (λ (q : Renderer D A (List A)). on q (ls ++ border b ∷ [])) h ∙ ap (λ l. on r (ls ++ l ∷ [])) (sym line_is))
+  -- What goes on to hold, where a border that is put stays one.
+  pub record Keeps (Q : Renderer D A (List A) → List (Entry (List A)) → Type 0) : Type 0 where
+    pub flushed : (r s : Renderer D A (List A)) (b : Open (List A)) (es : List (Entry (List A))) → EndsBlock columns r b s → IsSound columns r → Q r es → Q s (es ++ run_of b.events)
+    pub laid : (r : Renderer D A (List A)) (t : List (Item (List A))) (es : List (Entry (List A))) → Q r es → Q (with_line columns r t) (es ++ laid_entries t)
+    pub ruled : (r : Renderer D A (List A)) (b : Border (List A)) (es : List (Entry (List A))) → Q r es → Q (record r { lines = r.lines ++ border b ∷ [] }) es
+    pub stays : (r s : Renderer D A (List A)) (es : List (Entry (List A))) → AllZip StaysLine r.lines s.lines → s.waiting ≡ r.waiting → Q r es → Q s es
 
-  move_less : (m : Move D A) (r s : Renderer D A (List A)) (ls : List (Line (List A))) (pads : Bool) → r.options.pad_block_width ≡ pads → Makes columns any m r s → Less r s ls (brought_by m) (if_drawn pads (ruled_by m))
-  move_less (flush q) r s ls pads e h = flush_less r s ls r.block refl h.1
-  move_less (line is) r s ls pads e h =
-      let marked = line_laid r is in
-      as_they_are (line is) r s ls (marked ∷ []) (ap (λ (q : Renderer D A (List A)). q.lines) h.2) (tt, h.1, ap (λ (q : Renderer D A (List A)). on q (ls ++ marked ∷ [])) h.2)
-  move_less (rule cells) r s ls pads e h = rule_less r s ls cells pads e h.1 h.2
-  move_less (join es) r s ls pads e h = no_line (join es) r s ls (ap (λ (q : Renderer D A (List A)). q.lines) h) (ap (λ (q : Renderer D A (List A)). on q ls) h)
-  move_less turn r s ls pads e h = no_line turn r s ls h.lines (record { lines = refl; block = h.block; waiting = h.waiting; width = h.width; options = h.options; hanging = h.hanging })
+  module _ (Q : Renderer D A (List A) → List (Entry (List A)) → Type 0) (keeps : Keeps Q) where
+    abbrev pub Less : Renderer D A (List A) → List (Entry (List A)) → Texts A → Type 0
+    Less r es bs = WithoutDrawnBorders bs (λ q. Q q es) r
 
-  moves_less : (ms : List (Move D A)) (r s : Renderer D A (List A)) (ls : List (Line (List A))) (pads : Bool) → r.options.pad_block_width ≡ pads → MakesAll columns any ms r s → Less r s ls (brought ms) (if_drawn pads (ruled ms))
-  moves_less [] r s ls pads e h = nothing r s ls [] [] (ap (λ (q : Renderer D A (List A)). q.lines) h ∙ sym (append-nil r.lines)) (none_among []) (ap (λ (q : Renderer D A (List A)). on q ls) h)
-  moves_less (m ∷ ms) r s ls pads e h =
-      let first = move_less m r h.0 ls pads e h.1 in
-      let still = ap (λ (o : RenderOptions). o.pad_block_width) (move_options columns any m r h.0 h.1) ∙ e in
-      let others = moves_less ms h.0 s (ls ++ first.rest) pads still h.2 in
-      subst (Less r s ls (brought_by m ++ brought ms)) (sym (flat_map-append (λ b. if pads then b ∷ [] else []) (ruled_by m) (ruled ms)))
-      (less_on r h.0 s ls (brought_by m) (brought ms) (if_drawn pads (ruled_by m)) (if_drawn pads (ruled ms)) first others)
+    flushed_less : (r s : Renderer D A (List A)) (b : Open (List A)) (es : List (Entry (List A))) (bs : Texts A) → EndsBlock columns r b s → IsSound columns r → Less r es bs → Less s (es ++ run_of b.events) bs
+    flushed_less r s b es bs h sound (rest, among, k) =
+        let (more, lines, ends) = end_alike r s rest b h in
+        let sound_on : IsSound columns (on r rest) = record { space = sound.space; wide = sound.wide } in
+        (rest ++ more, subst (λ ls. AreDrawnAmong bs ls (rest ++ more)) (sym lines) (among_more bs r.lines rest more among), keeps.flushed (on r rest) (on s (rest ++ more)) b es ends sound_on k)
 
-  -- ---- calls
+    laid_less : (r : Renderer D A (List A)) (t : List (Item (List A))) (es : List (Entry (List A))) (bs : Texts A) → Less r es bs → Less (with_line columns r t) (es ++ laid_entries t) bs
+    laid_less r t es bs (rest, among, k) =
+        let marked = marker_items r.waiting ++ t in
+        let more = text (marked ++ line_padding columns r marked) ∷ [] in
+        (rest ++ more, among_more bs r.lines rest more among, keeps.laid (on r rest) t es k)
 
-  -- what moves of a kind keep of a sound renderer, calls of the kind keep
-  module _ (kind : Kind) (P : Renderer D A (List A) → List (Entry (List A)) → Type 0)
-      (each : (m : Move D A) (r s : Renderer D A (List A)) (es : List (Entry (List A))) → Makes columns kind m r s → IsSound columns r → P r es → P s (es ++ brought_by m)) where
-    -- it holds where the renderer is sound, and so it goes on
-    along_sound : (ms : List (Move D A)) (r s : Renderer D A (List A)) (es : List (Entry (List A))) → IsSound columns r → MakesAll columns kind ms r s → P r es → P s (es ++ brought ms)
-    along_sound ms r s es sound makes k =
-        (along columns kind (λ t fs. IsSound columns t × P t fs) (λ m q t fs h j. (sound_moved columns kind m q t h j.0, each m q t fs h j.0 j.1)) ms r s es makes (sound, k)).1
+    ruled_less : (r : Renderer D A (List A)) (b : Border (List A)) (es : List (Entry (List A))) (bs : Texts A) → Less r es bs → Less (with_border columns r b) es (bs ++ border_drawn columns r b)
+    ruled_less r b es bs (rest, among, k) =
+        let is = (let shows = shown b.tag b in shows ++ line_padding columns r shows) in
+        elim r.options.pad_block_width as (λ (pads : Bool). Less (record r { lines = r.lines ++ (if pads then text is else border b) ∷ [] }) es (bs ++ (if pads then is ∷ [] else []))) [
+          | true ↦ (rest, among_drawn bs r.lines rest is among, k)
+          | false ↦ (
+            rest ++ border b ∷ [],
+            subst (λ cs. AreDrawnAmong cs (r.lines ++ border b ∷ []) (rest ++ border b ∷ [])) (sym (append-nil bs)) (among_more bs r.lines rest (border b ∷ []) among),
+            keeps.ruled (on r rest) b es k,
+          )
+        ]
 
-    pub calls_bring_on : (decoration : Decoration D A) (calls : List (Call (List A))) (r s : Renderer D A (List A)) (before es : List (Entry (List A))) →
-        IsSound columns r → Fits kind r calls → Brings columns decoration calls r es s → P r before → P s (before ++ es)
-    calls_bring_on decoration calls r s before es sound fits h k = grind (arith, calls_move columns kind decoration calls r s es fits h, along_sound)
+    stays_less : (r s : Renderer D A (List A)) (es : List (Entry (List A))) (bs : Texts A) → AllZip StaysLine r.lines s.lines → s.waiting ≡ r.waiting → Less r es bs → Less s es bs
+    stays_less r s es bs stay waiting (rest, among, k) =
+        let (left, here, same) = among_stay bs r.lines rest s.lines among stay in
+        (left, here, keeps.stays (on r rest) (on s left) es same waiting k)
 
-  module _ (P : Renderer D A (List A) → List (Entry (List A)) → Type 0)
-      (each : (m : Move D A) (r s : Renderer D A (List A)) (es : List (Entry (List A))) → Makes columns undrawn m r s → IsSound columns r → P r es → P s (es ++ brought_by m)) where
-    pub moves_on : (ms : List (Move D A)) (r s : Renderer D A (List A)) (borders : List (List Cell)) (before : List (Entry (List A))) →
-        IsSound columns r → MakesAll columns any ms r s → WithoutDrawnBorders borders (λ q. P q before) r → WithoutDrawnBorders (borders ++ if_drawn r.options.pad_block_width (ruled ms)) (λ q. P q (before ++ brought ms)) s
-    moves_on ms r s borders before sound makes k =
-        let (ls, among, holds) = k in
-        let bs = if_drawn r.options.pad_block_width (ruled ms) in
-        let less = moves_less ms r s ls r.options.pad_block_width refl makes in
-        let q : Renderer D A (List A) = on s (ls ++ less.rest) in
-        let all : P q (before ++ brought less.moves) = along_sound undrawn P each less.moves (on r ls) q before (record { space = sound.space; wide = sound.wide }) less.makes holds in
-        let drawn_all = among_both borders bs r.lines less.more ls less.rest among less.among in
-        (ls ++ less.rest, subst (λ ms. AreDrawnAmong (borders ++ bs) ms (ls ++ less.rest)) (sym less.came) drawn_all, subst (λ fs. P q (before ++ fs)) less.brings all)
+    pub less_goes_on : GoesOn columns Less
+    less_goes_on = record { flushed = flushed_less; laid = laid_less; ruled = ruled_less; stays = stays_less }
 
-    pub brings_on : (decoration : Decoration D A) (calls : List (Call (List A))) (r s : Renderer D A (List A)) (borders : List (List Cell)) (before es : List (Entry (List A))) →
-        IsSound columns r → Brings columns decoration calls r es s → WithoutDrawnBorders borders (λ q. P q before) r → WithoutDrawnBorders (borders ++ borders_drawn r calls) (λ q. P q (before ++ es)) s
-    brings_on decoration calls r s borders before es sound h k =
-        let path = calls_move columns any decoration calls r s es tt h in
-        subst (λ bs. WithoutDrawnBorders (borders ++ bs) (λ q. P q (before ++ es)) s) (ap (if_drawn r.options.pad_block_width) path.rules ∙ all_or_none r.options.pad_block_width _)
-        (subst (λ fs. WithoutDrawnBorders (borders ++ if_drawn r.options.pad_block_width (ruled path.moves)) (λ q. P q (before ++ fs)) s) path.brings (moves_on path.moves r s borders before sound path.makes k))
+  -- ---- where none is drawn
 
-    -- of new ones, of which it holds
-    pub new_brings_on : ((width : ℕ) (options : RenderOptions) (decorator : D) → P (new_renderer width options decorator) []) → (decoration : Decoration D A) (width : ℕ) (options : RenderOptions) (decorator : D) (calls : List (Call (List A))) (s : Renderer D A (List A)) (es : List (Entry (List A))) →
-        (let r : Renderer D A (List A) = new_renderer width options decorator in IsSound columns r → Brings columns decoration calls r es s → WithoutDrawnBorders (borders_drawn r calls) (λ q. P q es) s)
-    new_brings_on none decoration width options decorator calls s es sound h = brings_on decoration calls (new_renderer width options decorator) s [] [] es sound h ([], ([], refl, refl, refl), none width options decorator)
+  module _ (decoration : Decoration D A) where
+    border_undrawn : (q : Renderer D A (List A)) (b : Border (List A)) → q.options.pad_block_width ≡ false → border_drawn columns q b ≡ []
+    border_undrawn q b e = rw e refl
 
-  module _ (R : Renderer D A (List A) → Renderer D A (List A) → Type 0)
-      (same : (r s : Renderer D A (List A)) → s ≡ r → R r s) (on_from : (r q s : Renderer D A (List A)) → R r q → R q s → R r s)
-      (each : (m : Move D A) (r s : Renderer D A (List A)) → Makes columns undrawn m r s → R r s) where
-    pub steps_on : (decoration : Decoration D A) (calls : List (Call (List A))) (r s : Renderer D A (List A)) → Steps columns decoration calls r s → CameWithoutDrawnBorders (borders_drawn r calls) R r s
-    steps_on decoration calls r s h =
-        let path = calls_move columns any decoration calls r s (all_brought columns decoration calls r) tt (h, refl) in
-        let less = moves_less path.moves r s r.lines r.options.pad_block_width refl path.makes in
-        let among = subst (λ bs. AreDrawnAmong bs less.more less.rest) (ap (if_drawn r.options.pad_block_width) path.rules ∙ all_or_none r.options.pad_block_width _) less.among in
-        (less.more, less.rest, less.came, among, through columns undrawn R same on_from each less.moves r (on s (r.lines ++ less.rest)) less.makes)
+    row_undrawn : (q : Renderer D A (List A)) (o : Option (SeenRow (List A))) → q.options.pad_block_width ≡ false → drawn_of_row columns q o ≡ []
+    row_undrawn q None e = refl
+    row_undrawn q (Some seen) e = grind (arith, border_undrawn)
 
-    pub steps_on_all : (decoration : Decoration D A) (calls : List (Call (List A))) (r s : Renderer D A (List A)) → DrawNone r calls → Steps columns decoration calls r s → R r s
-    steps_on_all decoration calls r s none h =
-        let path = calls_move columns undrawn decoration calls r s (all_brought columns decoration calls r) none (h, refl) in
-        through columns undrawn R same on_from each path.moves r s path.makes
+    piece_undrawn : (r : Renderer D A (List A)) (p : Piece D A columns) → r.options.pad_block_width ≡ false → IsPiece columns r p → drawn_of_added columns decoration (added_of_piece p) ≡ []
+    piece_undrawn r (part (ended q b)) e h = refl
+    piece_undrawn r (part (laid q is)) e h = refl
+    piece_undrawn r (part (ruled q cells)) e h = border_undrawn q (without_holes cells q.annotations) (ap (λ (o : RenderOptions). o.pad_block_width) h.options ∙ e)
+    piece_undrawn r (put p) e h = row_undrawn p.before (row_seen columns decoration p.collapses p.cells p.before) (ap (λ (o : RenderOptions). o.pad_block_width) h.options ∙ e)
+    piece_undrawn r (noted q is) e h = refl
+
+    pieces_undrawn : (r : Renderer D A (List A)) (ps : List (Piece D A columns)) → r.options.pad_block_width ≡ false → Each (IsPiece columns r) ps → flat_map (drawn_of_added columns decoration) (map added_of_piece ps) ≡ []
+    pieces_undrawn r [] e h = refl
+    pieces_undrawn r (p ∷ ps) e h = ap (λ ts. ts ++ flat_map (drawn_of_added columns decoration) (map added_of_piece ps)) (piece_undrawn r p e h.0) ∙ pieces_undrawn r ps e h.1
+
+    pub none_drawn : (acts : List (Act A)) (r s : Renderer D A (List A)) → IsSound columns r → run (after_act columns decoration) acts r ≡ done s → DrawNone columns decoration acts r → borders_drawn columns decoration acts r ≡ []
+    none_drawn acts r s sound h (inr none) = none
+    none_drawn acts r s sound h (inl unpadded) =
+        let along = acts_along columns decoration acts r s sound h in
+        ap (flat_map (drawn_of_added columns decoration)) (sym along.added) ∙ pieces_undrawn r along.came.pieces unpadded along.came.are
+
+    -- what holds of the lines less those that are drawn then holds of all lines
+    pub holds_of_all : (P : Renderer D A (List A) → Type 0) (acts : List (Act A)) (r s : Renderer D A (List A)) → IsSound columns r → run (after_act columns decoration) acts r ≡ done s → DrawNone columns decoration acts r →
+        WithoutDrawnBorders (borders_drawn columns decoration acts r) P s → P s
+    holds_of_all P acts r s sound h none k =
+        let (rest, among, holds) = subst (λ bs. WithoutDrawnBorders bs P s) (none_drawn acts r s sound h none) k in
+        subst (λ ls. P (on s ls)) (all_are_left s.lines rest among) holds

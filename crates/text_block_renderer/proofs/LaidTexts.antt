@@ -1,9 +1,9 @@
 -- The lines of laid texts, and the visible characters there.
-use Rattle.text_block_renderer.proofs.Common.{◌≡◌, ◌≤◌, ℕ, false, Option, List, [], ◌∷◌, ◌++◌, map, flat_map, fold, length, refl, ap, arith, ◌∙◌, append-nil, rules, Each, zip, Item, IsSpaces, visible_glyphs, text_items, Decoration, Line, text, Renderer, with_line, done, changed, after_flush, as_text, prefixed, append_subrender, Does, text_of_lines, padded_line, lines_laid, visible_after}
+use Rattle.text_block_renderer.proofs.Common.{◌≡◌, ◌≤◌, ℕ, Option, List, [], ◌∷◌, ◌++◌, map, flat_map, fold, length, refl, ap, arith, ◌∙◌, rules, Each, zip, IsSpaces, visible_glyphs, text_items, Decoration, Line, Renderer, with_line, done, changed, after_flush, as_text, prefixed, append_subrender, Does, text_of_lines, lines_laid, visible_after}
 use Rattle.tbr_model.specs.Layout.{joined}
 use Rattle.tbr_tagged.proofs.Outcomes.{live_done}
 use Rattle.tbr_renderer.proofs.OutcomeParts.{done_before}
-use Rattle.text_block_renderer.proofs.AddedLines.{unmarked_lines, laid_lines}
+use Rattle.text_block_renderer.proofs.AddedLines.{laid_lines}
 use Rattle.text_block_renderer.proofs.VisibleCharacters.{space_unseen, glyphs-append, shown_texts}
 
 -- ---- after prefixes
@@ -29,15 +29,8 @@ module _ {T : Type 0} (columns : ℕ → Option ℕ) where
 -- ---- lines
 
 module _ {D A : Type 0} (columns : ℕ → Option ℕ) where
-  -- where lines aren't padded
-  pub unpadded_line : (r : Renderer D A (List A)) (is : List (Item (List A))) → r.options.pad_block_width ≡ false → padded_line columns r is ≡ text is
-  unpadded_line r is e = let whole : is ++ [] ≡ is = append-nil is in rw e (ap text whole)
-
-  pub plain_lines : (ts : List (List (Item (List A)))) (r : Renderer D A (List A)) → r.options.pad_block_width ≡ false → r.waiting ≡ [] → (fold (with_line columns) r ts).lines ≡ r.lines ++ map text ts
-  plain_lines ts r e none = search (rules, unmarked_lines)
-
   -- where they come after a flush
-  lines_after : (decoration : Decoration D A) (prefixes : List (List ℕ)) (lines : List (Line (List A))) (r s : Renderer D A (List A)) → Does columns decoration (append_subrender prefixes lines) r s →
+  pub lines_after : (decoration : Decoration D A) (prefixes : List (List ℕ)) (lines : List (Line (List A))) (r s : Renderer D A (List A)) → Does columns decoration (append_subrender prefixes lines) r s →
       (m : Renderer D A (List A)) × (after_flush columns r ≡ done m) × (s ≡ fold (with_line columns) m (prefixed r.annotations prefixes lines))
   lines_after decoration prefixes lines r s h =
       let change : Renderer D A (List A) → Renderer D A (List A) = λ m. fold (with_line columns) m (prefixed r.annotations prefixes lines) in

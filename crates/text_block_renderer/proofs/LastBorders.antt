@@ -83,7 +83,7 @@ module _ {D A : Type 0} (columns : ℕ → Option ℕ) (decoration : Decoration 
   act_keeps kept (call c) r s h k =
       let (more, is) = steps_grow columns decoration (c ∷ []) r s (run_last (after columns decoration) c r s h) in grown kept r.lines s.lines more is k
   act_keeps kept (row collapses cells) r s h k =
-      let (m, flushed, puts, brings) = act_step columns decoration (row collapses cells) r s h in
+      let (m, flushed, puts, brings, computed) = act_step columns decoration (row collapses cells) r s h in
       let (more, is) = moves_grow columns (flush r ∷ []) r m (m, (refl, row_flushes columns r m flushed), refl) in
       let here = stay_above collapses puts.means.cells kept m.lines (grown kept r.lines m.lines more is k) in
       grown kept _ s.lines (lines_laid columns m puts.row.lines ++ border_lines_of columns m puts.row.next) (row_is collapses cells m s puts) here
@@ -107,7 +107,7 @@ module _ {D A : Type 0} (columns : ℕ → Option ℕ) (decoration : Decoration 
   pub row_becomes : (collapses : Bool) (cells : List (GivenCell (List A))) (r s : Renderer D A (List A)) → after_act columns decoration (row collapses cells) r ≡ done s →
       (p : PutRow D A columns) × (after_flush columns r ≡ done p.before) × (p.collapses ≡ collapses) × (p.cells ≡ cells) × (s.lines ≡ lines_above columns p p.before.lines ++ lines_of_piece columns (put p))
   row_becomes collapses cells r s h =
-      let (m, flushed, puts, brings) = act_step columns decoration (row collapses cells) r s h in (
+      let (m, flushed, puts, brings, computed) = act_step columns decoration (row collapses cells) r s h in (
         record { before = m; after = s; collapses = collapses; cells = cells; puts = puts },
         (live_done r.failure (after_flush columns r) m flushed).1,
         refl,

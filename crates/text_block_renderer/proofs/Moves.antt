@@ -1,16 +1,16 @@
 -- The moves of which calls consist. What holds of lists of calls is shown move by move.
-use Rattle.text_block_renderer.proofs.Common.{◌≡◌, ◌<◌, ℕ, Bool, false, Option, None, List, [], ◌∷◌, ◌++◌, flat_map, fold, refl, ap, sym, ◌∙◌, subst, append_assoc, append-nil, arith, ⊤, flat_map-append, Each, Event, run_of, Entry, Item, without_holes, Overhanging, RenderOptions, Open, Renderer, with_line, with_events, block_width, IsSound, with_border, Call, laid_entries, DrawNone, Added, text_laid, border_put, flush_ends, AppendsNothing}
+use Rattle.text_block_renderer.proofs.Common.{◌≡◌, ◌<◌, ℕ, done, told_by, after_block, flush_adds, Bool, Option, None, List, [], ◌∷◌, ◌++◌, flat_map, fold, refl, ap, sym, ◌∙◌, subst, append-nil, arith, ⊤, flat_map-append, Each, Event, run_of, Entry, Item, without_holes, Overhanging, RenderOptions, Open, Renderer, with_line, with_events, block_width, IsSound, with_border, Call, laid_entries, Part, ended, laid, ruled, flush_ends, AppendsNothing}
 use Rattle.tbr_model.specs.declared.white_space.WhiteSpace.{WhiteSpace}
 use Rattle.tbr_border.specs.Cell.{Cell}
 use Rattle.tbr_renderer.proofs.FlushedBlocks.{FlushesBlock, Flushes}
 use Rattle.tbr_renderer.proofs.CallParts.{FlushesThen}
 
--- The end of the run that is open in this renderer; a line of text or a border, where no block is open; what comes to the open block. Or a
--- change of what isn't text.
+-- Each with the renderer that it comes to: the end of the open run; a line of text or a border, where no block is open. Or what comes to the open
+-- block, or a change of what isn't text.
 pub data Move (D A : Type 0) : Type 0 where
   flush : Renderer D A (List A) → Move D A
-  line : List (Item (List A)) → Move D A
-  rule : List Cell → Move D A
+  line : Renderer D A (List A) → List (Item (List A)) → Move D A
+  rule : Renderer D A (List A) → List Cell → Move D A
   join : List (Event (List A)) → Move D A
   turn : Move D A
 
@@ -29,7 +29,7 @@ pub alike : {D A : Type 0} (r : Renderer D A (List A)) {ended : Bool} {annotatio
 alike r = record { lines = refl; block = refl; waiting = refl; width = refl; options = refl; hanging = refl }
 
 abbrev pub brought_by : {D A : Type 0} → Move D A → List (Entry (List A))
-brought_by (line is) = laid_entries is
+brought_by (line q is) = laid_entries is
 brought_by (join es) = run_of es
 brought_by other = []
 
@@ -38,53 +38,42 @@ brought ms = flat_map brought_by ms
 
 -- the borders that moves put
 abbrev pub ruled_by : {D A : Type 0} → Move D A → List (List Cell)
-ruled_by (rule cells) = cells ∷ []
+ruled_by (rule q cells) = cells ∷ []
 ruled_by other = []
 
-abbrev pub ruled : {D A : Type 0} → List (Move D A) → List (List Cell)
-ruled ms = flat_map ruled_by ms
+abbrev pub borders : {D A : Type 0} → List (Move D A) → List (List Cell)
+borders ms = flat_map ruled_by ms
 
 -- what moves add
-abbrev pub added_by : {D A : Type 0} → Move D A → List (Added D A)
+abbrev pub added_by : {D A : Type 0} → Move D A → List (Part D A)
 added_by (flush r) = flush_ends r
-added_by (line is) = text_laid is ∷ []
-added_by (rule cells) = border_put cells ∷ []
+added_by (line r is) = laid r is ∷ []
+added_by (rule r cells) = ruled r cells ∷ []
 added_by other = []
 
-abbrev pub added : {D A : Type 0} → List (Move D A) → List (Added D A)
+abbrev pub added : {D A : Type 0} → List (Move D A) → List (Part D A)
 added ms = flat_map added_by ms
-
-pub brought-append : {D A : Type 0} (ms ns : List (Move D A)) → brought (ms ++ ns) ≡ brought ms ++ brought ns
-brought-append ms ns = flat_map-append brought_by ms ns
 
 -- ---- kinds
 
--- Moves of any calls, of calls of which no border becomes text, and of calls that append nothing.
+-- Moves of any calls, and of calls that append nothing.
 pub data Kind : Type 0 where
   any : Kind
-  undrawn : Kind
   own : Kind
 
 -- calls of a kind
-abbrev pub Fits : {D A : Type 0} → Kind → Renderer D A (List A) → List (Call (List A)) → Type 0
-Fits any r calls = ⊤
-Fits undrawn r calls = DrawNone r calls
-Fits own r calls = Each AppendsNothing calls
+abbrev pub Fits : {T : Type 0} → Kind → List (Call T) → Type 0
+Fits any calls = ⊤
+Fits own calls = Each AppendsNothing calls
 
--- the lines of text and the borders that their moves may put
+-- whether their moves may put borders, and the lines of text that they may lay
+abbrev pub MayRule : Kind → Type 0
+MayRule any = ⊤
+MayRule own = ⊥
+
 abbrev pub MayLay : {T : Type 0} → Kind → List (Item T) → Type 0
 MayLay any is = ⊤
-MayLay undrawn is = ⊤
 MayLay own is = is ≡ []
-
-abbrev pub MayRule : Kind → RenderOptions → Type 0
-MayRule any options = ⊤
-MayRule undrawn options = options.pad_block_width ≡ false
-MayRule own options = ⊥
-
--- where a kind's moves may put borders, there are calls of the kind
-pub may_call : {D A : Type 0} (kind : Kind) (r : Renderer D A (List A)) (c : Call (List A)) → MayRule kind r.options → Fits kind r (c ∷ [])
-may_call kind r c h = grind arith
 
 -- ---- paths
 
@@ -113,14 +102,17 @@ module _ {D A : Type 0} (columns : ℕ → Option ℕ) where
   pub flush_beside : (r s : Renderer D A (List A)) (o : Option (Open (List A))) → o ≡ r.block → FlushesBlock columns r o s → beside s ≡ record (beside r) { block = None }
   flush_beside r s o e h = grind (arith, lines_beside)
 
+  pub flush_done : (r s : Renderer D A (List A)) (o : Option (Open (List A))) → FlushesBlock columns r o s → after_block columns r o ≡ done s
+  flush_done r s o h = grind arith
+
   pub flushed_none : (r s : Renderer D A (List A)) → Flushes columns r s → s.block ≡ None
   flushed_none r s h = ap (λ (q : Renderer D A (List A)). q.block) (flush_beside r s r.block refl h)
 
 module _ {D A : Type 0} (columns : ℕ → Option ℕ) (kind : Kind) where
   abbrev pub Makes : Move D A → Renderer D A (List A) → Renderer D A (List A) → Type 0
   Makes (flush q) r s = (q ≡ r) × Flushes columns r s
-  Makes (line is) r s = MayLay kind is × (r.block ≡ None) × (s ≡ with_line columns r is)
-  Makes (rule cells) r s = MayRule kind r.options × (r.block ≡ None) × (s ≡ with_border columns r (without_holes cells r.annotations))
+  Makes (line q is) r s = MayLay kind is × (r.block ≡ None) × (s ≡ with_line columns r is) × (q ≡ r)
+  Makes (rule q cells) r s = MayRule kind × (r.block ≡ None) × (s ≡ with_border columns r (without_holes cells r.annotations)) × (q ≡ r)
   Makes (join es) r s = s ≡ with_events r es
   Makes turn r s = SameText r s
 
@@ -129,31 +121,33 @@ module _ {D A : Type 0} (columns : ℕ → Option ℕ) (kind : Kind) where
   MakesAll (m ∷ ms) r s = (q : Renderer D A (List A)) × Makes m r q × MakesAll ms q s
 
   -- Some moves lead from one renderer to the other, bring these entries, put these borders, and add this.
-  pub record Course (r s : Renderer D A (List A)) (es : List (Entry (List A))) (bs : List (List Cell)) (xs : List (Added D A)) : Type 0 where
+  pub record Course (r s : Renderer D A (List A)) (es : List (Entry (List A))) (bs : List (List Cell)) (xs : List (Part D A)) : Type 0 where
     pub moves : List (Move D A)
     pub makes : MakesAll moves r s
     pub brings : brought moves ≡ es
-    pub rules : ruled moves ≡ bs
+    pub rules : borders moves ≡ bs
     pub adds : added moves ≡ xs
 
   pub makes-append : (ms ns : List (Move D A)) (r q s : Renderer D A (List A)) → MakesAll ms r q → MakesAll ns q s → MakesAll (ms ++ ns) r s
   makes-append [] ns r q s h k = subst (λ (p : Renderer D A (List A)). MakesAll ns p s) h k
   makes-append (m ∷ ms) ns r q s h k = (h.0, h.1, makes-append ms ns h.0 q s h.2 k)
 
-  pub onward : (r q s : Renderer D A (List A)) (es fs : List (Entry (List A))) {bs cs : List (List Cell)} {xs ys : List (Added D A)} → Course r q es bs xs → Course q s fs cs ys → Course r s (es ++ fs) (bs ++ cs) (xs ++ ys)
+  pub onward : (r q s : Renderer D A (List A)) (es fs : List (Entry (List A))) {bs cs : List (List Cell)} {xs ys : List (Part D A)} → Course r q es bs xs → Course q s fs cs ys → Course r s (es ++ fs) (bs ++ cs) (xs ++ ys)
   onward r q s es fs {bs} {cs} {xs} {ys} p k = grind (arith, makes-append, flat_map-append)
 
   pub one : (m : Move D A) (r s : Renderer D A (List A)) → Makes m r s → Course r s (brought_by m) (ruled_by m) (added_by m)
   one m r s h = record { moves = m ∷ []; makes = (s, h, refl); brings = append-nil (brought_by m); rules = append-nil (ruled_by m); adds = append-nil (added_by m) }
 
   -- the same by other words
-  pub same_course : (r s : Renderer D A (List A)) {es fs : List (Entry (List A))} {bs cs : List (List Cell)} {xs ys : List (Added D A)} → es ≡ fs → bs ≡ cs → xs ≡ ys → Course r s es bs xs → Course r s fs cs ys
+  pub same_course : (r s : Renderer D A (List A)) {es fs : List (Entry (List A))} {bs cs : List (List Cell)} {xs ys : List (Part D A)} → es ≡ fs → bs ≡ cs → xs ≡ ys → Course r s es bs xs → Course r s fs cs ys
   same_course r s brings rules adds p = record { moves = p.moves; makes = p.makes; brings = p.brings ∙ brings; rules = p.rules ∙ rules; adds = p.adds ∙ adds }
 
   -- the end of the open run, and then a change
-  pub flushed_first : (change : Renderer D A (List A) → Renderer D A (List A)) (r s : Renderer D A (List A)) (es : List (Entry (List A))) {bs : List (List Cell)} {xs : List (Added D A)}
-      (h : FlushesThen columns change r s) → Course h.0 (change h.0) es bs xs → Course r s es bs (flush_ends r ++ xs)
-  flushed_first change r s es {bs} {xs} h course = onward r h.0 s [] es (one (flush r) r h.0 (refl, h.1)) (subst (λ (q : Renderer D A (List A)). Course h.0 q es bs xs) (sym h.2) course)
+  pub flushed_first : (change : Renderer D A (List A) → Renderer D A (List A)) (adds : Renderer D A (List A) → List (Part D A)) (r s : Renderer D A (List A)) (es : List (Entry (List A))) {bs : List (List Cell)}
+      (h : FlushesThen columns change r s) → Course h.0 (change h.0) es bs (adds h.0) → Course r s es bs (flush_adds columns adds r)
+  flushed_first change adds r s es {bs} h course =
+      subst (λ o. Course r s es bs (flush_ends r ++ told_by adds o)) (sym (flush_done columns r h.0 r.block h.1))
+      (onward r h.0 s [] es (one (flush r) r h.0 (refl, h.1)) (subst (λ (q : Renderer D A (List A)). Course h.0 q es bs (adds h.0)) (sym h.2) course))
 
   -- `q` is `r` but for what isn't text
   pub turned : (r q s : Renderer D A (List A)) → SameText r q → s ≡ q → Course r s [] [] []
@@ -161,13 +155,6 @@ module _ {D A : Type 0} (columns : ℕ → Option ℕ) (kind : Kind) where
 
   pub stays : (r s : Renderer D A (List A)) → s ≡ r → Course r s [] [] []
   stays r s h = record { moves = []; makes = h; brings = refl; rules = refl; adds = refl }
-
-  -- What each move keeps, moves one after another keep.
-  pub along : (P : Renderer D A (List A) → List (Entry (List A)) → Type 0) →
-      ((m : Move D A) (r s : Renderer D A (List A)) (es : List (Entry (List A))) → Makes m r s → P r es → P s (es ++ brought_by m)) →
-      (ms : List (Move D A)) (r s : Renderer D A (List A)) (es : List (Entry (List A))) → MakesAll ms r s → P r es → P s (es ++ brought ms)
-  along P each [] r s es h k = subst (λ (q : Renderer D A (List A)). P q (es ++ [])) (sym h) (subst (λ (fs : List (Entry (List A))). P r fs) (sym (append-nil es)) k)
-  along P each (m ∷ ms) r s es h k = grind (arith, append_assoc, along P each ms h.0 s (es ++ brought_by m) h.2 (each m r h.0 es h.1 k))
 
   -- A relation that goes on, and that each move has, calls have.
   pub through : (R : Renderer D A (List A) → Renderer D A (List A) → Type 0) →
@@ -183,16 +170,13 @@ module _ {D A : Type 0} (columns : ℕ → Option ℕ) (kind : Kind) where
   pub move_frame : (m : Move D A) (r s : Renderer D A (List A)) → Makes m r s → frame s ≡ frame r
   move_frame m r s h = grind (arith, flush_beside)
 
-  pub move_options : (m : Move D A) (r s : Renderer D A (List A)) → Makes m r s → s.options ≡ r.options
-  move_options m r s h = ap (λ (f : Frame A). f.options) (move_frame m r s h)
-
   -- a sound renderer stays so
   pub sound_moved : (m : Move D A) (r s : Renderer D A (List A)) → Makes m r s → IsSound columns r → IsSound columns s
   sound_moved m r s h sound = grind (arith, move_frame, sound_alike)
 
-  pub path_frame : (r s : Renderer D A (List A)) (es : List (Entry (List A))) (bs : List (List Cell)) {xs : List (Added D A)} → Course r s es bs xs → frame s ≡ frame r
+  pub path_frame : (r s : Renderer D A (List A)) (es : List (Entry (List A))) (bs : List (List Cell)) {xs : List (Part D A)} → Course r s es bs xs → frame s ≡ frame r
   path_frame r s es bs {xs} path =
       through (λ p q. frame q ≡ frame p) (λ p q e. ap (λ (t : Renderer D A (List A)). frame t) e) (λ p q t g h. h ∙ g) move_frame path.moves r s path.makes
 
-  pub path_hanging : (r s : Renderer D A (List A)) (es : List (Entry (List A))) (bs : List (List Cell)) {xs : List (Added D A)} → Course r s es bs xs → s.hanging ≡ r.hanging
+  pub path_hanging : (r s : Renderer D A (List A)) (es : List (Entry (List A))) (bs : List (List Cell)) {xs : List (Part D A)} → Course r s es bs xs → s.hanging ≡ r.hanging
   path_hanging r s es bs {xs} path = ap (λ (f : Frame A). f.hanging) (path_frame r s es bs path)

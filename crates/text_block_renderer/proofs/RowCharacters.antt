@@ -219,7 +219,7 @@ module _ {D A : Type 0} (columns : ℕ → Option ℕ) (draws : DrawsInOne colum
   module _ (decoration : Decoration D A) where
     act_keeps : (act : Act A) (r s : Renderer D A (List A)) → ActHasColumns columns act → ActStep columns decoration act r s → Has columns draws r → Has columns draws s
     act_keeps (call c) r s good h k = call_keeps columns draws decoration c r s good h k
-    act_keeps (row collapses cells) r s good (m, flushed, puts, brings) k = row_keeps collapses cells m s puts good (flush_keeps columns draws r m r.block (row_flushes columns r m flushed) k)
+    act_keeps (row collapses cells) r s good (m, flushed, puts, brings, computed) k = row_keeps collapses cells m s puts good (flush_keeps columns draws r m r.block (row_flushes columns r m flushed) k)
     act_keeps (fmt_links links) r s good h k = subst (λ (q : Renderer D A (List A)). Has columns draws q) (sym h)
         (lines_put columns draws (flat_map (footnote_lines columns r) links) r (footnotes_have r links good) k)
     act_keeps (finalise targets) r s good h k = subst (λ (q : Renderer D A (List A)). Has columns draws q) (sym h) k

@@ -1,5 +1,5 @@
 -- The lines of a run are together, and no legal layout is ahead of them.
-use Rattle.text_block_renderer.proofs.Common.{◌≡◌, ℕ, ◌⊎◌, inr, Bool, false, not, Option, Some, None, List, [], ◌∷◌, ◌++◌, map, flat_map, take, drop, refl, ap, sym, ◌∙◌, subst, arith, append_assoc, append-nil, rules, Each, map-map, eqb-true, both_ways, false_from_ne_true, length-map, map-append, take-map, take-append-drop, filter-append, Entry, character, marker_entry, Item, kept_items, Word, words_of, trailing, Slot, slot_of, slots_within, word_slots, slots_of, rest_text, is_space_item, run_of, Event, without_spaces, HasBestLines, Decoration, Line, Open, Renderer, with_events, with_more, block_width, IsSound, done, lines_at_end, names_at_end, after_flush, Call, Steps, Brings, stretch, items_on, NoneIsAhead, StandsAsStretch, StaysOpen, EndsAsStretch}
+use Rattle.text_block_renderer.proofs.Common.{◌≡◌, ℕ, ◌⊎◌, inr, Bool, false, not, Option, Some, None, List, [], ◌∷◌, ◌++◌, map, flat_map, take, drop, refl, ap, sym, ◌∙◌, subst, arith, append_assoc, append-nil, rules, Each, map-map, eqb-true, both_ways, false_from_ne_true, length-map, map-append, take-map, take-append-drop, filter-append, Entry, character, marker_entry, Item, kept_items, Word, words_of, trailing, Slot, slot_of, slots_within, word_slots, slots_of, rest_text, is_space_item, run_of, Event, without_spaces, HasBestLines, Decoration, Line, Open, Renderer, with_events, with_more, block_width, IsSound, done, lines_at_end, after_flush, Call, Steps, Brings, stretch, items_on, NoneIsAhead, StandsAsStretch, StaysOpen, EndsAsStretch}
 use Rattle.tbr_model.proofs.rule.HardLines.{run_of-append}
 use Rattle.tbr_model.specs.Layout.{line_text, joined, placed}
 use Rattle.tbr_model.proofs.lists.Each.{each_front, each_back, each_append, each_map}
@@ -7,7 +7,7 @@ use Rattle.tbr_model.proofs.lists.Joined.{joined-append}
 use Rattle.tbr_model.proofs.words.Items.{break_lost}
 use Rattle.tbr_model.proofs.words.KeptItems.{words_hold}
 use Rattle.tbr_renderer.proofs.FlushedBlocks.{flushes, EndsBlock, FlushesBlock, Flushes}
-use Rattle.text_block_renderer.proofs.Moves.{Move, flush, join, turn, brought, MakesAll, any}
+use Rattle.text_block_renderer.proofs.Moves.{Move, flush, join, turn, brought, MakesAll, any, sound_alike}
 use Rattle.text_block_renderer.proofs.CallMoves.{calls_move}
 use Rattle.text_block_renderer.proofs.AddedLines.{moves_grow, steps_grow, laid_lines}
 
@@ -67,8 +67,6 @@ module _ {D A : Type 0} (columns : ℕ → Option ℕ) where
   flush_stands : (r q s : Renderer D A (List A)) (b : Open (List A)) → r.block ≡ Some b → Flushes columns r q → IsSound columns r → (more : List (Line (List A))) × (s.lines ≡ q.lines ++ more) → StandsAsStretch columns r b s.lines
   flush_stands r q s b open_block_is flushes sound grows =
       let h : EndsBlock columns r b q = subst (λ (o : Option (Open (List A))). FlushesBlock columns r o q) open_block_is flushes in record {
-        texts = lines_at_end columns r b;
-        names = names_at_end columns r b;
         ends = h.ends sound;
         ahead = λ narrow normal. none_ahead columns (block_width r) (run_of b.events) (lines_at_end columns r b) ((h.ends sound).shown.best narrow normal);
         after = grows.0;
@@ -99,7 +97,11 @@ module _ {D A : Type 0} (columns : ℕ → Option ℕ) where
     later = brought ms;
     came = refl;
     annotations = q.annotations;
-    stands = grind (arith, as_before, flush_stands, moves_grow);
+    stands =
+        let width = ap (λ (p : Renderer D A (List A)). p.width) since in
+        let options = ap (λ (p : Renderer D A (List A)). p.options) since in
+        as_before r q b es s.lines since
+        (flush_stands q h.0 s (with_more b es) (ap (λ (p : Renderer D A (List A)). p.block) since) h.1.1 (sound_alike columns r q width options sound) (moves_grow columns ms h.0 s h.2));
   })
   run_ends (join more ∷ ms) r q s b es since sound h =
       grind (arith, brought, run_of-append, append_assoc, joined_more, run_ends ms r h.0 s b (es ++ more) (joined_more r q h.0 b es more since h.1) sound h.2)

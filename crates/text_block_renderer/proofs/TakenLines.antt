@@ -111,7 +111,7 @@ module _ {D A : Type 0} (columns : ℕ → Option ℕ) where
     act_adds (call c) r s h = more_text r s (steps_grow columns decoration (c ∷ []) r s (alone columns decoration c r s h).0)
     act_adds (fmt_links links) r s h = more_text r s (subst (λ (q : Renderer D A (List A)). Grows r q) (sym h) (lines_grow columns (flat_map (footnote_lines columns r) links) r))
     act_adds (finalise targets) r s h = more_text r s ([], ap (λ (q : Renderer D A (List A)). q.lines) h ∙ sym (append-nil r.lines))
-    act_adds (row collapses cells) r s (m, flushed, puts, is) =
+    act_adds (row collapses cells) r s (m, flushed, puts, is, computed) =
         let first = flush_adds r m flushed in
         let (more, are, shows) = row_adds columns collapses cells m s puts in
         (first.0 ++ more, are ∙ ap (λ js. js ++ more) first.1 ∙ append_assoc (written r.lines) first.0 more)
@@ -128,7 +128,7 @@ module _ {D A : Type 0} (columns : ℕ → Option ℕ) where
         follows_on us n rows r s (omega (arith, fits)) (act_adds (fmt_links links) r s h) (ap (λ (q : Renderer D A (List A)). q.hanging) h ∙ ap (λ (q : Renderer D A (List A)). q.hanging) (lines_beside columns (flat_map (footnote_lines columns r) links) r)) k
     act_follows us (finalise targets) n rows r s fits h k = follows_on us n rows r s (omega (arith, fits)) (act_adds (finalise targets) r s h) (ap (λ (q : Renderer D A (List A)). q.hanging) h) k
     act_follows us (row collapses cells) n rows r s fits h (inl k) = inl (more_within us r s (act_adds (row collapses cells) r s h) k)
-    act_follows us (row collapses cells) n rows r s fits (m, flushed, puts, is) (inr (c, hangs, some, few, k)) =
+    act_follows us (row collapses cells) n rows r s fits (m, flushed, puts, is, computed) (inr (c, hangs, some, few, k)) =
         let same : m.hanging ≡ r.hanging = ap (λ (q : Renderer D A (List A)). q.hanging) (flush_beside columns r m r.block refl (row_flushes columns r m flushed)) in
         let seated = among_seated 0 c m.hanging puts.own puts.means.cells (subst (StandsAmong c) (sym same) hangs) puts.means.seated in
         row_follows columns collapses cells m s puts us rows c seated (omega (arith, few, fits)) (still_more us r m (items_in c.lines) (flush_adds r m flushed) k)
@@ -143,7 +143,7 @@ module _ {D A : Type 0} (columns : ℕ → Option ℕ) where
 
     act_within : (act : Act A) (span rows : ℕ) (r s : Renderer D A (List A)) (lines : List (Line (List A))) → Takes span lines act → span ≤ suc rows → ActStep columns decoration act r s → Follows columns (seen columns lines) rows s
     act_within (call c) span rows r s lines t few h = inl (taken_within c r s lines t h)
-    act_within (row collapses cells) span rows r s lines (cell, among, spans, is) few (m, flushed, puts, brings) =
+    act_within (row collapses cells) span rows r s lines (cell, among, spans, is) few (m, flushed, puts, brings, computed) =
         subst (λ (ls : List (Line (List A))). Follows columns (seen columns ls) rows s) is (cell_follows columns collapses cells m s puts rows cell among (omega (arith, spans, few)))
     act_within other span rows r s lines t few h = elim t [ ]
 
@@ -184,8 +184,8 @@ module _ {D A : Type 0} (columns : ℕ → Option ℕ) where
         IsSound columns r → IsWrittenSoFar columns r es → handed_out columns r ≡ done inside → AreTakenIn columns decoration depth inside outside → AreWrittenIn columns es outside
     brought_within depth r es inside outside sound so_far gives h =
         let (s, flushed, is) = handed_then columns r inside gives in
-        let k : IsWrittenSoFar columns s (es ++ []) = flush_written columns r s es flushed sound so_far in
-        let came : k.ended ≡ es = sym (append-nil k.ended) ∙ ap (λ (o : Option (Open (List A))). k.ended ++ open_run o) (sym (flushed_none columns r s flushed)) ∙ k.whole ∙ append-nil es in
+        let k = flush_written columns r s es flushed sound so_far in
+        let came : k.ended ≡ es = sym (append-nil k.ended) ∙ ap (λ (o : Option (Open (List A))). k.ended ++ open_run o) (sym (flushed_none columns r s flushed)) ∙ k.whole in
         let here = subst (λ (ls : List (Line (List A))). StandWithin k.shown (seen columns ls)) (sym is) k.stand in
         subst (λ (fs : List (Entry (List A))). AreWrittenIn columns fs outside) came (record {
           shown = k.shown;

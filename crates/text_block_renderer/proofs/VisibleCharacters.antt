@@ -1,18 +1,17 @@
 -- Visible characters are there once.
-use Rattle.text_block_renderer.proofs.Common.{◌≡◌, ℕ, zero, suc, false, Option, None, List, [], ◌∷◌, ◌++◌, filter, fold, refl, ap, sym, ◌∙◌, subst, append-nil, arith, AllZip, run_of, Entry, Item, glyph, marker, marker_items, glyphs_of, is_visible, is_visible_entry, IsShown, visible_glyphs, visible_entries, filter-append, text_items, spaces, Line, Open, Renderer, with_line, open_run, block_width, IsSound, block_lines, lines_at_end, run, append_cancel_right, with_border, handed_out, done, Decoration, laid_entries, text_of_lines, Shows, AreDrawnAmong, WithoutDrawnBorders, Act, after_act, acts_come, items_so_far}
+use Rattle.text_block_renderer.proofs.Common.{◌≡◌, ℕ, zero, suc, false, Option, None, List, [], ◌∷◌, ◌++◌, filter, fold, refl, ap, sym, ◌∙◌, subst, append-nil, arith, AllZip, run_of, Entry, Item, glyph, marker, marker_items, glyphs_of, is_visible, is_visible_entry, IsShown, visible_glyphs, visible_entries, filter-append, text_items, spaces, Line, border, Open, Renderer, RenderOptions, new_renderer, with_line, open_run, block_width, IsSound, block_lines, lines_at_end, run, append_cancel_right, handed_out, done, Decoration, laid_entries, text_of_lines, Shows, AreDrawnAmong, WithoutDrawnBorders, borders_drawn, DrawNone, Act, after_act, acts_come, items_so_far}
 use Rattle.std.proofs.Math.Bool.{and-false}
 use Rattle.tbr_model.specs.Codes.{space_character}
 use Rattle.tbr_model.specs.Layout.{joined}
 use Rattle.tbr_model.proofs.words.Items.{glyphs_of-append}
-use Rattle.tbr_border.specs.Cell.{Cell}
 use Rattle.tbr_tagged.proofs.SameItems.{all_zip_append}
 use Rattle.tbr_renderer.proofs.FlushedBlocks.{EndsBlock}
 use Rattle.tbr_renderer.proofs.CallParts.{handed_then}
-use Rattle.text_block_renderer.proofs.Moves.{Move, flush, brought_by, Makes, flushed_none, undrawn}
-use Rattle.text_block_renderer.proofs.DrawnBorders.{moves_on, border_unseen}
-use Rattle.text_block_renderer.proofs.LineContents.{Looks, unpadded, seen_line, seen_texts}
+use Rattle.text_block_renderer.proofs.Moves.{flushed_none}
+use Rattle.text_block_renderer.proofs.DrawnBorders.{Keeps, Less, less_goes_on, none_among, all_are_left, holds_of_all}
+use Rattle.text_block_renderer.proofs.LineContents.{Looks, unpadded, no_text_after, seen_line, seen_texts}
 use Rattle.text_block_renderer.proofs.LastingLines.{stay_texts}
-use Rattle.text_block_renderer.proofs.EndedEntries.{Ended, GoesOn, move_on, acts_on}
+use Rattle.text_block_renderer.proofs.EndedEntries.{Texts, flushed_on, acts_on}
 
 -- ---- items and entries
 
@@ -55,7 +54,7 @@ module _ {D A : Type 0} (columns : ℕ → Option ℕ) where
   pub shown_texts : (ts : List (List (Item (List A)))) (r : Renderer D A (List A)) → visible_glyphs columns (text_of_lines (fold (with_line columns) r ts).lines) ≡ visible_glyphs columns (text_of_lines r.lines) ++ visible_glyphs columns (joined ts)
   shown_texts ts r = sym (on_lines (fold (with_line columns) r ts)) ∙ seen_texts (visible_glyphs columns) (at_visible columns) columns ts r ∙ ap (λ gs. gs ++ visible_glyphs columns (joined ts)) (on_lines r)
 
-  -- ---- moves and acts
+  -- ---- acts
 
   abbrev InLines : Renderer D A (List A) → List (Entry (List A)) → Type 0
   InLines r es = AllZip (IsShown (λ x y. x ≡ y)) (visible_glyphs columns (text_of_lines r.lines)) (visible_entries columns es)
@@ -79,50 +78,60 @@ module _ {D A : Type 0} (columns : ℕ → Option ℕ) where
   same_shows : (r s : Renderer D A (List A)) (es : List (Entry (List A))) → text_of_lines s.lines ≡ text_of_lines r.lines → InLines r es → InLines s es
   same_shows r s es lines k = subst (λ is. AllZip (IsShown (λ x y. x ≡ y)) (visible_glyphs columns is) (visible_entries columns es)) (sym lines) k
 
-  shows_on : GoesOn columns undrawn InLines
+  shows_on : Keeps columns InLines
   shows_on = record {
     flushed = end_shows;
     laid = λ r t es k. shows_more r (with_line columns r t) t es (laid_entries t) (shown_line r t) (laid_shown columns t) k;
-    ruled = λ r b es unpadded k. same_shows r (with_border columns r b) es (border_unseen columns r b unpadded) k;
+    ruled = λ r b es k. same_shows r (record r { lines = r.lines ++ border b ∷ [] }) es (no_text_after r.lines b) k;
     stays = λ r s es stay waiting k. same_shows r s es (stay_texts r.lines s.lines stay) k;
   }
 
-  shows : (r : Renderer D A (List A)) (es fs : List (Entry (List A))) → visible_entries columns es ≡ visible_entries columns fs → Ended InLines r es → Shows columns r fs
-  shows r es fs same (ended, whole, k) = record { ended = ended; shown = k; whole = ap (visible_entries columns) whole ∙ same }
+  abbrev ShownLess : Renderer D A (List A) → List (Entry (List A)) → Texts A → Type 0
+  ShownLess = Less columns InLines shows_on
 
-  pub shows_move : (m : Move D A) (r s : Renderer D A (List A)) (es : List (Entry (List A))) → Makes columns undrawn m r s → IsSound columns r → Shows columns r es → Shows columns s (es ++ brought_by m)
-  shows_move m r s es h sound k =
-      let all = k.ended ++ open_run r.block in
-      shows s (all ++ brought_by m) (es ++ brought_by m) (entries-append columns all (brought_by m) ∙ ap (λ fs. fs ++ visible_entries columns (brought_by m)) k.whole ∙ sym (entries-append columns es (brought_by m)))
-      (move_on columns undrawn InLines shows_on m r s all h sound (k.ended, refl, k.shown))
-
-  pub acts_show : (decoration : Decoration D A) (acts : List (Act A)) (r s : Renderer D A (List A)) (ended : List (Entry (List A))) → IsSound columns r → r.options.pad_block_width ≡ false → run (after_act columns decoration) acts r ≡ done s →
-      (let before = ended ++ open_run r.block in Shows columns r before → Shows columns s (acts_come columns decoration acts r before))
-  acts_show decoration acts r s ended sound unpadded h k =
+  -- where the run that is open is known
+  ended_are : (r : Renderer D A (List A)) (ended es : List (Entry (List A))) → visible_entries columns (es ++ open_run r.block) ≡ visible_entries columns (ended ++ open_run r.block) → visible_entries columns es ≡ visible_entries columns ended
+  ended_are r ended es same =
       let open_one = open_run r.block in
-      let same : visible_entries columns k.ended ≡ visible_entries columns ended =
-      append_cancel_right (visible_entries columns k.ended) (visible_entries columns ended) (visible_entries columns open_one) (sym (entries-append columns k.ended open_one) ∙ k.whole ∙ entries-append columns ended open_one) in
-      let shown : InLines r ended = subst (AllZip (IsShown (λ x y. x ≡ y)) (visible_glyphs columns (text_of_lines r.lines))) same k.shown in
-      shows s _ _ refl (acts_on columns undrawn InLines shows_on decoration acts r s (ended ++ open_one) sound unpadded h (ended, refl, shown))
+      append_cancel_right (visible_entries columns es) (visible_entries columns ended) (visible_entries columns open_one) (sym (entries-append columns es open_one) ∙ same ∙ entries-append columns ended open_one)
+
+  pub acts_show : (decoration : Decoration D A) (acts : List (Act A)) (r s : Renderer D A (List A)) (borders : Texts A) (ended : List (Entry (List A))) → IsSound columns r → run (after_act columns decoration) acts r ≡ done s →
+      (let before = ended ++ open_run r.block in WithoutDrawnBorders borders (λ q. Shows columns q before) r →
+      WithoutDrawnBorders (borders ++ borders_drawn columns decoration acts r) (λ q. Shows columns q (acts_come columns decoration acts r before)) s)
+  acts_show decoration acts r s borders ended sound h (rest, among, k) =
+      let before = ended ++ open_run r.block in
+      let shown : AllZip (IsShown (λ x y. x ≡ y)) (visible_glyphs columns (text_of_lines rest)) (visible_entries columns ended) =
+      subst (AllZip (IsShown (λ x y. x ≡ y)) (visible_glyphs columns (text_of_lines rest))) (ended_are r ended k.ended k.whole) k.shown in
+      let (last, whole, (left, there, all)) = acts_on columns ShownLess (less_goes_on columns InLines shows_on) decoration acts r s before borders sound h (ended, refl, (rest, among, shown)) in
+      (left, there, record { ended = last; shown = all; whole = ap (visible_entries columns) whole })
+
+  pub new_acts_show : (decoration : Decoration D A) (width : ℕ) (options : RenderOptions) (decorator : D) (acts : List (Act A)) (s : Renderer D A (List A)) → (let r : Renderer D A (List A) = new_renderer width options decorator in
+      IsSound columns r → run (after_act columns decoration) acts r ≡ done s → WithoutDrawnBorders (borders_drawn columns decoration acts r) (λ q. Shows columns q (acts_come columns decoration acts r [])) s)
+  new_acts_show decoration width options decorator acts s sound h =
+      acts_show decoration acts (new_renderer width options decorator) s [] [] sound h ([], none_among [], record { ended = []; shown = tt; whole = refl })
+
+  pub acts_show_all : (decoration : Decoration D A) (acts : List (Act A)) (r s : Renderer D A (List A)) (ended : List (Entry (List A))) → IsSound columns r → DrawNone columns decoration acts r → run (after_act columns decoration) acts r ≡ done s →
+      (let before = ended ++ open_run r.block in Shows columns r before → Shows columns s (acts_come columns decoration acts r before))
+  acts_show_all decoration acts r s ended sound none h k =
+      let before = ended ++ open_run r.block in
+      holds_of_all columns decoration (λ q. Shows columns q (acts_come columns decoration acts r before)) acts r s sound h none (acts_show decoration acts r s [] ended sound h (r.lines, none_among r.lines, k))
 
   -- ---- lines that are handed out
 
-  -- where no block is open, all that came is shown
-  all_shown : (s : Renderer D A (List A)) (es : List (Entry (List A))) → s.block ≡ None → Shows columns s es → AllZip (IsShown (λ a b. a ≡ b)) (visible_glyphs columns (text_of_lines s.lines)) (visible_entries columns es)
-  all_shown s es none k = grind (arith, append-nil)
+  pub handed_out_less : (r : Renderer D A (List A)) (borders : Texts A) (es : List (Entry (List A))) (lines : List (Line (List A))) → IsSound columns r → WithoutDrawnBorders borders (λ q. Shows columns q es) r → handed_out columns r ≡ done lines →
+      (rest : List (Line (List A))) × AreDrawnAmong borders lines rest × AllZip (IsShown (λ a b. a ≡ b)) (visible_glyphs columns (text_of_lines rest)) (visible_entries columns es)
+  handed_out_less r borders es lines sound (rest, among, k) h =
+      let (s, flushes, is) = handed_then columns r lines h in
+      let all = k.ended ++ open_run r.block in
+      let (last, whole, (left, there, shown)) = flushed_on columns ShownLess (less_goes_on columns InLines shows_on) r s all borders flushes sound (k.ended, refl, (rest, among, k.shown)) in
+      let same : last ≡ all = sym (append-nil last) ∙ ap (λ (o : Option (Open (List A))). last ++ open_run o) (sym (flushed_none columns r s flushes)) ∙ whole in (
+        left,
+        subst (λ ls. AreDrawnAmong borders ls left) (sym is) there,
+        subst (AllZip (IsShown (λ a b. a ≡ b)) (visible_glyphs columns (text_of_lines left))) (ap (visible_entries columns) same ∙ k.whole) shown,
+      )
 
   pub all_handed_out : (r : Renderer D A (List A)) (es : List (Entry (List A))) (lines : List (Line (List A))) → IsSound columns r → Shows columns r es → handed_out columns r ≡ done lines →
       AllZip (IsShown (λ a b. a ≡ b)) (visible_glyphs columns (text_of_lines lines)) (visible_entries columns es)
   all_handed_out r es lines sound k h =
-      let (s, flushes, is) = handed_then columns r lines h in
-      subst (λ (ls : List (Line (List A))). AllZip (IsShown (λ a b. a ≡ b)) (visible_glyphs columns (text_of_lines ls)) (visible_entries columns es)) (sym is)
-      (all_shown s es (flushed_none columns r s flushes) (subst (Shows columns s) (append-nil es) (shows_move (flush r) r s es (refl, flushes) sound k)))
-
-  pub handed_out_less : (r : Renderer D A (List A)) (borders : List (List Cell)) (es : List (Entry (List A))) (lines : List (Line (List A))) → IsSound columns r → WithoutDrawnBorders borders (λ q. Shows columns q es) r → handed_out columns r ≡ done lines →
-      (rest : List (Line (List A))) × AreDrawnAmong borders lines rest × AllZip (IsShown (λ a b. a ≡ b)) (visible_glyphs columns (text_of_lines rest)) (visible_entries columns es)
-  handed_out_less r borders es lines sound k h =
-      let (s, flushes, is) = handed_then columns r lines h in
-      let (rest, among, shows) = moves_on columns (Shows columns) shows_move (flush r ∷ []) r s borders es sound (s, (refl, flushes), refl) k in
-      let q : Renderer D A (List A) = record s { lines = rest } in
-      let here : AreDrawnAmong borders lines rest = subst (λ ls. AreDrawnAmong borders ls rest) (sym is) (subst (λ bs. AreDrawnAmong bs s.lines rest) (append-nil borders) among) in
-      (rest, here, all_shown q es (flushed_none columns r s flushes) (subst (λ (fs : List (Entry (List A))). Shows columns q fs) (append-nil es) shows))
+      let (rest, among, shown) = handed_out_less r [] es lines sound (r.lines, none_among r.lines, k) h in
+      subst (λ ls. AllZip (IsShown (λ a b. a ≡ b)) (visible_glyphs columns (text_of_lines ls)) (visible_entries columns es)) (all_are_left lines rest among) shown

@@ -1,15 +1,14 @@
 -- Markers that wait, where a run ends and until a line of text comes, by a call or under a row.
-use Rattle.text_block_renderer.proofs.Common.{◌≡◌, ℕ, true, false, Option, Some, None, List, [], ◌∷◌, ◌++◌, map, flat_map, fold, refl, ap, sym, ◌∙◌, subst, arith, append_assoc, append-nil, rules, AllZip, Each, or_parts, run_of, Entry, Item, Word, kept_items, has_character, words_of, trailing, word_slots, slots_of, HasNoEmptyLine, names_in_run, marker_items, marker_run, without_spaces, Border, without_holes, IsNormal, HasBestLines, Decoration, Line, text, border, Open, Renderer, with_line, block_width, may_overflow, open_run, line_padding, IsSound, done, run, block_lines, flushed, lines_at_end, names_at_end, after_flush, with_border, Call, Steps, text_of_lines, Act, after_act, StaysLine, CameWithoutDrawnBorders, borders_drawn, DrawNone, items_so_far, FlushStands, first_text, BeginsWith, WaitForText, WaitForTextUnderRows}
+use Rattle.text_block_renderer.proofs.Common.{◌≡◌, ℕ, Bool, true, false, if◌then◌else◌, Option, Some, None, List, [], ◌∷◌, ◌++◌, map, flat_map, fold, refl, ap, sym, ◌∙◌, subst, arith, append_assoc, append-nil, rules, AllZip, Each, or_parts, run_of, Entry, Item, Word, kept_items, has_character, words_of, trailing, word_slots, slots_of, HasNoEmptyLine, names_in_run, marker_items, marker_run, without_spaces, Border, shown, IsNormal, HasBestLines, Decoration, Line, text, border, Open, Renderer, with_line, block_width, may_overflow, open_run, line_padding, IsSound, done, run, block_lines, flushed, lines_at_end, names_at_end, after_flush, with_border, text_of_lines, Act, after_act, StaysLine, AreDrawnAmong, border_drawn, borders_drawn, DrawNone, items_so_far, FlushStands, first_text, BeginsWith, WaitForText}
 use Rattle.tbr_model.specs.Layout.{line_text, joined}
 use Rattle.tbr_model.proofs.words.Items.{has_character-append}
 use Rattle.tbr_model.proofs.words.KeptItems.{words_hold}
 use Rattle.tbr_model.proofs.words.LinesHaveCharacters.{words_have}
 use Rattle.tbr_renderer.proofs.FlushedBlocks.{flushes, FlushesBlock}
-use Rattle.text_block_renderer.proofs.Moves.{Move, flush, line, rule, join, turn, Makes, undrawn}
-use Rattle.text_block_renderer.proofs.DrawnBorders.{end_alike, steps_on, steps_on_all, border_stays}
+use Rattle.text_block_renderer.proofs.DrawnBorders.{end_alike, among_more, among_drawn, among_stay, none_among, none_drawn}
 use Rattle.text_block_renderer.proofs.LineContents.{marker_items-append, seen_flushed}
 use Rattle.text_block_renderer.proofs.LastingLines.{all_stay, stay_on}
-use Rattle.text_block_renderer.proofs.EndedEntries.{GoesOn, acts_on}
+use Rattle.text_block_renderer.proofs.EndedEntries.{Texts, GoesOn, acts_on}
 use Rattle.text_block_renderer.proofs.BroughtEntries.{end_stands, StandFor, at_unspaced, markers_stand, run_stands, waits_after, waits_after_kept}
 
 -- ---- a run without a kept character
@@ -126,18 +125,12 @@ module _ {D A : Type 0} (columns : ℕ → Option ℕ) where
   wait_on : (r q s : Renderer D A (List A)) → Waits r q → Waits q s → Waits r s
   wait_on r q s g h = (g.0 ++ h.0, h.1 ∙ ap (λ ls. ls ++ h.0) g.1 ∙ append_assoc r.lines g.0 h.0, wait_longer g.0 h.0 r.waiting q.waiting s.waiting g.2 h.2)
 
-  wait_for_text : (r s : Renderer D A (List A)) → Waits r s → WaitForText r s
-  wait_for_text r s (more, lines, k) = grind arith
-
   -- no line came, and more markers may wait
   no_line_came : (r s : Renderer D A (List A)) (names : List (List ℕ)) → s.lines ≡ r.lines → s.waiting ≡ r.waiting ++ names → Waits r s
   no_line_came r s names lines waiting = ([], lines ∙ sym (append-nil r.lines), (names, waiting))
 
-  same_wait : (r s : Renderer D A (List A)) → s.lines ≡ r.lines → s.waiting ≡ r.waiting → Waits r s
-  same_wait r s lines waiting = no_line_came r s [] lines (waiting ∙ sym (append-nil r.waiting))
-
   on_one : (r s : Renderer D A (List A)) → s ≡ r → Waits r s
-  on_one r s e = same_wait r s (ap (λ (q : Renderer D A (List A)). q.lines) e) (ap (λ (q : Renderer D A (List A)). q.waiting) e)
+  on_one r s e = no_line_came r s [] (ap (λ (q : Renderer D A (List A)). q.lines) e) (ap (λ (q : Renderer D A (List A)). q.waiting) e ∙ sym (append-nil r.waiting))
 
   line_came : (r : Renderer D A (List A)) (t : List (Item (List A))) → Waits r (with_line columns r t)
   line_came r t = (_, refl, (_, append_assoc (marker_items r.waiting) t (line_padding columns r (marker_items r.waiting ++ t))))
@@ -154,57 +147,67 @@ module _ {D A : Type 0} (columns : ℕ → Option ℕ) where
       let last : Renderer D A (List A) = record laid { waiting = laid.waiting ++ names_at_end columns r b } in
       subst (λ (q : Renderer D A (List A)). Waits r q) (sym h.is) (wait_on r laid last (lines_came ts (record r { block = None })) (no_line_came laid last (names_at_end columns r b) refl refl))
 
-  -- a border that stays one is no text
-  rule_waits : (r : Renderer D A (List A)) (b : Border (List A)) → r.options.pad_block_width ≡ false → Waits r (with_border columns r b)
-  rule_waits r b unpadded = (border b ∷ [], ap (λ l. r.lines ++ l ∷ []) (border_stays columns r b unpadded), ([], sym (append-nil r.waiting)))
+  -- The lines stay, and these came after them, the rest of them and borders that were drawn as text.
+  abbrev WaitsOn : Renderer D A (List A) → Renderer D A (List A) → Texts A → Type 0
+  WaitsOn r s bs =
+      (kept more rest : List (Line (List A))) × (s.lines ≡ kept ++ more) × AllZip StaysLine r.lines kept × AreDrawnAmong bs more rest × Waiting (first_text rest) r.waiting s.waiting
 
-  move_waits : (m : Move D A) (r s : Renderer D A (List A)) → Makes columns undrawn m r s → Waits r s
-  move_waits (flush q) r s h = flush_waits r s r.block h.1
-  move_waits (line is) r s h = subst (λ (q : Renderer D A (List A)). Waits r q) (sym h.2) (line_came r is)
-  move_waits (rule cells) r s h = subst (λ (q : Renderer D A (List A)). Waits r q) (sym h.2) (rule_waits r (without_holes cells r.annotations) h.0)
-  move_waits (join es) r s h = same_wait r s (ap (λ (q : Renderer D A (List A)). q.lines) h) (ap (λ (q : Renderer D A (List A)). q.waiting) h)
-  move_waits turn r s h = same_wait r s h.lines h.waiting
+  waits_on : (r q s : Renderer D A (List A)) (bs : Texts A) → WaitsOn r q bs → Waits q s → WaitsOn r s bs
+  waits_on r q s bs (kept, more, rest, lines, stay, among, g) h = (
+    kept,
+    more ++ h.0,
+    rest ++ h.0,
+    h.1 ∙ ap (λ ls. ls ++ h.0) lines ∙ append_assoc kept more h.0,
+    stay,
+    among_more bs more rest h.0 among,
+    wait_longer rest h.0 r.waiting q.waiting s.waiting g h.2,
+  )
 
-  pub steps_wait : (decoration : Decoration D A) (calls : List (Call (List A))) (r s : Renderer D A (List A)) → Steps columns decoration calls r s → CameWithoutDrawnBorders (borders_drawn r calls) WaitForText r s
-  steps_wait decoration calls r s h =
-      let (more, rest, came, among, waits) = steps_on columns Waits on_one wait_on move_waits decoration calls r s h in
-      (more, rest, came, among, wait_for_text r (record s { lines = r.lines ++ rest }) waits)
+  rule_waits : (r q : Renderer D A (List A)) (b : Border (List A)) (bs : Texts A) → WaitsOn r q bs → WaitsOn r (with_border columns q b) (bs ++ border_drawn columns q b)
+  rule_waits r q b bs (kept, more, rest, lines, stay, among, g) =
+      let is = (let shows = shown b.tag b in shows ++ line_padding columns q shows) in
+      let after = λ (l : Line (List A)). ap (λ ls. ls ++ l ∷ []) lines ∙ append_assoc kept more (l ∷ []) in
+      elim q.options.pad_block_width as (λ (pads : Bool). WaitsOn r (record q { lines = q.lines ++ (if pads then text is else border b) ∷ [] }) (bs ++ (if pads then is ∷ [] else []))) [
+        | true ↦ (kept, more ++ text is ∷ [], rest, after (text is), stay, among_drawn bs more rest is among, g)
+        | false ↦ (
+          kept,
+          more ++ border b ∷ [],
+          rest ++ border b ∷ [],
+          after (border b),
+          stay,
+          subst (λ cs. AreDrawnAmong cs (more ++ border b ∷ []) (rest ++ border b ∷ [])) (sym (append-nil bs)) (among_more bs more rest (border b ∷ []) among),
+          wait_longer rest (border b ∷ []) r.waiting q.waiting q.waiting g ([], sym (append-nil q.waiting)),
+        )
+      ]
 
-  pub steps_wait_all : (decoration : Decoration D A) (calls : List (Call (List A))) (r s : Renderer D A (List A)) → DrawNone r calls → Steps columns decoration calls r s → WaitForText r s
-  steps_wait_all decoration calls r s none h = wait_for_text r s (steps_on_all columns Waits on_one wait_on move_waits decoration calls r s none h)
-
-  -- ---- with rows too
-
-  -- The lines stay, and these came after them.
-  abbrev WaitsOn : Renderer D A (List A) → Renderer D A (List A) → Type 0
-  WaitsOn r s = (kept more : List (Line (List A))) × (s.lines ≡ kept ++ more) × AllZip StaysLine r.lines kept × Waiting (first_text more) r.waiting s.waiting
-
-  waits_on : (r q s : Renderer D A (List A)) → WaitsOn r q → Waits q s → WaitsOn r s
-  waits_on r q s (kept, more, lines, stay, g) h = (kept, more ++ h.0, h.1 ∙ ap (λ ls. ls ++ h.0) lines ∙ append_assoc kept more h.0, stay, wait_longer more h.0 r.waiting q.waiting s.waiting g h.2)
-
-  lines_stay : (r q s : Renderer D A (List A)) → AllZip StaysLine q.lines s.lines → s.waiting ≡ q.waiting → WaitsOn r q → WaitsOn r s
-  lines_stay r q s stay waiting (kept, more, lines, before, g) =
+  lines_stay : (r q s : Renderer D A (List A)) (bs : Texts A) → AllZip StaysLine q.lines s.lines → s.waiting ≡ q.waiting → WaitsOn r q bs → WaitsOn r s bs
+  lines_stay r q s bs stay waiting (kept, more, rest, lines, before, among, g) =
       let (front, back, both, first, others) = parted kept more s.lines (subst (λ ls. AllZip StaysLine ls s.lines) lines stay) in
-      (front, back, both, stay_on r.lines kept front before first, subst (Waiting (first_text back) r.waiting) (sym waiting) (subst (λ o. Waiting o r.waiting q.waiting) (same_first more back others) g))
+      let (left, here, same) = among_stay bs more rest back among others in
+      (front, back, left, both, stay_on r.lines kept front before first, here, subst (Waiting (first_text left) r.waiting) (sym waiting) (subst (λ o. Waiting o r.waiting q.waiting) (same_first rest left same) g))
 
-  waiting_goes_on : (r : Renderer D A (List A)) → GoesOn columns undrawn (λ s es. WaitsOn r s)
+  waiting_goes_on : (r : Renderer D A (List A)) → GoesOn columns (λ s es bs. WaitsOn r s bs)
   waiting_goes_on r = record {
-    flushed = λ q s b es h sound k. waits_on r q s k (flush_waits q s (Some b) h);
-    laid = λ q t es k. waits_on r q (with_line columns q t) k (line_came q t);
-    ruled = λ q b es unpadded k. waits_on r q (with_border columns q b) k (rule_waits q b unpadded);
-    stays = λ q s es stay waiting k. lines_stay r q s stay waiting k;
+    flushed = λ q s b es bs h sound k. waits_on r q s bs k (flush_waits q s (Some b) h);
+    laid = λ q t es bs k. waits_on r q (with_line columns q t) bs k (line_came q t);
+    ruled = λ q b es bs k. rule_waits r q b bs k;
+    stays = λ q s es bs stay waiting k. lines_stay r q s bs stay waiting k;
   }
 
-  pub acts_wait : (decoration : Decoration D A) (acts : List (Act A)) (r s : Renderer D A (List A)) → IsSound columns r → r.options.pad_block_width ≡ false → run (after_act columns decoration) acts r ≡ done s →
-      WaitForTextUnderRows r s
-  acts_wait decoration acts r s sound unpadded h =
-      let nothing : WaitsOn r r = (r.lines, [], sym (append-nil r.lines), all_stay r.lines, ([], sym (append-nil r.waiting))) in
-      let (kept, more, lines, stay, k) = (acts_on columns undrawn (λ t es. WaitsOn r t) (waiting_goes_on r) decoration acts r s (open_run r.block) sound unpadded h ([], refl, nothing)).2 in
+  pub acts_wait : (decoration : Decoration D A) (acts : List (Act A)) (r s : Renderer D A (List A)) → IsSound columns r → run (after_act columns decoration) acts r ≡ done s → WaitForText (borders_drawn columns decoration acts r) r s
+  acts_wait decoration acts r s sound h =
+      let nothing : WaitsOn r r [] = (r.lines, [], [], sym (append-nil r.lines), all_stay r.lines, none_among [], ([], sym (append-nil r.waiting))) in
+      let (kept, more, rest, lines, stay, among, k) = (acts_on columns (λ t es bs. WaitsOn r t bs) (waiting_goes_on r) decoration acts r s (open_run r.block) [] sound h ([], refl, nothing)).2 in
       record {
         kept = kept;
         more = more;
         lines = lines;
         stay = stay;
+        rest = rest;
+        among = among;
         stand = λ is first. subst (λ o. Waiting o r.waiting s.waiting) first k;
         wait = λ none. subst (λ o. Waiting o r.waiting s.waiting) none k;
       }
+
+  pub acts_wait_all : (decoration : Decoration D A) (acts : List (Act A)) (r s : Renderer D A (List A)) → IsSound columns r → DrawNone columns decoration acts r → run (after_act columns decoration) acts r ≡ done s → WaitForText [] r s
+  acts_wait_all decoration acts r s sound none h = subst (λ bs. WaitForText bs r s) (none_drawn columns decoration acts r s sound h none) (acts_wait decoration acts r s sound h)

@@ -1,13 +1,12 @@
 -- What came is in the lines, with others between, whether they are padded or not.
-use Rattle.text_block_renderer.proofs.Common.{◌≡◌, ℕ, Option, None, List, [], ◌∷◌, ◌++◌, fold, refl, ap, sym, ◌∙◌, subst, append_assoc, append-nil, AllZip, filter-append, Entry, Item, run_of, marker_items, is_visible_or_marker, Border, done, Decoration, text, Open, Renderer, line_padding, with_line, block_width, IsSound, block_lines, lines_at_end, names_at_end, flushed, border_line, with_border, laid_entries, run, Act, after_act, acts_come, StaysLine, StandWithin, written, to_show, IsWrittenSoFar}
+use Rattle.text_block_renderer.proofs.Common.{◌≡◌, ℕ, Option, None, List, [], ◌∷◌, ◌++◌, fold, refl, ap, sym, ◌∙◌, subst, append_assoc, append-nil, AllZip, filter-append, Entry, Item, run_of, marker_items, is_visible_or_marker, Border, done, Decoration, text, Open, Renderer, line_padding, with_line, block_width, IsSound, block_lines, lines_at_end, names_at_end, flushed, border_line, with_border, laid_entries, run, Act, after_act, acts_come, StaysLine, borders_drawn, StandWithin, written, to_show, IsWrittenSoFar}
 use Rattle.tbr_model.specs.Layout.{joined}
 use Rattle.tbr_renderer.proofs.FlushedBlocks.{EndsBlock, Flushes}
 use Rattle.text_block_renderer.proofs.Within.{within_both, within_more, itself_within, before_within}
 use Rattle.text_block_renderer.proofs.Written.{written-append, stays_written}
 use Rattle.text_block_renderer.proofs.LineContents.{unpadded, marker_items-append}
 use Rattle.text_block_renderer.proofs.BroughtEntries.{Show, show_both, at_shown, shown_markers, laid_stand}
-use Rattle.text_block_renderer.proofs.Moves.{flush, any}
-use Rattle.text_block_renderer.proofs.EndedEntries.{Ended, GoesOn, move_on, acts_on}
+use Rattle.text_block_renderer.proofs.EndedEntries.{Texts, Ended, GoesOn, flushed_on, acts_on}
 
 module _ {A : Type 0} (columns : ℕ → Option ℕ) where
   abbrev seen : List (Item (List A)) → List (Item (List A))
@@ -73,23 +72,26 @@ module _ {D A : Type 0} (columns : ℕ → Option ℕ) where
       let stand = subst (λ is. StandWithin k.shown (seen columns is)) (sym (stays_written r.lines s.lines stay)) k.stand in
       (all, order, record { shown = k.shown; whole = whole; stand = stand })
 
-  written_on : GoesOn columns any AreWritten
+  abbrev Written : Renderer D A (List A) → List (Entry (List A)) → Texts A → Type 0
+  Written r es bs = AreWritten r es
+
+  written_on : GoesOn columns Written
   written_on = record {
-    flushed = end_written;
-    laid = λ r t es k. (k.0 ++ seen columns t, show_both columns k.0 (seen columns t) es (laid_entries t) k.1 (laid_stand columns t).order, text_in r t k.0 k.2);
-    ruled = λ r b es may k. rule_written r b es k;
-    stays = stay_written;
+    flushed = λ r s b es bs h sound k. end_written r s b es h sound k;
+    laid = λ r t es bs k. (k.0 ++ seen columns t, show_both columns k.0 (seen columns t) es (laid_entries t) k.1 (laid_stand columns t).order, text_in r t k.0 k.2);
+    ruled = λ r b es bs k. rule_written r b es k;
+    stays = λ r s es bs stay waiting k. stay_written r s es stay waiting k;
   }
 
-  so_far : (r : Renderer D A (List A)) (es : List (Entry (List A))) → Ended AreWritten r es → IsWrittenSoFar columns r es
-  so_far r es (ended, whole, (all, order, k)) = record { ended = ended; whole = whole; shown = k.shown; order = subst (λ is. Show columns is ended) (sym k.whole) order; stand = k.stand }
+  so_far : (r : Renderer D A (List A)) (es : List (Entry (List A))) (bs : Texts A) → Ended Written r es bs → IsWrittenSoFar columns r es
+  so_far r es bs (ended, whole, (all, order, k)) = record { ended = ended; whole = whole; shown = k.shown; order = subst (λ is. Show columns is ended) (sym k.whole) order; stand = k.stand }
 
-  less_open : (r : Renderer D A (List A)) (es : List (Entry (List A))) → IsWrittenSoFar columns r es → Ended AreWritten r es
+  less_open : (r : Renderer D A (List A)) (es : List (Entry (List A))) → IsWrittenSoFar columns r es → Ended Written r es []
   less_open r es h = (h.ended, h.whole, (h.shown ++ marker_items r.waiting, h.order, record { shown = h.shown; whole = refl; stand = h.stand }))
 
-  pub flush_written : (r s : Renderer D A (List A)) (es : List (Entry (List A))) → Flushes columns r s → IsSound columns r → IsWrittenSoFar columns r es → IsWrittenSoFar columns s (es ++ [])
-  flush_written r s es h sound k = so_far s (es ++ []) (move_on columns any AreWritten written_on (flush r) r s es (refl, h) sound (less_open r es k))
+  pub flush_written : (r s : Renderer D A (List A)) (es : List (Entry (List A))) → Flushes columns r s → IsSound columns r → IsWrittenSoFar columns r es → IsWrittenSoFar columns s es
+  flush_written r s es h sound k = so_far s es [] (flushed_on columns Written written_on r s es [] h sound (less_open r es k))
 
   pub acts_write : (decoration : Decoration D A) (acts : List (Act A)) (r s : Renderer D A (List A)) (before : List (Entry (List A))) → IsSound columns r → run (after_act columns decoration) acts r ≡ done s → IsWrittenSoFar columns r before →
       IsWrittenSoFar columns s (acts_come columns decoration acts r before)
-  acts_write decoration acts r s before sound h k = so_far s _ (acts_on columns any AreWritten written_on decoration acts r s before sound tt h (less_open r before k))
+  acts_write decoration acts r s before sound h k = so_far s _ (borders_drawn columns decoration acts r) (acts_on columns Written written_on decoration acts r s before [] sound h (less_open r before k))

@@ -12,7 +12,7 @@ use Rattle.tbr_rows.specs.Meant.{SeenRow}
 use Rattle.tbr_rows.specs.Computed.{row_of}
 use Rattle.tbr_kept_lines.specs.LastBorder.{last_border}
 use Rattle.tbr_kept_lines.specs.Line.{Line, text, border}
-use Rattle.tbr_renderer.specs.Renderer.{Renderer, open_run}
+use Rattle.tbr_renderer.specs.Renderer.{Renderer, with_line, open_run}
 use Rattle.tbr_tagged.specs.Outcome.{Outcome, done, refused, if_live}
 use Rattle.tbr_tagged.specs.declared.Error.TheVariants.{TooNarrow}
 use Rattle.tbr_renderer.specs.Outcomes.{told_by, told}
@@ -21,8 +21,8 @@ use Rattle.tbr_renderer.specs.Appended.{border_line}
 use Rattle.tbr_renderer.specs.Footnotes.{listed, footnote_lines, with_footnotes}
 use Rattle.tbr_renderer.specs.Rows.{GivenCell, style_in, cells_from, PutsRow, after_row}
 use Rattle.tbr_renderer.specs.Calls.{Call, made, after, entries_brought, laid_entries}
-use Rattle.text_block_renderer.specs.Added.{Added, text_laid, row_put, flush_ends, call_adds}
-use Rattle.text_block_renderer.specs.Stretches.{Part, entries_of_part, added_of_part, lines_of_part, lines_laid, IsBetweenBlocks, IsPart}
+use Rattle.text_block_renderer.specs.Added.{Part, flush_ends, call_adds}
+use Rattle.text_block_renderer.specs.Stretches.{entries_of_part, lines_of_part, lines_laid, IsBetweenBlocks, IsPart}
 
 -- What is done to a renderer: a call, or a row of cells side by side, with whether it collapses. Or footnotes come, or
 -- the decorator is asked for those of these targets.
@@ -31,6 +31,13 @@ pub data Act (A : Type 0) : Type 0 where
   row : Bool → List (GivenCell (List A)) → Act A
   fmt_links : List (List (Element A)) → Act A
   finalise : List (List ℕ) → Act A
+
+-- What these add, each with the renderer right before: a part as calls have it, a row of cells, with whether it
+-- collapses, or a footnote's line.
+pub data Added (D A : Type 0) : Type 0 where
+  part_added : Part D A → Added D A
+  row_added : Renderer D A (List A) → Bool → List (GivenCell (List A)) → Added D A
+  note_added : Renderer D A (List A) → List (Item (List A)) → Added D A
 
 -- the cells of the rows among these, row by row
 abbrev pub rows_of : {A : Type 0} → List (Act A) → List (List (GivenCell (List A)))
@@ -49,6 +56,12 @@ beside_footnotes other es = es
 abbrev pub before_run : {D A : Type 0} →
     Renderer D A (List A) → List (Entry (List A)) → List (Entry (List A)) → List (Entry (List A))
 before_run r more es = let n = length es - length (open_run r.block) in take n es ++ more ++ drop n es
+
+-- footnotes' lines, one after another
+abbrev pub notes_add : {D A : Type 0} →
+    (ℕ → Option ℕ) → List (List (Item (List A))) → Renderer D A (List A) → List (Added D A)
+notes_add columns [] r = []
+notes_add columns (is ∷ texts) r = note_added r is ∷ notes_add columns texts (with_line columns r is)
 
 module _ {D A : Type 0} (columns : ℕ → Option ℕ) (decoration : Decoration D A) where
   -- what one makes of a renderer
@@ -100,9 +113,10 @@ module _ {D A : Type 0} (columns : ℕ → Option ℕ) (decoration : Decoration 
 
   -- what one adds
   abbrev pub act_adds : Act A → Renderer D A (List A) → List (Added D A)
-  act_adds (call c) r = call_adds columns decoration c r
-  act_adds (row collapses cells) r = flush_ends r ++ row_put collapses cells ∷ []
-  act_adds (fmt_links links) r = map text_laid (flat_map (footnote_lines columns r) links)
+  act_adds (call c) r = map part_added (call_adds columns decoration c r)
+  act_adds (row collapses cells) r =
+      map part_added (flush_ends r) ++ told_by (λ m. row_added m collapses cells ∷ []) (after_flush columns r)
+  act_adds (fmt_links links) r = notes_add columns (flat_map (footnote_lines columns r) links) r
   act_adds (finalise targets) r = []
 
   -- and those of acts, one after another
@@ -142,6 +156,12 @@ module _ {D A : Type 0} {columns : ℕ → Option ℕ} where
   rows_in (put p ∷ pieces) = p ∷ rows_in pieces
   rows_in (noted r is ∷ pieces) = rows_in pieces
 
+  -- what was added there
+  abbrev pub added_of_piece : Piece D A columns → Added D A
+  added_of_piece (part p) = part_added p
+  added_of_piece (put p) = row_added p.before p.collapses p.cells
+  added_of_piece (noted r is) = note_added r is
+
 module _ {D A : Type 0} (columns : ℕ → Option ℕ) where
   abbrev pub border_lines_of : Renderer D A (List A) → Option (Border (List A)) → List (Line (List A))
   border_lines_of r None = []
@@ -153,12 +173,6 @@ module _ {D A : Type 0} (columns : ℕ → Option ℕ) where
   lines_of_piece (put p) =
       lines_laid columns p.before p.puts.row.lines ++ border_lines_of p.before p.puts.row.next
   lines_of_piece (noted r is) = lines_laid columns r (is ∷ [])
-
-  -- what was added there
-  abbrev pub added_of_piece : Piece D A columns → List (Added D A)
-  added_of_piece (part p) = added_of_part p
-  added_of_piece (put p) = row_put p.collapses p.cells ∷ []
-  added_of_piece (noted r is) = text_laid is ∷ []
 
   -- what calls and rows brought of it
   abbrev pub entries_of_piece : Piece D A columns → List (Entry (List A))

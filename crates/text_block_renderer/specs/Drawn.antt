@@ -1,50 +1,81 @@
 -- Lines less the borders that padding made text.
-use Rattle.std.specs.Prelude.{◌≡◌, ℕ, ◌-◌, false, ⊤, ◌⊎◌, if◌then◌else◌, List, [], ◌∷◌, ◌++◌, map, flat_map, length, replicate}
-use Rattle.std.specs.List.{AllByRecursion as Each}
-use Rattle.tbr_border.specs.Border.{shown, without_holes}
+use Rattle.std.specs.Prelude.{◌≡◌, ℕ, ◌-◌, false, ◌⊎◌, if◌then◌else◌, Option, None, Some, List, [], ◌∷◌, ◌++◌, map, flat_map, length, replicate}
+use Rattle.tbr_model.specs.Run.{Item}
+use Rattle.tbr_border.specs.Border.{Border, shown, without_holes}
 use Rattle.tbr_border.specs.Cell.{Cell, horizontal, slash}
-use Rattle.tbr_tagged.specs.Elements.{text_items}
-use Rattle.tbr_tagged.specs.Padding.{spaces}
+use Rattle.tbr_decor.specs.Decoration.{Decoration}
+use Rattle.tbr_rows.specs.Meant.{SeenRow}
 use Rattle.tbr_renderer.specs.declared.options.RenderOptions.{RenderOptions}
 use Rattle.tbr_kept_lines.specs.Line.{Line, text}
-use Rattle.tbr_renderer.specs.Renderer.{Renderer}
+use Rattle.tbr_renderer.specs.Renderer.{Renderer, line_padding}
 use Rattle.tbr_renderer.specs.Calls.{Call, add_border, append_vert_row}
+use Rattle.text_block_renderer.specs.Added.{Part, ruled}
+use Rattle.text_block_renderer.specs.Acts.{Act, Added, part_added, row_added, acts_add, row_seen}
 
--- A line as it is, or a border that was drawn as text: cells under a tag, with so many spaces after them.
+-- A line as it is, or a border that was drawn as this text.
 pub data Put (T : Type 0) : Type 0 where
   as_it_is : Line T → Put T
-  drawn : List Cell → ℕ → T → Put T
+  drawn : List (Item T) → Put T
 
 abbrev pub line_put : {T : Type 0} → Put T → Line T
 line_put (as_it_is line) = line
-line_put (drawn cells n tag) = text (shown tag (without_holes cells tag) ++ text_items (spaces n) tag)
+line_put (drawn is) = text is
 
 abbrev pub not_drawn : {T : Type 0} → Put T → List (Line T)
 not_drawn (as_it_is line) = line ∷ []
-not_drawn (drawn cells n tag) = []
+not_drawn (drawn is) = []
 
-abbrev pub cells_drawn : {T : Type 0} → Put T → List (List Cell)
-cells_drawn (as_it_is line) = []
-cells_drawn (drawn cells n tag) = cells ∷ []
+abbrev pub text_drawn : {T : Type 0} → Put T → List (List (Item T))
+text_drawn (as_it_is line) = []
+text_drawn (drawn is) = is ∷ []
 
--- Of the lines these borders were drawn as text, and the rest are the others.
-abbrev pub AreDrawnAmong : {T : Type 0} → List (List Cell) → List (Line T) → List (Line T) → Type 0
+-- Of the lines these texts are borders that were drawn, in order, and the rest are the others.
+abbrev pub AreDrawnAmong : {T : Type 0} → List (List (Item T)) → List (Line T) → List (Line T) → Type 0
 AreDrawnAmong {T} borders lines rest =
-    (puts : List (Put T)) × (lines ≡ map line_put puts) × (borders ≡ flat_map cells_drawn puts)
+    (puts : List (Put T)) × (lines ≡ map line_put puts) × (borders ≡ flat_map text_drawn puts)
     × (rest ≡ flat_map not_drawn puts)
 
 -- It holds of the renderer with its lines less these borders, which were drawn as text.
 abbrev pub WithoutDrawnBorders : {D A : Type 0} →
-    List (List Cell) → (Renderer D A (List A) → Type 0) → Renderer D A (List A) → Type 0
+    List (List (Item (List A))) → (Renderer D A (List A) → Type 0) → Renderer D A (List A) → Type 0
 WithoutDrawnBorders {D} {A} borders P r =
     (rest : List (Line (List A))) × AreDrawnAmong borders r.lines rest × P (record r { lines = rest })
 
--- It holds of the two with the lines that came less these borders.
-abbrev pub CameWithoutDrawnBorders : {D A : Type 0} → List (List Cell)
-    → (Renderer D A (List A) → Renderer D A (List A) → Type 0) → Renderer D A (List A) → Renderer D A (List A) → Type 0
-CameWithoutDrawnBorders {D} {A} borders R r s =
-    (more rest : List (Line (List A))) × (s.lines ≡ r.lines ++ more) × AreDrawnAmong borders more rest
-    × R r (record s { lines = r.lines ++ rest })
+-- ---- the borders that are drawn
+
+module _ {D A : Type 0} (columns : ℕ → Option ℕ) where
+  -- the text that a border becomes, where lines are padded
+  abbrev pub border_drawn : Renderer D A (List A) → Border (List A) → List (List (Item (List A)))
+  border_drawn r b =
+      let is = shown b.tag b in if r.options.pad_block_width then (is ++ line_padding columns r is) ∷ [] else []
+
+  -- the border of a part
+  abbrev pub drawn_of_part : Part D A → List (List (Item (List A)))
+  drawn_of_part (ruled r cells) = border_drawn r (without_holes cells r.annotations)
+  drawn_of_part other = []
+
+  -- the border below a row
+  abbrev pub drawn_below : Renderer D A (List A) → Option (Border (List A)) → List (List (Item (List A)))
+  drawn_below r None = []
+  drawn_below r (Some b) = border_drawn r b
+
+  abbrev pub drawn_of_row : Renderer D A (List A) → Option (SeenRow (List A)) → List (List (Item (List A)))
+  drawn_of_row r None = []
+  drawn_of_row r (Some seen) = drawn_below r seen.next
+
+  module _ (decoration : Decoration D A) where
+    abbrev pub drawn_of_added : Added D A → List (List (Item (List A)))
+    drawn_of_added (part_added p) = drawn_of_part p
+    drawn_of_added (row_added r collapses cells) = drawn_of_row r (row_seen columns decoration collapses cells r)
+    drawn_of_added other = []
+
+    -- the borders that calls and rows draw as text
+    abbrev pub borders_drawn : List (Act A) → Renderer D A (List A) → List (List (Item (List A)))
+    borders_drawn acts r = flat_map drawn_of_added (acts_add columns decoration acts r)
+
+    -- No border becomes text: lines aren't padded, or none is added.
+    abbrev pub DrawNone : List (Act A) → Renderer D A (List A) → Type 0
+    DrawNone acts r = (r.options.pad_block_width ≡ false) ⊎ (borders_drawn acts r ≡ [])
 
 -- ---- the borders of calls
 
@@ -58,18 +89,3 @@ borders_added width options (add_border columns) = replicate columns horizontal 
 borders_added width options (append_vert_row cells) =
     if options.draw_borders then row_borders width (length cells) else []
 borders_added width options other = []
-
--- those that calls draw as text, where lines are padded
-abbrev pub borders_drawn : {D A : Type 0} → Renderer D A (List A) → List (Call (List A)) → List (List Cell)
-borders_drawn r calls =
-    if r.options.pad_block_width then flat_map (borders_added r.width r.options) calls else []
-
--- a call that adds no border
-abbrev pub AddsNoBorder : {T : Type 0} → Call T → Type 0
-AddsNoBorder (add_border width) = ⊥
-AddsNoBorder (append_vert_row cells) = ⊥
-AddsNoBorder other = ⊤
-
--- No border becomes text: lines aren't padded, or no call adds one.
-abbrev pub DrawNone : {D A : Type 0} → Renderer D A (List A) → List (Call (List A)) → Type 0
-DrawNone r calls = (r.options.pad_block_width ≡ false) ⊎ Each AddsNoBorder calls

@@ -1,5 +1,5 @@
 -- What the repository promises first: of runs, of cells side by side, and of what wrapping never answers.
-use Rattle.std.specs.Prelude.{◌≡◌, ℕ, ◌≤◌, false, ⊤, Option, IfSome, List, [], ◌∷◌, ◌++◌, length, map, flat_map}
+use Rattle.std.specs.Prelude.{◌≡◌, ℕ, ◌≤◌, false, ⊤, Option, IfSome, List, [], ◌∷◌, ◌++◌, length, map}
 use Rattle.std.specs.List.{AllByRecursion as Each}
 use Rattle.tbr_model.specs.Rule.{run_of}
 use Rattle.tbr_model.specs.Run.{items_width}
@@ -11,10 +11,12 @@ use Rattle.tbr_rows.specs.Shown.{DrawsInOne, HolesFill}
 use Rattle.tbr_rows.specs.CellsShown.{MadeRow, StandsAmong, ShowsTexts}
 use Rattle.tbr_decor.specs.Decoration.{Decoration}
 use Rattle.tbr_kept_lines.specs.Line.{Line, text, border}
+use Rattle.tbr_renderer.specs.Flush.{lines_at_end}
 use Rattle.tbr_renderer.specs.Renderer.{Renderer, block_width, may_overflow}
 use Rattle.tbr_renderer.specs.Rows.{GivenCell, style_in}
 use Rattle.tbr_kept_lines.specs.LastBorder.{last_border}
-use Rattle.text_block_renderer.specs.Stretches.{ended, NoneIsAhead}
+use Rattle.text_block_renderer.specs.Added.{ended}
+use Rattle.text_block_renderer.specs.Stretches.{NoneIsAhead}
 use Rattle.text_block_renderer.specs.LastBorders.{BecomeBy}
 use Rattle.text_block_renderer.specs.Acts.{Act, rows_of, acts_enter, acts_add, ActIsTooNarrow, PutRow, Piece, part, rows_in, added_of_piece, ComesInPieces}
 
@@ -22,14 +24,16 @@ module _ {D A : Type 0} (columns : ℕ → Option ℕ) where
   -- Of a `Normal` run that ended, where no line may be wider than the block: after any number of its lines no legal
   -- layout of it has placed more.
   abbrev pub NoLayoutIsAhead : Piece D A columns → Type 0
-  NoLayoutIsAhead (part (ended r b texts)) =
-      may_overflow r ≡ false → IsNormal (run_of b.events) → NoneIsAhead columns (block_width r) (run_of b.events) texts
+  NoLayoutIsAhead (part (ended r b)) =
+      may_overflow r ≡ false → IsNormal (run_of b.events) →
+      NoneIsAhead columns (block_width r) (run_of b.events) (lines_at_end columns r b)
   NoLayoutIsAhead other = ⊤
 
   -- Of any run that ended: its visible characters are in its lines once, in order, each under an annotation of its
   -- call; in a `Normal` run under the main one.
   abbrev pub StandsOnce : Piece D A columns → Type 0
-  StandsOnce (part (ended r b texts)) =
+  StandsOnce (part (ended r b)) =
+      let texts = lines_at_end columns r b in
       ShowsVisible columns (λ x y. x ≡ y) (run_of b.events) texts
       × (IsNormal (run_of b.events) → ShowsOwn columns (λ x y. x ≡ y) (run_of b.events) texts)
   StandsOnce other = ⊤
@@ -74,9 +78,9 @@ TakeTwoAtMost columns = (c : ℕ) → IfSome (columns c) (λ n. n ≤ 2)
 pub record Headline {D A : Type 0} (columns : ℕ → Option ℕ) (decoration : Decoration D A) (acts : List (Act A))
     (r s : Renderer D A (List A)) : Type 0 where
   -- the lines are those of runs that ended, of laid texts, of borders, of rows and of footnotes, which are, in order,
-  -- what each of these adds
+  -- what each of these adds, each to the renderer of that moment
   pub came : ComesInPieces columns (rows_of acts) r (acts_enter columns decoration acts r) s
-  pub added : flat_map (added_of_piece columns) came.pieces ≡ acts_add columns decoration acts r
+  pub added : map added_of_piece came.pieces ≡ acts_add columns decoration acts r
   -- and no piece changes a line that was there before it, but a row a border right above it
   pub become : BecomeBy columns came.pieces r.lines s.lines
   pub no_layout_is_ahead : Each (NoLayoutIsAhead columns) came.pieces

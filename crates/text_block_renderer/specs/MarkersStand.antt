@@ -10,6 +10,7 @@ use Rattle.tbr_kept_lines.specs.Line.{Line, text, border}
 use Rattle.tbr_renderer.specs.Renderer.{Renderer, may_overflow, open_run}
 use Rattle.tbr_renderer.specs.Calls.{text_of_lines}
 use Rattle.text_block_renderer.specs.Acts.{StaysLine}
+use Rattle.text_block_renderer.specs.Drawn.{AreDrawnAmong}
 
 -- the items of the lines of text, and after them the markers that wait
 abbrev pub items_so_far : {D A : Type 0} → Renderer D A (List A) → List (Item (List A))
@@ -54,18 +55,16 @@ first_text (border b ∷ ls) = first_text ls
 abbrev pub BeginsWith : {X : Type 0} → List X → List X → Type 0
 BeginsWith {X} front all = (rest : List X) × (all ≡ front ++ rest)
 
--- The next line of text begins with the markers that wait, and until it comes they go on waiting.
-pub record WaitForText {D A : Type 0} (r s : Renderer D A (List A)) : Type 0 where
-  pub more : List (Line (List A))
-  pub lines : s.lines ≡ r.lines ++ more
-  pub stand : (is : List (Item (List A))) → first_text more ≡ Some is → BeginsWith (marker_items r.waiting) is
-  pub wait : first_text more ≡ None → BeginsWith r.waiting s.waiting
-
--- So they do where rows come too, which give borders other cells.
-pub record WaitForTextUnderRows {D A : Type 0} (r s : Renderer D A (List A)) : Type 0 where
+-- The next line of text begins with the markers that wait, and until it comes they go on waiting. Borders that were
+-- drawn as text count as no text, and rows give borders that there were other cells.
+pub record WaitForText {D A : Type 0} (borders : List (List (Item (List A)))) (r s : Renderer D A (List A)) :
+    Type 0 where
   pub kept : List (Line (List A))
   pub more : List (Line (List A))
   pub lines : s.lines ≡ kept ++ more
   pub stay : AllZip StaysLine r.lines kept
-  pub stand : (is : List (Item (List A))) → first_text more ≡ Some is → BeginsWith (marker_items r.waiting) is
-  pub wait : first_text more ≡ None → BeginsWith r.waiting s.waiting
+  -- those that came, but for the borders drawn as text
+  pub rest : List (Line (List A))
+  pub among : AreDrawnAmong borders more rest
+  pub stand : (is : List (Item (List A))) → first_text rest ≡ Some is → BeginsWith (marker_items r.waiting) is
+  pub wait : first_text rest ≡ None → BeginsWith r.waiting s.waiting

@@ -10,12 +10,12 @@ use Rattle.tbr_wrap.specs.Runs.{IsNormal, EndsRun}
 use Rattle.tbr_wrap.specs.Wrapped.{padding_of}
 use Rattle.tbr_kept_lines.specs.Line.{Line, text}
 use Rattle.tbr_renderer.specs.Renderer.{Open, Renderer, line_padding, block_width, may_overflow, open_run, with_more}
-use Rattle.tbr_renderer.specs.Flush.{lines_at_end}
+use Rattle.tbr_renderer.specs.Flush.{lines_at_end, names_at_end}
 use Rattle.tbr_renderer.specs.Appended.{border_line}
 use Rattle.tbr_renderer.specs.Calls.{Call, add_border, append_subrender, append_vert_row, laid_entries}
 use Rattle.tbr_border.specs.Border.{without_holes}
 use Rattle.tbr_border.specs.Cell.{Cell}
-use Rattle.text_block_renderer.specs.Added.{Added, run_ended, text_laid, border_put}
+use Rattle.text_block_renderer.specs.Added.{Part, ended, laid, ruled}
 
 -- a text of a block as a line: after markers, and padded to the block's width and to the renderer's
 abbrev pub line_of_text : {D A : Type 0} → (ℕ → Option ℕ) → Renderer D A (List A) → Open (List A) → List (List ℕ)
@@ -44,14 +44,13 @@ NoneIsAhead {T} columns width run texts =
 -- Where the open block's run ends, its lines are one stretch after those that there are.
 pub record StandsAsStretch {D A : Type 0} (columns : ℕ → Option ℕ) (r : Renderer D A (List A)) (b : Open (List A))
     (lines : List (Line (List A))) : Type 0 where
-  pub texts : List (List (Item (List A)))
-  pub names : List (List ℕ)
   -- what a block promises of a run's texts: in `Normal`, where it may not overflow, those of a legal layout
-  pub ends : EndsRun columns (block_width r) (may_overflow r) (run_of b.events) texts names
+  pub ends : EndsRun columns (block_width r) (may_overflow r) (run_of b.events) (lines_at_end columns r b)
+      (names_at_end columns r b)
   pub ahead : may_overflow r ≡ false → IsNormal (run_of b.events) →
-      NoneIsAhead columns (block_width r) (run_of b.events) texts
+      NoneIsAhead columns (block_width r) (run_of b.events) (lines_at_end columns r b)
   pub after : List (Line (List A))
-  pub is : lines ≡ r.lines ++ stretch columns r b texts ++ after
+  pub is : lines ≡ r.lines ++ stretch columns r b (lines_at_end columns r b) ++ after
 
 -- Entries joined the run of the open block, and no line came.
 pub record StaysOpen {D A : Type 0} (r : Renderer D A (List A)) (b : Open (List A)) (es : List (Entry (List A)))
@@ -83,45 +82,32 @@ lines_laid columns r [] = []
 lines_laid columns r (is ∷ texts) =
     padded_line columns r (marker_items r.waiting ++ is) ∷ map (padded_line columns r) texts
 
--- What adds lines, each with the renderer at that moment: a run that ended with these texts, a laid text, or a border
--- of these cells.
-pub data Part (D A : Type 0) : Type 0 where
-  ended : Renderer D A (List A) → Open (List A) → List (List (Item (List A))) → Part D A
-  laid : Renderer D A (List A) → List (Item (List A)) → Part D A
-  ruled : Renderer D A (List A) → List Cell → Part D A
-
 -- the entries that are there
 abbrev pub entries_of_part : {D A : Type 0} → Part D A → List (Entry (List A))
-entries_of_part (ended r b texts) = (run_of b.events)
+entries_of_part (ended r b) = run_of b.events
 entries_of_part (laid r is) = laid_entries is
 entries_of_part (ruled r cells) = []
 
--- what was added there
-abbrev pub added_of_part : {D A : Type 0} → Part D A → List (Added D A)
-added_of_part (ended r b texts) = run_ended r b ∷ []
-added_of_part (laid r is) = text_laid is ∷ []
-added_of_part (ruled r cells) = border_put cells ∷ []
-
 -- the border that is there
 abbrev pub borders_of_part : {D A : Type 0} → Part D A → List (List Cell)
-borders_of_part (ended r b texts) = []
+borders_of_part (ended r b) = []
 borders_of_part (laid r is) = []
 borders_of_part (ruled r cells) = cells ∷ []
 
 abbrev pub lines_of_part : {D A : Type 0} → (ℕ → Option ℕ) → Part D A → List (Line (List A))
-lines_of_part columns (ended r b texts) = stretch columns r b texts
+lines_of_part columns (ended r b) = stretch columns r b (lines_at_end columns r b)
 lines_of_part columns (laid r is) = lines_laid columns r (is ∷ [])
 lines_of_part columns (ruled r cells) = border_line columns r (without_holes cells r.annotations) ∷ []
 
--- The open run ended with its texts, which are these. The renderer's width and options are still those of another one.
-pub record HasEnded {D A : Type 0} (columns : ℕ → Option ℕ) (first r : Renderer D A (List A)) (b : Open (List A))
-    (texts : List (List (Item (List A)))) : Type 0 where
+-- The open run ended. The renderer's width and options are still those of another one.
+pub record HasEnded {D A : Type 0} (columns : ℕ → Option ℕ) (first r : Renderer D A (List A))
+    (b : Open (List A)) : Type 0 where
   pub width : r.width ≡ first.width
   pub options : r.options ≡ first.options
   pub block : r.block ≡ Some b
-  pub are_its : texts ≡ lines_at_end columns r b
-  pub names : List (List ℕ)
-  pub ends : EndsRun columns (block_width r) (may_overflow r) (run_of b.events) texts names
+  -- what a block promises of its lines, and of the markers that are on none of them
+  pub ends : EndsRun columns (block_width r) (may_overflow r) (run_of b.events) (lines_at_end columns r b)
+      (names_at_end columns r b)
 
 -- No block is open. The renderer's width and options are still those of another one.
 pub record IsBetweenBlocks {D A : Type 0} (first r : Renderer D A (List A)) : Type 0 where
@@ -131,15 +117,14 @@ pub record IsBetweenBlocks {D A : Type 0} (first r : Renderer D A (List A)) : Ty
 
 -- laid texts and borders come where no block is open
 abbrev pub IsPart : {D A : Type 0} → (ℕ → Option ℕ) → Renderer D A (List A) → Part D A → Type 0
-IsPart columns first (ended r b texts) = HasEnded columns first r b texts
+IsPart columns first (ended r b) = HasEnded columns first r b
 IsPart columns first (laid r is) = IsBetweenBlocks first r
 IsPart columns first (ruled r cells) = IsBetweenBlocks first r
 
--- The lines that came are the stretches of the runs that ended, laid texts, and borders. These runs and the entries of
--- these texts, one after another, and then the open run are what there was of the open run and what came.
-pub record ComesInParts {D A : Type 0} (columns : ℕ → Option ℕ) (r : Renderer D A (List A))
+-- The lines that came are those of these parts, one after another. The runs that ended and the entries of the texts, and
+-- then the open run, are what there was of the open run and what came.
+pub record ComesInParts {D A : Type 0} (columns : ℕ → Option ℕ) (parts : List (Part D A)) (r : Renderer D A (List A))
     (es : List (Entry (List A))) (s : Renderer D A (List A)) : Type 0 where
-  pub parts : List (Part D A)
   pub are : Each (IsPart columns r) parts
   pub lines : s.lines ≡ r.lines ++ flat_map (lines_of_part columns) parts
   pub entries : open_run r.block ++ es ≡ flat_map entries_of_part parts ++ open_run s.block
@@ -153,6 +138,6 @@ AppendsNothing other = ⊤
 
 -- a run that ended, or an empty line
 abbrev pub IsOwnPart : {D A : Type 0} → Part D A → Type 0
-IsOwnPart (ended r b texts) = ⊤
+IsOwnPart (ended r b) = ⊤
 IsOwnPart (laid r is) = is ≡ []
 IsOwnPart (ruled r cells) = ⊥

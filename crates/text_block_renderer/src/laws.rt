@@ -8,7 +8,6 @@ pub mod rows;
 
 ghost use Rattle.std.specs.Prelude.{◌≡◌, ◌≢◌, ◌<◌, ℕ, ◌⊎◌, Option, Some, List, [], ◌++◌, flat_map};
 ghost use Rattle.std.specs.List.{AllByRecursion as Each};
-ghost use Rattle.tbr_border.specs.Cell.{Cell};
 ghost use Rattle.tbr_kept_lines.specs.Line.{Line};
 ghost use Rattle.tbr_renderer.specs.Renderer.{Open, Renderer, new_renderer, settings_of, open_run, IsSound};
 ghost use Rattle.tbr_renderer.specs.declared.options.RenderOptions.{RenderOptions};
@@ -18,12 +17,12 @@ ghost use Rattle.tbr_renderer.specs.Decorated.{sub_renderer};
 ghost use Rattle.tbr_renderer.specs.Outcomes.{run};
 ghost use Rattle.tbr_renderer.specs.Calls.{Call, Does, Steps, Brings, Shows};
 ghost use Rattle.text_block_renderer.specs.Settings.{settled};
-ghost use Rattle.text_block_renderer.specs.Drawn.{WithoutDrawnBorders, CameWithoutDrawnBorders, borders_added, borders_drawn, DrawNone};
+ghost use Rattle.text_block_renderer.specs.Drawn.{WithoutDrawnBorders, borders_added, borders_drawn, DrawNone};
 ghost use Rattle.text_block_renderer.specs.MarkersStand.{Stands, FlushStands, WaitForText};
-ghost use Rattle.text_block_renderer.specs.Stretches.{StandsAsStretch, StaysOpen, EndsAsStretch, ComesInParts, borders_of_part, added_of_part, AppendsNothing, IsOwnPart};
+ghost use Rattle.text_block_renderer.specs.Stretches.{StandsAsStretch, StaysOpen, EndsAsStretch, ComesInParts, borders_of_part, AppendsNothing, IsOwnPart};
 ghost use Rattle.text_block_renderer.specs.Added.{calls_add};
-ghost use Rattle.text_block_renderer.specs.Acts.{Act, after_act};
-ghost use Rattle.tbr_model.specs.Run.{Entry};
+ghost use Rattle.text_block_renderer.specs.Acts.{Act, after_act, acts_come};
+ghost use Rattle.tbr_model.specs.Run.{Entry, Item};
 ghost use Rattle.tbr_decor.specs.Decoration.{Decoration};
 
 /// No call takes a line back.
@@ -56,43 +55,51 @@ pub fn renderers_stay_sound<D, A>()
         IsSound columns s }
 {}
 
-/// After any calls the visible characters that they brought are in the lines of text, except those of the open run.
-/// They are there once and in order, each under an annotation of its call. Borders that became text by padding aren't
-/// counted. To a new renderer nothing was brought.
+/// After any calls, rows and footnotes the visible characters that they brought are in the lines of text, except those
+/// of the open run. They are there once and in order, each under an annotation of its call. A row brings the texts of
+/// its lines. Footnotes come before the run that is open. Borders that became text by padding aren't counted: these are
+/// known. To a new renderer nothing was brought.
 pub fn visible_characters_stand_once<D, A>()
-    ensures calls { (columns : ℕ → Option ℕ) (decoration : Decoration D A) (calls : List (Call (List A)))
-        (r s : Renderer D A (List A)) (borders : List (List Cell)) (before es : List (Entry (List A))) →
-        IsSound columns r → Brings columns decoration calls r es s →
-        WithoutDrawnBorders borders (λ q. Shows columns q before) r →
-        WithoutDrawnBorders (borders ++ borders_drawn r calls) (λ q. Shows columns q (before ++ es)) s }
+    ensures acts { (columns : ℕ → Option ℕ) (decoration : Decoration D A) (acts : List (Act A))
+        (r s : Renderer D A (List A)) (borders : List (List (Item (List A)))) (ended : List (Entry (List A))) →
+        IsSound columns r → run (after_act columns decoration) acts r ≡ done s →
+        let before = ended ++ open_run r.block in WithoutDrawnBorders borders (λ q. Shows columns q before) r →
+        WithoutDrawnBorders (borders ++ borders_drawn columns decoration acts r)
+        (λ q. Shows columns q (acts_come columns decoration acts r before)) s }
     ensures from_new { (columns : ℕ → Option ℕ) (decoration : Decoration D A) (width : ℕ) (options : RenderOptions)
-        (decorator : D) (calls : List (Call (List A))) (s : Renderer D A (List A)) (es : List (Entry (List A))) →
+        (decorator : D) (acts : List (Act A)) (s : Renderer D A (List A)) →
         let r = new_renderer {D = D} {A = A} width options decorator in
-        IsSound columns r → Brings columns decoration calls r es s →
-        WithoutDrawnBorders (borders_drawn r calls) (λ q. Shows columns q es) s }
-    ensures undrawn { (columns : ℕ → Option ℕ) (decoration : Decoration D A) (calls : List (Call (List A)))
-        (r s : Renderer D A (List A)) (before es : List (Entry (List A))) → IsSound columns r → DrawNone r calls →
-        Brings columns decoration calls r es s → Shows columns r before → Shows columns s (before ++ es) }
+        IsSound columns r → run (after_act columns decoration) acts r ≡ done s →
+        WithoutDrawnBorders (borders_drawn columns decoration acts r)
+        (λ q. Shows columns q (acts_come columns decoration acts r [])) s }
+    ensures undrawn { (columns : ℕ → Option ℕ) (decoration : Decoration D A) (acts : List (Act A))
+        (r s : Renderer D A (List A)) (ended : List (Entry (List A))) → IsSound columns r →
+        DrawNone columns decoration acts r → run (after_act columns decoration) acts r ≡ done s →
+        let before = ended ++ open_run r.block in
+        Shows columns r before → Shows columns s (acts_come columns decoration acts r before) }
 {}
 
-/// After any calls what they brought, except the open run, is in the lines of text, or is a marker that waits. The
-/// visible characters and the markers are there once and in order, and in `Normal` so are all kept characters. No
-/// marker waits that has a visible character after it. To a new renderer nothing was brought. Borders that became text
-/// by padding aren't counted.
+/// After any calls, rows and footnotes what they brought, except the open run, is in the lines of text, or is a marker
+/// that waits. The visible characters and the markers are there once and in order, and in `Normal` so are all kept
+/// characters. No marker waits that has a visible character after it. To a new renderer nothing was brought. Borders
+/// that became text by padding aren't counted.
 pub fn what_was_brought_stands<D, A>()
-    ensures calls { (columns : ℕ → Option ℕ) (decoration : Decoration D A) (calls : List (Call (List A)))
-        (r s : Renderer D A (List A)) (borders : List (List Cell)) (before es : List (Entry (List A))) →
-        IsSound columns r → Brings columns decoration calls r es s →
+    ensures acts { (columns : ℕ → Option ℕ) (decoration : Decoration D A) (acts : List (Act A))
+        (r s : Renderer D A (List A)) (borders : List (List (Item (List A)))) (before : List (Entry (List A))) →
+        IsSound columns r → run (after_act columns decoration) acts r ≡ done s →
         WithoutDrawnBorders borders (λ q. Stands columns q before) r →
-        WithoutDrawnBorders (borders ++ borders_drawn r calls) (λ q. Stands columns q (before ++ es)) s }
+        WithoutDrawnBorders (borders ++ borders_drawn columns decoration acts r)
+        (λ q. Stands columns q (acts_come columns decoration acts r before)) s }
     ensures from_new { (columns : ℕ → Option ℕ) (decoration : Decoration D A) (width : ℕ) (options : RenderOptions)
-        (decorator : D) (calls : List (Call (List A))) (s : Renderer D A (List A)) (es : List (Entry (List A))) →
+        (decorator : D) (acts : List (Act A)) (s : Renderer D A (List A)) →
         let r = new_renderer {D = D} {A = A} width options decorator in
-        IsSound columns r → Brings columns decoration calls r es s →
-        WithoutDrawnBorders (borders_drawn r calls) (λ q. Stands columns q es) s }
-    ensures undrawn { (columns : ℕ → Option ℕ) (decoration : Decoration D A) (calls : List (Call (List A)))
-        (r s : Renderer D A (List A)) (before es : List (Entry (List A))) → IsSound columns r → DrawNone r calls →
-        Brings columns decoration calls r es s → Stands columns r before → Stands columns s (before ++ es) }
+        IsSound columns r → run (after_act columns decoration) acts r ≡ done s →
+        WithoutDrawnBorders (borders_drawn columns decoration acts r)
+        (λ q. Stands columns q (acts_come columns decoration acts r [])) s }
+    ensures undrawn { (columns : ℕ → Option ℕ) (decoration : Decoration D A) (acts : List (Act A))
+        (r s : Renderer D A (List A)) (before : List (Entry (List A))) → IsSound columns r →
+        DrawNone columns decoration acts r → run (after_act columns decoration) acts r ≡ done s →
+        Stands columns r before → Stands columns s (acts_come columns decoration acts r before) }
     ensures new { (columns : ℕ → Option ℕ) (width : ℕ) (options : RenderOptions) (decorator : D) →
         Stands columns (new_renderer {D = D} {A = A} width options decorator) [] }
 {}
@@ -106,14 +113,15 @@ pub fn what_a_flush_makes_stand<D, A>()
         after_flush columns r ≡ done s → FlushStands columns (open_run r.block) r s }
 {}
 
-/// After any calls the markers that wait begin the next line of text, and until then they wait. A border that became
-/// text by padding doesn't count as such a line.
+/// After any calls, rows and footnotes the markers that wait begin the next line of text, and until then they wait. A
+/// border that became text by padding doesn't count as such a line.
 pub fn waiting_markers_begin_the_next_text<D, A>()
-    ensures calls { (columns : ℕ → Option ℕ) (decoration : Decoration D A) (calls : List (Call (List A)))
-        (r s : Renderer D A (List A)) → Steps columns decoration calls r s →
-        CameWithoutDrawnBorders (borders_drawn r calls) WaitForText r s }
-    ensures undrawn { (columns : ℕ → Option ℕ) (decoration : Decoration D A) (calls : List (Call (List A)))
-        (r s : Renderer D A (List A)) → DrawNone r calls → Steps columns decoration calls r s → WaitForText r s }
+    ensures acts { (columns : ℕ → Option ℕ) (decoration : Decoration D A) (acts : List (Act A))
+        (r s : Renderer D A (List A)) → IsSound columns r → run (after_act columns decoration) acts r ≡ done s →
+        WaitForText (borders_drawn columns decoration acts r) r s }
+    ensures undrawn { (columns : ℕ → Option ℕ) (decoration : Decoration D A) (acts : List (Act A))
+        (r s : Renderer D A (List A)) → IsSound columns r → DrawNone columns decoration acts r →
+        run (after_act columns decoration) acts r ≡ done s → WaitForText [] r s }
 {}
 
 /// The lines of a run stay together for good, where a flush put them: the first after the markers that waited, and each
@@ -135,15 +143,16 @@ pub fn each_open_run_ends_as_one_stretch<D, A>()
 {}
 
 /// The lines that calls add are the stretches of the runs that they end, the texts that they lay, such as empty lines,
-/// and their borders. What the calls brought is these runs and the entries of these texts, one after another, and then
-/// the run that is open. Calls that append nothing add only stretches and empty lines.
+/// and their borders, each added to the renderer of that moment. What the calls brought is these runs and the entries
+/// of these texts, one after another, and then the run that is open. Calls that append nothing add only stretches and
+/// empty lines.
 pub fn lines_are_stretches_laid_texts_and_borders<D, A>()
     ensures calls { (columns : ℕ → Option ℕ) (decoration : Decoration D A) (calls : List (Call (List A)))
         (r s : Renderer D A (List A)) (es : List (Entry (List A))) → IsSound columns r →
-        Brings columns decoration calls r es s → (came : ComesInParts columns r es s)
-        × (flat_map borders_of_part came.parts ≡ flat_map (borders_added r.width r.options) calls)
-        × (flat_map added_of_part came.parts ≡ calls_add columns decoration calls r) }
+        Brings columns decoration calls r es s → let parts = calls_add columns decoration calls r in
+        ComesInParts columns parts r es s
+        × (flat_map borders_of_part parts ≡ flat_map (borders_added r.width r.options) calls) }
     ensures own { (columns : ℕ → Option ℕ) (decoration : Decoration D A) (calls : List (Call (List A)))
-        (r s : Renderer D A (List A)) (es : List (Entry (List A))) → IsSound columns r → Each AppendsNothing calls →
-        Brings columns decoration calls r es s → (came : ComesInParts columns r es s) × Each IsOwnPart came.parts }
+        (r s : Renderer D A (List A)) → IsSound columns r → Each AppendsNothing calls →
+        Steps columns decoration calls r s → Each IsOwnPart (calls_add columns decoration calls r) }
 {}

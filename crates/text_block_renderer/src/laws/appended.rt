@@ -1,12 +1,11 @@
 //! The laws of lines of other renderers, and of borders.
-ghost use Rattle.std.specs.Prelude.{◌≡◌, ◌≤◌, ℕ, true, false, Option, Some, List, [], ◌∷◌, ◌++◌, map, flat_map, length};
+ghost use Rattle.std.specs.Prelude.{◌≡◌, ◌≤◌, ℕ, true, false, Option, Some, List, ◌++◌, map, flat_map, length};
 ghost use Rattle.std.specs.List.{AllZip, AllByRecursion as Each, slice_get, zip};
 ghost use Rattle.tbr_model.specs.Run.{Entry, Item};
 ghost use Rattle.tbr_model.specs.Layout.{joined};
 ghost use Rattle.tbr_model.specs.Hard.{IsShown, IsSpaces, visible_glyphs, visible_entries};
-ghost use Rattle.tbr_border.specs.Cell.{Cell};
 ghost use Rattle.tbr_decor.specs.Decoration.{Decoration};
-ghost use Rattle.tbr_kept_lines.specs.Line.{Line, text};
+ghost use Rattle.tbr_kept_lines.specs.Line.{Line};
 ghost use Rattle.tbr_renderer.specs.Renderer.{Renderer, IsSound};
 ghost use Rattle.tbr_tagged.specs.Outcome.{done};
 ghost use Rattle.tbr_renderer.specs.Flush.{after_flush};
@@ -14,23 +13,23 @@ ghost use Rattle.tbr_renderer.specs.Appended.{as_text, prefixed, handed_out};
 ghost use Rattle.tbr_renderer.specs.Calls.{append_subrender, append_vert_row, Does, text_of_lines, Shows};
 ghost use Rattle.text_block_renderer.specs.Drawn.{AreDrawnAmong, WithoutDrawnBorders};
 ghost use Rattle.text_block_renderer.specs.Stretches.{lines_laid};
-ghost use Rattle.text_block_renderer.specs.Nested.{Level, nested, IsFront, shortest, visible_after, HandOn};
+ghost use Rattle.text_block_renderer.specs.Nested.{Level, nested, BecomesLine, lines_left, visible_after, HandOn};
 ghost use Rattle.text_block_renderer.specs.VerticalRows.{row_lines};
 ghost use Rattle.text_block_renderer.specs.Taken.{StandWithin, written, to_show, AreWrittenIn, IsWrittenSoFar, AreTakenIn};
 
-/// Line i of blocks inside blocks is prefix i of each of them, from the outermost to the innermost, and then line i of
-/// the innermost as text. There are as many lines as the shortest of these lists has. Renderers that hand their lines
-/// on to one another give these lines, where lines aren't padded.
-pub fn nested_blocks_are_their_prefixes_and_lines<T, D, A>()
-    ensures line { (levels : List (Level T)) (innermost : Level T) (lines : List (Line T)) (i : ℕ)
-        (front : List (Item T)) (line : Line T) → IsFront i (levels ++ innermost ∷ []) front →
-        slice_get lines i ≡ Some line →
-        slice_get (nested (levels ++ innermost ∷ []) lines) i ≡ Some (text (front ++ as_text innermost.tag line)) }
-    ensures count { (levels : List (Level T)) (lines : List (Line T)) →
-        length (nested levels lines) ≡ shortest levels (length lines) }
-    ensures calls { (columns : ℕ → Option ℕ) (decoration : Decoration D A) (levels : List (Level (List A)))
+/// Renderers hand their lines on to one another, each after the prefixes of the one that takes them. Line i comes after
+/// prefix i, in each of them, from the innermost to the outermost, which may have lines before. Its first line of text
+/// then begins with the markers that waited, and each is padded. There are as many lines as the shortest of these lists
+/// has, and those before.
+pub fn nested_blocks_are_their_prefixes_and_lines<D, A>()
+    ensures line { (columns : ℕ → Option ℕ) (levels : List (Level D A)) (lines : List (Line (List A))) (i j : ℕ)
+        (line last : Line (List A)) → slice_get lines i ≡ Some line → BecomesLine columns levels i line j last →
+        slice_get (nested columns levels lines) j ≡ Some last }
+    ensures count { (columns : ℕ → Option ℕ) (levels : List (Level D A)) (lines : List (Line (List A))) →
+        length (nested columns levels lines) ≡ lines_left levels (length lines) }
+    ensures calls { (columns : ℕ → Option ℕ) (decoration : Decoration D A) (levels : List (Level D A))
         (inside lines : List (Line (List A))) →
-        HandOn columns decoration levels inside lines → lines ≡ nested levels inside }
+        HandOn columns decoration levels inside lines → lines ≡ nested columns levels inside }
 {}
 
 /// Lines that are appended come after those that there are and after the open run. The first comes after the markers
@@ -61,14 +60,13 @@ pub fn appended_characters_stand<D, A>()
         ++ visible_glyphs columns (joined (map (as_text r.annotations) lines))) }
 {}
 
-/// A vertical row is its cells with slashed borders between them and a plain one after them, where lines aren't padded
-/// and no marker waits. Where borders aren't drawn, it is its cells alone.
+/// A vertical row is its cells with slashed borders between them and a plain one after them. The first text begins with
+/// the markers that wait, and each is padded. Where borders aren't drawn, it is its cells alone.
 pub fn a_vertical_row_is_its_cells_and_borders<D, A>()
     ensures drawn { (columns : ℕ → Option ℕ) (decoration : Decoration D A) (cells : List (List (Line (List A))))
         (r s : Renderer D A (List A)) → Does columns decoration (append_vert_row cells) r s →
-        r.options.draw_borders ≡ true → r.options.pad_block_width ≡ false →
-        (m : Renderer D A (List A)) × (after_flush columns r ≡ done m)
-        × (m.waiting ≡ [] → s.lines ≡ m.lines ++ row_lines r cells) }
+        r.options.draw_borders ≡ true → (m : Renderer D A (List A)) × (after_flush columns r ≡ done m)
+        × (s.lines ≡ m.lines ++ row_lines columns m cells) }
     ensures without_borders { (columns : ℕ → Option ℕ) (decoration : Decoration D A)
         (cells : List (List (Line (List A)))) (r s : Renderer D A (List A)) →
         Does columns decoration (append_vert_row cells) r s → r.options.draw_borders ≡ false →
@@ -79,8 +77,8 @@ pub fn a_vertical_row_is_its_cells_and_borders<D, A>()
 /// The lines that a renderer hands out have the visible characters of all that was brought to it, once and in order.
 /// Borders that became text by padding aren't counted.
 pub fn handed_out_lines_have_all_characters<D, A>()
-    ensures lines { (columns : ℕ → Option ℕ) (r : Renderer D A (List A)) (borders : List (List Cell))
-        (es : List (Entry (List A))) (lines : List (Line (List A))) → IsSound columns r →
+    ensures lines { (columns : ℕ → Option ℕ) (r : Renderer D A (List A))
+        (borders : List (List (Item (List A)))) (es : List (Entry (List A))) (lines : List (Line (List A))) → IsSound columns r →
         WithoutDrawnBorders borders (λ q. Shows columns q es) r → handed_out columns r ≡ done lines →
         (rest : List (Line (List A))) × AreDrawnAmong borders lines rest
         × AllZip (IsShown (λ a b. a ≡ b)) (visible_glyphs columns (text_of_lines rest)) (visible_entries columns es) }

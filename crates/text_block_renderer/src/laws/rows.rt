@@ -1,11 +1,11 @@
 //! The laws of rows of cells side by side.
-ghost use Rattle.std.specs.Prelude.{◌≡◌, ◌↔◌, ℕ, Bool, false, Option, List, [], ◌++◌};
+ghost use Rattle.std.specs.Prelude.{◌≡◌, ◌↔◌, ℕ, Bool, Option, List, [], ◌++◌};
 ghost use Rattle.tbr_model.specs.Run.{Entry, Item};
 ghost use Rattle.std.specs.Cmp.Lexicographic.{pointwise};
 ghost use Rattle.tbr_decor.specs.Decoration.{Decoration};
-ghost use Rattle.tbr_renderer.specs.Renderer.{Renderer, new_renderer, settings_of, open_run, IsSound};
+ghost use Rattle.tbr_renderer.specs.Renderer.{Renderer, new_renderer, settings_of, IsSound};
 ghost use Rattle.tbr_renderer.specs.declared.options.RenderOptions.{RenderOptions};
-ghost use Rattle.tbr_renderer.specs.Calls.{text_of_lines, Shows};
+ghost use Rattle.tbr_renderer.specs.Calls.{text_of_lines};
 ghost use Rattle.tbr_tagged.specs.Outcome.{done};
 ghost use Rattle.tbr_renderer.specs.Outcomes.{run};
 ghost use Rattle.tbr_rows.specs.Computed.{TellsApart};
@@ -16,7 +16,6 @@ ghost use Rattle.tbr_renderer.specs.Flush.{after_flush};
 ghost use Rattle.text_block_renderer.specs.Acts.{Act, rows_of, after_act, acts_come, PutRow, put, lines_of_piece};
 ghost use Rattle.text_block_renderer.specs.LastBorders.{lines_above};
 ghost use Rattle.text_block_renderer.specs.Taken.{IsWrittenSoFar};
-ghost use Rattle.text_block_renderer.specs.MarkersStand.{Stands, WaitForTextUnderRows};
 
 /// Where annotations can be told apart, a row leaves exactly the state that is computed from what it means.
 pub fn a_row_is_computed<D, A>()
@@ -56,31 +55,8 @@ pub fn a_row_changes_no_settings<D, A>()
         after_row (pointwise decoration.same) columns collapses cells r ≡ done s → settings_of s ≡ settings_of r }
 {}
 
-/// Where lines aren't padded, after any calls, rows and footnotes the visible characters that they brought are in the
-/// lines of text, except those of the open run. They are there once and in order, each under an annotation of its call.
-/// A row brings the texts of its lines. Footnotes come before the run that is open.
-pub fn visible_characters_stand_once_with_rows_too<D, A>()
-    ensures { (columns : ℕ → Option ℕ) (decoration : Decoration D A) (acts : List (Act A))
-        (r s : Renderer D A (List A)) (ended : List (Entry (List A))) → IsSound columns r →
-        r.options.pad_block_width ≡ false → run (after_act columns decoration) acts r ≡ done s →
-        let before = ended ++ open_run r.block in
-        Shows columns r before → Shows columns s (acts_come columns decoration acts r before) }
-{}
-
-/// Where lines aren't padded, what calls, rows and footnotes brought is in the lines of text, or is a marker that
-/// waits, as [`what_was_brought_stands`] says for calls.
-///
-/// [`what_was_brought_stands`]: super::what_was_brought_stands
-pub fn what_was_brought_stands_with_rows_too<D, A>()
-    ensures { (columns : ℕ → Option ℕ) (decoration : Decoration D A) (acts : List (Act A))
-        (r s : Renderer D A (List A)) (before : List (Entry (List A))) → IsSound columns r →
-        r.options.pad_block_width ≡ false → run (after_act columns decoration) acts r ≡ done s →
-        Stands columns r before → Stands columns s (acts_come columns decoration acts r before) }
-{}
-
-/// Even where lines are padded, the visible characters and markers that were brought are in the lines, once and in
-/// order, except the open run and waiting markers. Others may be between them, among these borders that became text by
-/// padding.
+/// The visible characters and markers that were brought are in what is written in lines, also in front of borders: once
+/// and in order, except the open run and waiting markers. Borders that became text are written too.
 pub fn what_was_brought_is_written<D, A>()
     ensures acts { (columns : ℕ → Option ℕ) (decoration : Decoration D A) (acts : List (Act A))
         (r s : Renderer D A (List A)) (before : List (Entry (List A))) → IsSound columns r →
@@ -88,12 +64,4 @@ pub fn what_was_brought_is_written<D, A>()
         IsWrittenSoFar columns r before → IsWrittenSoFar columns s (acts_come columns decoration acts r before) }
     ensures new { (columns : ℕ → Option ℕ) (width : ℕ) (options : RenderOptions) (decorator : D) →
         IsWrittenSoFar columns (new_renderer {A = A} width options decorator) [] }
-{}
-
-/// Where lines aren't padded, markers that wait begin the next line of text, by a call, a row or a footnote. Until then
-/// they wait.
-pub fn waiting_markers_begin_the_next_text_with_rows_too<D, A>()
-    ensures { (columns : ℕ → Option ℕ) (decoration : Decoration D A) (acts : List (Act A))
-        (r s : Renderer D A (List A)) → IsSound columns r → r.options.pad_block_width ≡ false →
-        run (after_act columns decoration) acts r ≡ done s → WaitForTextUnderRows r s }
 {}

@@ -1,6 +1,6 @@
 use Rattle.text_block_renderer.proofs.Headline.{headline}
 use Rattle.tbr_runner.proofs.LedRenderers.{started_led, line_led, text_led, script_led}
-use Rattle.tbr_runner.proofs.ShownTexts.{led_shows, led_stands, led_writes}
+use Rattle.tbr_runner.proofs.ShownTexts.{led_shows, led_stands, led_undrawn, led_writes}
 use Rattle.tbr_runner.proofs.laws.the_renderers_of_a_script_are_led_to.Goals as goal
 
 pub returns : goal.returns
@@ -12,5 +12,6 @@ returns g c = record {
   headline = λ columns decoration r led. headline columns decoration led.acts led.first r led.sound led.leads;
   shows = led_shows;
   stands = led_stands;
+  undrawn = led_undrawn;
   written = led_writes;
 }

@@ -7,5 +7,5 @@ returns-clause-lines g c =
     let same = g.D.Annotation.Tag.same in let tells = g.D.Annotation.Tag.tells in
     let plain = c.adds_as_is.ensures c.if-not-adds_as_is.false in
     added_at_once columns c.args.self.now c.push_ended.new.self _ _
-    (texts_told same tells columns c.args.block plain.padding _ _ c.into_ended.ensures)
+    (texts_told same tells columns c.args.block plain.padding _ _ c.into_ended.ensures.gives)
     plain.unpadded plain.waits c.in_ok-push_ended.ensures.lines
