@@ -2,10 +2,11 @@
 ghost use Rattle.std.specs.Prelude.{◌≡◌, ◌++◌, [], chars, codes, IsTrue, IfOk};
 ghost use Rattle.std.specs.List.{list_all};
 ghost use Rattle.std.specs.Char.{is_ascii};
-ghost use Rattle.std.specs.Fmt.{signed_decimal};
+ghost use Rattle.std.specs.Fmt.{decimal, signed_decimal};
 ghost use Rattle.tbr_tagged.specs.View.{chars_of};
 ghost use Rattle.tbr_decor.specs.Plain as plain;
 
+use itoa::Buffer;
 use std::alloc::Global;
 use tbr_tagged::OutOfMemory;
 
@@ -46,6 +47,23 @@ pub fn ordered_item(alloc: Global, i: i64) -> Result<String, OutOfMemory>
     ensures { IfOk result (λ t. chars_of t ≡ signed_decimal i ++ codes ". ") }
 {
     Ok(format!(in alloc; "{i}. ")?)
+}
+
+/// A number in square brackets, with room for `room` bytes after it. It refuses only where memory is refused.
+pub fn bracketed_number(
+    alloc: Global,
+    number: usize,
+    room: usize,
+) -> Result<String, OutOfMemory>
+    ensures { IfOk result (λ t. chars_of t ≡ codes "[" ++ decimal number ++ codes "]") }
+{
+    let mut buffer = Buffer::new();
+    let digits = buffer.format(number);
+    let mut text = String::with_capacity(alloc, room.saturating_add(digits.len() + 2))?;
+    text.push('[')?;
+    text.push_str(digits)?;
+    text.push(']')?;
+    Ok(text)
 }
 
 /// A text in square brackets. It refuses only where memory is refused.

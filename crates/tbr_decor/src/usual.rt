@@ -92,5 +92,8 @@ fn footnote<A: Tag + Default>(
 fn numbered(alloc: Global, number: usize, url: &str) -> Result<String, OutOfMemory>
     ensures { IfOk result (λ t. chars_of t ≡ codes "[" ++ decimal number ++ codes "]: " ++ chars url.now) }
 {
-    Ok(format!(in alloc; "[{number}]: {url}")?)
+    let mut text = text::bracketed_number(alloc, number, url.len().saturating_add(2))?;
+    text.push_str(": ")?;
+    text.push_str(url)?;
+    Ok(text)
 }

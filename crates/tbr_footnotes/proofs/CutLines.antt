@@ -1,7 +1,8 @@
 -- Footnotes that are cut into lines.
-use Rattle.std.proofs.Common.{◌≡◌, ◌≢◌, ◌↔◌, IsTrue, ℕ, ◌+◌, ◌≤◌, ◌==◌, Bool, true, false, if◌then◌else◌, Option, Some, None, List, [], ◌∷◌, ◌++◌, map, refl, ap, sym, ◌∙◌, append_assoc, append-nil, arith, rules}
-use Rattle.std.proofs.lemmas.Bool.{cond_both, eqb-true, leb-true, le-leb}
-use Rattle.std.proofs.lemmas.List.{map-append}
+use Rattle.std.proofs.Common.{◌≡◌, ◌≢◌, ◌↔◌, IsTrue, ℕ, ◌+◌, ◌<◌, ◌≤◌, Bool, true, false, if◌then◌else◌, Option, Some, None, List, [], ◌∷◌, ◌++◌, map, length, get_or, encode_utf8, encode_utf8_all, refl, subst, ap, sym, ◌∙◌, append_assoc, append-nil, arith, rules}
+use Rattle.std.proofs.lemmas.Bool.{leb-true, le-leb, ne_eqb}
+use Rattle.std.proofs.lemmas.List.{map-append, length-append, get_or-append-add}
+use lib.Utf8.{encode}
 use Rattle.std.proofs.lemmas.Grind.{fold-append}
 use Rattle.tbr_model.specs.Codes.{newline_character}
 use Rattle.tbr_model.specs.Run.{Item, glyph, item_width}
@@ -29,9 +30,16 @@ footnote_items-append (piece cs a ∷ es) fs =
     ap (λ is. text_items (map unbroken cs) (a ∷ []) ++ is) (footnote_items-append es fs) ∙ sym (append_assoc (text_items (map unbroken cs) (a ∷ [])) (footnote_items es) (footnote_items fs))
 footnote_items-append (marker_element name ∷ es) fs = footnote_items-append es fs
 
--- one more that is no newline
-pub unbroken_more : (cs : List ℕ) (c : ℕ) → map unbroken cs ≡ cs → c ≢ newline_character → map unbroken (cs ++ c ∷ []) ≡ cs ++ c ∷ []
-unbroken_more cs c so_far other = search (rules, map-append, cond_both, eqb-true)
+-- those of a text without the byte of a newline
+pub unbroken_text : (cs : List ℕ) → ((i : ℕ) → i < length (encode_utf8_all cs) → get_or (encode_utf8_all cs) i 0 ≢ newline_character) → map unbroken cs ≡ cs
+unfolding encode
+unbroken_text [] other = refl
+unbroken_text (c ∷ cs) other =
+    let is_other : c ≢ newline_character = λ is. subst (λ d. (i : ℕ) → i < length (encode_utf8_all (d ∷ cs)) → get_or (encode_utf8_all (d ∷ cs)) i 0 ≢ newline_character) is other 0 (omega arith) refl in
+    let first = encode_utf8 c in
+    let bytes = encode_utf8_all cs in
+    let more = unbroken_text cs (λ i l is. other (length first + i) (omega (arith, length-append first bytes, l)) (get_or-append-add first bytes i 0 ∙ is)) in
+    rw (ne_eqb c newline_character is_other) (ap (λ xs. c ∷ xs) more)
 
 module _ {T : Type 0} (columns : ℕ → Option ℕ) where
   -- characters and then characters

@@ -18,6 +18,7 @@ use std::mem;
 use tbr_annotations::Annotations;
 use tbr_decor::TextDecorator;
 use tbr_lines::{CharWidth, OutOfMemory, TaggedLine, TaggedLineElement, TaggedString};
+use tbr_tagged::text_width;
 
 /// The lines of a footnote, to which its characters are added in order. Each character is under the list of its one
 /// annotation.
@@ -207,14 +208,11 @@ fn columns_after<W: CharWidth>(before: usize, text: &str) -> Option<usize>
     ensures columns { IfSome result (λ columns. columns ≡ before + width_of_text W.columns (chars text.now)) }
     ensures unbroken { IfSome result (λ _. map model.unbroken (chars text.now) ≡ chars text.now) }
 {
-    let mut columns = before;
-    for c in text.chars() {
-        if c == '\n' {
-            return None;
-        }
-        columns = columns.checked_add(W::width(c).unwrap_or(0))?;
+    if text.contains('\n') {
+        return None;
     }
-    Some(columns)
+    let more = text_width::<W>(text).ok()?;
+    before.checked_add(more)
 }
 
 /// A newline as a space, and any other character as it is.

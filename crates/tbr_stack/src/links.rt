@@ -13,7 +13,7 @@ ghost use Rattle.tbr_stack.specs.Links.{link_number, open_links, shown_number, a
 
 use crate::stack::TextRenderer;
 use std::alloc::Global;
-use tbr_decor::TextDecorator;
+use tbr_decor::{TextDecorator, text};
 use tbr_lines::{CharWidth, Error, OutOfMemory};
 use tbr_renderer::{Renderer, SubRenderer};
 
@@ -132,18 +132,11 @@ fn add_number<D: TextDecorator, W: CharWidth>(
     ensures answers { let calls = calls_by W.columns (decoration_of D.TextDecorator D.Annotation.tells) in
         Answers calls (call.add_inline_text (link_number k)) renderer.old result renderer.new }
 {
-    match number_text(alloc, k) {
+    match text::bracketed_number(alloc, k, 0) {
         Ok(number) => renderer.add_inline_text(number.as_str()),
         Err(e) => {
             renderer.fail(e);
             Err(Error::OutOfMemory)
         }
     }
-}
-
-/// The text that shows a number.
-fn number_text(alloc: Global, k: usize) -> Result<String, OutOfMemory>
-    ensures { IfOk result (λ text. chars_of text ≡ link_number k) }
-{
-    Ok(format!(in alloc; "[{k}]")?)
 }

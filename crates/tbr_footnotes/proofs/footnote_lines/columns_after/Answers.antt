@@ -1,24 +1,28 @@
-use Rattle.std.proofs.Common.{◌≡◌, ◌+◌, ◌∷◌, [], unwrap_or, map, chars, map-id, ap, sym, ◌∙◌, arith}
-use Rattle.std.proofs.lemmas.Iterator.{YieldsList-from_chars}
-use Rattle.std.proofs.lemmas.Iterator.Consumers.{YieldsList-end}
-use Rattle.tbr_model.specs.Width.{width_of_text}
-use Rattle.tbr_tagged.proofs.TextColumns.{width_of_text-append}
-use Rattle.tbr_footnotes.proofs.CutLines.{unbroken_more}
+use Rattle.std.proofs.Common.{◌≡◌, ◌<◌, ◌≢◌, ◌+◌, ℕ, length, get_or, chars, ap, subst, sym, ◌∙◌, Option, Some, None, Result, Ok, Err, unwrap_or, map, arith, true≢false}
+use Rattle.std.specs.Option.{IfSome, SomeIff, is_some}
+use Rattle.std.specs.Result.{result_ok}
+use Rattle.tbr_tagged.specs.Sums.{GivesSum}
+use Rattle.std.proofs.lemmas.Str.{encodes-chars}
+use Rattle.std.proofs.lemmas.Str.Pattern.{NoCharPasses-char}
+use Rattle.tbr_model.specs.Codes.{newline_character}
 use Rattle.tbr_footnotes.specs.Footnote.{unbroken}
+use Rattle.tbr_footnotes.proofs.CutLines.{unbroken_text}
 use Rattle.tbr_footnotes.proofs.footnote_lines.columns_after.Goals as goal
 
-pub loop-c-preserved : goal.loop-c-preserved
-loop-c-preserved g c =
-    let columns = g.W.CharWidth.columns in
-    let one : c.unwrap_or.result ≡ unwrap_or (columns c.in-Some.c) 0 = c.unwrap_or.ensures ∙ ap (λ o. unwrap_or o 0) c.width.ensures in record {
-      columns = omega (arith, c.in_ok-columns.ensures, c.loop-c.invariant.columns, one, width_of_text-append columns c.loop-c.yielded (c.in-Some.c ∷ []));
-      unbroken = unbroken_more c.loop-c.yielded c.in-Some.c c.loop-c.invariant.unbroken c.if-c-eq10.false;
-    }
+-- a checked sum by other words, and what holds beside it
+sum_is : {X : Type 0} (r : Option ℕ) (P : Type 0) (v w : ℕ) → SomeIff r P v → v ≡ w → X → IfSome r (λ n. n ≡ w) × IfSome r (λ _. X)
+sum_is None P v w h e x = (tt, tt)
+sum_is (Some n) P v w h e x = (h.1 ∙ e, x)
+
+-- a sum that is given
+sum_given : {E : Type 0} (r : Result ℕ E) (sum n : ℕ) → GivesSum r sum → Some n ≡ result_ok r → n ≡ sum
+sum_given (Ok m) sum n h is = ap (λ o. unwrap_or o 0) is ∙ h
+sum_given (Err e) sum n h is = absurd (true≢false (ap is_some is))
 
 pub returns : goal.returns
 returns g c =
-    let end = YieldsList-end (YieldsList-from_chars c.args.text.now c.utf8.text cc) c.loop-c.yielded _ c.loop-c.yielded_by _ _ c.in-None.is c.next.ensures.steps in
-    let all : c.loop-c.yielded ≡ chars c.args.text.now = sym (map-id c.loop-c.yielded) ∙ end.0 in record {
-      columns = c.loop-c.invariant.columns ∙ ap (λ cs. c.args.before + width_of_text g.W.CharWidth.columns cs) all;
-      unbroken = sym (ap (map unbroken) all) ∙ c.loop-c.invariant.unbroken ∙ all;
-    }
+    let t = c.args.text.now in
+    let other : map unbroken (chars t) ≡ chars t = unbroken_text (chars t) (subst (λ bs. (i : ℕ) → i < length bs → get_or bs i 0 ≢ newline_character) (sym (encodes-chars t c.utf8.text))
+    (λ i. NoCharPasses-char newline_character t i (c.if-contains.ensures.cases) (omega arith))) in
+    let sums = sum_is c.checked_add.result _ _ _ c.checked_add.ensures (ap (λ n. c.args.before + n) (sum_given c.text_width.result _ _ c.text_width.ensures c.in_ok-more.ensures.value)) other in
+    record { columns = sums.0; unbroken = sums.1 }

@@ -1,4 +1,4 @@
-use Rattle.std.proofs.Common.{chars, map-id, sym, ◌∙◌, arith}
+use Rattle.std.proofs.Common.{chars, map-id, sym, ◌∙◌}
 use Rattle.std.proofs.lemmas.Iterator.{YieldsList-from_chars}
 use Rattle.std.proofs.lemmas.Iterator.Consumers.{YieldsList-end}
 use Rattle.tbr_footnotes.proofs.CutLines.{text_goes_on, text_ends}
