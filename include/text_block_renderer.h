@@ -79,7 +79,8 @@ typedef enum tbr_status {
     /* A number that isn't a value of its enum, such as decorator 9. A span of 0 rows. NULL for a text that has bytes.
        Options whose size the library doesn't know. */
     TBR_BAD_ARGUMENT = 8,
-    /* Inside what the call would end, a level is open, or cells wait for a row. */
+    /* Inside what the call would end, a level is open, or cells wait for a row. Or they wait where a table that finds its
+       widths would begin. */
     TBR_STILL_OPEN = 9,
     /* A call that fills, questions or finishes a renderer, after it was finished. */
     TBR_FINISHED = 10,
@@ -92,7 +93,11 @@ typedef enum tbr_status {
     /* The buffer has less room than the text has bytes. */
     TBR_BUFFER_TOO_SMALL = 14,
     /* The renderer is NULL. */
-    TBR_NO_RENDERER = 15
+    TBR_NO_RENDERER = 15,
+    /* A table is open that finds its widths, and the call has to wait for its end, or for a cell. Since 0.3. */
+    TBR_IN_TABLE = 16,
+    /* No such table is open that could take a cell. Since 0.3. */
+    TBR_NO_TABLE = 17
 } tbr_status;
 
 /* How decorated text is shown. */
@@ -194,6 +199,14 @@ typedef struct tbr_answer {
     size_t length;
 } tbr_answer;
 
+/* How much room something can use, in columns. Since 0.3. */
+typedef struct tbr_extent {
+    /* The longest word: in fewer columns it is cut. */
+    size_t longest_word;
+    /* The widest line: in as many columns no line is broken. */
+    size_t widest_line;
+} tbr_extent;
+
 /* A line. */
 typedef struct tbr_line {
     /* The bytes of its text, which has no newline. */
@@ -285,6 +298,12 @@ tbr_answer tbr_render_raw(const char *script, size_t length, char *out, size_t r
 tbr_status tbr_text_width_n(const char *text, size_t length, size_t *columns);
 
 tbr_status tbr_text_width(const char *text, size_t *columns);
+
+/* How much room a text can use, in a mode of white space. Nothing is drawn, and the call takes no memory. TBR_NOT_UTF8 if
+   it isn't UTF-8, TBR_BAD_ARGUMENT if the mode isn't a value of its enum. Since 0.3. */
+tbr_status tbr_measure_n(const char *text, size_t length, tbr_white_space mode, tbr_extent *extent);
+
+tbr_status tbr_measure(const char *text, tbr_white_space mode, tbr_extent *extent);
 
 /* ---- making a renderer ---- */
 
@@ -452,6 +471,43 @@ tbr_status tbr_end_ordered_item(tbr_renderer *renderer, int64_t number);
 tbr_status tbr_start_header(tbr_renderer *renderer, size_t level);
 
 tbr_status tbr_end_header(tbr_renderer *renderer, size_t level);
+
+/* ---- filling it: tables that find their widths ---- */
+
+/*
+ * A table is rows of cells, and a cell is filled by the same calls as a page: texts, links, quotes, items, and further
+ * tables. Columns are as wide as browsers make them, from the longest word and the widest line of each cell. If the
+ * longest words don't fit side by side, the cells come one below another. Since 0.3.
+ *
+ * From the beginning of the outermost table to its end, calls are recorded, and the end draws them in the columns of the
+ * level. So some have to wait, and answer TBR_IN_TABLE: tbr_finish and tbr_finish_text; questions, but for tbr_refusal,
+ * tbr_open_levels, which counts tables, cells and blocks, and those for prefixes; and tbr_start_cell, tbr_end_cell,
+ * tbr_add_row and tbr_add_vertical_row, whose widths are given. Outside of its cells a table takes nothing: that is
+ * TBR_IN_TABLE too. An end is refused at once if what it would end isn't innermost, and nothing is lost.
+ * TBR_OUT_OF_MEMORY and TBR_TOO_NARROW are kept, as everywhere, and lose the table.
+ */
+
+/* Begins a table. TBR_STILL_OPEN if cells of given widths wait for their row, and TBR_ROW_DOES_NOT_FIT if such cells
+   overhang: both would come into its rows. */
+tbr_status tbr_start_auto_table(tbr_renderer *renderer);
+
+/* Opens a cell that spans so many columns and rows: 0 counts as 1, and more than 1,000 columns as 1,000. TBR_NO_TABLE if
+   no table is open, or a cell of it is; TBR_BAD_ARGUMENT if the alignment isn't a value of its enum. */
+tbr_status tbr_start_auto_cell(tbr_renderer *renderer, size_t columns, size_t rows, tbr_alignment alignment);
+
+/* Closes the cell. TBR_NOTHING_TO_END if the innermost of what is open isn't a cell of a table. */
+tbr_status tbr_end_auto_cell(tbr_renderer *renderer);
+
+/* Ends the row of the cells that came. TBR_NOTHING_TO_END if the innermost of what is open isn't a table. */
+tbr_status tbr_end_auto_row(tbr_renderer *renderer);
+
+/* Ends the table, and draws it if it is in no other one. TBR_NOTHING_TO_END as for a row, and TBR_STILL_OPEN if cells
+   came after the last row. */
+tbr_status tbr_end_auto_table(tbr_renderer *renderer);
+
+/* How much room can be used by what came so far in the innermost cell of a table, or block in it. TBR_NO_TABLE if no table
+   is open, TBR_IN_TABLE if no cell of it is. Its refusals aren't kept. */
+tbr_status tbr_measure_open(tbr_renderer *renderer, tbr_extent *extent);
 
 /* ---- filling it: levels ---- */
 

@@ -25,6 +25,7 @@ VALUES = {
     "&mut LineSize": "&mut line",
     "&mut PiecePlace": "&mut piece",
     "&mut AnnotationKind": "&mut annotation",
+    "&mut Extent": "&mut extent",
     "usize": "1",
     "u32": "1",
     "i64": "1",
@@ -44,6 +45,7 @@ impl Returned {
 }
 """
 MAIN = """\
+use crate::extent::Extent;
 use crate::handle::{Handle, Returned};
 use crate::options::Options;
 use std::process::ExitCode;
@@ -62,6 +64,7 @@ fn main(rt: HostRuntime) -> ExitCode {
     let mut line = LineSize { bytes: 0, columns: 0, pieces: 0, is_border: false };
     let mut piece = PiecePlace { begin: 0, end: 0, annotations: 0, name_bytes: 0, kind: 0 };
     let mut annotation = AnnotationKind { target_bytes: 0, kind: 0, red: 0, green: 0, blue: 0 };
+    let mut extent = Extent { longest_word: 0, widest_line: 0 };
     let mut back = Returned::fresh(alloc);
     let mut sum = 0u32;
 CALLS

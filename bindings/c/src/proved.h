@@ -31,6 +31,7 @@ typedef struct tbr1_handle {
 
 tbr_answer tbr1_render(const uint8_t *script, size_t length, bool raw, uint8_t *out, size_t room);
 uint32_t tbr1_text_width(const uint8_t *text, size_t length, size_t *columns);
+uint32_t tbr1_measure(const uint8_t *text, size_t length, uint32_t mode, tbr_extent *extent);
 uint32_t tbr1_new(const tbr1_options *options, tbr_renderer **back);
 void tbr1_free(tbr1_handle renderer);
 
@@ -73,6 +74,15 @@ uint32_t tbr1_start_cell(tbr1_handle renderer, size_t width, size_t span, uint32
 uint32_t tbr1_end_cell(tbr1_handle renderer, tbr_renderer **back);
 uint32_t tbr1_add_row(tbr1_handle renderer, bool collapse, tbr_renderer **back);
 uint32_t tbr1_add_vertical_row(tbr1_handle renderer, tbr_renderer **back);
+uint32_t tbr1_start_auto_table(tbr1_handle renderer, tbr_renderer **back);
+uint32_t tbr1_start_auto_cell(tbr1_handle renderer, size_t columns, size_t rows, uint32_t alignment,
+    tbr_renderer **back);
+uint32_t tbr1_end_auto_cell(tbr1_handle renderer, tbr_renderer **back);
+uint32_t tbr1_end_auto_row(tbr1_handle renderer, tbr_renderer **back);
+uint32_t tbr1_end_auto_table(tbr1_handle renderer, tbr_renderer **back);
+/* Opens a block in a cell of a table, as wide as a prefix of so many columns leaves. */
+uint32_t tbr1_start_inside(tbr1_handle renderer, size_t prefix, tbr_renderer **back);
+uint32_t tbr1_measure_open(tbr1_handle renderer, tbr_extent *extent, tbr_renderer **back);
 uint32_t tbr1_finish(tbr1_handle renderer, tbr_renderer **back);
 uint32_t tbr1_finish_text(tbr1_handle renderer, size_t *length, tbr_renderer **back);
 

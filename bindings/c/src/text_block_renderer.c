@@ -68,6 +68,15 @@ tbr_status tbr_text_width(const char *text, size_t *columns) {
     return tbr_text_width_n(text, length_of(text), columns);
 }
 
+tbr_status tbr_measure_n(const char *text, size_t length, tbr_white_space mode, tbr_extent *extent) {
+    return is_missing(text, length) ? TBR_BAD_ARGUMENT
+                                    : (tbr_status)tbr1_measure(bytes_of(text), length, (uint32_t)mode, extent);
+}
+
+tbr_status tbr_measure(const char *text, tbr_white_space mode, tbr_extent *extent) {
+    return tbr_measure_n(text, length_of(text), mode, extent);
+}
+
 /* ---- making a renderer ---- */
 
 /* The bytes of the options of the first version that had a size. A later field begins after them. */
@@ -324,6 +333,34 @@ tbr_status tbr_add_vertical_row(tbr_renderer *renderer) {
     return renderer ? (tbr_status)tbr1_add_vertical_row(handle_of(renderer), &renderer) : TBR_NO_RENDERER;
 }
 
+/* ---- filling it: tables that find their widths ---- */
+
+tbr_status tbr_start_auto_table(tbr_renderer *renderer) {
+    return renderer ? (tbr_status)tbr1_start_auto_table(handle_of(renderer), &renderer) : TBR_NO_RENDERER;
+}
+
+tbr_status tbr_start_auto_cell(tbr_renderer *renderer, size_t columns, size_t rows, tbr_alignment alignment) {
+    return renderer
+        ? (tbr_status)tbr1_start_auto_cell(handle_of(renderer), columns, rows, (uint32_t)alignment, &renderer)
+        : TBR_NO_RENDERER;
+}
+
+tbr_status tbr_end_auto_cell(tbr_renderer *renderer) {
+    return renderer ? (tbr_status)tbr1_end_auto_cell(handle_of(renderer), &renderer) : TBR_NO_RENDERER;
+}
+
+tbr_status tbr_end_auto_row(tbr_renderer *renderer) {
+    return renderer ? (tbr_status)tbr1_end_auto_row(handle_of(renderer), &renderer) : TBR_NO_RENDERER;
+}
+
+tbr_status tbr_end_auto_table(tbr_renderer *renderer) {
+    return renderer ? (tbr_status)tbr1_end_auto_table(handle_of(renderer), &renderer) : TBR_NO_RENDERER;
+}
+
+tbr_status tbr_measure_open(tbr_renderer *renderer, tbr_extent *extent) {
+    return renderer ? (tbr_status)tbr1_measure_open(handle_of(renderer), extent, &renderer) : TBR_NO_RENDERER;
+}
+
 tbr_status tbr_finish(tbr_renderer *renderer) {
     return renderer ? (tbr_status)tbr1_finish(handle_of(renderer), &renderer) : TBR_NO_RENDERER;
 }
@@ -415,14 +452,19 @@ tbr_status tbr_header_prefix(tbr_renderer *renderer, size_t level, char *out, si
 /* The most bytes of a prefix. It is ASCII, so that each takes a column. */
 enum { PREFIX_ROOM = 256 };
 
-/* Opens a level for a prefix of so many bytes, where the question for it answered that. */
+/* Opens a level for a prefix of so many bytes, where the question for it answered that. In a table, the columns of the
+   level that it is in aren't known yet. */
 static tbr_status start_after(tbr_renderer *renderer, tbr_status asked, size_t length, bool is_apart) {
-    size_t columns;
+    size_t columns = 0;
     tbr_status status = asked == TBR_BUFFER_TOO_SMALL ? TBR_OK : asked;
     if (!status) status = tbr_width_minus(renderer, length, 1, &columns);
+    bool in_table = status == TBR_IN_TABLE;
+    if (in_table) status = TBR_OK;
     if (!status && length > PREFIX_ROOM) status = TBR_BAD_ARGUMENT;
     if (!status && is_apart) status = tbr_start_block(renderer);
-    return status ? status : tbr_start_sub(renderer, columns);
+    if (status) return status;
+    return in_table ? (tbr_status)tbr1_start_inside(handle_of(renderer), length, &renderer)
+                    : tbr_start_sub(renderer, columns);
 }
 
 /* Ends a block whose lines all come after a prefix, where the question for it answered that. */
@@ -599,6 +641,8 @@ const char *tbr_status_text(tbr_status status) {
     case TBR_NO_PIECE: return "no such piece";
     case TBR_BUFFER_TOO_SMALL: return "the buffer is too small";
     case TBR_NO_RENDERER: return "no renderer";
+    case TBR_IN_TABLE: return "a table is open";
+    case TBR_NO_TABLE: return "no table is open";
     }
     return "no status";
 }

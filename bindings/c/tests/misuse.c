@@ -284,6 +284,142 @@ static void widths(void) {
     want_width("a\tb\n", 2);
     WANT(tbr_text_width("\xff", &columns), TBR_NOT_UTF8);
     WANT(tbr_text_width_n(NULL, 1, &columns), TBR_BAD_ARGUMENT);
+    tbr_extent extent = {7, 7};
+    WANT(tbr_measure("\xff", TBR_NORMAL, &extent), TBR_NOT_UTF8);
+    WANT(tbr_measure("a", (tbr_white_space)3, &extent), TBR_BAD_ARGUMENT);
+    WANT(tbr_measure_n(NULL, 1, TBR_PRE, &extent), TBR_BAD_ARGUMENT);
+    want_unwritten("before", extent.longest_word == 7 && extent.widest_line == 7 ? SIZE_MAX : 0);
+}
+
+/* ---- tables that find their widths ---- */
+
+static void no_table(tbr_renderer *r) {
+    tbr_extent extent;
+    WANT(tbr_start_auto_cell(r, 1, 1, TBR_LEFT), TBR_NO_TABLE);
+    WANT(tbr_start_auto_cell(r, 1, 1, (tbr_alignment)3), TBR_BAD_ARGUMENT);
+    WANT(tbr_end_auto_cell(r), TBR_NOTHING_TO_END);
+    WANT(tbr_end_auto_row(r), TBR_NOTHING_TO_END);
+    WANT(tbr_end_auto_table(r), TBR_NOTHING_TO_END);
+    WANT(tbr_measure_open(r, &extent), TBR_NO_TABLE);
+}
+
+/* What has to wait for the end of a table. */
+static void wait_for_its_end(tbr_renderer *r) {
+    size_t size = SIZE_MAX;
+    bool flag;
+    WANT(tbr_finish(r), TBR_IN_TABLE);
+    WANT(tbr_finish_text(r, &size), TBR_IN_TABLE);
+    WANT(tbr_width(r, &size), TBR_IN_TABLE);
+    WANT(tbr_width_minus(r, 1, 1, &size), TBR_IN_TABLE);
+    WANT(tbr_open_links(r, &size), TBR_IN_TABLE);
+    WANT(tbr_waiting_cells(r, &size), TBR_IN_TABLE);
+    want_unwritten("before", size);
+    WANT(tbr_is_empty(r, &flag), TBR_IN_TABLE);
+    WANT(tbr_has_overhang(r, &flag), TBR_IN_TABLE);
+    WANT(tbr_start_cell(r, 3, 1, TBR_LEFT), TBR_IN_TABLE);
+    WANT(tbr_start_cell(r, 0, 1, TBR_LEFT), TBR_BAD_WIDTH);
+    WANT(tbr_end_cell(r), TBR_IN_TABLE);
+    WANT(tbr_add_row(r, false), TBR_IN_TABLE);
+    WANT(tbr_add_vertical_row(r), TBR_IN_TABLE);
+    WANT(tbr_refusal(r), TBR_OK);
+}
+
+static void outside_of_cells(tbr_renderer *r) {
+    tbr_extent extent;
+    WANT(tbr_add_text(r, "lost"), TBR_IN_TABLE);
+    WANT(tbr_start_link(r, "lost"), TBR_IN_TABLE);
+    WANT(tbr_start_quote(r), TBR_IN_TABLE);
+    WANT(tbr_start_item(r), TBR_IN_TABLE);
+    WANT(tbr_end_item(r), TBR_IN_TABLE);
+    WANT(tbr_start_sub(r, 3), TBR_IN_TABLE);
+    WANT(tbr_start_auto_table(r), TBR_IN_TABLE);
+    WANT(tbr_end_auto_cell(r), TBR_NOTHING_TO_END);
+    WANT(tbr_measure_open(r, &extent), TBR_IN_TABLE);
+}
+
+static void inside_of_a_cell(tbr_renderer *r) {
+    WANT(tbr_start_auto_cell(r, 1, 1, TBR_LEFT), TBR_NO_TABLE);
+    WANT(tbr_end_auto_row(r), TBR_NOTHING_TO_END);
+    WANT(tbr_end_auto_table(r), TBR_NOTHING_TO_END);
+    WANT(tbr_end_link(r), TBR_NOTHING_TO_END);
+    WANT(tbr_end_strong(r), TBR_NOTHING_TO_END);
+    WANT(tbr_end_emphasis(r), TBR_NOTHING_TO_END);
+    WANT(tbr_pop_white_space(r), TBR_NOTHING_TO_END);
+    WANT(tbr_append_sub(r, "", ""), TBR_NOTHING_TO_END);
+    WANT(tbr_end_quote(r), TBR_NOTHING_TO_END);
+    WANT(tbr_add_text(r, "\xff"), TBR_NOT_UTF8);
+}
+
+/* A block in a cell ends before the cell, and what began outside of it doesn't end inside. */
+static void inside_of_a_block(tbr_renderer *r) {
+    size_t levels;
+    WANT(tbr_start_strong(r), TBR_OK);
+    WANT(tbr_start_quote(r), TBR_OK);
+    WANT(tbr_end_strong(r), TBR_NOTHING_TO_END);
+    WANT(tbr_end_auto_cell(r), TBR_NOTHING_TO_END);
+    WANT(tbr_open_levels(r, &levels), TBR_OK);
+    if (levels != 3) {
+        printf("%zu levels are open, and not a table, a cell and a quote\n", levels);
+        failures++;
+    }
+    WANT(tbr_end_quote(r), TBR_OK);
+    WANT(tbr_end_strong(r), TBR_OK);
+}
+
+static void tables(void) {
+    tbr_renderer *r = new_renderer(12);
+    WANT(tbr_start_auto_table(NULL), TBR_NO_RENDERER);
+    WANT(tbr_start_emphasis(r), TBR_OK);
+    no_table(r);
+    WANT(tbr_start_auto_table(r), TBR_OK);
+    wait_for_its_end(r);
+    outside_of_cells(r);
+    WANT(tbr_start_auto_cell(r, 1, 1, (tbr_alignment)3), TBR_BAD_ARGUMENT);
+    WANT(tbr_start_auto_cell(r, 0, SIZE_MAX, TBR_LEFT), TBR_OK);
+    wait_for_its_end(r);
+    inside_of_a_cell(r);
+    inside_of_a_block(r);
+    WANT(tbr_add_text(r, "kept"), TBR_OK);
+    WANT(tbr_end_auto_cell(r), TBR_OK);
+    WANT(tbr_end_auto_table(r), TBR_STILL_OPEN);
+    WANT(tbr_end_auto_row(r), TBR_OK);
+    WANT(tbr_end_auto_table(r), TBR_OK);
+    no_table(r);
+    WANT(tbr_finish(r), TBR_OK);
+    WANT(tbr_start_auto_table(r), TBR_FINISHED);
+    WANT(tbr_end_auto_cell(r), TBR_FINISHED);
+    want_text(r, "────\nkept\n────\n");
+    tbr_free(r);
+}
+
+/* Cells of given widths that would come into the rows of a table. */
+static void cells_in_its_way(void) {
+    tbr_renderer *r = new_renderer(12);
+    WANT(tbr_start_cell(r, 5, 2, TBR_LEFT), TBR_OK);
+    WANT(tbr_add_text(r, "tall"), TBR_OK);
+    WANT(tbr_end_cell(r), TBR_OK);
+    WANT(tbr_start_auto_table(r), TBR_STILL_OPEN);
+    WANT(tbr_add_row(r, false), TBR_OK);
+    WANT(tbr_start_auto_table(r), TBR_ROW_DOES_NOT_FIT);
+    WANT(tbr_start_cell(r, 5, 1, TBR_LEFT), TBR_OK);
+    WANT(tbr_end_cell(r), TBR_OK);
+    WANT(tbr_add_row(r, false), TBR_OK);
+    WANT(tbr_start_auto_table(r), TBR_OK);
+    tbr_free(r);
+}
+
+/* A table that is too narrow is lost, as anything is. */
+static void narrow_table(void) {
+    tbr_renderer *r = new_renderer(1);
+    WANT(tbr_start_auto_table(r), TBR_OK);
+    WANT(tbr_start_auto_cell(r, 1, 1, TBR_LEFT), TBR_OK);
+    WANT(tbr_add_text(r, "漢 "), TBR_OK);
+    WANT(tbr_end_auto_cell(r), TBR_OK);
+    WANT(tbr_end_auto_row(r), TBR_OK);
+    WANT(tbr_end_auto_table(r), TBR_TOO_NARROW);
+    WANT(tbr_end_auto_table(r), TBR_TOO_NARROW);
+    WANT(tbr_refusal(r), TBR_TOO_NARROW);
+    tbr_free(r);
 }
 
 static void each_in_one_renderer(void) {
@@ -448,6 +584,9 @@ int main(void) {
     text_alone();
     formats();
     widths();
+    tables();
+    cells_in_its_way();
+    narrow_table();
     too_narrow();
     no_room_for_a_prefix();
     prefix_of_a_deep_header();

@@ -146,6 +146,36 @@ static tbr_status document(void) { return make(tbr_finish, take_lines); }
 static tbr_status formats_of_document(void) { return make(tbr_finish, take_formats); }
 static tbr_status text_of_document(void) { return make(finish_text, take_text); }
 
+/* ---- tables that find their widths ---- */
+
+static tbr_status start_cell(tbr_renderer *r) { return tbr_start_auto_cell(r, 1, 1, TBR_CENTRE); }
+static tbr_status start_tall_cell(tbr_renderer *r) { return tbr_start_auto_cell(r, 2, 2, TBR_LEFT); }
+
+static tbr_status (*const TABLE[])(tbr_renderer *) = {
+    tbr_start_auto_table, start_tall_cell, add_words, start_link, add_words, tbr_end_link, add_image, tbr_end_auto_cell,
+    start_cell, tbr_start_auto_table, start_cell, tbr_start_emphasis, add_words, tbr_end_emphasis, tbr_end_auto_cell,
+    tbr_end_auto_row, tbr_end_auto_table, tbr_end_auto_cell, tbr_end_auto_row, start_cell, add_words, tbr_end_auto_cell,
+    tbr_end_auto_row, tbr_end_auto_table, add_words,
+};
+
+static tbr_status tables(void) {
+    tbr_options options = tbr_options_default(60);
+    tbr_renderer *r;
+    options.footnotes = true;
+    tbr_status status = tbr_new(&options, &r);
+    for (size_t i = 0; i < sizeof TABLE / sizeof TABLE[0] && status == TBR_OK; i++) {
+        status = TABLE[i](r);
+        if (status != tbr_refusal(r)) {
+            status = WRONG;
+        }
+    }
+    if (status == TBR_OK) {
+        status = tbr_finish(r);
+    }
+    tbr_free(r);
+    return status;
+}
+
 /* ---- quotes, items and headers, which keep a refusal or are as they were ---- */
 
 static tbr_status start_tenth(tbr_renderer *r) { return tbr_start_ordered_item(r, 10); }
@@ -260,6 +290,7 @@ int main(void) {
     bool is_well = refuse_each("a document", document);
     is_well = refuse_each("a document in formats", formats_of_document) && is_well;
     is_well = refuse_each("a document's text", text_of_document) && is_well;
+    is_well = refuse_each("tables", tables) && is_well;
     is_well = refuse_each("quotes, items and headers", blocks) && is_well;
     is_well = refuse_each("questions", questions) && is_well;
     is_well = refuse_each("a script", script) && is_well;

@@ -38,6 +38,7 @@ C_TYPES = {
     "tbr_line *": ctypes.POINTER(library.Line),
     "tbr_piece *": ctypes.POINTER(library.Piece),
     "tbr_annotation *": ctypes.POINTER(library.Annotation),
+    "tbr_extent *": ctypes.POINTER(library.Extent),
 }
 STRUCTS = {
     "tbr_options": library.Options,
@@ -45,6 +46,7 @@ STRUCTS = {
     "tbr_line": library.Line,
     "tbr_piece": library.Piece,
     "tbr_annotation": library.Annotation,
+    "tbr_extent": library.Extent,
 }
 ENUMS = {
     "tbr_decorator": Decorator,
@@ -104,7 +106,7 @@ class Declarations(unittest.TestCase):
         for number in map(int, numbers):
             refused = errors.refusal(number)
             self.assertEqual(str(refused) if refused else "well", words(number).decode(), number)
-        self.assertEqual(len(numbers), 16)
+        self.assertEqual(len(numbers), 18)
 
     def test_each_version_is_that_of_the_header(self) -> None:
         version = re.search(r'^#define TBR_VERSION "(.*)"$', self.header, re.M)

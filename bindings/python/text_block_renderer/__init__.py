@@ -5,9 +5,11 @@ from .errors import (
     BadWidthError,
     BufferTooSmallError,
     FinishedError,
+    InTableError,
     NoLineError,
     NoPieceError,
     NoRendererError,
+    NoTableError,
     NotACommandError,
     NotFinishedError,
     NothingToEndError,
@@ -23,8 +25,9 @@ from .lines import Annotation, FragmentStart, Kind, TaggedLine, TaggedString
 from .options import CellAlign, Colour, Decorator, Format, ImageRenderMode, WhiteSpace
 from .renderer import Renderer
 from .script import render_script
+from .tables import Table
 from .versions import library_version
-from .widths import text_width
+from .widths import Extent, measure, text_width
 
 __version__ = "0.3.0"
 
@@ -36,14 +39,17 @@ __all__ = [
     "CellAlign",
     "Colour",
     "Decorator",
+    "Extent",
     "FinishedError",
     "Format",
     "FragmentStart",
     "ImageRenderMode",
+    "InTableError",
     "Kind",
     "NoLineError",
     "NoPieceError",
     "NoRendererError",
+    "NoTableError",
     "NotACommandError",
     "NotFinishedError",
     "NotUtf8Error",
@@ -54,11 +60,13 @@ __all__ = [
     "RowDoesNotFitError",
     "ScriptError",
     "StillOpenError",
+    "Table",
     "TaggedLine",
     "TaggedString",
     "TooNarrowError",
     "WhiteSpace",
     "library_version",
+    "measure",
     "render_script",
     "text_width",
 ]

@@ -53,6 +53,10 @@ class Annotation(Structure):
     ]
 
 
+class Extent(Structure):
+    _fields_ = [("longest_word", c_size_t), ("widest_line", c_size_t)]
+
+
 _TEXT = (c_char_p, c_size_t)
 _COLOUR = (c_uint8, c_uint8, c_uint8)
 _BUFFER = (c_char_p, c_size_t, POINTER(c_size_t))
@@ -106,6 +110,12 @@ CALLS: dict[str, tuple[type[Any], ...]] = {
     "end_cell": (),
     "add_row": (c_bool,),
     "add_vertical_row": (),
+    "start_auto_table": (),
+    "start_auto_cell": (c_size_t, c_size_t, c_uint32),
+    "end_auto_cell": (),
+    "end_auto_row": (),
+    "end_auto_table": (),
+    "measure_open": (POINTER(Extent),),
     "finish": (),
     "finish_text": _SIZE,
     "refusal": (),
@@ -168,6 +178,8 @@ def _declare(library: ctypes.CDLL) -> None:
         render.restype = Answer
     library.tbr_text_width_n.argtypes = (*_TEXT, *_SIZE)
     library.tbr_text_width_n.restype = c_uint32
+    library.tbr_measure_n.argtypes = (*_TEXT, c_uint32, POINTER(Extent))
+    library.tbr_measure_n.restype = c_uint32
     library.tbr_version.argtypes = ()
     library.tbr_version.restype = c_char_p
 

@@ -103,6 +103,18 @@ class NoRendererError(RendererError):
     message = "no renderer"
 
 
+class InTableError(RendererError):
+    """A table is open that finds its widths, and the call has to wait for its end, or for a cell."""
+
+    message = "a table is open"
+
+
+class NoTableError(RendererError):
+    """No table that finds its widths is open that could take a cell."""
+
+    message = "no table is open"
+
+
 class ScriptError(Exception):
     """Why a script isn't rendered: `reason`, and the number of the line at fault, from 1, or None."""
 
@@ -128,6 +140,8 @@ _BY_STATUS: dict[int, type[RendererError]] = {
     13: NoPieceError,
     14: BufferTooSmallError,
     15: NoRendererError,
+    16: InTableError,
+    17: NoTableError,
 }
 
 

@@ -14,6 +14,7 @@ from ._nested import nested
 from .errors import NoLineError, RendererError, refusal
 from .lines import Annotation, FragmentStart, Kind, TaggedLine, TaggedString
 from .options import CellAlign, Colour, Decorator, Format, ImageRenderMode, WhiteSpace
+from .tables import Table
 
 # The bytes that most prefixes have at most.
 _PREFIX_ROOM = 24
@@ -500,6 +501,60 @@ class Renderer:
         cd
         """
         return nested(self.depth, partial(self.push_ws, mode), self.pop_ws)
+
+    # ---- tables that find their widths
+
+    @contextmanager
+    def table(self) -> Iterator[Table]:
+        """Fills a table whose columns are as wide as browsers make them, from the longest word and the widest line of
+        each cell. If the longest words don't fit side by side, the cells come one below another.
+
+        It is drawn where the outermost table ends. Until then some calls raise `InTableError`: questions, but for
+        `depth`, `failure` and prefixes, and cells of given widths.
+
+        >>> with Renderer(24) as page:
+        ...     with page.table() as table:
+        ...         for item, price in ("Bread and butter", "3.20"), ("Tea", "12.00"):
+        ...             with table.row():
+        ...                 with table.cell():
+        ...                     page.add_inline_text(item)
+        ...                 with table.cell(align=CellAlign.RIGHT):
+        ...                     page.add_inline_text(price)
+        ...     print(page.into_string(), end="")
+        ────────────────┬─────
+        Bread and butter│ 3.20
+        ────────────────┼─────
+        Tea             │12.00
+        ────────────────┴─────
+        """
+        with nested(self.depth, self.start_auto_table, self.end_auto_table):
+            yield Table(self._owned)
+
+    def start_auto_table(self) -> None:
+        """Begins a table. What is called until its end is recorded, and drawn there.
+
+        `StillOpenError` if cells of given widths wait for their row, `RowDoesNotFitError` if such cells overhang.
+        """
+        self._owned.call("start_auto_table")
+
+    def start_auto_cell(self, columns: int = 1, rows: int = 1, align: CellAlign = CellAlign.LEFT) -> None:
+        """Opens a cell of the table that is open. `NoTableError` if none is, or a cell of it is."""
+        alignment = member(align, "align", CellAlign)
+        self._owned.call("start_auto_cell", size(columns, "columns"), size(rows, "rows"), alignment)
+
+    def end_auto_cell(self) -> None:
+        """Closes the cell. `NothingToEndError` if it isn't innermost."""
+        self._owned.call("end_auto_cell")
+
+    def end_auto_row(self) -> None:
+        """Ends the row of the cells that came. `NothingToEndError` if the table isn't innermost."""
+        self._owned.call("end_auto_row")
+
+    def end_auto_table(self) -> None:
+        """Ends the table, and draws the outermost. `NothingToEndError` if it isn't innermost, `StillOpenError` if cells
+        came after the last row.
+        """
+        self._owned.call("end_auto_table")
 
     # ---- levels, and rows of cells
 

@@ -36,6 +36,10 @@ pub enum Error {
     BufferTooSmall,
     /// There is no renderer.
     NoRenderer,
+    /// A table is open that finds its widths, and the call has to wait for its end, or for a cell.
+    InTable,
+    /// No such table is open that could take a cell.
+    NoTable,
     /// A status of a later version of the library.
     Unknown(u32),
 }
@@ -60,6 +64,8 @@ impl Error {
             13 => Error::NoPiece,
             14 => Error::BufferTooSmall,
             15 => Error::NoRenderer,
+            16 => Error::InTable,
+            17 => Error::NoTable,
             other => Error::Unknown(other),
         })
     }
@@ -83,6 +89,8 @@ impl fmt::Display for Error {
             Error::NoPiece => "no such piece",
             Error::BufferTooSmall => "the buffer is too small",
             Error::NoRenderer => "no renderer",
+            Error::InTable => "a table is open",
+            Error::NoTable => "no table is open",
             Error::Unknown(status) => return write!(f, "status {status}"),
         })
     }
@@ -98,7 +106,7 @@ mod tests {
 
     #[test]
     fn each_status_has_the_words_of_the_library() {
-        for status in 1..=15 {
+        for status in 1..=17 {
             // SAFETY: the library answers a text that ends by a NUL, and lives as long as the library.
             let words = unsafe { CStr::from_ptr(sys::tbr_status_text(status)) };
             assert_eq!(
@@ -107,6 +115,6 @@ mod tests {
             );
         }
         assert_eq!(Error::check(0), Ok(()));
-        assert_eq!(Error::check(16), Err(Error::Unknown(16)));
+        assert_eq!(Error::check(18), Err(Error::Unknown(18)));
     }
 }

@@ -10,6 +10,7 @@ mod options;
 mod renderer;
 mod script;
 mod sys;
+mod table;
 mod version;
 mod width;
 
@@ -19,5 +20,6 @@ pub use lines::Lines;
 pub use options::{Cell, CellAlign, Format, ImageRenderMode, Options, WhiteSpace};
 pub use renderer::Renderer;
 pub use script::{render_script, render_script_raw, ScriptError};
+pub use table::{Row, Table, TableCell};
 pub use version::version;
-pub use width::text_width;
+pub use width::{measure, text_width, Extent};

@@ -246,7 +246,7 @@ impl Renderer {
     }
 
     /// Fills what was begun, and ends it. If both refuse, the first refusal is the answer.
-    fn nest(
+    pub(crate) fn nest(
         &mut self,
         fill: impl FnOnce(&mut Renderer) -> Result<(), Error>,
         end: impl FnOnce(&mut Renderer) -> Result<(), Error>,

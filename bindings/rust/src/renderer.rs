@@ -1,6 +1,6 @@
 use crate::handle::Handle;
 use crate::sys;
-use crate::{Cell, Colour, Error, Format, Lines, Options, WhiteSpace};
+use crate::{Cell, Colour, Error, Extent, Format, Lines, Options, TableCell, WhiteSpace};
 use std::fmt;
 
 /// Writes blocks of text, one below another, into lines of a width in columns.
@@ -273,6 +273,46 @@ impl Renderer {
     pub fn end_header(&mut self, level: usize) -> Result<(), Error> {
         // SAFETY: the renderer is live.
         self.handle.call(|it| unsafe { sys::tbr_end_header(it, level) })
+    }
+}
+
+/// Tables that find their widths, as [`table`](Renderer::table) fills them. An end is refused with `NothingToEnd` if what
+/// it would end isn't innermost.
+impl Renderer {
+    /// Begins a table. What is called until its end is recorded, and drawn there.
+    pub fn start_auto_table(&mut self) -> Result<(), Error> {
+        self.handle.plain(sys::tbr_start_auto_table)
+    }
+
+    /// Opens a cell of the table that is open. `NoTable` if none is, or a cell of it is.
+    pub fn start_auto_cell(&mut self, cell: impl Into<TableCell>) -> Result<(), Error> {
+        let TableCell { columns, rows, align } = cell.into();
+        // SAFETY: the renderer is live.
+        self.handle.call(|it| unsafe { sys::tbr_start_auto_cell(it, columns, rows, align as u32) })
+    }
+
+    /// Closes the cell.
+    pub fn end_auto_cell(&mut self) -> Result<(), Error> {
+        self.handle.plain(sys::tbr_end_auto_cell)
+    }
+
+    /// Ends the row of the cells that came.
+    pub fn end_auto_row(&mut self) -> Result<(), Error> {
+        self.handle.plain(sys::tbr_end_auto_row)
+    }
+
+    /// Ends the table. The outermost is drawn. `StillOpen` if cells came after the last row.
+    pub fn end_auto_table(&mut self) -> Result<(), Error> {
+        self.handle.plain(sys::tbr_end_auto_table)
+    }
+
+    /// How much room can be used by what came so far in the innermost cell of a table, or block in it. `NoTable` if no
+    /// table is open, `InTable` if no cell of it is.
+    pub fn measure_open(&self) -> Result<Extent, Error> {
+        let mut found = sys::Extent::default();
+        // SAFETY: the renderer is live, and so is the answer.
+        self.handle.call(|it| unsafe { sys::tbr_measure_open(it, &mut found) })?;
+        Ok(found.into())
     }
 }
 

@@ -75,10 +75,18 @@ pub struct Annotation {
     pub blue: u8,
 }
 
+#[repr(C)]
+#[derive(Default)]
+pub struct Extent {
+    pub longest_word: usize,
+    pub widest_line: usize,
+}
+
 extern "C" {
     pub fn tbr_render(script: *const c_char, length: usize, out: *mut c_char, room: usize) -> Answer;
     pub fn tbr_render_raw(script: *const c_char, length: usize, out: *mut c_char, room: usize) -> Answer;
     pub fn tbr_text_width_n(text: *const c_char, length: usize, columns: &mut usize) -> u32;
+    pub fn tbr_measure_n(text: *const c_char, length: usize, mode: u32, extent: &mut Extent) -> u32;
     #[cfg(test)]
     pub fn tbr_options_init(options: &mut Options, size: usize, width: usize);
     pub fn tbr_new(options: &Options, renderer: &mut *mut Renderer) -> u32;
@@ -141,6 +149,12 @@ extern "C" {
     pub fn tbr_end_cell(renderer: *mut Renderer) -> u32;
     pub fn tbr_add_row(renderer: *mut Renderer, collapse: bool) -> u32;
     pub fn tbr_add_vertical_row(renderer: *mut Renderer) -> u32;
+    pub fn tbr_start_auto_table(renderer: *mut Renderer) -> u32;
+    pub fn tbr_start_auto_cell(renderer: *mut Renderer, columns: usize, rows: usize, alignment: u32) -> u32;
+    pub fn tbr_end_auto_cell(renderer: *mut Renderer) -> u32;
+    pub fn tbr_end_auto_row(renderer: *mut Renderer) -> u32;
+    pub fn tbr_end_auto_table(renderer: *mut Renderer) -> u32;
+    pub fn tbr_measure_open(renderer: *mut Renderer, extent: &mut Extent) -> u32;
     pub fn tbr_finish(renderer: *mut Renderer) -> u32;
     pub fn tbr_finish_text(renderer: *mut Renderer, length: &mut usize) -> u32;
 
@@ -170,20 +184,8 @@ extern "C" {
     ) -> u32;
 
     pub fn tbr_text(renderer: *mut Renderer, out: *mut c_char, room: usize, length: &mut usize) -> u32;
-    pub fn tbr_text_as(
-        renderer: *mut Renderer,
-        format: u32,
-        out: *mut c_char,
-        room: usize,
-        length: &mut usize,
-    ) -> u32;
-    pub fn tbr_line_as(
-        renderer: *mut Renderer,
-        format: u32,
-        out: *mut c_char,
-        room: usize,
-        length: &mut usize,
-    ) -> u32;
+    pub fn tbr_text_as(renderer: *mut Renderer, format: u32, out: *mut c_char, room: usize, length: &mut usize) -> u32;
+    pub fn tbr_line_as(renderer: *mut Renderer, format: u32, out: *mut c_char, room: usize, length: &mut usize) -> u32;
     pub fn tbr_next_line(renderer: *mut Renderer, line: &mut Line) -> u32;
     pub fn tbr_line_text(renderer: *mut Renderer, out: *mut c_char, room: usize, length: &mut usize) -> u32;
     pub fn tbr_get_piece(renderer: *mut Renderer, place: usize, piece: &mut Piece) -> u32;

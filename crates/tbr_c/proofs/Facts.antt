@@ -3,7 +3,7 @@ use Rattle.std.proofs.Common.{◌≡◌, ℕ, ◌<◌, ◌^◌, Option, None, So
 use Rattle.std.specs.Prelude.{SomeIff, IfSome, encode_utf8_all}
 use Rattle.std.specs.Option.{option_map}
 use Rattle.tbr_stack.specs.Stack.{Level, Stack, first_renderer, top_of}
-use Rattle.tbr_c.specs.Questions.{on_top}
+use Rattle.tbr_c.specs.Facts.{on_top}
 
 pub asked_on_top : {R X : Type 0} (none : X) (ask : R → X) (s : Stack R) (r : R) → top_of s ≡ Some r → on_top none ask s ≡ ask r
 asked_on_top none ask s r top = ap (λ o. unwrap_or (option_map ask o) none) top

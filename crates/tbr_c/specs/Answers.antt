@@ -9,7 +9,9 @@ use Rattle.tbr_c_lines.specs.Status.{status_of}
 use Rattle.tbr_c_lines.specs.declared.fault.Fault.{Fault}
 use Rattle.tbr_c_lines.specs.declared.fault.Fault.TheVariants as fault
 use Rattle.tbr_c_lines.specs.declared.line.LineSize.{LineSize}
+use Rattle.tbr_c_tables.specs.declared.table_call.TableCall.{TableCall}
 use Rattle.tbr_c.specs.declared.state.State.{State}
+use Rattle.tbr_c.specs.Tables.{DoesCall, RefusesCall}
 use Rattle.tbr_c.specs.State.{Begins, HasEnded, after_refusal, Does, Refuses, refused_as, EndsAs, EndsIn, RefusesEnd, HasText, TakesLine, HasNoNext}
 use Rattle.tbr_c.specs.Questions.{Puts, rest_of, rest_to_show, line_as}
 
@@ -36,6 +38,27 @@ pub record IsAnswer (before : State) (asked : Result Command Fault) (done : Resu
 abbrev pub Gives : State → Result Command Fault → Option State → ℕ → Type 0
 Gives before asked back status =
     (done : Result (Unit {0}) Fault) × (after : State) × IsAnswer before asked done after
+    × (back ≡ Some after) × (status ≡ status_of done)
+
+-- The same of a call of a table.
+abbrev pub DoesTable : State → Result TableCall Fault → State → Type 0
+DoesTable before (Ok asked) after = DoesCall asked before after
+DoesTable before (Err why) after = ⊥
+
+abbrev pub RefusesTable : State → Result TableCall Fault → Fault → Type 0
+RefusesTable before (Ok asked) f = RefusesCall asked before f
+RefusesTable before (Err why) f = f ≡ refused_as before why
+
+pub record IsTableAnswer (before : State) (asked : Result TableCall Fault) (done : Result (Unit {0}) Fault)
+    (after : State) : Type 0 where
+  pub ended : HasEnded before done
+  pub does : OnOk done (DoesTable before asked after)
+  pub refused : IfErr done (λ f. f ≢ fault.OutOfMemory → RefusesTable before asked f)
+  pub left : IfErr done (λ f. after ≡ after_refusal f before)
+
+abbrev pub GivesTable : State → Result TableCall Fault → Option State → ℕ → Type 0
+GivesTable before asked back status =
+    (done : Result (Unit {0}) Fault) × (after : State) × IsTableAnswer before asked done after
     × (back ≡ Some after) × (status ≡ status_of done)
 
 -- What is refused at the end, and what the renderer holds then.

@@ -1,5 +1,5 @@
 -- What the arguments of calls are read as: a command, or with what they are refused.
-use Rattle.std.specs.Prelude.{◌≡◌, ◌≢◌, ℕ, ◌==◌, nat_lt, if◌then◌else◌, Option, None, Some, Result, Ok, Err, MatchResult, IfOk, List, [], ◌∷◌, slice_get}
+use Rattle.std.specs.Prelude.{◌≡◌, ◌≢◌, ℕ, ◌==◌, nat_lt, if◌then◌else◌, Option, None, Some, Result, Ok, Err, MatchResult, IfOk, List, [], ◌∷◌, chars, slice_get}
 use Rattle.std.specs.Option.{ok_or}
 use Rattle.std.specs.Str.{is_utf8}
 use Rattle.tbr_model.specs.declared.white_space.WhiteSpace.{WhiteSpace}
@@ -17,9 +17,16 @@ use Rattle.tbr_commands.specs.Command.{Command, ask, sub, cell, command_of, IsSi
 use Rattle.tbr_commands.specs.declared.command.Command as declared
 use Rattle.tbr_commands.specs.Request.{begin}
 use Rattle.tbr_commands.specs.declared.request.beginning.Beginning.TheVariants.{Mode}
+use Rattle.column_widths.specs.declared.room.Room.{Room}
+use Rattle.tbr_tagged.specs.UnicodeColumns.{unicode_columns}
+use Rattle.tbr_tables.specs.Numbers.{any_width}
+use Rattle.tbr_tables.specs.Ruler.{no_text, after_text, room_of}
+use Rattle.tbr_c_tables.specs.declared.table_call.TableCall.{TableCall}
+use Rattle.tbr_c_tables.specs.declared.table_call.TableCall.TheVariants.{StartCell}
 use Rattle.tbr_c_lines.specs.declared.fault.Fault.{Fault}
 use Rattle.tbr_c_lines.specs.declared.fault.Fault.TheVariants.{OutOfMemory, NotUtf8, BadWidth, BadArgument}
 use Rattle.tbr_c.specs.declared.options.Options.{Options}
+use Rattle.tbr_c.specs.declared.extent.Extent.{Extent}
 
 -- What was read means what is asked for, and is refused only with what that is, but where memory is refused.
 abbrev pub Reads : {X Y : Type 0} → (Y → X) → Result X Fault → Result Y Fault → Type 0
@@ -99,3 +106,24 @@ opening_asked given =
     if given.width == 0 then Err BadWidth else and_then (decorator_named given.decorator) (λ decorator.
     and_then (images_named given.images) (λ images.
     Ok (record { width = given.width; decorator = decorator; options = options_asked given images })))
+
+-- ---- tables
+
+-- a cell of a table that finds its widths
+abbrev pub table_cell_asked : ℕ → ℕ → ℕ → Result TableCall Fault
+table_cell_asked columns rows number =
+    and_then (alignment_named number)
+    (λ align. Ok (StartCell record { columns = columns; rows = rows; align = align }))
+
+-- how much room something can use
+abbrev pub extent_of : Room → Extent
+extent_of room = record { longest_word = room.least; widest_line = room.greatest }
+
+-- what a text can use in a mode of white space
+abbrev pub extent_of_text : WhiteSpace → List ℕ → Extent
+extent_of_text mode text =
+    extent_of (room_of (after_text unicode_columns mode (chars text) (no_text any_width any_width)))
+
+abbrev pub extent_asked : ℕ → List ℕ → Result Extent Fault
+extent_asked number bytes =
+    and_then (mode_named number) (λ mode. and_then (text_read bytes) (λ text. Ok (extent_of_text mode text)))

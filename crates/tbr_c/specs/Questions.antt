@@ -1,15 +1,12 @@
 -- What questions to a renderer are answered with.
-use Rattle.std.specs.Prelude.{◌≡◌, ℕ, ◌-◌, ◌==◌, max, nat_lt, true, false, not, ◌&&◌, if◌then◌else◌, unwrap_or, Result, Ok, Err, MatchResult, List, [], length, slice_get, encode_utf8_all}
-use Rattle.std.specs.Option.{option_map, ok_or}
-use Rattle.tbr_tagged.specs.UnicodeColumns.{unicode_columns}
+use Rattle.std.specs.Prelude.{◌≡◌, ℕ, ◌-◌, max, nat_lt, not, ◌&&◌, if◌then◌else◌, Result, Ok, Err, MatchResult, List, [], length, slice_get, encode_utf8_all}
+use Rattle.std.specs.Option.{ok_or}
 use Rattle.tbr_decor.specs.Prefix.{Prefix}
 use Rattle.tbr_decor.specs.declared.annotation.RichAnnotation.{RichAnnotation}
 use Rattle.text_block_renderer.specs.Renderer.{Renderer}
-use Rattle.text_block_renderer.specs.Steps.{is_empty}
-use Rattle.tbr_stack.specs.Stack.{Stack, top_of}
-use Rattle.tbr_stack.specs.Links.{open_links}
-use Rattle.tbr_program.specs.Progress.{Progress}
 use Rattle.tbr_program.specs.Decorations.{plain_decoration, trivial_decoration, rich_decoration}
+use Rattle.column_widths.specs.declared.room.Room.{Room}
+use Rattle.tbr_c_tables.specs.Given.{room_given}
 use Rattle.tbr_c_lines.specs.Status.{code_of, fault_of}
 use Rattle.tbr_c_lines.specs.Lines.{text_of}
 use Rattle.tbr_c_lines.specs.Formats.{lines_to_show, current_as}
@@ -22,9 +19,12 @@ use Rattle.tbr_c_lines.specs.declared.line.PiecePlace.{PiecePlace}
 use Rattle.tbr_c_lines.specs.declared.line.AnnotationKind.{AnnotationKind}
 use Rattle.tbr_c.specs.declared.state.Facts.{Facts}
 use Rattle.tbr_c.specs.declared.state.State.{State}
-use Rattle.tbr_c.specs.declared.state.State.TheVariants.{Plain, Trivial, Rich, Finished, Refused}
+use Rattle.tbr_c.specs.declared.state.State.TheVariants.{Plain, Trivial, Rich, Table, Finished, Refused}
+use Rattle.tbr_c.specs.declared.extent.Extent.{Extent}
 use Rattle.tbr_c.specs.State.{lines_in}
-use Rattle.tbr_c.specs.Arguments.{and_then}
+use Rattle.tbr_c.specs.Facts.{on_top, facts_in}
+use Rattle.tbr_c.specs.Tables.{page_prefix, levels_with}
+use Rattle.tbr_c.specs.Arguments.{and_then, extent_of}
 
 -- ---- how C is answered
 
@@ -35,26 +35,12 @@ Puts answer before after status =
 
 -- ---- while calls go in
 
--- what is asked of the renderer on top of a stack, which always has one
-abbrev pub on_top : {R X : Type 0} → X → (R → X) → Stack R → X
-on_top none ask s = unwrap_or (option_map ask (top_of s)) none
-
--- the facts of a program
-abbrev pub facts_in : {D A : Type 0} → Progress D A (List A) → Facts
-facts_in p = record {
-  width = on_top 0 (λ r. r.width) p.stack;
-  is_empty = on_top true (λ r. is_empty unicode_columns r) p.stack;
-  has_overhang = on_top false (λ r. not (length r.hanging == 0)) p.stack;
-  open_levels = length p.opened;
-  open_links = length (open_links p.stack);
-  waiting_cells = length p.pending.cells;
-}
-
 -- What a renderer answers. What is finished, or keeps a refusal, answers that.
 abbrev pub facts_of : State → Result Facts Fault
 facts_of (Plain f) = Ok (facts_in f.program)
 facts_of (Trivial f) = Ok (facts_in f.program)
 facts_of (Rich f) = Ok (facts_in f.program)
+facts_of (Table t) = Err fault.InTable
 facts_of (Finished lines) = Err fault.Finished
 facts_of (Refused e) = Err (fault_of e)
 
@@ -76,8 +62,30 @@ width_left prefix least (Trivial f) =
     let p = f.program in on_top (Err fault.TooNarrow) (columns_left prefix least) p.stack
 width_left prefix least (Rich f) =
     let p = f.program in on_top (Err fault.TooNarrow) (columns_left prefix least) p.stack
+width_left prefix least (Table t) = Err fault.InTable
 width_left prefix least (Finished lines) = Err fault.Finished
 width_left prefix least (Refused e) = Err (fault_of e)
+
+-- how many levels are open, and in a table how many parts of it too
+abbrev pub levels_of : State → Result ℕ Fault
+levels_of (Table t) = Ok (levels_with t.page t.given)
+levels_of (Plain f) = Ok (length f.program.opened)
+levels_of (Trivial f) = Ok (length f.program.opened)
+levels_of (Rich f) = Ok (length f.program.opened)
+levels_of (Finished lines) = Err fault.Finished
+levels_of (Refused e) = Err (fault_of e)
+
+-- the columns of the longest word and of the widest line that came in the innermost part of a table
+abbrev pub room_in : State → Result Room Fault
+room_in (Table t) = room_given t.given
+room_in (Plain f) = Err fault.NoTable
+room_in (Trivial f) = Err fault.NoTable
+room_in (Rich f) = Err fault.NoTable
+room_in (Finished lines) = Err fault.Finished
+room_in (Refused e) = Err (fault_of e)
+
+abbrev pub extent_in : State → Result Extent Fault
+extent_in state = and_then (room_in state) (λ room. Ok (extent_of room))
 
 -- the bytes of a prefix of the decorator
 abbrev pub prefix_of : Prefix → State → Result (List ℕ) Fault
@@ -90,6 +98,7 @@ prefix_of asked (Trivial f) =
 prefix_of asked (Rich f) =
     let p = f.program in
     Ok (encode_utf8_all (on_top [] (λ r. rich_decoration.prefix_text r.decorator asked) p.stack))
+prefix_of asked (Table t) = Ok (page_prefix asked t.page)
 prefix_of asked (Finished lines) = Err fault.Finished
 prefix_of asked (Refused e) = Err (fault_of e)
 

@@ -3,15 +3,17 @@
 ghost use Rattle.std.specs.Prelude.{◌≡◌, ℕ, List, string_bytes};
 ghost use Rattle.tbr_commands.specs.Command as asked;
 ghost use Rattle.tbr_commands.specs.Request as request;
-ghost use Rattle.tbr_c.specs.Arguments.{Reads, ReadsCommand, text_read, with_text, with_texts, mode_asked, sub_asked, cell_asked};
+ghost use Rattle.tbr_c.specs.Arguments.{Reads, ReadsCommand, text_read, with_text, with_texts, mode_asked, sub_asked, cell_asked, table_cell_asked};
 ghost use Rattle.tbr_c.specs.Arguments as read;
 
 use std::alloc::Global;
 use std::str;
 use tbr_c_lines::Fault;
+use tbr_c_tables::TableCall;
 use tbr_commands::{Beginning, Command, NewCell, Request};
 use tbr_lines::{CellAlign, WhiteSpace};
 use tbr_script::TextPair;
+use tbr_tables::TableCell;
 
 /// A copy of a text.
 #[tactic(auto, using(crate::proofs::Texts::read_text, crate::proofs::Texts::read_no_text))]
@@ -77,7 +79,7 @@ pub fn mode(number: u32) -> Result<Command, Fault>
     Ok(Command::Ask(Request::Begin(Beginning::Mode(mode))))
 }
 
-fn mode_named(number: u32) -> Result<WhiteSpace, Fault>
+pub fn mode_named(number: u32) -> Result<WhiteSpace, Fault>
     ensures { result ≡ read.mode_named number }
 {
     match number {
@@ -111,6 +113,18 @@ pub fn cell(width: usize, span: usize, alignment: u32) -> Result<Command, Fault>
         return Err(Fault::BadArgument);
     }
     Ok(Command::Cell(NewCell { width, span, align }))
+}
+
+/// Opens a cell of a table that finds its widths, with the alignment of this number.
+pub fn table_cell(columns: usize, rows: usize, alignment: u32) -> Result<TableCall, Fault>
+    ensures { result ≡ table_cell_asked columns rows alignment }
+{
+    let align = alignment_named(alignment)?;
+    Ok(TableCall::StartCell(TableCell {
+        columns,
+        rows,
+        align,
+    }))
 }
 
 fn alignment_named(number: u32) -> Result<CellAlign, Fault>

@@ -65,7 +65,7 @@ fn run(renderer: Handle, read: Result<Command, Fault>, back: &mut Returned) -> u
         Gives renderer.value asked back.new.value result }
 {
     let mut held = renderer.open();
-    let done = held.run(&read);
+    let done = held.run(read);
     hand_back(held, back);
     status(done)
 }

@@ -1,9 +1,9 @@
 //! What C holds.
 ghost use Rattle.std.specs.Prelude.{◌≡◌, ◌≢◌, ◌<◌, ℕ, List, None, Some, Result, Ok, Err, IfOk, IfErr, IfSome, OnOk, MatchResult, string_bytes};
-ghost use Rattle.tbr_c.specs.Answers.{IsAnswer, IsEnd, HasLength, IsNext};
+ghost use Rattle.tbr_c.specs.Answers.{IsAnswer, IsTableAnswer, IsEnd, HasLength, IsNext};
 ghost use Rattle.tbr_c.specs.Arguments.{Reads};
 ghost use Rattle.tbr_c.specs.State.{CanGoOn, Begins, MayFinish, EndsIn, after_refusal};
-ghost use Rattle.tbr_c.specs.Questions.{facts_of, width_left, prefix_of, Needs, refusal_of, line_taken, rest_of, rest_to_show, line_as};
+ghost use Rattle.tbr_c.specs.Questions.{facts_of, levels_of, room_in, width_left, prefix_of, Needs, refusal_of, line_taken, rest_of, rest_to_show, line_as};
 ghost use Rattle.tbr_c.specs.declared.state.State.TheVariants as S;
 ghost use Rattle.tbr_decor.specs.Prefix.{asked_prefix};
 ghost use Rattle.tbr_c_lines.specs.Copied.{CopiesMade};
@@ -14,10 +14,12 @@ ghost use Rattle.tbr_c_lines.specs.declared.fault.Fault.TheVariants as F;
 ghost use Rattle.tbr_commands.specs.Command.{Command as Asked, command_of, IsSized};
 
 use crate::state::{Facts, State};
+use column_widths::Room;
 use std::alloc::Global;
 use std::marker::Model;
 use std::mem;
 use tbr_c_lines::{Fault, Format, Line, LineSize, Lines, Rest};
+use tbr_c_tables::TableCall;
 use tbr_commands::{Command, Opening};
 use tbr_decor::DecoratorPrefix;
 use tbr_lines::Error;
@@ -57,14 +59,25 @@ impl Held {
     ///
     /// `OutOfMemory` and `TooNarrow` are kept, and each other refusal leaves the renderer as it was. A renderer that
     /// keeps a refusal answers that, and a finished one answers `Finished`.
-    pub fn run(&mut self, read: &Result<Command, Fault>) -> Result<(), Fault>
-        requires { IfOk read.now (λ command. IsSized (command_of command)) }
-        ensures { (asked : Result Asked Refusal) → Reads command_of asked read.now →
+    pub fn run(&mut self, read: Result<Command, Fault>) -> Result<(), Fault>
+        requires { IfOk read (λ command. IsSized (command_of command)) }
+        ensures { (asked : Result Asked Refusal) → Reads command_of asked read →
             IsAnswer self.old asked result self.new }
     {
         let done = match read {
             Ok(command) => self.state.run(self.alloc, command),
-            Err(fault) => Err(self.state.refused_as(*fault)),
+            Err(fault) => Err(self.state.refused_as(fault)),
+        };
+        self.state.keep(done)
+    }
+
+    /// Does the call of a table that arguments ask for, or refuses those that are none. It refuses as `run` does.
+    pub fn call_table(&mut self, read: Result<TableCall, Fault>) -> Result<(), Fault>
+        ensures { IsTableAnswer self.old read result self.new }
+    {
+        let done = match read {
+            Ok(call) => self.state.call_table(self.alloc, call),
+            Err(fault) => Err(self.state.refused_as(fault)),
         };
         self.state.keep(done)
     }
@@ -142,6 +155,20 @@ impl Held {
         ensures { result ≡ facts_of self.now }
     {
         self.state.facts()
+    }
+
+    /// How many levels are open, and in a table how many parts of it too.
+    pub fn open_levels(&self) -> Result<usize, Fault>
+        ensures { result ≡ levels_of self.now }
+    {
+        self.state.open_levels()
+    }
+
+    /// The columns of the longest word and of the widest line that came in the innermost part of a table.
+    pub fn room(&self) -> Result<Room, Fault>
+        ensures { result ≡ room_in self.now }
+    {
+        self.state.room()
     }
 
     /// The columns of the innermost level that are left after a prefix of `prefix` columns, but at least `least`. It

@@ -5,11 +5,15 @@
 mod answers;
 mod arguments;
 mod calls;
+mod drawing;
+mod extent;
 mod handle;
 mod held;
 mod options;
 mod parts;
 mod questions;
 mod state;
+mod table;
+mod tables;
 mod taking;
 mod widths;

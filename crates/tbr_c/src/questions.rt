@@ -4,7 +4,7 @@ ghost use Rattle.tbr_decor.specs.Prefix.{asked_prefix};
 ghost use Rattle.tbr_decor.specs.Prefix as prefixes;
 ghost use Rattle.tbr_c_lines.specs.Status.{status_of};
 ghost use Rattle.tbr_c_lines.specs.Copied.{CopiesMade};
-ghost use Rattle.tbr_c.specs.Questions.{Puts, facts_of, fact_of, width_left, prefix_of, Needs, refusal_of};
+ghost use Rattle.tbr_c.specs.Questions.{Puts, facts_of, fact_of, levels_of, width_left, prefix_of, Needs, refusal_of};
 
 use crate::answers::{copy, put};
 use crate::handle::{Handle, Returned, hand_back};
@@ -86,10 +86,13 @@ pub extern "C" fn tbr1_width_minus(
 
 #[unsafe(no_mangle)]
 pub extern "C" fn tbr1_open_levels(renderer: Handle, count: &mut usize, back: &mut Returned) -> u32
-    ensures fact { Puts (fact_of (λ facts. facts.open_levels) renderer.value) count.old count.new result }
+    ensures levels { Puts (levels_of renderer.value) count.old count.new result }
     ensures same { back.new.value ≡ Some renderer.value }
 {
-    put(facts(renderer, back).map(|facts| facts.open_levels), count)
+    let held = renderer.open();
+    let levels = held.open_levels();
+    hand_back(held, back);
+    put(levels, count)
 }
 
 #[unsafe(no_mangle)]

@@ -14,20 +14,28 @@ ghost use Rattle.tbr_c_lines.specs.Copied.{CopiesMade};
 ghost use Rattle.tbr_c_lines.specs.Formats.{CopiesShown};
 ghost use Rattle.tbr_c_lines.specs.Status.{fault_of_command, status_of};
 ghost use Rattle.tbr_c_lines.specs.Lines.{line_text};
-ghost use Rattle.tbr_c.specs.State.{CanGoOn, Begins, MayFinish, kept, after_refusal, HasEnded, Does, Refuses, refused_as, EndsAs, EndsIn, RefusesEnd, lines_in, TakesLine, HasNoNext};
-ghost use Rattle.tbr_c.specs.Questions.{on_top, facts_in, facts_of, width_left, prefix_of, Needs, rest_of, rest_to_show, line_as};
+ghost use Rattle.tbr_recorded.specs.Texts.{noted};
+ghost use Rattle.tbr_c.specs.Facts.{on_top, facts_in};
+ghost use Rattle.tbr_c.specs.Tables.{IsFilled, IsTable, TableIs, page_of, DoesCall, RefusesCall, Draws, RefusesDrawing};
+ghost use Rattle.tbr_c.specs.State.{CanGoOn, texts_of, Begins, MayFinish, kept, after_refusal, HasEnded, Does, Refuses, refused_as, EndsAs, EndsIn, RefusesEnd, lines_in, TakesLine, HasNoNext};
+ghost use Rattle.tbr_c.specs.Questions.{facts_of, levels_of, room_in, width_left, prefix_of, Needs, rest_of, rest_to_show, line_as};
 ghost use Rattle.tbr_c.specs.declared.state.State.TheVariants as S;
 ghost use Rattle.tbr_c_lines.specs.declared.fault.Fault.TheVariants as F;
 
+use crate::table::{OpenTable, Page, misplaced};
+use column_widths::Room;
 use std::alloc::Global;
 use std::collections::VecDeque;
+use std::mem;
 use tbr_annotations::Annotations;
 use tbr_c_lines::{Fault, Format, LineSize, Lines, Rest, of_command};
+use tbr_c_tables::TableCall;
 use tbr_commands::{Command, Decorator, Opening};
 use tbr_decor::{DecoratorPrefix, PlainDecorator, RichDecorator, TextDecorator, TrivialDecorator};
 use tbr_headings::{Headings, heading_length};
 use tbr_lines::{Error, RenderLine, UnicodeColumns};
 use tbr_program::Program;
+use tbr_recorded::Texts;
 use tbr_renderer::Renderer;
 use tbr_script::RunError;
 
@@ -40,6 +48,8 @@ pub enum State {
     Trivial(Filled<TrivialDecorator>),
     /// It is filled, under the rich decorator.
     Rich(Filled<RichDecorator>),
+    /// Calls are recorded for a table.
+    Table(OpenTable),
     /// It is finished, and lines can be taken.
     Finished(Lines),
     /// It failed, since a call has refused.
@@ -53,6 +63,8 @@ pub struct Filled<D: TextDecorator> {
     /// Whether prefixes and the targets that footnotes list are shown as they came. Otherwise they are shown without
     /// control characters.
     pub raw: bool,
+    /// What decides what calls write.
+    pub texts: Texts,
 }
 
 /// What a renderer answers of itself and of its innermost level, while it is filled.
@@ -83,38 +95,108 @@ impl State {
     {
         Ok(match opening.decorator {
             Decorator::Plain => {
-                let program = started(alloc, &opening, PlainDecorator::new())?;
-                State::Plain(Filled { program, raw })
+                State::Plain(started(alloc, &opening, PlainDecorator::new(), raw)?)
             }
             Decorator::Trivial => {
-                let program = started(alloc, &opening, TrivialDecorator::new())?;
-                State::Trivial(Filled { program, raw })
+                State::Trivial(started(alloc, &opening, TrivialDecorator::new(), raw)?)
             }
-            Decorator::Rich => {
-                let program = started(alloc, &opening, RichDecorator::new())?;
-                State::Rich(Filled { program, raw })
-            }
+            Decorator::Rich => State::Rich(started(alloc, &opening, RichDecorator::new(), raw)?),
         })
     }
 
     /// Does what a command asks for. After `OutOfMemory` or `TooNarrow` it must not be used any more. Each other
     /// refusal leaves it as it was.
-    pub fn run(&mut self, alloc: Global, command: &Command) -> Result<(), Fault>
+    pub fn run(&mut self, alloc: Global, command: Command) -> Result<(), Fault>
         requires goes_on { CanGoOn self.old }
-        requires sized { IsSized (command_of command.now) }
+        requires sized { IsSized (command_of command) }
         ensures goes_on { OnOk result (CanGoOn self.new) }
-        ensures done { OnOk result (Does self.old (command_of command.now) self.new) }
+        ensures done { OnOk result (Does self.old (command_of command) self.new) }
         ensures refused { IfErr result (λ fault. fault ≢ F.OutOfMemory →
-            Refuses self.old (command_of command.now) fault) }
+            Refuses self.old (command_of command) fault) }
         ensures left { IfErr result (λ fault. kept fault ≡ None → self.new ≡ self.old) }
         ensures ended { HasEnded self.old result }
     {
         match self {
-            State::Plain(filled) => run_on(filled, alloc, command),
-            State::Trivial(filled) => run_on(filled, alloc, command),
-            State::Rich(filled) => run_on(filled, alloc, command),
+            State::Plain(filled) => run_on(filled, alloc, &command),
+            State::Trivial(filled) => run_on(filled, alloc, &command),
+            State::Rich(filled) => run_on(filled, alloc, &command),
+            State::Table(table) => table.given.run(command),
             State::Finished(_) => Err(Fault::Finished),
             State::Refused(e) => Err(Fault::from(*e)),
+        }
+    }
+
+    /// Does a call of a table, and draws the outermost at its end. It refuses as `run` does.
+    pub fn call_table(&mut self, alloc: Global, call: TableCall) -> Result<(), Fault>
+        requires { CanGoOn self.old }
+        ensures goes_on { OnOk result (CanGoOn self.new) }
+        ensures done { OnOk result (DoesCall call self.old self.new) }
+        ensures refused { IfErr result (λ fault. fault ≢ F.OutOfMemory → RefusesCall call self.old fault) }
+        ensures left { IfErr result (λ fault. kept fault ≡ None → self.new ≡ self.old) }
+        ensures ended { HasEnded self.old result }
+    {
+        match self {
+            State::Plain(_) | State::Trivial(_) | State::Rich(_) => self.start_table(alloc, call),
+            State::Table(table) => {
+                let is_over = table.call(call)?;
+                if is_over { self.draw(alloc) } else { Ok(()) }
+            }
+            State::Finished(_) => Err(Fault::Finished),
+            State::Refused(e) => Err(Fault::from(*e)),
+        }
+    }
+
+    /// Begins a table where none is open, if that is what a call does.
+    fn start_table(&mut self, alloc: Global, call: TableCall) -> Result<(), Fault>
+        requires filled { IsFilled self.old }
+        requires goes_on { CanGoOn self.old }
+        ensures goes_on { OnOk result (CanGoOn self.new) }
+        ensures done { OnOk result (DoesCall call self.old self.new) }
+        ensures refused { IfErr result (λ fault. fault ≢ F.OutOfMemory → RefusesCall call self.old fault) }
+        ensures left { IfErr result (λ fault. kept fault ≡ None → self.new ≡ self.old) }
+    {
+        let facts = self.facts()?;
+        if let Some(fault) = misplaced(facts, call) {
+            return Err(fault);
+        }
+        let page = mem::replace(self, State::Refused(Error::OutOfMemory)).into_page();
+        *self = State::Table(OpenTable::begun(alloc, page)?);
+        Ok(())
+    }
+
+    /// Draws the table that has ended.
+    fn draw(&mut self, alloc: Global) -> Result<(), Fault>
+        requires table { IsTable self.old }
+        requires goes_on { CanGoOn self.old }
+        ensures goes_on { OnOk result (CanGoOn self.new) }
+        ensures drawn { OnOk result (TableIs (λ t. Draws t.given.script t.page self.new) self.old) }
+        ensures refused { IfErr result (λ fault. fault ≢ F.OutOfMemory →
+            TableIs (λ t. RefusesDrawing t.given.script t.page fault) self.old) }
+        ensures kept { IfErr result (λ fault. kept fault ≢ None) }
+    {
+        match mem::replace(self, State::Refused(Error::OutOfMemory)) {
+            State::Table(OpenTable { page, given }) => {
+                *self = page.drawn(alloc, given.script())?;
+                Ok(())
+            }
+            State::Plain(_)
+            | State::Trivial(_)
+            | State::Rich(_)
+            | State::Finished(_)
+            | State::Refused(_) => unreachable!(),
+        }
+    }
+
+    /// What is filled.
+    fn into_page(self) -> Page
+        requires { IsFilled self }
+        ensures { page_of self ≡ Some result }
+    {
+        match self {
+            State::Plain(filled) => Page::Plain(filled),
+            State::Trivial(filled) => Page::Trivial(filled),
+            State::Rich(filled) => Page::Rich(filled),
+            State::Table(_) | State::Finished(_) | State::Refused(_) => unreachable!(),
         }
     }
 
@@ -144,6 +226,34 @@ impl State {
             State::Plain(filled) => Ok(facts_of(&filled.program)),
             State::Trivial(filled) => Ok(facts_of(&filled.program)),
             State::Rich(filled) => Ok(facts_of(&filled.program)),
+            State::Table(_) => Err(Fault::InTable),
+            State::Finished(_) => Err(Fault::Finished),
+            State::Refused(e) => Err(Fault::from(*e)),
+        }
+    }
+
+    /// How many levels are open, and in a table how many parts of it too.
+    pub fn open_levels(&self) -> Result<usize, Fault>
+        ensures { result ≡ levels_of self.now }
+    {
+        match self {
+            State::Plain(filled) => Ok(filled.program.open_levels()),
+            State::Trivial(filled) => Ok(filled.program.open_levels()),
+            State::Rich(filled) => Ok(filled.program.open_levels()),
+            State::Table(table) => Ok(table.open_levels()),
+            State::Finished(_) => Err(Fault::Finished),
+            State::Refused(e) => Err(Fault::from(*e)),
+        }
+    }
+
+    /// The columns of the longest word and of the widest line that came in the innermost part of a table. `NoTable`
+    /// where none is open, and `InTable` outside of its cells.
+    pub fn room(&self) -> Result<Room, Fault>
+        ensures { result ≡ room_in self.now }
+    {
+        match self {
+            State::Plain(_) | State::Trivial(_) | State::Rich(_) => Err(Fault::NoTable),
+            State::Table(table) => table.given.room(),
             State::Finished(_) => Err(Fault::Finished),
             State::Refused(e) => Err(Fault::from(*e)),
         }
@@ -159,6 +269,7 @@ impl State {
             State::Plain(filled) => filled.program.top().width_minus(prefix, least)?,
             State::Trivial(filled) => filled.program.top().width_minus(prefix, least)?,
             State::Rich(filled) => filled.program.top().width_minus(prefix, least)?,
+            State::Table(_) => return Err(Fault::InTable),
             State::Finished(_) => return Err(Fault::Finished),
             State::Refused(e) => return Err(Fault::from(*e)),
         })
@@ -175,6 +286,7 @@ impl State {
             State::Plain(filled) => prefix_in(&mut filled.program, prefix),
             State::Trivial(filled) => prefix_in(&mut filled.program, prefix),
             State::Rich(filled) => prefix_in(&mut filled.program, prefix),
+            State::Table(table) => table.page.prefix(prefix),
             State::Finished(_) => Err(Fault::Finished),
             State::Refused(e) => Err(Fault::from(*e)),
         }
@@ -193,7 +305,7 @@ impl State {
             State::Plain(filled) => heading_length_in(&filled.program, level),
             State::Trivial(filled) => heading_length_in(&filled.program, level),
             State::Rich(filled) => heading_length_in(&filled.program, level),
-            State::Finished(_) | State::Refused(_) => None,
+            State::Table(_) | State::Finished(_) | State::Refused(_) => None,
         }
     }
 
@@ -206,19 +318,19 @@ impl State {
         ensures too_narrow { result ≡ Err Refusal.TooNarrow → RefusesEnd self F.TooNarrow }
     {
         match self {
-            State::Plain(Filled { program, raw }) => {
+            State::Plain(Filled { program, raw, .. }) => {
                 let lines = lines_of(program, raw)?;
                 Ok(Lines::new(Rest::Bare(VecDeque::from_vec(lines))))
             }
-            State::Trivial(Filled { program, raw }) => {
+            State::Trivial(Filled { program, raw, .. }) => {
                 let lines = lines_of(program, raw)?;
                 Ok(Lines::new(Rest::Bare(VecDeque::from_vec(lines))))
             }
-            State::Rich(Filled { program, raw }) => {
+            State::Rich(Filled { program, raw, .. }) => {
                 let lines = lines_of(program, raw)?;
                 Ok(Lines::new(Rest::Rich(VecDeque::from_vec(lines))))
             }
-            State::Finished(_) | State::Refused(_) => unreachable!(),
+            State::Table(_) | State::Finished(_) | State::Refused(_) => unreachable!(),
         }
     }
 
@@ -230,10 +342,10 @@ impl State {
         ensures too_narrow { result ≡ Err Refusal.TooNarrow → RefusesEnd self F.TooNarrow }
     {
         match self {
-            State::Plain(Filled { program, raw }) => text_of(program, raw),
-            State::Trivial(Filled { program, raw }) => text_of(program, raw),
-            State::Rich(Filled { program, raw }) => text_of(program, raw),
-            State::Finished(_) | State::Refused(_) => unreachable!(),
+            State::Plain(Filled { program, raw, .. }) => text_of(program, raw),
+            State::Trivial(Filled { program, raw, .. }) => text_of(program, raw),
+            State::Rich(Filled { program, raw, .. }) => text_of(program, raw),
+            State::Table(_) | State::Finished(_) | State::Refused(_) => unreachable!(),
         }
     }
 
@@ -348,15 +460,27 @@ fn started<D: TextDecorator>(
     alloc: Global,
     opening: &Opening,
     decorator: D,
-) -> Result<Program<D, UnicodeColumns>, Fault>
+    raw: bool,
+) -> Result<Filled<D>, Fault>
     requires width { 0 < opening.now.width }
     requires wrap_width { opening.now.options.wrap_width ≢ Some 0 }
-    ensures program { IfOk result (λ program. program ≡ begun opening.now decorator) }
-    ensures goes_on { IfOk result (λ program. GoesOn program) }
+    ensures program { IfOk result (λ filled. filled.program ≡ begun opening.now decorator) }
+    ensures raw { IfOk result (λ filled. filled.raw ≡ raw) }
+    ensures texts { IfOk result (λ filled. filled.texts ≡ texts_of opening.now) }
+    ensures goes_on { IfOk result (λ filled. GoesOn filled.program) }
     ensures memory { IfErr result (λ fault. fault ≡ F.OutOfMemory) }
 {
+    let texts = Texts {
+        decorator: opening.decorator,
+        options: opening.options,
+        links: 0,
+    };
     match Program::new(alloc, opening.width, opening.options, decorator) {
-        Ok(program) => Ok(program),
+        Ok(program) => Ok(Filled {
+            program,
+            raw,
+            texts,
+        }),
         Err(e) => Err(of_command(e)),
     }
 }
@@ -375,6 +499,7 @@ fn run_on<D: TextDecorator>(
         OnOk result (make (shown_command filled.old.raw (command_of command.now)) filled.old.program
         ≡ Ok filled.new.program) }
     ensures same { filled.new.raw ≡ filled.old.raw }
+    ensures texts { OnOk result (filled.new.texts ≡ noted (command_of command.now) filled.old.texts) }
     ensures refused { let make = after_command unicode_columns (decoration_of D.TextDecorator D.Annotation.tells) 0 in
         IfErr result (λ fault. fault ≢ F.OutOfMemory → (e : Unrun)
         × (make (shown_command filled.old.raw (command_of command.now)) filled.old.program ≡ Err e)
@@ -382,13 +507,16 @@ fn run_on<D: TextDecorator>(
     ensures left { IfErr result (λ fault. kept fault ≡ None → filled.new ≡ filled.old) }
 {
     match filled.program.run_shown(alloc, 0, command, filled.raw) {
-        Ok(()) => Ok(()),
+        Ok(()) => {
+            filled.texts.note(command);
+            Ok(())
+        }
         Err(e) => Err(of_command(e)),
     }
 }
 
 /// The text of a prefix of a program's decorator. It refuses only where memory is refused, and changes nothing.
-fn prefix_in<D: TextDecorator>(
+pub fn prefix_in<D: TextDecorator>(
     program: &mut Program<D, UnicodeColumns>,
     prefix: DecoratorPrefix,
 ) -> Result<String, Fault>

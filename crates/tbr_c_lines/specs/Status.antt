@@ -5,7 +5,7 @@ use Rattle.tbr_tagged.specs.declared.Error.TheVariants as block
 use Rattle.tbr_script.specs.declared.error.RunError.{RunError}
 use Rattle.tbr_script.specs.declared.error.RunError.TheVariants as script
 use Rattle.tbr_c_lines.specs.declared.fault.Fault.{Fault}
-use Rattle.tbr_c_lines.specs.declared.fault.Fault.TheVariants.{OutOfMemory, TooNarrow, NotACommand, NothingToEnd, RowDoesNotFit, NotUtf8, BadWidth, BadArgument, StillOpen, Finished, NotFinished, NoLine, NoPiece, BufferTooSmall}
+use Rattle.tbr_c_lines.specs.declared.fault.Fault.TheVariants.{OutOfMemory, TooNarrow, NotACommand, NothingToEnd, RowDoesNotFit, NotUtf8, BadWidth, BadArgument, StillOpen, Finished, NotFinished, NoLine, NoPiece, BufferTooSmall, InTable, NoTable}
 
 abbrev pub code_of : Fault → ℕ
 code_of OutOfMemory = 1
@@ -22,6 +22,8 @@ code_of NotFinished = 11
 code_of NoLine = 12
 code_of NoPiece = 13
 code_of BufferTooSmall = 14
+code_of InTable = 16
+code_of NoTable = 17
 
 -- 0 where a call did what it says
 abbrev pub status_of : {X : Type 0} → Result X Fault → ℕ

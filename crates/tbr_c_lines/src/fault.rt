@@ -37,6 +37,10 @@ pub enum Fault {
     NoPiece,
     /// A buffer is smaller than the text that is copied into it.
     BufferTooSmall,
+    /// A table is open, and the call has to wait for its end, or for a cell of it.
+    InTable,
+    /// No table is open that could take a cell.
+    NoTable,
 }
 
 impl Fault {
@@ -59,6 +63,8 @@ impl Fault {
             Fault::NoLine => 12,
             Fault::NoPiece => 13,
             Fault::BufferTooSmall => 14,
+            Fault::InTable => 16,
+            Fault::NoTable => 17,
         }
     }
 }

@@ -1,5 +1,5 @@
 -- What the columns of tables need.
-use Rattle.std.specs.Prelude.{ℕ, ◌+◌, ◌-◌, ◌^◌, nat_lt, min, max, if◌then◌else◌, Option, None, Some, unwrap_or, List, [], ◌∷◌, ◌++◌, length, take, drop, slice_get, slice_set}
+use Rattle.std.specs.Prelude.{ℕ, ◌+◌, ◌-◌, nat_lt, min, max, if◌then◌else◌, Option, None, Some, unwrap_or, List, [], ◌∷◌, ◌++◌, length, take, drop, slice_get, slice_set}
 use Rattle.tbr_model.specs.declared.white_space.WhiteSpace.{WhiteSpace}
 use Rattle.tbr_model.specs.declared.white_space.WhiteSpace.TheVariants.{Normal}
 use Rattle.column_widths.specs.declared.columns.CellNeed.{CellNeed}
@@ -12,7 +12,7 @@ use Rattle.tbr_tables.specs.declared.measured_table.MeasuredTable.{MeasuredTable
 use Rattle.tbr_tables.specs.declared.step.TableCell.{TableCell}
 use Rattle.tbr_tables.specs.declared.step.Step.{Step}
 use Rattle.tbr_tables.specs.declared.step.Step.TheVariants.{Text, BeginMode, EndMode, EndLine, Border, Inside, Sub, Append, GivenCell, EndGivenCell, GivenRow, VerticalRow, Table, Cell, EndCell, Row, EndTable}
-use Rattle.tbr_tables.specs.Numbers.{held, next_of}
+use Rattle.tbr_tables.specs.Numbers.{held, next_of, any_width}
 use Rattle.tbr_tables.specs.Ruler.{room_of, line_ended, with_lines, after_text}
 use Rattle.tbr_tables.specs.Level.{new_level, with_cell, exactly, cells_added}
 use Rattle.tbr_tables.specs.Grid.{first_row, passed, spot_for, placed, last_of, row_ended}
@@ -73,10 +73,6 @@ pub record Measured : Type 0 where
   pub levels : List Level
   pub modes : List WhiteSpace
   pub wrap : ℕ
-
--- any number of columns
-abbrev pub any_width : ℕ
-any_width = 2 ^ 64 - 1
 
 -- nothing has come, where lines of text take so many columns at most
 abbrev pub nothing_measured : ℕ → Measured

@@ -9,3 +9,7 @@ held n = min n (2 ^ 64 - 1)
 abbrev pub next_of : {X : Type 0} → X → List X → X
 next_of here [] = here
 next_of here (x ∷ xs) = x
+
+-- any number of columns
+abbrev pub any_width : ℕ
+any_width = 2 ^ 64 - 1

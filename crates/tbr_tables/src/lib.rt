@@ -3,6 +3,7 @@
 
 pub use drawn::{Call, Drawn, DrawnCell};
 pub use recording::Recording;
+pub use ruler::measure;
 pub use step::{Step, TableCell};
 
 mod drawing;

@@ -2,8 +2,9 @@
 ghost use Rattle.std.specs.Prelude.{◌≡◌, chars, length, OnOk, slice_set, IfOk};
 ghost use Rattle.column_widths.specs.Widths.{needed_room};
 ghost use Rattle.tbr_tables.specs.Ruler.{room_of};
-ghost use Rattle.tbr_tables.specs.Measured.{nothing_measured, mode_of, mode_ended, any_width, entered, left, lines_come, beside, cell_placed, cell_needs, table_begun, table_left, room_or_none, measured_after};
+ghost use Rattle.tbr_tables.specs.Measured.{nothing_measured, mode_of, mode_ended, entered, left, lines_come, beside, cell_placed, cell_needs, table_begun, table_left, room_or_none, measured_after};
 ghost use Rattle.tbr_tables.specs.Measured as model;
+ghost use Rattle.tbr_tables.specs.Numbers.{any_width};
 ghost use Rattle.tbr_tables.specs.Level.{with_cell};
 ghost use Rattle.tbr_tables.specs.Grid.{last_of};
 
@@ -77,6 +78,13 @@ impl Measuring {
         ensures { result.now ≡ self.now.shapes }
     {
         &self.shapes
+    }
+
+    /// The columns of the longest word and of the widest line of the innermost level.
+    pub fn room(&self) -> Room
+        ensures { result ≡ room_of self.now.level.ruler }
+    {
+        self.level.ruler.room()
     }
 
     /// Adds a step, with its text. It refuses where memory is refused, and where a size passes `usize`.

@@ -1,11 +1,13 @@
 //! What is recorded from the beginning of a table to its end.
 ghost use Rattle.std.specs.Prelude.{◌≡◌, chars, IfOk, OnOk};
 ghost use Rattle.tbr_tables.specs.Recorded.{nothing_recorded, with_step, calls_in};
+ghost use Rattle.tbr_tables.specs.Ruler.{room_of};
 
 use crate::drawing::drawn;
 use crate::drawn::Drawn;
 use crate::measuring::Measuring;
 use crate::step::Step;
+use column_widths::Room;
 use std::alloc::Global;
 use std::marker::Model;
 use tbr_model::CharWidth;
@@ -46,6 +48,13 @@ impl Recording {
     {
         self.steps.push(step)?;
         self.measuring.add::<W>(step, text)
+    }
+
+    /// The columns of the longest word and of the widest line of the innermost level that is open.
+    pub fn room(&self) -> Room
+        ensures { result ≡ room_of self.now.measured.level.ruler }
+    {
+        self.measuring.room()
     }
 
     /// The calls that draw what is recorded in this many columns. It refuses where memory is refused, and where a size

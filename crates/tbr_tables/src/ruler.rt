@@ -2,6 +2,7 @@
 
 ghost use Rattle.std.specs.Prelude.{◌≡◌, chars};
 ghost use Rattle.tbr_model.specs.Run.{is_break};
+ghost use Rattle.tbr_tables.specs.Numbers.{any_width};
 ghost use Rattle.tbr_tables.specs.Ruler as model;
 ghost use Rattle.tbr_tables.specs.Ruler.{no_text, room_of, line_ended, grown, settled, with_lines, joined, shown, after_normal, after_kept, after_wrapped, after_char, after_text, own_space};
 
@@ -197,6 +198,15 @@ impl Ruler {
     {
         TAB - self.line.saturating_add(self.space) % TAB
     }
+}
+
+/// The columns of the longest word and of the widest line of a text, where lines may be as wide as they are.
+pub fn measure<W: CharWidth>(mode: WhiteSpace, text: &str) -> Room
+    ensures { result ≡ room_of (after_text W.columns mode (chars text.now) (no_text any_width any_width)) }
+{
+    let mut ruler = Ruler::new(usize::MAX, usize::MAX);
+    ruler.add_text::<W>(mode, text);
+    ruler.room()
 }
 
 /// Whether a word ends before a character, as `is_wordbreak_point` tells. For printable ASCII it is known faster.

@@ -4,7 +4,6 @@
 //! cargo run -- [--width N] FILE
 //! ```
 
-mod column;
 mod csv;
 mod report;
 

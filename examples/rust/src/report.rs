@@ -1,7 +1,6 @@
 //! The report.
 
-use crate::column::{widths, Column};
-use text_block_renderer::{Cell, Error, Options, Renderer};
+use text_block_renderer::{measure, CellAlign, Error, Options, Renderer, Table, WhiteSpace};
 
 /// A title, a table of records, of which the first has the headings, and how many there are. Where the columns don't
 /// fit the width, the fields of each record come one below another.
@@ -9,10 +8,13 @@ pub fn report(title: &str, records: &[Vec<String>], width: usize) -> Result<Stri
     let mut page = Renderer::new(&Options::plain(width).draw_borders(false).allow_width_overflow(true))?;
     page.header(1, |header| header.add_inline_text(title))?;
     if let Some((headings, records)) = records.split_first() {
-        let columns = columns(headings, records)?;
-        match widths(&columns, width) {
-            Some(widths) => beside(&mut page, headings, records, &columns, &widths)?,
-            None => below(&mut page, headings, records)?,
+        let count = records.iter().map(Vec::len).max().unwrap_or(0).max(headings.len());
+        let columns: Vec<Column> =
+            (0..count).map(|place| Column::of(headings, records, place)).collect::<Result<_, _>>()?;
+        if columns.iter().map(|column| column.least).sum::<usize>() + count - 1 <= width {
+            page.table(|table| beside(table, headings, records, &columns))?;
+        } else {
+            below(&mut page, headings, records)?;
         }
         page.start_block()?;
         page.add_inline_text(&format!("{} records", records.len()))?;
@@ -20,45 +22,57 @@ pub fn report(title: &str, records: &[Vec<String>], width: usize) -> Result<Stri
     page.into_string()
 }
 
-/// The columns of a table. A record that has fewer fields than another ends with empty ones.
-fn columns(headings: &[String], records: &[Vec<String>]) -> Result<Vec<Column>, Error> {
-    let count = records.iter().map(Vec::len).max().unwrap_or(0).max(headings.len());
-    (0..count).map(|place| Column::of(field(headings, place), records.iter().map(|it| field(it, place)))).collect()
+/// A column of a table.
+struct Column {
+    /// The columns of its longest word.
+    least: usize,
+    /// At the right if all fields except the heading are numbers.
+    align: CellAlign,
 }
 
+impl Column {
+    fn of(headings: &[String], records: &[Vec<String>], place: usize) -> Result<Column, Error> {
+        let fields = || records.iter().map(|record| field(record, place));
+        let mut least = 1;
+        for field in fields().chain([field(headings, place)]) {
+            least = least.max(measure(field, WhiteSpace::Normal)?.longest_word);
+        }
+        let is_right = fields().filter(|field| !field.is_empty()).all(is_number);
+        Ok(Column { least, align: if is_right { CellAlign::Right } else { CellAlign::Left } })
+    }
+}
+
+fn is_number(field: &str) -> bool {
+    field.contains(|c: char| c.is_ascii_digit()) && field.chars().all(|c| c.is_ascii_digit() || "+-.,%".contains(c))
+}
+
+/// A field of a record, which ends with empty ones.
 fn field(record: &[String], place: usize) -> &str {
     record.get(place).map_or("", String::as_str)
 }
 
 /// A row of headings and a row for each record, between rules.
 fn beside(
-    page: &mut Renderer,
+    table: &mut Table<'_>,
     headings: &[String],
     records: &[Vec<String>],
     columns: &[Column],
-    widths: &[usize],
 ) -> Result<(), Error> {
-    page.start_table()?;
-    row(page, headings, columns, widths)?;
-    rule(page, widths)?;
-    records.iter().try_for_each(|record| row(page, record, columns, widths))?;
-    rule(page, widths)
+    row(table, headings, columns)?;
+    rule(table, columns)?;
+    records.iter().try_for_each(|record| row(table, record, columns))?;
+    rule(table, columns)
 }
 
-fn row(page: &mut Renderer, record: &[String], columns: &[Column], widths: &[usize]) -> Result<(), Error> {
-    for (place, (column, &width)) in columns.iter().zip(widths).enumerate() {
-        let text = field(record, place);
-        page.cell(Cell::new(width).align(column.align), |cell| cell.add_inline_text(text))?;
-    }
-    page.append_columns_with_borders(false)
+fn row(table: &mut Table<'_>, record: &[String], columns: &[Column]) -> Result<(), Error> {
+    table.row(|row| {
+        columns.iter().enumerate().try_for_each(|(place, column)| row.text(column.align, field(record, place)))
+    })
 }
 
 /// A border in each column.
-fn rule(page: &mut Renderer, widths: &[usize]) -> Result<(), Error> {
-    for &width in widths {
-        page.cell(width, Renderer::add_horizontal_border)?;
-    }
-    page.append_columns_with_borders(false)
+fn rule(table: &mut Table<'_>, columns: &[Column]) -> Result<(), Error> {
+    table.row(|row| columns.iter().try_for_each(|_| row.cell((), Renderer::add_horizontal_border)))
 }
 
 /// A block for each record, in which each field comes after its heading.

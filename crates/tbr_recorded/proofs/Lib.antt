@@ -1,0 +1,3 @@
+mod Marks
+pub mod Sized
+pub mod Walks

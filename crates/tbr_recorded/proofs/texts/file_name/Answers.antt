@@ -1,0 +1,9 @@
+use Rattle.std.proofs.Common.{rules}
+use Rattle.tbr_renderer.proofs.Images.{name_alone, name_after}
+use Rattle.tbr_recorded.proofs.texts.file_name.Goals as goal
+
+pub returns-in-Some : goal.returns-in-Some
+returns-in-Some c = search (rules, name_after, c.in-Some.ensures.cases)
+
+pub returns-in-None : goal.returns-in-None
+returns-in-None c = name_alone c.args.source.now c.utf8.source c.in-None.ensures.cases
