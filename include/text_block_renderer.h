@@ -14,12 +14,12 @@
  * nothing is written, and a second call with more room gives all of it. A buffer may not overlap what another argument
  * points to.
  *
- * CONTROL CHARACTERS. A text that comes out has none except the newlines that end lines: not U+0000 to U+001F, U+007F,
- * nor U+0080 to U+009F. Those of texts are white space or vanish. Those of prefixes, and of the targets in footnotes,
- * are shown as a browser shows them, so that an escape is %1B; `raw` of tbr_options lets them through. Annotations and
- * the names of markers keep them.
+ * CONTROL CHARACTERS. A text that comes out has none except the newlines that end lines, and the control sequences of
+ * TBR_FORMAT_ANSI: not U+0000 to U+001F, U+007F, nor U+0080 to U+009F. Those of texts are white space or vanish. Those
+ * of prefixes, and of the targets in footnotes, are shown as a browser shows them, so that an escape is %1B; `raw` of
+ * tbr_options lets them through. Annotations and the names of markers keep them.
  *
- * STATUSES. Each call answers TBR_OK or says why it did nothing. TBR_OUT_OF_MEMORY and TBR_TOO_NARROW are kept: what
+ * STATUSES. Each call answers TBR_OK or why it refused. TBR_OUT_OF_MEMORY and TBR_TOO_NARROW are kept: what
  * the renderer was filled with is lost, and each later call except tbr_free answers that status. All other refusals
  * leave the renderer as it was. Calls that keep no refusal say so. What an out pointer points to is written only if a
  * call answers TBR_OK, except for `*length` at TBR_BUFFER_TOO_SMALL, and for tbr_new. No call aborts, prints, or reads
@@ -66,7 +66,7 @@ typedef enum tbr_status {
     /* A word that is placed holds a character wider than the line, and `overflow` isn't on. Never in lines of two
        columns or more. Kept. Where a prefix leaves no column it isn't kept. */
     TBR_TOO_NARROW = 2,
-    /* Only of tbr_render: a line of the script isn't a command, or isn't allowed there. */
+    /* Only of tbr_render and tbr_render_raw: a line of the script isn't a command, or isn't allowed there. */
     TBR_NOT_A_COMMAND = 3,
     /* In the open level, nothing is open that the call could end. */
     TBR_NOTHING_TO_END = 4,
@@ -106,7 +106,8 @@ typedef enum tbr_decorator {
     TBR_PLAIN = 0,
     /* Only by a superscript's ^{ and }. */
     TBR_TRIVIAL = 1,
-    /* As TBR_TRIVIAL, and by annotations of each piece. */
+    /* By annotations of each piece, as TBR_TRIVIAL by ^{ and }, and as TBR_PLAIN by prefixes of quotes, items and
+       headers. */
     TBR_RICH = 2
 } tbr_decorator;
 
@@ -140,7 +141,7 @@ typedef enum tbr_alignment {
 
 /* How lines are shown. Only TBR_FORMAT_TEXT of a renderer that is raw has control characters of a text, a target or a
    name. Links of TBR_FORMAT_ANSI and TBR_FORMAT_HTML lead only to http, https, mailto and ftp, and to targets without a
-   scheme. Since 0.3. */
+   colon. Since 0.3. */
 typedef enum tbr_format {
     /* The text alone. */
     TBR_FORMAT_TEXT = 0,
@@ -189,7 +190,7 @@ typedef struct tbr_options {
 /* A renderer. */
 typedef struct tbr_renderer tbr_renderer;
 
-/* What tbr_render answers. */
+/* What tbr_render and tbr_render_raw answer. */
 typedef struct tbr_answer {
     /* A tbr_status. */
     uint32_t status;

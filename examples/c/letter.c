@@ -2,7 +2,7 @@
  * Prints a letter of the village: a paragraph with a link, a quote, a list and a table of prices.
  *
  * letter.out is what html2text's own renderer, version 0.17.4, gives after the same calls, with blocks inside for the
- * quote and the items. That aligns no cell at the right, so spaces in front of the prices did.
+ * quote and the items. The table is by the rule of browsers: all texts fit, so a column is as wide as its longest one.
  */
 #include <stdio.h>
 #include <stdlib.h>
@@ -46,36 +46,23 @@ static void add_list(tbr_renderer *letter) {
     add_item(letter, "and a flag.");
 }
 
-static void add_cell(tbr_renderer *letter, const char *text, size_t width, tbr_alignment alignment) {
-    well(tbr_start_cell(letter, width, 1, alignment));
+static void add_cell(tbr_renderer *letter, const char *text, tbr_alignment alignment) {
+    well(tbr_start_auto_cell(letter, 1, 1, alignment));
     well(tbr_add_text(letter, text));
-    well(tbr_end_cell(letter));
+    well(tbr_end_auto_cell(letter));
 }
 
 static void add_price(tbr_renderer *letter, const char *what, const char *price) {
-    add_cell(letter, what, 20, TBR_LEFT);
-    add_cell(letter, price, 8, TBR_RIGHT);
-    well(tbr_add_row(letter, false));
+    add_cell(letter, what, TBR_LEFT);
+    add_cell(letter, price, TBR_RIGHT);
+    well(tbr_end_auto_row(letter));
 }
 
 static void add_prices(tbr_renderer *letter) {
-    well(tbr_start_table(letter));
-    well(tbr_add_border_width(letter, 29));
+    well(tbr_start_auto_table(letter));
     add_price(letter, "Bread, a dark loaf", "3.20");
-    add_price(letter, "Cherry cake, by the slice", "2.80");
-}
-
-/* Prints all lines, one by one. */
-static void print_lines(tbr_renderer *letter) {
-    tbr_line line;
-    tbr_status status;
-    while ((status = tbr_next_line(letter, &line)) == TBR_OK) {
-        char text[8 * WIDTH];
-        size_t length;
-        well(tbr_line_text(letter, text, sizeof text, &length));
-        printf("%.*s\n", (int)length, text);
-    }
-    well(status == TBR_NO_LINE ? TBR_OK : status);
+    add_price(letter, "Cherry cake, by the slice", "12.80");
+    well(tbr_end_auto_table(letter));
 }
 
 int main(void) {
@@ -86,8 +73,11 @@ int main(void) {
     add_greeting(letter);
     add_list(letter);
     add_prices(letter);
-    well(tbr_finish(letter));
-    print_lines(letter);
+    size_t length;
+    char text[2048];
+    well(tbr_finish_text(letter, &length));
+    well(tbr_text(letter, text, sizeof text, &length));
+    fwrite(text, 1, length, stdout);
     tbr_free(letter);
     return EXIT_SUCCESS;
 }

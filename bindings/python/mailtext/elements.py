@@ -1,4 +1,4 @@
-"""The elements of a mail: each kind draws what it shows on a page, and tells a ruler how wide that is.
+"""The elements of a mail: each kind draws what it shows on a page.
 
 A block calls `end_block` before its content and after it, so that the text that comes next begins a block, however
 many of them begin or end there.
@@ -12,12 +12,12 @@ from text_block_renderer import text_width
 
 from .marks import marked
 from .page import Page
-from .ruler import Ruler
 
 SUPERSCRIPTS = str.maketrans("0123456789+-=()n", "⁰¹²³⁴⁵⁶⁷⁸⁹⁺⁻⁼⁽⁾ⁿ")
 SUBSCRIPTS = str.maketrans("0123456789+-=()", "₀₁₂₃₄₅₆₇₈₉₊₋₌₍₎")
 # An image of fewer columns and lines of a screen counts those who open a mail.
 LEAST_PIXELS = 2
+ITEM_MARK = "* "
 
 
 class Text:
@@ -55,9 +55,6 @@ class Text:
     def draw(self, page: Page) -> None:
         page.add_text(self.text)
 
-    def measure(self, ruler: Ruler) -> None:
-        ruler.add_text(self.text)
-
 
 class Element:
     """An element that shows its content and nothing else."""
@@ -88,11 +85,6 @@ class Element:
         for child in self.children:
             child.draw(page)
 
-    def measure(self, ruler: Ruler) -> None:
-        """Adds it to what a ruler measures."""
-        for child in self.children:
-            child.measure(ruler)
-
     def number(self, name: str, default: int, least: int, most: int) -> int:
         """The number that an attribute has, within these bounds."""
         return whole(self.attributes.get(name, ""), default, least, most)
@@ -115,9 +107,6 @@ class Unseen(Element):
     def draw(self, page: Page) -> None:
         pass
 
-    def measure(self, ruler: Ruler) -> None:
-        pass
-
 
 # ---- stretches of text
 
@@ -133,12 +122,6 @@ class Stretch(Element):
         page.begin(self.kind, mark)
         super().draw(page)
         page.end(self.kind, mark)
-
-    def measure(self, ruler: Ruler) -> None:
-        mark = "" if self.has_blocks or self.is_blank() else ruler.page.mark(self.mark)
-        ruler.add_text(mark)
-        super().measure(ruler)
-        ruler.add_text(mark)
 
 
 class Emphasis(Stretch):
@@ -189,13 +172,6 @@ class Superscript(Element):
             super().draw(page)
             page.add_text("}")
 
-    def measure(self, ruler: Ruler) -> None:
-        small = self.small()
-        ruler.add_text(self.begin if small is None else small)
-        if small is None:
-            super().measure(ruler)
-            ruler.add_text("}")
-
 
 class Subscript(Superscript):
     """A subscript."""
@@ -234,14 +210,7 @@ class Link(Element):
             return
         page.begin_link(self.target, self._before)
         super().draw(page)
-        page.end_link(self._after)
-
-    def measure(self, ruler: Ruler) -> None:
-        if self.is_blank():
-            return
-        ruler.add_text(self._before)
-        super().measure(ruler)
-        ruler.add_text(self._after)
+        page.end_link(self.target, self._after)
 
 
 class Image(Element):
@@ -265,21 +234,14 @@ class Image(Element):
 
     def draw(self, page: Page) -> None:
         if self.title:
-            page.add_image(self.attributes.get("src", ""), self.title)
-
-    def measure(self, ruler: Ruler) -> None:
-        if self.title:
-            ruler.add_text(f"[{self.title}]")
+            page.add_image(self.title)
 
 
 class Break(Element):
     """The end of a line."""
 
     def draw(self, page: Page) -> None:
-        page.new_line_hard()
-
-    def measure(self, ruler: Ruler) -> None:
-        ruler.end_line()
+        page.renderer.new_line_hard()
 
 
 class WordBreak(Element):
@@ -287,9 +249,6 @@ class WordBreak(Element):
 
     def draw(self, page: Page) -> None:
         page.add_text("\u200b")
-
-    def measure(self, ruler: Ruler) -> None:
-        ruler.add_text("\u200b")
 
 
 # ---- blocks
@@ -299,39 +258,30 @@ class Division(Element):
     """Content on lines of its own."""
 
     def draw(self, page: Page) -> None:
-        page.new_line()
+        page.renderer.new_line()
         super().draw(page)
-        page.new_line()
-
-    def measure(self, ruler: Ruler) -> None:
-        ruler.end_line()
-        super().measure(ruler)
-        ruler.end_line()
+        page.renderer.new_line()
 
 
 class Block(Division):
     """A paragraph, or another block with an empty line before it and after it."""
 
     def draw(self, page: Page) -> None:
-        page.end_block()
+        page.renderer.end_block()
         if not self.is_blank():
             super().draw(page)
-            page.end_block()
+            page.renderer.end_block()
 
 
 class Preformatted(Block):
     """A block whose white space is kept."""
 
     def draw(self, page: Page) -> None:
-        page.end_block()
+        page.renderer.end_block()
         page.begin_preformatted()
         Element.draw(self, page)
         page.end_preformatted()
-        page.end_block()
-
-    def measure(self, ruler: Ruler) -> None:
-        with ruler.preformatted():
-            super().measure(ruler)
+        page.renderer.end_block()
 
 
 class Rule(Element):
@@ -341,12 +291,9 @@ class Rule(Element):
         return False
 
     def draw(self, page: Page) -> None:
-        page.start_block()
-        page.add_horizontal_border()
-        page.end_block()
-
-    def measure(self, ruler: Ruler) -> None:
-        ruler.end_line()
+        page.renderer.start_block()
+        page.renderer.add_horizontal_border()
+        page.renderer.end_block()
 
 
 class Heading(Element):
@@ -358,13 +305,9 @@ class Heading(Element):
 
     def draw(self, page: Page) -> None:
         if not self.is_blank():
-            page.start_header(self.level)
+            page.renderer.start_header(self.level)
             super().draw(page)
-            page.end_header(self.level)
-
-    def measure(self, ruler: Ruler) -> None:
-        with ruler.prefixed(ruler.page.header_prefix(self.level)):
-            super().measure(ruler)
+            page.renderer.end_header(self.level)
 
 
 class Quote(Element):
@@ -372,13 +315,9 @@ class Quote(Element):
 
     def draw(self, page: Page) -> None:
         if not self.is_blank():
-            page.start_quote()
+            page.renderer.start_quote()
             super().draw(page)
-            page.end_quote()
-
-    def measure(self, ruler: Ruler) -> None:
-        with ruler.prefixed(ruler.page.quote_prefix()):
-            super().measure(ruler)
+            page.renderer.end_quote()
 
 
 # ---- lists
@@ -393,15 +332,15 @@ class List(Element):
 
     is_nested = False
 
-    def marks(self, page: Page, items: list[Item]) -> list[str]:
+    def marks(self, items: list[Item]) -> list[str]:
         """What comes before each item."""
-        return [page.item_prefix()] * len(items)
+        return [ITEM_MARK] * len(items)
 
-    def marked(self, page: Page) -> Iterator[tuple[str, Element | Text]]:
+    def marked(self) -> Iterator[tuple[str, Element | Text]]:
         """What is in the list, each after its mark, or after spaces if it isn't an item."""
         items = [child for child in self.children if isinstance(child, Item)]
-        marks = self.marks(page, items)
-        columns = max(map(len, marks), default=len(page.item_prefix()))
+        marks = self.marks(items)
+        columns = max(map(len, marks), default=len(ITEM_MARK))
         left = iter(marks)
         for child in self.children:
             if isinstance(child, Item):
@@ -413,24 +352,19 @@ class List(Element):
         if self.is_blank():
             return
         if not self.is_nested:
-            page.start_block()
-        for mark, item in self.marked(page):
+            page.renderer.start_block()
+        for mark, item in self.marked():
             page.start_inside(len(mark))
             item.draw(page)
             page.end_inside(mark)
         if not self.is_nested:
-            page.end_block()
-
-    def measure(self, ruler: Ruler) -> None:
-        for mark, item in self.marked(ruler.page):
-            with ruler.prefixed(mark):
-                item.measure(ruler)
+            page.renderer.end_block()
 
 
 class OrderedList(List):
     """A list whose items are numbered, by numbers or letters."""
 
-    def marks(self, page: Page, items: list[Item]) -> list[str]:
+    def marks(self, items: list[Item]) -> list[str]:
         step = -1 if "reversed" in self.attributes else 1
         first = len(items) if step < 0 else 1
         number = self.number("start", first, -(10**6), 10**6)
@@ -447,11 +381,11 @@ class Term(Division):
 
     def draw(self, page: Page) -> None:
         mark = "" if self.is_blank() or any(isinstance(it, Stretch) or it.has_blocks for it in inside(self)) else "*"
-        page.new_line()
+        page.renderer.new_line()
         page.begin("emphasis", mark)
         Element.draw(self, page)
         page.end("emphasis", mark)
-        page.new_line()
+        page.renderer.new_line()
 
 
 class Definition(Element):
@@ -461,10 +395,6 @@ class Definition(Element):
         page.start_inside(2)
         super().draw(page)
         page.end_inside("  ")
-
-    def measure(self, ruler: Ruler) -> None:
-        with ruler.prefixed("  "):
-            super().measure(ruler)
 
 
 def inside(element: Element) -> Iterator[Element]:

@@ -117,7 +117,7 @@ def draw_attached(page: Page, parts: list[Part]) -> None:
     for part in parts:
         told = [it for it in (part.file_name, part.kind, size(len(part.data()))) if it]
         page.add_text(f"[attached: {', '.join(told)}]")
-        page.new_line()
+        page.renderer.new_line()
 
 
 def size(count: int) -> str:

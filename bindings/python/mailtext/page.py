@@ -1,21 +1,32 @@
 """A page on which a mail is drawn: a renderer, with what depends on the format and on how links are shown."""
 
-from collections.abc import Iterator
-from types import TracebackType
+import re
 
-from text_block_renderer import CellAlign, Decorator, Renderer, TaggedLine, WhiteSpace, text_width
+from text_block_renderer import Decorator, Format, Renderer, WhiteSpace, text_width
 
 from .options import Options
 
+FORMATS = {"text": Format.TEXT, "ansi": Format.ANSI, "html": Format.HTML}
+# Words in tables that take more columns may be broken, so that a long address doesn't take a table apart.
+LONGEST_WORD = 24
+# What may be such a word: its characters take up to two columns each. No line is wrapped at a no-break space.
+MAYBE_LONG = re.compile(f"[^ \t\n\u2000-\u200b\u3000]{{{LONGEST_WORD // 2 + 1},}}")
+# Where one is broken first.
+PLACES = re.compile(r"(?<=[\w/][-/_@?&=])(?=\w)")
+# Terminals follow no link that is longer, and each line of a link has its target.
+MOST_TARGET = 2000
+
 
 class Page:
-    """Takes text and blocks as a renderer does. Stretches of text come to it in one, however many calls bring them.
+    """Takes text, and passes it on to its renderer before a call to that. Stretches of text come to it in one, however
+    many calls bring them.
 
     A text has marks around emphasis and links. The other formats have none, since they show these in other ways.
     """
 
     def __init__(self, options: Options) -> None:
-        self._has_marks = options.format == "text"
+        self._format = FORMATS[options.format]
+        self._has_marks = self._format is Format.TEXT
         decorator = Decorator.PLAIN if self._has_marks else Decorator.RICH
         self._renderer = Renderer(
             options.width, decorator, allow_width_overflow=True, use_unicode_strikeout=self._has_marks
@@ -23,27 +34,24 @@ class Page:
         self._texts: list[str] = []
         self._mark = ""
         self._modes = 0
+        self._tables = 0
         self._begun: dict[str, int] = {}
 
-    def __enter__(self) -> "Page":
-        return self
-
-    def __exit__(
-        self, kind: type[BaseException] | None, raised: BaseException | None, trace: TracebackType | None
-    ) -> None:
-        self._renderer.close()
-
-    # ---- what comes out of it
+    @property
+    def renderer(self) -> Renderer:
+        """The renderer, to which all text went that came."""
+        if self._texts:
+            text = "".join(self._texts)
+            self._texts = []
+            if self._tables:
+                text = MAYBE_LONG.sub(breakable, text)
+            if text:
+                self._renderer.add_inline_text(text)
+        return self._renderer
 
     def into_string(self) -> str:
-        """Its text. It can't be filled any longer."""
-        self._flush()
-        return self._renderer.into_string()
-
-    def into_lines(self) -> Iterator[TaggedLine]:
-        """Its lines, one by one. It can't be filled any longer."""
-        self._flush()
-        return self._renderer.into_lines()
+        """Its text in the format. It can't be filled any longer."""
+        return self.renderer.into_string(self._format)
 
     # ---- text
 
@@ -58,13 +66,6 @@ class Page:
             self._mark, text = "", word
         self._texts.append(text)
 
-    def add_spaced(self, text: str) -> None:
-        """Adds lines of text whose white space is kept, and which are wrapped where they are too long."""
-        self._flush()
-        self._renderer.push_ws(WhiteSpace.PRE_WRAP)
-        self._renderer.add_inline_text(text)
-        self._renderer.pop_ws()
-
     def begin(self, kind: str, mark: str) -> None:
         """Begins a stretch of text of a kind, which has a mark at its ends if the format has no other means.
 
@@ -75,44 +76,42 @@ class Page:
             return
         self._begun[kind] = self._begun.get(kind, 0) + 1
         if self._begun[kind] == 1:
-            self._call(f"start_{kind}")
+            getattr(self.renderer, f"start_{kind}")()
 
     def end(self, kind: str, mark: str) -> None:
         """Ends such a stretch of text. Its mark goes after its last word."""
         if not self._has_marks or kind == "strikeout":
             self._begun[kind] -= 1
             if not self._begun[kind]:
-                self._call(f"end_{kind}")
+                getattr(self.renderer, f"end_{kind}")()
         elif mark and self._mark.endswith(mark):
             self._mark = self._mark.removesuffix(mark)
         elif mark:
             self._after_word(mark)
 
-    def mark(self, mark: str) -> str:
-        """A mark, if the format has marks."""
-        return mark if self._has_marks else ""
-
     def begin_link(self, target: str, mark: str) -> None:
         """Begins a link, which has a mark before its first word."""
-        if not self._has_marks:
-            self._flush()
-            self._renderer.start_link(target)
+        if self._leads(target):
+            self.renderer.start_link(target)
         self._mark += mark
 
-    def end_link(self, mark: str) -> None:
+    def end_link(self, target: str, mark: str) -> None:
         """Ends a link, which has a mark after its last word."""
-        if not self._has_marks:
-            self._call("end_link")
+        if self._leads(target):
+            self.renderer.end_link()
         if mark:
             self._after_word(mark)
 
-    def add_image(self, source: str, title: str) -> None:
+    def _leads(self, target: str) -> bool:
+        """Whether the format has a link to this target."""
+        return not self._has_marks and 0 < len(target) <= MOST_TARGET
+
+    def add_image(self, title: str) -> None:
         """Adds an image by its title."""
         if self._has_marks:
             self.add_text(f"[{title}]")
         else:
-            self._flush()
-            self._renderer.add_image(source, title)
+            self.renderer.add_image("", title)
 
     def _after_word(self, text: str) -> None:
         """Adds text after the last word, in front of the white space that came after it."""
@@ -124,133 +123,52 @@ class Page:
             self._texts[-1] = words
         self._texts += [text, space]
 
-    def _flush(self) -> None:
-        """Passes the text that came to the renderer."""
-        if self._texts:
-            text = "".join(self._texts)
-            self._texts = []
-            if text:
-                self._renderer.add_inline_text(text)
-
-    def _call(self, name: str) -> None:
-        self._flush()
-        getattr(self._renderer, name)()
-
-    # ---- blocks and lines
-
-    def start_block(self) -> None:
-        """Begins a block."""
-        self._flush()
-        self._renderer.start_block()
-
-    def end_block(self) -> None:
-        """Ends a block."""
-        self._flush()
-        self._renderer.end_block()
-
-    def new_line(self) -> None:
-        """Ends the open line, if there is one."""
-        self._flush()
-        self._renderer.new_line()
-
-    def new_line_hard(self) -> None:
-        """Ends the open line, or adds an empty one."""
-        self._flush()
-        self._renderer.new_line_hard()
-
-    def add_horizontal_border(self) -> None:
-        """Adds a line across the page."""
-        self._flush()
-        self._renderer.add_horizontal_border()
+    # ---- blocks
 
     def begin_preformatted(self) -> None:
         """Begins text whose white space is kept."""
-        self._flush()
-        self._modes += 1
-        self._renderer.push_ws(WhiteSpace.PRE)
+        self.renderer.push_ws(WhiteSpace.PRE)
         self._renderer.push_preformat()
+        self._modes += 1
 
     def end_preformatted(self) -> None:
         """Ends text whose white space is kept."""
-        self._flush()
-        self._modes -= 1
-        self._renderer.pop_preformat()
+        self.renderer.pop_preformat()
         self._renderer.pop_ws()
-
-    # ---- blocks with something in front
-
-    def start_header(self, level: int) -> None:
-        """Begins a header."""
-        self._flush()
-        self._renderer.start_header(level)
-
-    def end_header(self, level: int) -> None:
-        """Ends a header."""
-        self._flush()
-        self._renderer.end_header(level)
-
-    def start_quote(self) -> None:
-        """Begins a quoted block."""
-        self._flush()
-        self._renderer.start_quote()
-
-    def end_quote(self) -> None:
-        """Ends a quoted block."""
-        self._flush()
-        self._renderer.end_quote()
+        self._modes -= 1
 
     def start_inside(self, columns: int) -> None:
-        """Begins a block with this many columns in front of it."""
-        self._flush()
-        self._renderer.start_subrender(self._renderer.width_minus(columns, 1))
+        """Begins a block with this many columns in front of it, at least 2: that of an item whose mark has as many."""
+        if columns == 2:
+            self.renderer.start_item()
+        else:
+            self.renderer.start_ordered_item(10 ** (columns - 3))
 
     def end_inside(self, mark: str, others: str | None = None) -> None:
         """Ends a block whose first line comes after a mark, and the others after as many spaces, or after others."""
-        self._flush()
-        self._renderer.append_subrender(mark, " " * text_width(mark) if others is None else others)
-
-    def header_prefix(self, level: int) -> str:
-        """What comes before each line of a header."""
-        return self._renderer.header_prefix(level)
-
-    def quote_prefix(self) -> str:
-        """What comes before each line of a quoted block."""
-        return self._renderer.quote_prefix()
-
-    def item_prefix(self) -> str:
-        """What comes before an item of a list without numbers."""
-        return "* "
-
-    # ---- tables
-
-    def width(self) -> int:
-        """The columns of what is open."""
-        return self._renderer.width()
+        self.renderer.append_subrender(mark, " " * text_width(mark) if others is None else others)
 
     def start_table(self) -> None:
         """Begins a table."""
-        self._flush()
-        self._renderer.start_table()
+        self.renderer.start_auto_table()
+        self._tables += 1
 
-    def add_horizontal_border_width(self, columns: int) -> None:
-        """Adds a border of this many columns."""
-        self._flush()
-        self._renderer.add_horizontal_border_width(columns)
+    def end_table(self) -> None:
+        """Ends a table."""
+        self._renderer.end_auto_table()
+        self._tables -= 1
 
-    def start_cell(self, width: int, span: int = 1, align: CellAlign = CellAlign.LEFT) -> None:
-        """Begins a cell of this many columns and rows."""
-        self._flush()
-        self._renderer.start_cell(width, span, align)
 
-    def end_cell(self) -> None:
-        """Ends a cell."""
-        self._flush()
-        self._renderer.end_cell()
+def breakable(found: re.Match[str]) -> str:
+    """A word that may be broken as an address is, if it has too many columns for a table."""
+    word = found[0]
+    parts = [word] if text_width(word) <= LONGEST_WORD else PLACES.split(word)
+    return "\u200b".join(map(cuttable, parts))
 
-    def append_columns_with_borders(self, collapse: bool = False) -> None:
-        """Adds the cells that wait as a row."""
-        self._renderer.append_columns_with_borders(collapse)
 
-    def append_vert_row(self) -> None:
-        """Adds the cells that wait, one below another."""
-        self._renderer.append_vert_row()
+def cuttable(part: str) -> str:
+    """A part of a word that may be cut anywhere if it still has too many columns."""
+    if text_width(part) <= LONGEST_WORD:
+        return part
+    least = LONGEST_WORD if part.isascii() else LONGEST_WORD // 2
+    return "\u200b".join([part[:least], *part[least:]])

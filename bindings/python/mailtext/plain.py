@@ -3,6 +3,8 @@
 from collections.abc import Iterable
 from itertools import groupby
 
+from text_block_renderer import WhiteSpace
+
 from .flowed import Line
 from .page import Page
 
@@ -13,21 +15,22 @@ LEAST_COLUMNS = 20
 
 def draw_plain(page: Page, lines: Iterable[Line]) -> None:
     """Draws lines of text, each with how deep it is quoted. Those between empty lines keep their white space."""
-    deepest = max(1, min(DEEPEST_QUOTE, (page.width() - LEAST_COLUMNS) // len(page.quote_prefix())))
+    deepest = max(1, min(DEEPEST_QUOTE, (page.renderer.width() - LEAST_COLUMNS) // len(page.renderer.quote_prefix())))
     depth = 0
     for now, run in groupby(lines, lambda line: min(line[0], deepest)):
         text = without_empty_lines([line for _, line in run])
         if not text:
             continue
         for _ in range(now, depth):
-            page.end_quote()
+            page.renderer.end_quote()
         for _ in range(depth, now):
-            page.start_quote()
+            page.renderer.start_quote()
         depth = now
-        page.end_block()
-        page.add_spaced(text)
+        page.renderer.end_block()
+        with page.renderer.white_space(WhiteSpace.PRE_WRAP):
+            page.renderer.add_inline_text(text)
     for _ in range(depth):
-        page.end_quote()
+        page.renderer.end_quote()
 
 
 def without_empty_lines(lines: list[str]) -> str:

@@ -42,9 +42,10 @@ def html_part(html: str | bytes, charset: str | None, options: Options) -> str:
 
 def drawn(draw: Draws, options: Options) -> str:
     """What is drawn on a page."""
-    with Page(options) as page:
+    page = Page(options)
+    with page.renderer:
         draw(page)
-        return formatted(page, options.format)
+        return formatted(page)
 
 
 def footnotes(notes: list[tuple[int, str]], options: Options) -> str:
@@ -58,10 +59,10 @@ def footnotes(notes: list[tuple[int, str]], options: Options) -> str:
         page.begin_preformatted()
         for number, target in notes:
             page.add_text(f"[{number}]: ")
-            is_link = len(target) < options.width
-            page.begin_link(target if is_link else "", "")
+            link = target if len(target) < options.width else ""
+            page.begin_link(link, "")
             page.add_text(f"{target}\n")
-            page.end_link("")
+            page.end_link(link, "")
         page.end_preformatted()
 
     return "\n" + drawn(draw, options)

@@ -62,6 +62,33 @@ class Tables(unittest.TestCase):
         outer = f"<table border=0 width=600><tr><td>one</td></tr><tr><td>{inner}</td></tr><tr><td>two</td></tr></table>"
         self.assertEqual(lines(outer), ["one", "", "─┬─", "1│2", "─┴─", "", "two"])
 
+    def test_long_words_are_broken_as_addresses_are(self) -> None:
+        address = "https://example.org/toll/receipts/2026/11"
+        html = f"<table border=1><tr><td>{address}<td>tea</table>"
+        self.assertEqual(lines(html, 30)[1:-1], ["https://example.org/toll/ │tea", "receipts/2026/11          │"])
+        letters = html.replace(address, "x" * 40)
+        self.assertEqual(lines(letters, 30)[1:-1], ["x" * 26 + "│tea", "x" * 14 + " " * 12 + "│"])
+        self.assertEqual(lines(html, 45)[1:-1], [f"{address}│tea"])
+        self.assertEqual(lines(f"<p>a {address}", 30), ["a", address[:30], address[30:]])
+
+    def test_cells_that_do_not_fit_are_below_one_another(self) -> None:
+        html = "<table border=1><tr><td>bread<td>cake<tr><td>tea<td></table>"
+        self.assertEqual(lines(html, 9), ["─────────", "bread", "/////////", "cake", "─────────", "tea", "─────────"])
+        self.assertEqual(lines(html, 10), ["─────┬────", "bread│cake", "─────┼────", "tea  │", "─────┴────"])
+
+    def test_lists_and_quotes_in_cells(self) -> None:
+        html = "<table border=1><tr><td><ol start=9><li>tea<li>milk</ol><td><blockquote>bread</blockquote></table>"
+        self.assertEqual(lines(html), ["────────┬───────", "9.  tea │> bread", "10. milk│", "────────┴───────"])
+        html = "<table border=1><tr><td><dl><dt>tea<dd>green, of spring</dl><td>x</table>"
+        shown = ["──────────┬─", "*tea*     │x", "  green,  │", "  of      │", "  spring  │", "──────────┴─"]
+        self.assertEqual(lines(html, 12), shown)
+
+    def test_links_in_cells(self) -> None:
+        html = "<table border=1><tr><td>a<td><a href='https://e.org'>tea and milk</a></table>"
+        self.assertEqual(lines(html)[1], "a│[tea and milk][1]")
+        link = '<a href="https://e.org">tea and milk</a>'
+        self.assertIn(f"\na│{link}\n", html_text(html, 40, format="html", links="none"))
+
 
 class Links(unittest.TestCase):
     def test_equal_targets_share_a_footnote(self) -> None:
@@ -109,8 +136,9 @@ class Elements(unittest.TestCase):
         shown = html_text(
             "<b>b</b> <i>c</i> <a href='https://e.org'>d</a> <a href='javascript:1'>e</a>", format="ansi", links="none"
         )
-        link = "\x1b]8;;https://e.org\x1b\\d\x1b]8;;\x1b\\"
-        self.assertEqual(shown, f"\x1b[1mb\x1b[0m \x1b[3mc\x1b[0m {link} e\n")
+        link = "\x1b[4m\x1b]8;;https://e.org\x1b\\d\x1b]8;;\x1b\\\x1b[0m"
+        nowhere = "\x1b[4m\x1b]8;;\x1b\\e\x1b]8;;\x1b\\\x1b[0m"
+        self.assertEqual(shown, f"\x1b[1mb\x1b[0m \x1b[3mc\x1b[0m {link} {nowhere}\n")
 
     def test_html(self) -> None:
         shown = html_text("<b>a&lt;</b> <a href='https://e.org/?a&amp;b'>d</a>", format="html", links="none")

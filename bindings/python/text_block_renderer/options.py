@@ -50,7 +50,7 @@ class Format(Enum):
     """How lines are shown.
 
     Only `TEXT` of a renderer that is raw has control characters of a text, a target or a name. Links of `ANSI` and
-    `HTML` lead only to `http`, `https`, `mailto` and `ftp`, and to targets without a scheme.
+    `HTML` lead only to `http`, `https`, `mailto` and `ftp`, and to targets without a colon.
     """
 
     TEXT = 0

@@ -151,7 +151,7 @@ impl Options {
 }
 
 /// How lines are shown. Only `Text` of a renderer that is raw has control characters of a text, a target or a name.
-/// Links of `Ansi` and `Html` lead only to `http`, `https`, `mailto` and `ftp`, and to targets without a scheme.
+/// Links of `Ansi` and `Html` lead only to `http`, `https`, `mailto` and `ftp`, and to targets without a colon.
 #[derive(Clone, Copy, Debug, Default, PartialEq, Eq, Hash)]
 pub enum Format {
     /// Only the text.

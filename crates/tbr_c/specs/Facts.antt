@@ -1,5 +1,5 @@
 -- What a program answers of its innermost level.
-use Rattle.std.specs.Prelude.{ℕ, true, false, not, ◌==◌, unwrap_or, List, length}
+use Rattle.std.specs.Prelude.{true, false, not, ◌==◌, unwrap_or, List, length}
 use Rattle.std.specs.Option.{option_map}
 use Rattle.tbr_tagged.specs.UnicodeColumns.{unicode_columns}
 use Rattle.text_block_renderer.specs.Steps.{is_empty}

@@ -1,5 +1,5 @@
 -- Tables that find their widths.
-use Rattle.std.specs.Prelude.{◌≡◌, ℕ, ◌+◌, ◌-◌, ◌^◌, min, nat_lt, if◌then◌else◌, Option, None, Some, Result, Ok, Err, List, [], ◌∷◌, length, encode_utf8_all, ◌⊎◌}
+use Rattle.std.specs.Prelude.{◌≡◌, ℕ, ◌+◌, ◌-◌, ◌^◌, min, nat_lt, if◌then◌else◌, Option, None, Some, Ok, Err, List, [], ◌∷◌, length, encode_utf8_all, ◌⊎◌}
 use Rattle.tbr_decor.specs.Prefix.{Prefix}
 use Rattle.tbr_script.specs.declared.error.RunError.TheVariants as unrun
 use Rattle.tbr_program.specs.Decorations.{plain_decoration, trivial_decoration, rich_decoration}

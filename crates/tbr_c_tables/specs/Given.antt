@@ -1,5 +1,5 @@
 -- What calls record of a table.
-use Rattle.std.specs.Prelude.{◌≡◌, ◌≢◌, ℕ, Result, Ok, Err, OnOk, IfErr, List, [], ◌∷◌}
+use Rattle.std.specs.Prelude.{◌≡◌, ◌≢◌, Result, Ok, Err, OnOk, IfErr, List, []}
 use Rattle.column_widths.specs.declared.room.Room.{Room}
 use Rattle.tbr_tagged.specs.UnicodeColumns.{unicode_columns}
 use Rattle.tbr_commands.specs.Command.{Command}

@@ -1,9 +1,7 @@
 -- What is open in a table.
-use Rattle.std.specs.Prelude.{ℕ, ◌+◌, ◌-◌, ◌^◌, ◌==◌, min, Bool, true, false, if◌then◌else◌, Result, Ok, Err, List, [], ◌∷◌}
-use Rattle.tbr_commands.specs.Request.{Request}
+use Rattle.std.specs.Prelude.{◌+◌, ◌-◌, ◌^◌, ◌==◌, min, Bool, true, false, if◌then◌else◌, Result, Ok, Err, List, [], ◌∷◌}
 use Rattle.tbr_commands.specs.Command.{Command, ask, link, end_link, sub, append, cell, end_cell, row, vertical_row}
 use Rattle.tbr_commands.specs.Begun.{nothing_begun, ends_nothing, counted}
-use Rattle.tbr_tables.specs.declared.step.TableCell.{TableCell}
 use Rattle.tbr_c_lines.specs.declared.fault.Fault.{Fault}
 use Rattle.tbr_c_lines.specs.declared.fault.Fault.TheVariants.{NothingToEnd, StillOpen, InTable, NoTable}
 use Rattle.tbr_c_tables.specs.declared.open_part.Opener.{Opener}

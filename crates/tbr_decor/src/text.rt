@@ -50,11 +50,7 @@ pub fn ordered_item(alloc: Global, i: i64) -> Result<String, OutOfMemory>
 }
 
 /// A number in square brackets, with room for `room` bytes after it. It refuses only where memory is refused.
-pub fn bracketed_number(
-    alloc: Global,
-    number: usize,
-    room: usize,
-) -> Result<String, OutOfMemory>
+pub fn bracketed_number(alloc: Global, number: usize, room: usize) -> Result<String, OutOfMemory>
     ensures { IfOk result (λ t. chars_of t ≡ codes "[" ++ decimal number ++ codes "]") }
 {
     let mut buffer = Buffer::new();

@@ -1,4 +1,4 @@
-use Rattle.std.proofs.Common.{◌≡◌, ℕ, List, Ok, Err, ap, sym, ◌∙◌, chars}
+use Rattle.std.proofs.Common.{ℕ, List, Ok, Err, ap, sym, ◌∙◌, chars}
 use Rattle.tbr_tagged.specs.UnicodeColumns.{unicode_columns}
 use Rattle.tbr_tables.specs.Numbers.{any_width}
 use Rattle.tbr_tables.specs.Ruler.{no_text, after_text, room_of}
