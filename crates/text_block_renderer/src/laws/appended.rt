@@ -78,7 +78,8 @@ pub fn a_vertical_row_is_its_cells_and_borders<D, A>()
 /// Borders that became text by padding aren't counted.
 pub fn handed_out_lines_have_all_characters<D, A>()
     ensures lines { (columns : ℕ → Option ℕ) (r : Renderer D A (List A))
-        (borders : List (List (Item (List A)))) (es : List (Entry (List A))) (lines : List (Line (List A))) → IsSound columns r →
+        (borders : List (List (Item (List A)))) (es : List (Entry (List A))) (lines : List (Line (List A))) →
+        IsSound columns r →
         WithoutDrawnBorders borders (λ q. Shows columns q es) r → handed_out columns r ≡ done lines →
         (rest : List (Line (List A))) × AreDrawnAmong borders lines rest
         × AllZip (IsShown (λ a b. a ≡ b)) (visible_glyphs columns (text_of_lines rest)) (visible_entries columns es) }
