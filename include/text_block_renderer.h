@@ -521,7 +521,11 @@ tbr_status tbr_measure_open(tbr_renderer *renderer, tbr_extent *extent);
 /* Opens a level of `width` columns, whose lines tbr_append_sub takes. TBR_BAD_WIDTH at 0. */
 tbr_status tbr_start_sub(tbr_renderer *renderer, size_t width);
 
-/* Closes the level that tbr_start_sub opened, and adds its lines to the one outside: the first line after `first`, each
+/* Opens a level of the columns that a prefix of so many leaves, also in a table. tbr_append_sub takes its lines, with
+   prefixes that are no wider. TBR_TOO_NARROW if no column is left and `overflow` isn't on. Since 0.3. */
+tbr_status tbr_start_prefixed(tbr_renderer *renderer, size_t prefix);
+
+/* Closes the level that one of these opened, and adds its lines to the one outside: the first line after `first`, each
    other line after `others`. TBR_NOTHING_TO_END if the innermost level isn't such a level, TBR_STILL_OPEN if cells wait
    in it, TBR_NOT_UTF8 if one of the two isn't UTF-8. */
 tbr_status tbr_append_sub_n(tbr_renderer *renderer, const char *first, size_t first_length,

@@ -19,6 +19,8 @@ NUMBERS = [
     ("sub ", "", 1, GREATEST),
     ("cell ", " 1", 1, GREATEST),
     ("cell 5 ", " right", 1, GREATEST),
+    ("cell auto ", "", 1, GREATEST),
+    ("cell auto 2 ", " right", 1, GREATEST),
     ("border ", "", 0, GREATEST),
     ("heading ", "", 1, GREATEST),
     ("ordered ", "", 0, 2**63 - 1),

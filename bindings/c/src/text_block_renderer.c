@@ -301,6 +301,14 @@ tbr_status tbr_start_sub(tbr_renderer *renderer, size_t width) {
     return renderer ? (tbr_status)tbr1_start_sub(handle_of(renderer), width, &renderer) : TBR_NO_RENDERER;
 }
 
+/* In a table, the columns of the level that it is in aren't known yet. */
+tbr_status tbr_start_prefixed(tbr_renderer *renderer, size_t prefix) {
+    size_t columns = 0;
+    tbr_status status = tbr_width_minus(renderer, prefix, 1, &columns);
+    if (status == TBR_IN_TABLE) return (tbr_status)tbr1_start_inside(handle_of(renderer), prefix, &renderer);
+    return status ? status : tbr_start_sub(renderer, columns);
+}
+
 tbr_status tbr_append_sub_n(tbr_renderer *renderer, const char *first, size_t first_length,
     const char *others, size_t others_length) {
     if (is_missing(first, first_length) || is_missing(others, others_length)) {
@@ -452,19 +460,15 @@ tbr_status tbr_header_prefix(tbr_renderer *renderer, size_t level, char *out, si
 /* The most bytes of a prefix. It is ASCII, so that each takes a column. */
 enum { PREFIX_ROOM = 256 };
 
-/* Opens a level for a prefix of so many bytes, where the question for it answered that. In a table, the columns of the
-   level that it is in aren't known yet. */
+/* Opens a level for a prefix of so many bytes, where the question for it answered that. */
 static tbr_status start_after(tbr_renderer *renderer, tbr_status asked, size_t length, bool is_apart) {
     size_t columns = 0;
     tbr_status status = asked == TBR_BUFFER_TOO_SMALL ? TBR_OK : asked;
     if (!status) status = tbr_width_minus(renderer, length, 1, &columns);
-    bool in_table = status == TBR_IN_TABLE;
-    if (in_table) status = TBR_OK;
+    if (status == TBR_IN_TABLE) status = TBR_OK;
     if (!status && length > PREFIX_ROOM) status = TBR_BAD_ARGUMENT;
     if (!status && is_apart) status = tbr_start_block(renderer);
-    if (status) return status;
-    return in_table ? (tbr_status)tbr1_start_inside(handle_of(renderer), length, &renderer)
-                    : tbr_start_sub(renderer, columns);
+    return status ? status : tbr_start_prefixed(renderer, length);
 }
 
 /* Ends a block whose lines all come after a prefix, where the question for it answered that. */

@@ -164,6 +164,7 @@ static void fill_too_late(tbr_renderer *r) {
     WANT(tbr_start_block(r), TBR_FINISHED);
     WANT(tbr_start_link(r, "late"), TBR_FINISHED);
     WANT(tbr_start_sub(r, 3), TBR_FINISHED);
+    WANT(tbr_start_prefixed(r, 2), TBR_FINISHED);
     WANT(tbr_start_quote(r), TBR_FINISHED);
     WANT(tbr_end_item(r), TBR_FINISHED);
     WANT(tbr_start_ordered_item(r, 1), TBR_FINISHED);
@@ -332,6 +333,7 @@ static void outside_of_cells(tbr_renderer *r) {
     WANT(tbr_start_item(r), TBR_IN_TABLE);
     WANT(tbr_end_item(r), TBR_IN_TABLE);
     WANT(tbr_start_sub(r, 3), TBR_IN_TABLE);
+    WANT(tbr_start_prefixed(r, 2), TBR_IN_TABLE);
     WANT(tbr_start_auto_table(r), TBR_IN_TABLE);
     WANT(tbr_end_auto_cell(r), TBR_NOTHING_TO_END);
     WANT(tbr_measure_open(r, &extent), TBR_IN_TABLE);
@@ -447,6 +449,7 @@ static void too_narrow(void) {
     size_t columns;
     tbr_line line;
     WANT(tbr_width_minus(r, 1, 2, &columns), TBR_TOO_NARROW);
+    WANT(tbr_start_prefixed(r, 1), TBR_TOO_NARROW);
     WANT(tbr_refusal(r), TBR_OK);
     WANT(tbr_add_text(r, "漢 "), TBR_TOO_NARROW);
     WANT(tbr_refusal(r), TBR_TOO_NARROW);

@@ -173,6 +173,33 @@ static bool all_in_cells(void) {
         "[2]: b\n");
 }
 
+static void add_prefixed(tbr_renderer *r, const char *text) {
+    well(tbr_start_prefixed(r, 3));
+    well(tbr_add_text(r, text));
+    well(tbr_append_sub(r, "-> ", "   "));
+}
+
+/* A block after a prefix of one's own is as wide as its words and the prefix, in a table as on a page. */
+static bool prefixes_of_ones_own(void) {
+    tbr_renderer *r = new_renderer(12, false);
+    add_prefixed(r, "Bread and butter");
+    well(tbr_start_auto_table(r));
+    well(tbr_start_auto_cell(r, 1, 1, TBR_LEFT));
+    add_prefixed(r, "Tea or milk");
+    well(tbr_end_auto_cell(r));
+    add_cell(r, 1, 1, TBR_LEFT, "3");
+    well(tbr_end_auto_row(r));
+    well(tbr_end_auto_table(r));
+    return is_text(r,
+        "-> Bread and\n"
+        "   butter\n"
+        "\n"
+        "──────────┬─\n"
+        "-> Tea or │3\n"
+        "   milk   │ \n"
+        "──────────┴─\n");
+}
+
 /* ---- measuring ---- */
 
 static bool is_extent(tbr_extent found, size_t word, size_t line) {
@@ -218,6 +245,7 @@ int main(void) {
     is_well = cells_below_one_another() && is_well;
     is_well = spans() && is_well;
     is_well = all_in_cells() && is_well;
+    is_well = prefixes_of_ones_own() && is_well;
     is_well = texts_are_measured() && is_well;
     is_well = cells_are_measured() && is_well;
     return is_well ? EXIT_SUCCESS : EXIT_FAILURE;

@@ -138,11 +138,8 @@ class Page:
         self._modes -= 1
 
     def start_inside(self, columns: int) -> None:
-        """Begins a block with this many columns in front of it, at least 2: that of an item whose mark has as many."""
-        if columns == 2:
-            self.renderer.start_item()
-        else:
-            self.renderer.start_ordered_item(10 ** (columns - 3))
+        """Begins a block with this many columns in front of it."""
+        self.renderer.start_prefixed(columns)
 
     def end_inside(self, mark: str, others: str | None = None) -> None:
         """Ends a block whose first line comes after a mark, and the others after as many spaces, or after others."""

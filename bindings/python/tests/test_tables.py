@@ -17,6 +17,7 @@ from text_block_renderer import (
     NotUtf8Error,
     Renderer,
     StillOpenError,
+    TooNarrowError,
     WhiteSpace,
     measure,
     text_width,
@@ -123,6 +124,17 @@ class Tables(unittest.TestCase):
         self.assertEqual(measure("ab  c\nd", WhiteSpace.PRE), (5, 5))
         self.assertEqual(measure("ab  c\nd", WhiteSpace.PRE_WRAP), (2, 5))
         self.assertRaises(NotUtf8Error, measure, "\ud800")
+
+    def test_a_block_has_a_prefix_of_ones_own_in_a_cell(self) -> None:
+        with Renderer(12) as page:
+            with page.table() as table, table.row():
+                with table.cell(), page.prefixed("漢 ", "   "):
+                    page.add_inline_text("Tea or milk")
+                with table.cell():
+                    page.add_inline_text("3")
+            self.assertRaises(TooNarrowError, page.start_prefixed, 12)
+            self.assertRaises(NotUtf8Error, page.prefixed, "\ud800", "")
+            self.assertEqual(page.into_string(), "──────────┬─\n漢 Tea or │3\n   milk   │ \n──────────┴─\n")
 
     def test_ends_without_their_beginnings_are_refused(self) -> None:
         with Renderer(20) as page:

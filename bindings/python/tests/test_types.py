@@ -48,6 +48,8 @@ class Types(unittest.TestCase):
         with Renderer(20) as renderer:
             self.refused("first must be a str, not int", renderer.subrender(18, 3, "").__enter__)
             self.refused("others must be a str, not int", renderer.subrender(18, "", 3).__enter__)
+            self.refused("first must be a str, not int", renderer.prefixed, 3, "")
+            self.refused("others must be a str, not int", renderer.prefixed, "", 3)
             self.assertEqual(renderer.depth(), 0)
 
     def test_a_number_is_whole(self) -> None:

@@ -105,6 +105,7 @@ CALLS: dict[str, tuple[type[Any], ...]] = {
     "start_header": (c_size_t,),
     "end_header": (c_size_t,),
     "start_sub": (c_size_t,),
+    "start_prefixed": (c_size_t,),
     "append_sub_n": _TEXT + _TEXT,
     "start_cell": (c_size_t, c_size_t, c_uint32),
     "end_cell": (),

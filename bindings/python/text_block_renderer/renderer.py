@@ -15,6 +15,7 @@ from .errors import NoLineError, RendererError, refusal
 from .lines import Annotation, FragmentStart, Kind, TaggedLine, TaggedString
 from .options import CellAlign, Colour, Decorator, Format, ImageRenderMode, WhiteSpace
 from .tables import Table
+from .widths import text_width
 
 # The bytes that most prefixes have at most.
 _PREFIX_ROOM = 24
@@ -390,6 +391,22 @@ class Renderer:
         """
         return nested(self.depth, partial(self.start_ordered_item, number), partial(self.end_ordered_item, number))
 
+    def prefixed(self, first: str, others: str) -> AbstractContextManager[None]:
+        """Fills a block whose first line comes after `first`, and each other after `others`, in the columns that the
+        wider of the two leaves, also in a table. It refuses as `start_quote` does.
+
+        >>> with Renderer(20) as page:
+        ...     with page.prefixed("• ", "  "):
+        ...         page.add_inline_text("Bring bread and some cake.")
+        ...     print(page.into_string(), end="")
+        • Bring bread and
+          some cake.
+        """
+        utf8(first, "first")
+        utf8(others, "others")
+        prefix = max(text_width(first), text_width(others))
+        return nested(self.depth, partial(self.start_prefixed, prefix), partial(self.append_subrender, first, others))
+
     def header(self, level: int) -> AbstractContextManager[None]:
         """Fills a header of a level, with empty lines around it, as `start_header` and `end_header` say.
 
@@ -574,8 +591,15 @@ class Renderer:
         """Opens a level of this many columns, whose lines `append_subrender` takes. `BadWidthError` at 0."""
         self._owned.call("start_sub", size(width, "width"))
 
+    def start_prefixed(self, prefix: int) -> None:
+        """Opens a level of the columns that a prefix of so many leaves, also in a table.
+
+        `append_subrender` takes its lines, with prefixes that are no wider. It refuses as `start_quote` does.
+        """
+        self._owned.call("start_prefixed", size(prefix, "prefix"))
+
     def append_subrender(self, first: str, others: str) -> None:
-        """Closes the level that `start_subrender` opened, and adds its lines, after these prefixes, to the one outside.
+        """Closes the level that one of these opened, and adds its lines, after these prefixes, to the one outside.
 
         `NothingToEndError` if the innermost level isn't such a level, `StillOpenError` if cells wait in it.
         """

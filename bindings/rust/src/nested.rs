@@ -1,6 +1,6 @@
 //! Calls that fill something by a closure, and then end it.
 
-use crate::{Colour, Error, Renderer, WhiteSpace};
+use crate::{text_width, Colour, Error, Renderer, WhiteSpace};
 use std::cmp::Ordering;
 
 /// Blocks and stretches of text that a closure fills.
@@ -85,6 +85,28 @@ impl Renderer {
     ) -> Result<(), Error> {
         self.start_ordered_item(number)?;
         self.nest(fill, |it| it.end_ordered_item(number))
+    }
+
+    /// Fills a block whose first line comes after `first`, and each other after `others`, in the columns that the wider
+    /// of the two leaves, also in a table.
+    ///
+    /// It refuses as [`quote`](Renderer::quote) does.
+    ///
+    /// ```
+    /// # use text_block_renderer::{Options, Renderer};
+    /// let mut list = Renderer::new(&Options::plain(20))?;
+    /// list.prefixed("• ", "  ", |item| item.add_inline_text("Bring bread and some cake."))?;
+    /// assert_eq!(list.into_string()?, "• Bring bread and\n  some cake.\n");
+    /// # Ok::<(), text_block_renderer::Error>(())
+    /// ```
+    pub fn prefixed(
+        &mut self,
+        first: &str,
+        others: &str,
+        fill: impl FnOnce(&mut Renderer) -> Result<(), Error>,
+    ) -> Result<(), Error> {
+        self.start_prefixed(text_width(first)?.max(text_width(others)?))?;
+        self.nest(fill, |it| it.append_subrender(first, others))
     }
 
     /// Fills a header of a level, of which 1 is the highest. Each line comes after the decorator's prefix, with empty

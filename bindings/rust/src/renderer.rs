@@ -350,9 +350,15 @@ impl Renderer {
         self.handle.call(|it| unsafe { sys::tbr_start_sub(it, width) })
     }
 
-    /// Closes the level that `start_subrender` opened, and adds its lines to the one outside: the first after `first`,
-    /// each other after `others`. `NothingToEnd` if the innermost level isn't such a level, `StillOpen` if cells wait
-    /// in it.
+    /// Opens a level of the columns that a prefix of so many leaves, also in a table. `append_subrender` takes its lines,
+    /// with prefixes that are no wider. `TooNarrow`, which isn't kept, if no column is left and no overflow is allowed.
+    pub fn start_prefixed(&mut self, prefix: usize) -> Result<(), Error> {
+        // SAFETY: the renderer is live.
+        self.handle.call(|it| unsafe { sys::tbr_start_prefixed(it, prefix) })
+    }
+
+    /// Closes the level that one of these opened, and adds its lines to the one outside: the first after `first`, each
+    /// other after `others`. `NothingToEnd` if the innermost level isn't such a level, `StillOpen` if cells wait in it.
     pub fn append_subrender(&mut self, first: &str, others: &str) -> Result<(), Error> {
         self.handle.with_texts(sys::tbr_append_sub_n, first, others)
     }

@@ -138,6 +138,7 @@ extern "C" {
     pub fn tbr_start_header(renderer: *mut Renderer, level: usize) -> u32;
     pub fn tbr_end_header(renderer: *mut Renderer, level: usize) -> u32;
     pub fn tbr_start_sub(renderer: *mut Renderer, width: usize) -> u32;
+    pub fn tbr_start_prefixed(renderer: *mut Renderer, prefix: usize) -> u32;
     pub fn tbr_append_sub_n(
         renderer: *mut Renderer,
         first: *const c_char,

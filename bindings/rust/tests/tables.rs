@@ -70,6 +70,20 @@ fn texts_and_cells_are_measured() {
 }
 
 #[test]
+fn a_block_has_a_prefix_of_ones_own_in_a_cell() {
+    let mut page = Renderer::new(&Options::plain(12)).unwrap();
+    let done = page.table(|table| {
+        table.row(|row| {
+            row.cell((), |cell| cell.prefixed("漢 ", "   ", |item| item.add_inline_text("Tea or milk")))?;
+            row.text((), "3")
+        })
+    });
+    assert_eq!(done, Ok(()));
+    assert_eq!(page.prefixed(&"x".repeat(12), "", |_| Ok(())), Err(Error::TooNarrow));
+    assert_eq!(page.into_string().unwrap(), "──────────┬─\n漢 Tea or │3\n   milk   │ \n──────────┴─\n");
+}
+
+#[test]
 fn what_ends_has_to_be_innermost() {
     let mut page = Renderer::new(&Options::plain(40)).unwrap();
     assert_eq!(page.start_auto_cell(()), Err(Error::NoTable));

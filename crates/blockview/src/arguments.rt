@@ -39,6 +39,11 @@ Each line after it is a command:
   colour R G B .. endcolour, bg R G B .. endbg
                   colours of text and of its background
   border [N]      a border
+  table auto .. endtable
+                  a table that finds its widths: cells, and `row` after those of
+                  each row
+  cell auto [ROWS [COLUMNS]] [left|right|centre] .. endcell
+                  a cell of such a table, which spans so many rows and columns
   cell N SPAN [left|right|centre] .. endcell
                   a cell of N columns, whatever W is, which waits for its row
   row, vrow       the cells that wait, side by side or one below another
@@ -54,10 +59,11 @@ Each line after it is a command:
 The text of a heading, quote, item or cell is on `text` lines between the
 command and its end. There \\n, \\t, \\\\ and \\u{h} are a newline, a tab, a
 backslash and the character of that code.
-A table is `border N` once, then for each row its cells and `row`, which draws
-the line below. The line between two cells takes a column, so that N is the
-columns of all cells and one for each line between. SPAN is 1, or the rows that
-the cell takes; each further row has an empty cell of the same N there.
+A table of given widths is `border N` once, then for each row its cells and
+`row`, which draws the line below. The line between two cells takes a column, so
+that N is the columns of all cells and one for each line between. SPAN is 1, or
+the rows that the cell takes; each further row has an empty cell of the same N
+there.
 
 Decorators: plain writes `#`, `>`, `*`, numbers, and brackets at links and
 images; rich all but the brackets; trivial none. In text em, strong and code

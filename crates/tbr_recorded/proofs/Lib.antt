@@ -1,3 +1,4 @@
+pub mod Elements
 mod Marks
 pub mod Sized
 pub mod Walks

@@ -11,24 +11,33 @@ use Rattle.tbr_statements.specs.declared.level.Levels.{Levels}
 use Rattle.tbr_statements.specs.declared.level.Notes.{Notes}
 use Rattle.tbr_statements.specs.declared.level.TooWide.{TooWide}
 use Rattle.tbr_statements.specs.declared.level.Opener.{Opener}
-use Rattle.tbr_statements.specs.declared.level.Opener.TheVariants.{Sub, Cell, Block}
+use Rattle.tbr_statements.specs.declared.level.Opener.TheVariants.{Sub, Cell, Table, InnerTable, TableCell, Block}
 
 -- the command that closes what was opened so
 abbrev pub closing : Opener → List ℕ
 closing Sub = codes "append >  | > "
 closing Cell = codes "endcell"
+closing Table = codes "endtable"
+closing InnerTable = codes "endtable"
+closing TableCell = codes "endcell"
 closing (Block b prefixes) = end_of b
 
 -- what an error calls it
 abbrev pub called : Opener → List ℕ
 called Sub = codes "a block"
 called Cell = codes "a cell"
+called Table = codes "a table"
+called InnerTable = codes "a table"
+called TableCell = codes "a cell"
 called (Block b prefixes) = name_of b
 
 -- the remark at the line where it was opened
 abbrev pub note_of : Opener → List ℕ
 note_of Sub = codes "the block was opened here"
 note_of Cell = codes "the cell was opened here"
+note_of Table = codes "the table was opened here"
+note_of InnerTable = codes "the table was opened here"
+note_of TableCell = codes "the cell was opened here"
 note_of (Block Quote prefixes) = codes "the quote was opened here"
 note_of (Block Item prefixes) = codes "the item was opened here"
 note_of (Block (Ordered number) prefixes) = codes "the item was opened here"
@@ -40,9 +49,8 @@ innermost levels = slice_get levels (length levels - 1)
 
 -- whether a block with a prefix was opened so
 abbrev pub is_of_a_block : Opener → Bool
-is_of_a_block Sub = false
-is_of_a_block Cell = false
 is_of_a_block (Block b prefixes) = true
+is_of_a_block other = false
 
 -- what opened a level, if there is one
 abbrev pub opener_of : Option Level → Option Opener
@@ -51,6 +59,31 @@ opener_of level = option_map (λ l. l.by) level
 abbrev pub is_in_a_block : Option Opener → Bool
 is_in_a_block None = false
 is_in_a_block (Some by) = is_of_a_block by
+
+-- the line where a level was opened, if that is a table that finds its widths
+abbrev pub opens_a_table : Opener → Bool
+opens_a_table Table = true
+opens_a_table InnerTable = true
+opens_a_table other = false
+
+abbrev pub table_line : Option Level → Option ℕ
+table_line None = None
+table_line (Some level) = if opens_a_table level.by then Some level.line else None
+
+-- whether a level is a block that `append` ends, or a cell of such a table
+abbrev pub opens_a_sub : Opener → Bool
+opens_a_sub Sub = true
+opens_a_sub other = false
+
+abbrev pub opens_a_table_cell : Opener → Bool
+opens_a_table_cell TableCell = true
+opens_a_table_cell other = false
+
+-- whether a command inside of such a table ends a level, if it ends one
+abbrev pub ends_by : Command → Option Opener → Bool
+ends_by (asked.Append prefixes) (Some by) = opens_a_sub by
+ends_by asked.EndCell (Some by) = opens_a_table_cell by
+ends_by other level = true
 
 -- whether a command closes a level
 abbrev pub is_closed_by : List ℕ → Option Level → Bool

@@ -1,4 +1,5 @@
 pub mod Block
+pub mod TableCell
 pub mod Statement
 pub mod Read
 pub mod Words

@@ -8,7 +8,7 @@ ghost use Rattle.tbr_statements.specs.declared.problem.Kind.TheVariants as kind_
 
 use crate::block::Block;
 use crate::fault::{Fault, fault_of};
-use crate::level::{Level, Notes, TooWide};
+use crate::level::{Level, Notes, Opener, TooWide};
 use crate::problem::{Kind, Problem, Refusal, Related};
 use crate::stretch::{Stretch, ending};
 use std::alloc::{AllocError, Global};
@@ -118,6 +118,105 @@ fn inside(alloc: Global, word: &str, level: &Level) -> Result<(String, String), 
     ))
 }
 
+/// A line is in a table that finds its widths, and in no cell of it. The other line is that of the table.
+pub fn in_no_cell(alloc: Global, line: usize, table: usize) -> Refusal
+    ensures { Tells result kind_is.Misplaced line (Some table) }
+{
+    let texts = both(
+        alloc,
+        "only cells, `row` and `endtable` are directly inside a table",
+        "write `cell auto` before it, and `endcell` after it",
+    );
+    let related = Some(of_table(table));
+    refusal(Kind::Misplaced, line, FIRST, related, texts)
+}
+
+/// The line of a table.
+fn of_table(line: usize) -> Related
+    ensures { result.line ≡ line }
+{
+    Related {
+        line,
+        note: Opener::Table.note(),
+    }
+}
+
+/// A row of such a table has no cell. The other line is that of the table.
+pub fn empty_row(alloc: Global, line: usize, table: usize) -> Refusal
+    ensures { Tells result kind_is.Misplaced line (Some table) }
+{
+    let texts = both(
+        alloc,
+        "no cell came before this `row`",
+        "write the cells of the row before it, or take the line away",
+    );
+    let related = Some(of_table(table));
+    refusal(Kind::Misplaced, line, FIRST, related, texts)
+}
+
+/// A line has cells of given widths, and is in a table that finds them.
+pub fn given_widths(alloc: Global, line: usize) -> Refusal
+    ensures { Tells result kind_is.Misplaced line None }
+{
+    let texts = both(
+        alloc,
+        "cells of given widths can't be in a table that finds its own",
+        "write `cell auto` and `row`, in a `table auto` of its own for a table in a cell",
+    );
+    refusal(Kind::Misplaced, line, FIRST, None, texts)
+}
+
+/// A cell that finds its width isn't directly inside a table. The other line is that of the innermost level of one, if
+/// it is in one.
+pub fn in_no_table(alloc: Global, line: usize, level: Option<&Level>) -> Refusal
+    ensures { Tells result kind_is.Misplaced line (option_map (λ l. l.now.line) level.entry) }
+{
+    let related = level.map(|level| Related {
+        line: level.line,
+        note: level.by.note(),
+    });
+    let texts = outside_of_table(alloc, level);
+    refusal(Kind::Misplaced, line, FIRST, related, texts)
+}
+
+/// What is said of such a cell.
+fn outside_of_table(alloc: Global, level: Option<&Level>) -> Result<(String, String), AllocError> {
+    let message = String::from_str(alloc, "`cell auto` isn't directly inside a table")?;
+    let help = match level {
+        Some(level) => {
+            let end = level.by.end();
+            format!(in alloc; "write `{end}` first")?
+        }
+        None => String::from_str(
+            alloc,
+            "write `table auto` before it, or give the cell its columns, as `cell 12 1`",
+        )?,
+    };
+    Ok((message, help))
+}
+
+/// A table would begin under a cell that takes more rows than were added. The other line is that of the last one.
+pub fn under_a_cell(alloc: Global, line: usize, cell: Option<usize>) -> Refusal
+    ensures { Tells result kind_is.RowDoesNotFit line cell }
+{
+    let texts = both(
+        alloc,
+        "a table can't begin under a cell that takes more rows",
+        "write a `row` for each row that the cell takes, or give it fewer",
+    );
+    refusal(Kind::RowDoesNotFit, line, FIRST, taking_rows(cell), texts)
+}
+
+/// The line of a cell that takes more rows than one.
+fn taking_rows(cell: Option<usize>) -> Option<Related>
+    ensures { option_map (λ r. r.line) result ≡ cell }
+{
+    cell.map(|line| Related {
+        line,
+        note: "this cell takes more rows than one",
+    })
+}
+
 /// A level is still open at the end of the script.
 pub fn still_open(alloc: Global, line: usize, level: &Level) -> Refusal
     ensures { Tells result kind_is.StillOpen line (Some level.now.line) }
@@ -156,12 +255,14 @@ pub fn cells_wait(alloc: Global, line: usize, first_cell: Option<usize>) -> Refu
 pub fn row_does_not_fit(alloc: Global, line: usize, columns: usize, notes: &Notes) -> Refusal
     ensures { Tells result kind_is.RowDoesNotFit line notes.now.spanning }
 {
-    let related = notes.spanning.map(|line| Related {
-        line,
-        note: "this cell takes more rows than one",
-    });
     let texts = in_the_way(alloc, columns, notes.row_columns);
-    refusal(Kind::RowDoesNotFit, line, FIRST, related, texts)
+    refusal(
+        Kind::RowDoesNotFit,
+        line,
+        FIRST,
+        taking_rows(notes.spanning),
+        texts,
+    )
 }
 
 /// What is said of a row that doesn't fit.
@@ -236,16 +337,12 @@ pub fn lost_lines(alloc: Global, line: usize, cell: Option<usize>) -> Result<Pro
         "a cell takes more rows than come, and what is left of it isn't shown",
         "write a `row` for each row that the cell takes, or give it fewer",
     )?;
-    let related = cell.map(|line| Related {
-        line,
-        note: "this cell takes more rows than one",
-    });
     Ok(Problem {
         kind: Kind::LinesLost,
         line,
         column: None,
         message,
-        related,
+        related: taking_rows(cell),
         help,
     })
 }

@@ -17,6 +17,14 @@ const TEXT_BELOW: [&str; 9] = [
     "heading", "quote", "item", "ordered", "block", "line", "em", "strong", "code",
 ];
 
+/// How a cell begins that finds its width, and how it is written.
+const AUTO_CELL: &str = "cell auto";
+
+const AUTO_CELL_FORM: &str = "cell auto [ROWS [COLUMNS]] [left|right|centre]";
+
+/// How a table of such cells begins, which is how it is written.
+const AUTO_TABLE: &str = "table auto";
+
 /// What is before the number of an option.
 const WRAP: &str = "wrap=";
 
@@ -111,7 +119,8 @@ fn fault_of_spaces(alloc: Global, line: &str) -> Result<Option<Fault>, AllocErro
         return Ok(Some(fault));
     }
     let trimmed = line.trim_end_matches(' ');
-    if trimmed.len() < line.len() && form_of(trimmed).is_some() {
+    let is_command = form_of(trimmed).is_some() || matches!(trimmed, AUTO_CELL | AUTO_TABLE);
+    if trimmed.len() < line.len() && is_command {
         let fault = Fault {
             column: Some(characters(trimmed).saturating_add(1)),
             message: String::from_str(alloc, "a space is after the command")?,
@@ -130,7 +139,37 @@ fn fault_of_word(alloc: Global, word: &str, line: &str) -> Result<Fault, AllocEr
     if takes_text(word) {
         return fault_of_text(alloc, word, form, line);
     }
-    match fault_of_arguments(alloc, word, form, line)? {
+    let mut words = PlacedWords::of(line);
+    let _ = words.next();
+    match (word, second_word(line)) {
+        ("cell", Some("auto")) => {
+            let _ = words.next();
+            fault_of_words(alloc, AUTO_CELL, AUTO_CELL_FORM, words)
+        }
+        ("table", Some("auto")) => {
+            let _ = words.next();
+            fault_of_words(alloc, AUTO_TABLE, AUTO_TABLE, words)
+        }
+        _ => fault_of_words(alloc, word, form, words),
+    }
+}
+
+/// The second word of a line, if it has one.
+fn second_word(line: &str) -> Option<&str> {
+    let mut words = PlacedWords::of(line);
+    let _ = words.next();
+    let (_, word) = words.next()?;
+    Some(word)
+}
+
+/// What is wrong with the words after a command.
+fn fault_of_words(
+    alloc: Global,
+    word: &str,
+    form: &str,
+    words: PlacedWords<'_>,
+) -> Result<Fault, AllocError> {
+    match fault_of_arguments(alloc, word, form, words)? {
         Some(fault) => Ok(fault),
         None => written_otherwise(alloc, word, form),
     }
@@ -164,15 +203,14 @@ fn besides(word: &str) -> &'static str
     }
 }
 
-/// What is wrong with the first word after a command's that isn't allowed there, if there is one.
+/// What is wrong with the first of the words after a command's that isn't allowed there, if there is one.
 fn fault_of_arguments(
     alloc: Global,
     word: &str,
     form: &str,
-    line: &str,
+    words: PlacedWords<'_>,
 ) -> Result<Option<Fault>, AllocError> {
-    let mut words = PlacedWords::of(line);
-    let _ = words.next();
+    let mut words = words;
     let mut place = 0usize;
     while let Some((column, argument)) = words.next() {
         let fault = fault_of_argument(alloc, word, form, place, argument, column)?;
@@ -193,7 +231,7 @@ fn fault_of_argument(
     argument: &str,
     column: usize,
 ) -> Result<Option<Fault>, AllocError> {
-    if let Some(number) = Number::of(word, place) {
+    if let Some(number) = number_at(word, place, argument) {
         if number.takes(argument) {
             return Ok(None);
         }
@@ -208,11 +246,27 @@ fn fault_of_argument(
     }
     match (word, place, argument) {
         ("cell", 2, "left" | "right" | "centre") | ("row", 0, "collapse") => Ok(None),
-        ("cell", 2, _) => Ok(Some(unknown(alloc, column, "an alignment", argument, &ALIGNMENTS)?)),
+        ("cell auto", _, "left" | "right" | "centre") => Ok(None),
+        ("cell", 2, _) | ("cell auto", _, _) => Ok(Some(unknown(
+            alloc,
+            column,
+            "an alignment",
+            argument,
+            &ALIGNMENTS,
+        )?)),
         ("ws", 0, "normal" | "pre" | "prewrap") => Ok(None),
         ("ws", 0, _) => Ok(Some(unknown(alloc, column, "a mode", argument, &MODES)?)),
         _ => Ok(Some(too_much(alloc, word, form, column)?)),
     }
+}
+
+/// The number that a command takes at a place after it, if it takes one there. Those of `cell auto` may be left out, so
+/// only what begins with a digit is meant as one.
+fn number_at(word: &str, place: usize, argument: &str) -> Option<Number> {
+    if word == AUTO_CELL && !argument.starts_with(|c: char| c.is_ascii_digit()) {
+        return None;
+    }
+    Number::of(word, place)
 }
 
 /// What is said of a number that isn't within its limits.

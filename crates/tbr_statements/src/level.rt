@@ -6,6 +6,7 @@ ghost use Rattle.tbr_statements.specs.Level as model;
 use crate::block::Block;
 use std::alloc::{AllocError, Global};
 use std::mem;
+use tbr_commands::Command;
 use tbr_script::TextPair;
 
 /// What opened a level.
@@ -15,6 +16,12 @@ pub enum Opener {
     Sub,
     /// `cell`.
     Cell,
+    /// `table auto` in no other one.
+    Table,
+    /// `table auto` in a cell of another one.
+    InnerTable,
+    /// `cell auto`.
+    TableCell,
     /// A block with these prefixes.
     Block(Block, TextPair),
 }
@@ -62,7 +69,8 @@ impl Opener {
     {
         match self {
             Opener::Sub => "a block",
-            Opener::Cell => "a cell",
+            Opener::Cell | Opener::TableCell => "a cell",
+            Opener::Table | Opener::InnerTable => "a table",
             Opener::Block(block, _) => block.name(),
         }
     }
@@ -73,7 +81,8 @@ impl Opener {
     {
         match self {
             Opener::Sub => "append >  | > ",
-            Opener::Cell => "endcell",
+            Opener::Cell | Opener::TableCell => "endcell",
+            Opener::Table | Opener::InnerTable => "endtable",
             Opener::Block(block, _) => block.end(),
         }
     }
@@ -84,11 +93,19 @@ impl Opener {
     {
         match self {
             Opener::Sub => "the block was opened here",
-            Opener::Cell => "the cell was opened here",
+            Opener::Cell | Opener::TableCell => "the cell was opened here",
+            Opener::Table | Opener::InnerTable => "the table was opened here",
             Opener::Block(Block::Quote, _) => "the quote was opened here",
             Opener::Block(Block::Heading(_), _) => "the heading was opened here",
             Opener::Block(_, _) => "the item was opened here",
         }
+    }
+
+    /// Whether it is a table that finds its widths.
+    fn is_table(&self) -> bool
+        ensures { result ≡ model.opens_a_table self.now }
+    {
+        matches!(self, Opener::Table | Opener::InnerTable)
     }
 }
 
@@ -176,6 +193,27 @@ impl Levels {
         match self.innermost() {
             Some(level) => matches!(level.by, Opener::Block(_, _)),
             None => false,
+        }
+    }
+
+    /// The line where the innermost level was opened, if that is a table.
+    pub fn table(&self) -> Option<usize>
+        ensures { result ≡ model.table_line (model.innermost self.now.inside.items) }
+    {
+        match self.innermost() {
+            Some(level) if level.by.is_table() => Some(level.line),
+            _ => None,
+        }
+    }
+
+    /// Whether a command inside a table ends the innermost level, if it ends a level: a block or a cell.
+    pub fn ends_by(&self, command: &Command) -> bool
+        ensures { result ≡ model.ends_by command.now (model.opener_of (model.innermost self.now.inside.items)) }
+    {
+        match (command, self.innermost()) {
+            (Command::Append(_), Some(level)) => matches!(level.by, Opener::Sub),
+            (Command::EndCell, Some(level)) => matches!(level.by, Opener::TableCell),
+            _ => true,
         }
     }
 

@@ -16,4 +16,5 @@ mod placed;
 mod problem;
 mod statement;
 mod stretch;
+mod table_cell;
 mod words;

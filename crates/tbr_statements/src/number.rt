@@ -43,6 +43,8 @@ impl Number {
             ("new", 0) => Some(Number::size("W")),
             ("sub", 0) | ("cell", 0) | ("heading", 0) => Some(Number::size("N")),
             ("cell", 1) => Some(Number::size("SPAN")),
+            ("cell auto", 0) => Some(Number::size("ROWS")),
+            ("cell auto", 1) => Some(Number::size("COLUMNS")),
             ("border", 0) => Some(Number::up_to("N", usize::MAX)),
             ("ordered", 0) => Some(Number::up_to("N", GREATEST_ITEM)),
             ("colour", 0) | ("bg", 0) => Some(Number::up_to("R", 255)),

@@ -16,7 +16,9 @@ pub enum Kind {
     StillOpen,
     /// A level closes, or the script ends, before the row of cells that wait.
     CellsWait,
-    /// Cells of a row are in the way of those that overhang from the rows above.
+    /// A line is in a table that finds its widths and has no place there, or is for such a table alone.
+    Misplaced,
+    /// Cells of a row are in the way of those that overhang from the rows above, or a table is.
     RowDoesNotFit,
     /// A character is wider than its block.
     TooNarrow,

@@ -3,12 +3,14 @@ ghost use Rattle.std.specs.Prelude.{◌≡◌, IfOk, IfSome};
 ghost use Rattle.std.specs.Option.{option_map};
 ghost use Rattle.tbr_statements.specs.Statement as model;
 ghost use Rattle.tbr_statements.specs.Statement.{IsSized, statement_of};
-ghost use Rattle.tbr_statements.specs.Read.{item_number_read, numbered_read, block_read, statement_read};
+ghost use Rattle.tbr_statements.specs.Read.{item_number_read, argument_read, block_read, statement_read};
 
 use crate::block::Block;
+use crate::table_cell::table_cell;
 use std::alloc::{AllocError, Global};
 use tbr_commands::{Command, split_at_space};
 use tbr_script::{parse_number, parse_size};
+use tbr_tables::TableCell;
 
 /// What a line after the first command asks for.
 #[derive(Debug, Drop)]
@@ -19,6 +21,12 @@ pub enum Statement {
     Open(Block),
     /// The block closes that this command ends.
     Close(&'static str),
+    /// A table begins that finds its widths.
+    Table,
+    /// A cell of such a table opens.
+    Cell(TableCell),
+    /// Such a table ends.
+    EndTable,
 }
 
 impl Statement {
@@ -45,7 +53,7 @@ pub fn is_skipped(line: &[u8]) -> bool
     line.is_empty() || line.starts_with(b"#")
 }
 
-/// What a line that opens or closes a block with a prefix asks for.
+/// What a line asks for that is no command of `blockrender`.
 fn of_blocks(line: &str) -> Option<Statement>
     ensures { option_map statement_of result ≡ block_read line.now }
 {
@@ -56,23 +64,29 @@ fn of_blocks(line: &str) -> Option<Statement>
         "enditem" => Some(Statement::Close("enditem")),
         "endordered" => Some(Statement::Close("endordered")),
         "endheading" => Some(Statement::Close("endheading")),
-        _ => numbered(line),
+        "table auto" => Some(Statement::Table),
+        "endtable" => Some(Statement::EndTable),
+        _ => with_argument(line),
     }
 }
 
-/// What a line with a number that opens a block with a prefix asks for.
-fn numbered(line: &str) -> Option<Statement>
-    ensures { option_map statement_of result ≡ numbered_read line.now }
+/// The same of a word and what is after it.
+fn with_argument(line: &str) -> Option<Statement>
+    ensures { option_map statement_of result ≡ argument_read line.now }
 {
-    let (word, digits) = split_at_space(line)?;
+    let (word, argument) = split_at_space(line)?;
     match word {
         "ordered" => {
-            let number = item_number(digits)?;
+            let number = item_number(argument)?;
             Some(Statement::Open(Block::Ordered(number)))
         }
         "heading" => {
-            let level = parse_size(digits)?;
+            let level = parse_size(argument)?;
             Some(Statement::Open(Block::Heading(level)))
+        }
+        "cell" => {
+            let cell = table_cell(argument)?;
+            Some(Statement::Cell(cell))
         }
         _ => None,
     }

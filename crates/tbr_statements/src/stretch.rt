@@ -163,6 +163,17 @@ impl Stretches {
         self.forget_ended();
     }
 
+    /// Whether one of a kind is open that began where so many levels were open.
+    pub fn is_open_in(&self, stretch: Stretch, level: usize) -> bool {
+        let Some(place) = self.last[stretch.place()] else {
+            return false;
+        };
+        match self.begun.get(place) {
+            Some(begun) => begun.level == level,
+            None => false,
+        }
+    }
+
     /// Forgets those that were ended after the last that is open.
     fn forget_ended(&mut self) {
         let ended = self

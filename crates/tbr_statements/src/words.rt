@@ -7,11 +7,13 @@ use std::alloc::{AllocError, Global};
 use strsim::levenshtein;
 
 /// The commands, each as it is written.
-pub const FORMS: [&str; 45] = [
+pub const FORMS: [&str; 48] = [
     "text T",
     "block",
     "endblock",
     "table",
+    "table auto",
+    "endtable",
     "line",
     "hardline",
     "empty",
@@ -27,6 +29,7 @@ pub const FORMS: [&str; 45] = [
     "sub N",
     "append P | Q",
     "cell N SPAN [left|right|centre]",
+    "cell auto [ROWS [COLUMNS]] [left|right|centre]",
     "endcell",
     "row [collapse]",
     "vrow",

@@ -1,2 +1,3 @@
 pub mod ShownLines
 mod States
+mod Places

@@ -35,10 +35,10 @@ module _ {A M : Type 0} (meaning : A → M) (eq : A → A → Bool) (rich : List
 
 -- under the decorator that is set, or that of the script
 pub shown_script : (columns : ℕ → Option ℕ) (script : List ℕ) (settings : Settings) (cs : List ℕ) (opening placed : Opening) (number : ℕ) (rest : List ℕ) (decorator : Decorator) →
-    Begins script opening number rest → placed ≡ opening_in settings.width opening → unwrap_or settings.decorator placed.decorator ≡ decorator →
+    Begins script opening number rest → placed ≡ opening_in settings opening → placed.decorator ≡ decorator →
     ShowsUnder columns decorator placed (lines_of rest) settings.format cs → IsShown columns script settings cs
 shown_script columns script settings cs opening placed number rest decorator begins is under shows =
-    let same = ap (λ (o : Opening). unwrap_or settings.decorator o.decorator) (sym is) ∙ under in
+    let same = ap (λ (o : Opening). o.decorator) (sym is) ∙ under in
     record {
       opening = opening;
       number = number;

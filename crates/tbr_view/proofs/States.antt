@@ -25,7 +25,9 @@ use Rattle.tbr_statements.specs.declared.level.Opener.{Opener}
 use Rattle.tbr_statements.specs.declared.level.Opener.TheVariants.{Block as OfBlock}
 use Rattle.tbr_statements.specs.Block.{prefix_of, other_prefix, stands_apart, end_of}
 use Rattle.tbr_statements.specs.Level.{Known, Leaves, innermost, opener_of, may_not_append, is_closed_by, known_outside, left, noted}
-use Rattle.tbr_view.specs.Session.{State, openers, state_of, opened_by, CommandDoes, DoesIf, Commands, BlockOpens, BlockAppends, BlockCloses, LineDoes, LinesDo}
+use Rattle.tbr_view.specs.Session.{openers, state_of, opened_by, CommandDoes, DoesIf, Commands, BlockOpens, BlockAppends, BlockCloses}
+use Rattle.tbr_view.specs.Tables.{Place}
+use Rattle.tbr_view.specs.Lines.{LineDoes, LinesDo}
 
 -- ---- lists of levels
 
@@ -68,6 +70,20 @@ openers_noted known line (asked.Cell cell) = openers_push known.inside _
 openers_noted known line asked.EndCell = openers_left known.inside
 openers_noted known line (asked.Row collapse) = refl
 openers_noted known line asked.VerticalRow = refl
+
+-- the level that closed was the innermost
+pub openers_last : (old new : List Level) (by : Opener) (notes known : Notes) → Leaves old notes by new known → openers old ≡ openers new ++ by ∷ []
+openers_last old new by notes known leaves =
+    let level : Level = record { by = by; line = leaves.line; outside = leaves.outside } in
+    ap openers leaves.last ∙ openers_push new level
+
+-- the command that closes a block is its end
+pub ends_with : (old new : List Level) (block : Block) (texts : TextPair) (by : List ℕ) (notes known : Notes) → is_closed_by by (innermost old) ≡ true →
+    Leaves old notes (OfBlock block texts) new known → end_of block ≡ by
+ends_with old new block texts by notes known closed leaves =
+    let level : Level = record { by = OfBlock block texts; line = leaves.line; outside = leaves.outside } in
+    let is : innermost old ≡ Some level = ap innermost leaves.last ∙ innermost_last new level in
+    (bytes_eq-Decides (end_of block) by).0 (ap (is_closed_by by) (sym is) ∙ closed)
 
 same_known : (old new : Known) → new.inside ≡ take (length old.inside - 1) old.inside → new.notes ≡ known_outside (innermost old.inside) old.notes → new ≡ left old
 same_known old new inside notes =
@@ -124,13 +140,11 @@ module _ {D A : Type 0} (columns : ℕ → Option ℕ) (decoration : Decoration 
     pub block_closes : (block : Block) (texts : TextPair) (by : List ℕ) (notes known : Notes) → is_closed_by by (innermost old) ≡ true → Leaves old notes (OfBlock block texts) new known →
         BlockAppends columns decoration p block texts q → BlockCloses columns decoration (state_of p old) by (state_of q new)
     block_closes block texts by notes known closed leaves appends =
-        let level : Level = record { by = OfBlock block texts; line = leaves.line; outside = leaves.outside } in
-        let is : innermost old ≡ Some level = ap innermost leaves.last ∙ innermost_last new level in
         record {
           block = block;
           texts = texts;
-          levels = ap openers leaves.last ∙ openers_push new level;
-          ends = (bytes_eq-Decides (end_of block) by).0 (ap (is_closed_by by) (sym is) ∙ closed);
+          levels = openers_last old new (OfBlock block texts) notes known leaves;
+          ends = ends_with old new block texts by notes known closed leaves;
           appends = appends;
         }
 
@@ -140,10 +154,10 @@ module _ {D M : Type 0} (columns : ℕ → Option ℕ) (decoration : Decoration 
   no_length : (n : ℕ) → true ≡ (suc n == 0) → ⊥
   no_length n e = let none : suc n ≡ 0 = eqb-true (suc n) 0 (sym e) in omega (arith, none)
 
-  pub no_line_left : (s : State D M) (rest : List ℕ) → true ≡ (length rest == 0) → LinesDo columns decoration s (lines_of rest) s
+  pub no_line_left : (s : Place D M) (rest : List ℕ) → true ≡ (length rest == 0) → LinesDo columns decoration s (lines_of rest) s
   no_line_left s [] none = refl
   no_line_left s (b ∷ bs) none = absurd (no_length (length bs) none)
 
-  pub line_done : (s next last : State D M) (rest line after : List ℕ) → lines_of rest ≡ line ∷ lines_of after → LineDoes columns decoration s line next →
+  pub line_done : (s next last : Place D M) (rest line after : List ℕ) → lines_of rest ≡ line ∷ lines_of after → LineDoes columns decoration s line next →
       LinesDo columns decoration next (lines_of after) last → LinesDo columns decoration s (lines_of rest) last
   line_done s next last rest line after is does more = subst (λ ls. LinesDo columns decoration s ls last) (sym is) (next, does, more)

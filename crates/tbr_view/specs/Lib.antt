@@ -1,3 +1,5 @@
 pub mod Script
 pub mod Session
+pub mod Tables
+pub mod Lines
 pub mod Shown

@@ -1,37 +1,28 @@
--- What a script for people does, line after line.
-use Rattle.std.specs.Prelude.{◌≡◌, ◌⊎◌, ℕ, ◌-◌, ◌<◌, nat_lt, ◌&&◌, if◌then◌else◌, Bool, true, false, Option, None, Some, Ok, List, [], ◌∷◌, ◌++◌, map, take, length, string_bytes}
+-- What commands and blocks of a script for people do.
+use Rattle.std.specs.Prelude.{◌≡◌, ℕ, ◌-◌, ◌<◌, nat_lt, ◌&&◌, if◌then◌else◌, Bool, true, false, Option, None, Some, Ok, List, [], ◌∷◌, ◌++◌, map, take, length, string_bytes}
 use Rattle.std.specs.List.{list_any}
 use Rattle.tbr_model.specs.Width.{width_of_text}
 use Rattle.tbr_tagged.specs.View.{chars_of}
 use Rattle.tbr_rows.specs.Cells.{has_lines}
 use Rattle.tbr_decor.specs.Decoration.{Decoration}
 use Rattle.text_block_renderer.specs.Renderer.{Renderer}
-use Rattle.text_block_renderer.specs.Line.{Line}
 use Rattle.text_block_renderer.specs.Stack.{top_of}
-use Rattle.text_block_renderer.specs.Top.{OfTop}
 use Rattle.tbr_script.specs.declared.text_pair.TextPair.{TextPair}
 use Rattle.tbr_commands.specs.declared.command.Command as declared
 use Rattle.tbr_commands.specs.declared.command.Command.TheVariants as asked
-use Rattle.tbr_commands.specs.declared.opening.Opening.{Opening}
 use Rattle.tbr_commands.specs.declared.request.layout.Layout.TheVariants.{StartBlock, EndBlock}
 use Rattle.tbr_commands.specs.Request.{layout}
 use Rattle.tbr_commands.specs.Command.{Command, ask, sub, append, command_of}
 use Rattle.tbr_program.specs.Progress.{Progress}
-use Rattle.tbr_tagged.specs.Outcome.{done}
-use Rattle.tbr_program.specs.Closing.{closed}
-use Rattle.tbr_program.specs.Commands.{after_command, started}
+use Rattle.tbr_program.specs.Commands.{after_command}
 use Rattle.tbr_statements.specs.declared.block.Block.{Block}
 use Rattle.tbr_statements.specs.declared.level.Level.{Level}
 use Rattle.tbr_statements.specs.declared.level.Opener.{Opener}
 use Rattle.tbr_statements.specs.declared.level.Opener.TheVariants.{Sub, Cell, Block as OfBlock}
 use Rattle.tbr_statements.specs.declared.problem.Problem.{Problem}
 use Rattle.tbr_statements.specs.declared.problem.Kind.TheVariants.{LinesLost, RowTooWide}
-use Rattle.tbr_statements.specs.declared.statement.Statement.{Statement}
-use Rattle.tbr_statements.specs.declared.statement.Statement.TheVariants as statement
 use Rattle.tbr_statements.specs.Problem.{IsOf}
 use Rattle.tbr_statements.specs.Block.{prefix_of, other_prefix, stands_apart, end_of}
-use Rattle.tbr_statements.specs.Statement.{statement_of, is_skipped}
-use Rattle.tbr_statements.specs.Read.{statement_read}
 use Rattle.tbr_statements.specs.Level.{innermost, may_not_append}
 
 -- ---- lines that are lost
@@ -81,11 +72,7 @@ openers levels = map (λ level. level.by) levels
 abbrev pub state_of : {D A : Type 0} → Progress D A (List A) → List Level → State D A
 state_of program levels = record { program = program; levels = openers levels }
 
--- after the first command
-abbrev pub begun : {D M : Type 0} → Opening → D → State D M
-begun opening decorator = record { program = started opening decorator; levels = [] }
-
--- ---- what lines do
+-- ---- what commands and blocks do
 
 -- what a command leaves open
 abbrev pub opened_by : declared.Command → List Opener → List Opener
@@ -140,29 +127,3 @@ module _ {D M : Type 0} (columns : ℕ → Option ℕ) (decoration : Decoration 
     pub levels : s.levels ≡ t.levels ++ OfBlock block texts ∷ []
     pub ends : end_of block ≡ by
     pub appends : BlockAppends s.program block texts t.program
-
-  abbrev pub Does : State D M → Statement → State D M → Type 0
-  Does s (statement.Command command) t = Commands s command t
-  Does s (statement.Open block) t = BlockOpens s block t
-  Does s (statement.Close by) t = BlockCloses s by.now t
-
-  -- A line leads from where a script is to where it is next. An empty line and a comment ask for nothing.
-  abbrev pub LineDoes : State D M → List ℕ → State D M → Type 0
-  LineDoes s line t =
-      ((is_skipped line ≡ true) × (t ≡ s))
-      ⊎ ((is_skipped line ≡ false)
-      × ((asks : Statement) × (statement_read line ≡ Some (statement_of asks)) × Does s asks t))
-
-  abbrev pub LinesDo : State D M → List (List ℕ) → State D M → Type 0
-  LinesDo s [] t = t ≡ s
-  LinesDo s (line ∷ lines) t = (next : State D M) × LineDoes s line next × LinesDo next lines t
-
-  -- A script ends here with these lines: no level is open, and no cell waits.
-  pub record EndsIn (s : State D M) (lines : List (Line (List M))) : Type 0 where
-    pub levels : s.levels ≡ []
-    pub cells : s.program.pending.cells ≡ []
-    pub closes : OfTop (λ r. closed columns decoration s.program.stack.links r ≡ done lines) s.program.stack
-
-  -- the lines that a script gives from here
-  abbrev pub LinesGive : State D M → List (List ℕ) → List (Line (List M)) → Type 0
-  LinesGive s script lines = (last : State D M) × LinesDo s script last × EndsIn last lines

@@ -25,7 +25,8 @@ use Rattle.tbr_show.specs.Ansi as ansi
 use Rattle.tbr_show.specs.Ndjson as json
 use Rattle.tbr_show.specs.Html as html
 use Rattle.tbr_view.specs.Script.{Begins}
-use Rattle.tbr_view.specs.Session.{State, LinesGive, begun}
+use Rattle.tbr_view.specs.Tables.{Place}
+use Rattle.tbr_view.specs.Lines.{LinesGive, begun}
 use Rattle.tbr_view.specs.declared.script.Format.{Format}
 use Rattle.tbr_view.specs.declared.script.Format.TheVariants.{Text, Bare, Ansi, Ndjson, Html}
 use Rattle.tbr_view.specs.declared.script.Settings.{Settings}
@@ -99,13 +100,17 @@ abbrev pub width_in : Option ℕ → ℕ → ℕ
 width_in None own = own
 width_in (Some columns) own = if columns == 0 then own else columns
 
-abbrev pub opening_in : Option ℕ → Opening → Opening
-opening_in width opening = record opening { width = width_in width opening.width }
+-- a first command in the columns and under the decorator that are set, or its own
+abbrev pub opening_in : Settings → Opening → Opening
+opening_in settings opening = record opening {
+  width = width_in settings.width opening.width;
+  decorator = unwrap_or settings.decorator opening.decorator;
+}
 
 -- Characters that are the lines of a script in a format, under a decorator with annotations of this meaning and
 -- equality, of which this is shown.
 abbrev pub ShowsScript : {D A M : Type 0} → (A → M) → (A → A → Bool) → (List A → List RichAnnotation) →
-    (ℕ → Option ℕ) → Decoration D M → State D M → List (List ℕ) → Format → List ℕ → Type 0
+    (ℕ → Option ℕ) → Decoration D M → Place D M → List (List ℕ) → Format → List ℕ → Type 0
 ShowsScript {D} {A} {M} meaning eq rich columns decoration start script format cs =
     (lines : List (RenderLine (List M))) × LinesGive columns decoration start script (map line_seen lines)
     × AreShown (ShowsLine meaning eq rich columns format) lines cs
@@ -128,5 +133,5 @@ pub record IsShown (columns : ℕ → Option ℕ) (script : List ℕ) (settings 
   pub number : ℕ
   pub rest : List ℕ
   pub begins : Begins script opening number rest
-  pub shows : ShowsUnder columns (unwrap_or settings.decorator opening.decorator)
-      (opening_in settings.width opening) (lines_of rest) settings.format cs
+  pub shows : ShowsUnder columns (unwrap_or settings.decorator opening.decorator) (opening_in settings opening)
+      (lines_of rest) settings.format cs

@@ -5,7 +5,7 @@ ghost use Rattle.tbr_decor.specs.Decoration.{decoration_of};
 ghost use Rattle.tbr_script.specs.Script.{lines_of};
 ghost use Rattle.text_block_renderer.specs.Line.{line_seen};
 ghost use Rattle.tbr_view.specs.Script.{Begins, BeginsNot};
-ghost use Rattle.tbr_view.specs.Session.{LinesGive, begun};
+ghost use Rattle.tbr_view.specs.Lines.{LinesGive, begun};
 ghost use Rattle.tbr_view.specs.Shown.{IsShown, opening_in};
 
 use crate::session::Session;
@@ -62,8 +62,8 @@ pub fn view<W: CharWidth>(alloc: Global, script: &[u8], view: Settings) -> Resul
     ensures { IfOk result (λ shown. IsShown W.columns script.now view (chars_of shown.text)) }
 {
     let (opening, number, rest) = first_command(alloc, script)?;
-    let opening = with_width(opening, view.width);
-    match view.decorator.unwrap_or(opening.decorator) {
+    let opening = with_settings(opening, view);
+    match opening.decorator {
         Decorator::Plain => {
             let decorator = PlainDecorator::new();
             let (lines, lost, warnings) = run::<_, W>(
@@ -103,27 +103,22 @@ pub fn view<W: CharWidth>(alloc: Global, script: &[u8], view: Settings) -> Resul
     }
 }
 
-/// A first command, with its columns replaced if others are given.
-fn with_width(opening: Opening, width: Option<usize>) -> Opening
+/// A first command, with its columns and its decorator replaced if others are given.
+fn with_settings(opening: Opening, view: Settings) -> Opening
     requires width { 0 < opening.width }
     requires wrap_width { opening.options.wrap_width ≢ Some 0 }
-    ensures opening { result ≡ opening_in width opening }
+    ensures opening { result ≡ opening_in view opening }
     ensures width { 0 < result.width }
     ensures wrap_width { result.options.wrap_width ≢ Some 0 }
 {
-    let Opening {
-        width: own,
-        decorator,
-        options,
-    } = opening;
-    let width = match width {
+    let width = match view.width {
         Some(columns) if columns > 0 => columns,
-        _ => own,
+        _ => opening.width,
     };
     Opening {
         width,
-        decorator,
-        options,
+        decorator: view.decorator.unwrap_or(opening.decorator),
+        options: opening.options,
     }
 }
 

@@ -8,19 +8,34 @@ ghost use Rattle.tbr_program.specs.Progress.{GoesOn};
 ghost use Rattle.text_block_renderer.specs.Line.{line_seen};
 ghost use Rattle.tbr_statements.specs.Level.{innermost, opener_of, may_not_append, known_in, noted, takes_two};
 ghost use Rattle.tbr_view.specs.Session as model;
+ghost use Rattle.tbr_view.specs.Tables.{no_tables, place_of, counted};
+ghost use Rattle.tbr_view.specs.Lines.{begun, Does, DoesOutside, LineDoes, EndsIn};
 ghost use Rattle.tbr_statements.specs.Statement.{IsSized};
 
 use std::alloc::{AllocError, Global};
-use tbr_commands::{Command, Layout, Opening, Request};
+use tbr_commands::{Command, Decorator, Layout, Opening, Request};
 use tbr_headings::{Headings, heading_columns};
 use tbr_lines::{CharWidth, RenderLine, text_width};
 use tbr_program::Program;
+use tbr_recorded::{TableScript, Texts};
+use tbr_renderer::RenderOptions;
 use tbr_script::{RunError, TextPair};
 use tbr_statements::{
     Block, Levels, Opener, Problem, Refusal, Statement, Stretch, Stretches, TooWide, advice,
     is_skipped,
 };
 use text_block_renderer::{Annotations, Renderer};
+
+mod recording;
+
+/// What is recorded of tables that find their widths.
+#[derive(Drop)]
+struct Tables {
+    /// What decides what commands write.
+    texts: Texts,
+    /// The table that is open, if one is.
+    current: Option<TableScript>,
+}
 
 /// A script of which some lines were done.
 #[derive(Drop)]
@@ -29,6 +44,7 @@ pub struct Session<D: Headings, W: CharWidth> {
     program: Program<D, W>,
     levels: Levels,
     stretches: Stretches,
+    tables: Tables,
     /// The columns that were set in place of those of the script, until a row is wider.
     set_width: Option<usize>,
     /// What was lost so far.
@@ -37,9 +53,26 @@ pub struct Session<D: Headings, W: CharWidth> {
     warnings: Vec<Problem>,
 }
 
+impl Tables {
+    /// None is open, and no link has begun, under the decorator of a name.
+    fn none(decorator: Decorator, options: RenderOptions) -> Tables
+        ensures { result ≡ no_tables decorator options }
+    {
+        let texts = Texts {
+            decorator,
+            options,
+            links: 0,
+        };
+        Tables {
+            texts,
+            current: None,
+        }
+    }
+}
+
 impl<D: Headings, W: CharWidth> Session<D, W> {
-    /// A script after its first command, with the columns that were set in place of its own. It refuses only where
-    /// memory is refused.
+    /// A script after its first command, under the decorator that has its name. `set_width` are the columns, if they
+    /// were set in place of its own. It refuses only where memory is refused.
     pub fn new(
         alloc: Global,
         opening: Opening,
@@ -49,10 +82,14 @@ impl<D: Headings, W: CharWidth> Session<D, W> {
         requires width { 0 < opening.width }
         requires wrap_width { opening.options.wrap_width ≢ Some 0 }
         ensures begins { IfOk result (λ session.
-            model.state_of session.program session.levels.inside.items ≡ model.begun opening decorator) }
+            place_of session.program session.levels.inside.items session.tables ≡ begun opening decorator) }
         ensures live { IfOk result (λ session. GoesOn session.program) }
     {
-        let Opening { width, options, .. } = opening;
+        let Opening {
+            width,
+            decorator: name,
+            options,
+        } = opening;
         let Ok(program) = Program::new(alloc, width, options, decorator) else {
             return Err(Refusal::OutOfMemory);
         };
@@ -61,6 +98,7 @@ impl<D: Headings, W: CharWidth> Session<D, W> {
             program,
             levels: Levels::none(alloc),
             stretches: Stretches::none(alloc),
+            tables: Tables::none(name, options),
             set_width,
             lost: Vec::new(alloc),
             warnings: Vec::new(alloc),
@@ -71,9 +109,9 @@ impl<D: Headings, W: CharWidth> Session<D, W> {
     /// line is at fault, and where memory is refused.
     pub fn run_line(&mut self, number: usize, line: &[u8]) -> Result<(), Refusal>
         requires { GoesOn self.old.program }
-        ensures does { OnOk result (model.LineDoes W.columns (decoration_of D.TextDecorator D.Annotation.tells)
-            (model.state_of self.old.program self.old.levels.inside.items) line.now
-            (model.state_of self.new.program self.new.levels.inside.items)) }
+        ensures does { OnOk result (LineDoes W.columns (decoration_of D.TextDecorator D.Annotation.tells)
+            (place_of self.old.program self.old.levels.inside.items self.old.tables) line.now
+            (place_of self.new.program self.new.levels.inside.items self.new.tables)) }
         ensures live { OnOk result (GoesOn self.new.program) }
     {
         if is_skipped(line) {
@@ -89,15 +127,33 @@ impl<D: Headings, W: CharWidth> Session<D, W> {
     fn run_statement(&mut self, number: usize, statement: Statement) -> Result<(), Refusal>
         requires live { GoesOn self.old.program }
         requires sized { IsSized statement }
-        ensures does { OnOk result (model.Does W.columns (decoration_of D.TextDecorator D.Annotation.tells)
-            (model.state_of self.old.program self.old.levels.inside.items) statement
-            (model.state_of self.new.program self.new.levels.inside.items)) }
+        ensures does { OnOk result (Does W.columns (decoration_of D.TextDecorator D.Annotation.tells)
+            (place_of self.old.program self.old.levels.inside.items self.old.tables) statement
+            (place_of self.new.program self.new.levels.inside.items self.new.tables)) }
+        ensures live { OnOk result (GoesOn self.new.program) }
+    {
+        match self.tables.current.take() {
+            Some(table) => self.run_in_table(number, statement, table),
+            None => self.run_outside(number, statement),
+        }
+    }
+
+    /// The same where no table is open that finds its widths.
+    fn run_outside(&mut self, number: usize, statement: Statement) -> Result<(), Refusal>
+        requires live { GoesOn self.old.program }
+        requires sized { IsSized statement }
+        ensures does { OnOk result (DoesOutside W.columns (decoration_of D.TextDecorator D.Annotation.tells)
+            (place_of self.old.program self.old.levels.inside.items self.old.tables) statement
+            (place_of self.new.program self.new.levels.inside.items self.new.tables)) }
         ensures live { OnOk result (GoesOn self.new.program) }
     {
         match statement {
             Statement::Command(command) => self.run(number, &command),
             Statement::Open(block) => self.open(number, block),
             Statement::Close(by) => self.close(number, by),
+            Statement::Table => self.begin_table(number),
+            Statement::Cell(_) => Err(advice::in_no_table(self.alloc, number, None)),
+            Statement::EndTable => Err(self.not_open("endtable", number)),
         }
     }
 
@@ -108,12 +164,14 @@ impl<D: Headings, W: CharWidth> Session<D, W> {
         ensures does { OnOk result (model.Commands W.columns (decoration_of D.TextDecorator D.Annotation.tells)
             (model.state_of self.old.program self.old.levels.inside.items) command.now
             (model.state_of self.new.program self.new.levels.inside.items)) }
+        ensures tables { OnOk result (self.new.tables ≡ counted command.now self.old.tables) }
         ensures live { OnOk result (GoesOn self.new.program) }
     {
         if self.may_not_append(command) {
             return Err(self.not_open("append", number));
         }
         self.note_texts(number, command);
+        self.tables.texts.note(command);
         self.note_losses_of(number, command)?;
         self.note_ends_of(command)?;
         self.command(number, command)?;
@@ -140,6 +198,7 @@ impl<D: Headings, W: CharWidth> Session<D, W> {
         ensures levels { self.new.levels ≡ self.old.levels }
         ensures lost { self.new.lost ≡ self.old.lost }
         ensures live { OnOk result (GoesOn self.new.program) }
+        ensures tables { self.new.tables ≡ self.old.tables }
     {
         let columns = self.program.top().width();
         match self.program.run(self.alloc, number, command) {
@@ -159,6 +218,7 @@ impl<D: Headings, W: CharWidth> Session<D, W> {
             (model.state_of self.old.program self.old.levels.inside.items) block
             (model.state_of self.new.program self.new.levels.inside.items)) }
         ensures live { OnOk result (GoesOn self.new.program) }
+        ensures tables { self.new.tables ≡ self.old.tables }
     {
         self.check_room(number, block)?;
         let Ok(prefix) = self.program.prefix(block.prefix()) else {
@@ -196,6 +256,7 @@ impl<D: Headings, W: CharWidth> Session<D, W> {
             (model.state_of self.old.program self.old.levels.inside.items) by.now
             (model.state_of self.new.program self.new.levels.inside.items)) }
         ensures live { OnOk result (GoesOn self.new.program) }
+        ensures tables { self.new.tables ≡ self.old.tables }
     {
         if !self.levels.is_closed_by(by) {
             return Err(self.not_open(by, number));
@@ -222,6 +283,7 @@ impl<D: Headings, W: CharWidth> Session<D, W> {
         ensures levels { self.new.levels ≡ self.old.levels }
         ensures lost { self.new.lost ≡ self.old.lost }
         ensures live { OnOk result (GoesOn self.new.program) }
+        ensures tables { self.new.tables ≡ self.old.tables }
     {
         self.command(number, &Command::Append(prefixes))?;
         self.lay_out_if(block.stands_apart(), number, Layout::EndBlock)
@@ -236,6 +298,7 @@ impl<D: Headings, W: CharWidth> Session<D, W> {
         ensures levels { self.new.levels ≡ self.old.levels }
         ensures lost { self.new.lost ≡ self.old.lost }
         ensures live { OnOk result (GoesOn self.new.program) }
+        ensures tables { self.new.tables ≡ self.old.tables }
     {
         if !is_asked {
             return Ok(());
@@ -249,6 +312,7 @@ impl<D: Headings, W: CharWidth> Session<D, W> {
         ensures program { self.new.program ≡ self.old.program }
         ensures inside { self.new.levels.inside ≡ self.old.levels.inside }
         ensures lost { self.new.lost ≡ self.old.lost }
+        ensures tables { self.new.tables ≡ self.old.tables }
     {
         let text = match command {
             Command::Ask(Request::Text(text)) => text.as_str(),
@@ -277,6 +341,7 @@ impl<D: Headings, W: CharWidth> Session<D, W> {
             (known_in self.new.levels ≡ noted (known_in self.old.levels) number command.now) }
         ensures program { self.new.program ≡ self.old.program }
         ensures lost { self.new.lost ≡ self.old.lost }
+        ensures tables { self.new.tables ≡ self.old.tables }
     {
         match command {
             Command::Sub(_) => self.levels.enter(Opener::Sub, number),
@@ -303,6 +368,7 @@ impl<D: Headings, W: CharWidth> Session<D, W> {
         ensures levels { self.new.levels ≡ self.old.levels }
         ensures lost { OnOk result (model.TellsLoss (model.loses self.old.program) number
             self.old.levels.notes.spanning self.old.lost.items self.new.lost.items) }
+        ensures tables { self.new.tables ≡ self.old.tables }
     {
         if !self.loses_lines() {
             return Ok(());
@@ -317,6 +383,7 @@ impl<D: Headings, W: CharWidth> Session<D, W> {
         requires { GoesOn self.old.program }
         ensures program { self.new.program ≡ self.old.program }
         ensures levels { self.new.levels ≡ self.old.levels }
+        ensures tables { self.new.tables ≡ self.old.tables }
     {
         match command {
             Command::Append(_) | Command::EndCell => self.note_losses(number),
@@ -329,6 +396,7 @@ impl<D: Headings, W: CharWidth> Session<D, W> {
         ensures program { self.new.program ≡ self.old.program }
         ensures levels { self.new.levels ≡ self.old.levels }
         ensures lost { self.new.lost ≡ self.old.lost }
+        ensures tables { self.new.tables ≡ self.old.tables }
     {
         let first = self.stretches.first_in(self.levels.inside.len());
         self.warn_of(first)?;
@@ -341,6 +409,7 @@ impl<D: Headings, W: CharWidth> Session<D, W> {
         ensures program { self.new.program ≡ self.old.program }
         ensures levels { self.new.levels ≡ self.old.levels }
         ensures lost { self.new.lost ≡ self.old.lost }
+        ensures tables { self.new.tables ≡ self.old.tables }
     {
         for place in first..self.stretches.len() {
             self.warn_at(place)?;
@@ -354,6 +423,7 @@ impl<D: Headings, W: CharWidth> Session<D, W> {
         ensures levels { self.new.levels ≡ self.old.levels }
         ensures lost { self.new.lost ≡ self.old.lost }
         ensures stretches { self.new.stretches ≡ self.old.stretches }
+        ensures tables { self.new.tables ≡ self.old.tables }
     {
         if let Some((stretch, line)) = self.stretches.open_at(place) {
             let problem = advice::not_ended(self.alloc, line, stretch)?;
@@ -367,6 +437,7 @@ impl<D: Headings, W: CharWidth> Session<D, W> {
         ensures program { self.new.program ≡ self.old.program }
         ensures levels { self.new.levels ≡ self.old.levels }
         ensures lost { self.new.lost ≡ self.old.lost }
+        ensures tables { self.new.tables ≡ self.old.tables }
     {
         match command {
             Command::Append(_) | Command::EndCell => self.note_ends(),
@@ -379,6 +450,7 @@ impl<D: Headings, W: CharWidth> Session<D, W> {
         ensures program { self.new.program ≡ self.old.program }
         ensures levels { self.new.levels ≡ self.old.levels }
         ensures lost { self.new.lost ≡ self.old.lost }
+        ensures tables { self.new.tables ≡ self.old.tables }
     {
         if let Some(stretch) = Stretch::begun_by(command) {
             return self
@@ -399,6 +471,7 @@ impl<D: Headings, W: CharWidth> Session<D, W> {
         ensures warns { let columns = self.old.levels.notes.row_columns in
             OnOk result (model.TellsRow (model.passed self.old.set_width command.now columns) number
             self.old.set_width self.new.set_width self.old.warnings.items self.new.warnings.items) }
+        ensures tables { self.new.tables ≡ self.old.tables }
     {
         let columns = self.levels.notes.row_columns;
         let Some(width) = passed(self.set_width, command, columns) else {
@@ -454,7 +527,7 @@ impl<D: Headings, W: CharWidth> Session<D, W> {
         Refusal,
     >
         requires { GoesOn self.program }
-        ensures lines { IfOk result (λ r. model.EndsIn W.columns (decoration_of D.TextDecorator D.Annotation.tells)
+        ensures lines { IfOk result (λ r. EndsIn W.columns (decoration_of D.TextDecorator D.Annotation.tells)
             (model.state_of self.program self.levels.inside.items)
             (map line_seen r.0.items)) }
         ensures lost { IfOk result (λ r. model.TellsLoss (model.loses self.program) number

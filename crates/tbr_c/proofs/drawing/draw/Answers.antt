@@ -9,9 +9,9 @@ use Rattle.tbr_tables.specs.Laws.{IsSized}
 use Rattle.tbr_tables.specs.Recorded.{calls_in}
 use Rattle.tbr_tables.specs.declared.drawn.Call.TheVariants.{Given}
 use Rattle.tbr_recorded.specs.Drawn.{after_each}
+use Rattle.tbr_recorded.proofs.Elements.{each_get_or}
 use Rattle.tbr_recorded.proofs.Walks.{each_step, each_refused}
 use Rattle.tbr_c.specs.Drawing.{drawn_made}
-use Rattle.tbr_c.proofs.Elements.{each_get_or}
 use Rattle.tbr_c.proofs.Facts.{asked_on_top}
 use Rattle.tbr_c.proofs.drawing.draw.Goals as goal
 

@@ -1,7 +1,9 @@
 use Rattle.std.proofs.Common.{ap, sym, ◌∙◌}
 use Rattle.tbr_decor.specs.Decoration.{decoration_of}
 use Rattle.tbr_statements.specs.Level.{known_in}
+use Rattle.tbr_recorded.specs.declared.texts.Texts.{Texts}
 use Rattle.tbr_view.specs.Session.{openers, opened_by}
+use Rattle.tbr_view.specs.Tables.{counted}
 use Rattle.tbr_view.proofs.States.{commanded, openers_noted}
 use Rattle.tbr_view.proofs.session.Session.run.Goals as goal
 
@@ -19,3 +21,10 @@ returns-clause-does g c =
     let there = c.in_ok-note_levels.ensures.program ∙ c.in_ok-note_stretch.ensures.program ∙ c.in_ok-note_row.ensures.program in
     commanded g.W.CharWidth.columns (decoration_of g.D.TextDecorator g.D.Annotation.Tag.tells) self.program next.program self.levels.inside.items next.levels.inside.items
     command c.note_ends_of.new.self.program c.command.new.self.program here there may c.in_ok-command.ensures.does levels
+
+pub returns-clause-tables : goal.returns-clause-tables
+returns-clause-tables g c =
+    let command = c.args.command.now in
+    let texts = ap (λ (x : Texts). record c.note_texts.new.self.tables { texts = x }) c.note.ensures in
+    c.in_ok-note_levels.ensures.tables ∙ c.in_ok-note_stretch.ensures.tables ∙ c.in_ok-note_row.ensures.tables ∙ c.in_ok-command.ensures.tables
+    ∙ c.in_ok-note_ends_of.ensures.tables ∙ c.in_ok-note_losses_of.ensures.tables ∙ texts ∙ ap (counted command) c.note_texts.ensures.tables

@@ -6,4 +6,5 @@ invariant-loop-place g l = record {
   program : l.self.program ≡ l.initial.self.program;
   levels : l.self.levels ≡ l.initial.self.levels;
   lost : l.self.lost ≡ l.initial.self.lost;
+  tables : l.self.tables ≡ l.initial.self.tables;
 }

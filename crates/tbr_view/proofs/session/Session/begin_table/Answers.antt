@@ -1,0 +1,21 @@
+use Rattle.std.proofs.Common.{ap, ◌∙◌}
+use Rattle.std.proofs.lemmas.Result.{on_ok_weaker}
+use Rattle.tbr_tables.specs.declared.step.Step.TheVariants as step
+use Rattle.tbr_recorded.specs.Script.{TableScript, with_bare}
+use Rattle.tbr_statements.specs.Level.{Known}
+use Rattle.tbr_statements.specs.declared.level.Levels.{Levels}
+use Rattle.tbr_view.specs.Session.{openers}
+use Rattle.tbr_view.specs.Tables.{kept}
+use Rattle.tbr_view.proofs.States.{openers_push}
+use Rattle.tbr_view.proofs.session.Session.begin_table.Goals as goal
+
+pub returns-clause-begins : goal.returns-clause-begins
+returns-clause-begins g c =
+    let self = c.args.self.now in
+    let levels = ap (λ (l : Levels). openers l.inside.items) c.add_step.ensures.levels
+    ∙ ap (λ (k : Known). openers k.inside) c.in_ok-enter.ensures ∙ openers_push self.levels.inside.items _ in
+    on_ok_weaker c.add_step.result (λ h. record {
+      program = c.add_step.ensures.program;
+      levels = levels;
+      tables = h ∙ ap (λ (x : TableScript). kept (with_bare g.W.CharWidth.columns step.Table x) self.tables) c.begun-table.ensures;
+    }) c.add_step.ensures.tables

@@ -1,0 +1,10 @@
+use Rattle.std.proofs.Common.{ap, sym, ◌∙◌}
+use Rattle.tbr_decor.specs.Decoration.{decoration_of}
+use Rattle.tbr_recorded.specs.Script.{TableScript}
+use Rattle.tbr_view.specs.Tables.{drawing}
+use Rattle.tbr_view.proofs.session.Session.draw_ended.Goals as goal
+
+pub returns-clause-draws : goal.returns-clause-draws
+returns-clause-draws g c =
+    let made = drawing g.W.CharWidth.columns (decoration_of g.D.TextDecorator g.D.Annotation.Tag.tells) in
+    ap (λ (t : TableScript). made t c.args.self.now.program) (sym c.in_ok-add_step.ensures) ∙ c.in_ok-draw.ensures.draws
