@@ -10,8 +10,8 @@ WATCHED = [
     (
         "crates/tbr_renderer/src/renderer.rt",
         "append_columns_aligned",
-        ["crates/tbr_renderer/src/sub/calls.rt:" + it for it in ("calls", "handed_out", "has_places_for")],
-        314,
+        ["crates/tbr_renderer/src/sub/calls.rt:" + it for it in ("calls", "handed_out", "has_places_for", "ends_best")],
+        354,
     ),
     ("crates/tbr_runner/src/runner.rt", "run", [], 383),
     ("crates/text_block_renderer/src/laws/headline.rt", "the_headline", [], 510),

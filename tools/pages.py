@@ -1,5 +1,7 @@
 """What a page may not have: more words than there is room for, long sentences, dead links, names that don't exist.
 
+The page of promises has to name each law of the top crate.
+
 A word has a letter or a digit; those in tables and code count too. A sentence is one of a paragraph, an item or a cell of
 a table, where a piece of code counts as one word.
 """
@@ -18,6 +20,10 @@ DEFINES = ("docs/MODEL.md",)
 # The lines of pages that are to be read at a glance.
 LINES = {"README.md": 125, "docs/architecture.md": 70, "docs/CONTRIBUTING.md": 70}
 CRATE_LINES = 70
+# The page that names each law of a crate, and that crate's sources.
+PROMISES = "docs/PROMISES.md"
+LAWS = "crates/text_block_renderer/src"
+LAW = re.compile(r"^pub fn (\w+)", re.M)
 
 WORD = re.compile(r"\S*[^\W_]\S*")
 FENCED = re.compile(r"^ *```.*?^ *```$", re.M | re.S)
@@ -149,9 +155,21 @@ def names_of_nothing(page):
                 yield f"no such name: {code}"
 
 
+def laws():
+    """The laws of the top crate."""
+    for file in sorted([*TOP.glob(f"{LAWS}/laws.rt"), *TOP.glob(f"{LAWS}/laws/*.rt")]):
+        yield from LAW.findall(file.read_text(encoding="utf-8"))
+
+
+def unnamed_laws(page):
+    if page.path == PROMISES:
+        named = CODE.findall(page.prose())
+        yield from (f"a law that isn't named: {law}" for law in laws() if law not in named)
+
+
 def complaints(page):
     """What is wrong with a page, each by its path."""
-    checks = (long_page, long_sentences, dead_links, names_of_nothing)
+    checks = (long_page, long_sentences, dead_links, names_of_nothing, unnamed_laws)
     return [f"{page.path}: {it}" for check in checks for it in dict.fromkeys(check(page))]
 
 

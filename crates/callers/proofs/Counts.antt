@@ -21,6 +21,11 @@ pub goes_on : (b : Bool) (u : Unit {0}) → Ok u ≡ (if b then Err OutOfMemory 
 goes_on true u is = absurd (let no : ⊥ = cc in no)
 goes_on false u is = refl
 
+-- nothing is said of what others have counted
+pub nothing_said : {X : Type 0} (xs : List X) → Each (λ (x : X). Unit {0}) xs
+nothing_said [] = tt
+nothing_said (x ∷ xs) = (tt, nothing_said xs)
+
 -- a counter's one line
 pub line_of_all : (c : Counted) → in_lines (one_line c) ≡ c.characters
 line_of_all c = omega (arith, length-replicate {A = _} c.characters (glyph space_character (tt {0})))

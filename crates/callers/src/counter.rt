@@ -158,6 +158,8 @@ impl Renderer for Counter {
 
     ghost handed_out = { counted.handed_out };
 
+    ghost ends_best = { λ _. Unit {0} };
+
     ghost has_places_for = { λ _ _. Unit {0} };
 
     ghost prefix_text = { λ _ _. [] };
@@ -293,6 +295,7 @@ impl Renderer for Counter {
         ensures takes { Takes counted.calls (gathered counted.handed_out cols.items)
             (Each (IsWide counted.calls) cols.items) (λ cells. counted.after (call.append_vert_row cells))
             self.old result self.new }
+        ensures best { OnOk result (Unit {0} × Each (λ _. Unit {0}) cols.items) }
     {
         self.take_all(cols)
     }
@@ -308,6 +311,7 @@ impl Renderer for Counter {
         ensures takes { Takes counted.calls (cells_given (λ c. c.width) counted.handed_out cols.items aligns.now)
             (Each (λ col. IsWide counted.calls col.0) cols.items) (counted.after_row collapse)
             self.old result self.new }
+        ensures best { OnOk result (Unit {0} × Each (λ _. Unit {0}) cols.items) }
     {
         self.take_cells(cols)
     }
@@ -321,6 +325,7 @@ impl Renderer for Counter {
         ensures takes { Takes counted.calls (cells_given (λ c. c.width) counted.handed_out cols.items [])
             (Each (λ col. IsWide counted.calls col.0) cols.items) (counted.after_row collapse)
             self.old result self.new }
+        ensures best { OnOk result (Unit {0} × Each (λ _. Unit {0}) cols.items) }
     {
         self.take_cells(cols)
     }

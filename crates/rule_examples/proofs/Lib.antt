@@ -15,3 +15,4 @@ pub mod Footnotes
 pub mod Added
 pub mod Commands
 pub mod RefusedAnswers
+pub mod WrongLines

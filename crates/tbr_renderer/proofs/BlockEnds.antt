@@ -2,17 +2,18 @@
 use Rattle.std.proofs.Common.{◌≡◌, ◌↔◌, IsTrue, ℕ, Bool, true, Option, None, Some, List, [], ◌∷◌, ◌++◌, map, fold, drop, refl, ap, sym, ◌∙◌, subst, append_assoc, arith}
 use Rattle.std.proofs.lemmas.List.{map-append}
 use Rattle.std.proofs.lemmas.Grind.{fold-append}
+use Rattle.tbr_model.specs.Rule.{run_of}
 use Rattle.tbr_model.specs.Run.{Item}
 use Rattle.tbr_tagged.specs.Elements.{Element, marker_element, items_of}
-use Rattle.tbr_wrap.specs.Block.{Block, Settings, settings_of as block_settings, all_lines, left, loose, flushed, without_loose, after_flush, after_taking}
+use Rattle.tbr_wrap.specs.Block.{Block, Settings, WrapsNormally, settings_of as block_settings, all_lines, left, loose, flushed, without_loose, after_flush, after_taking}
 use Rattle.tbr_tagged.specs.Outcome.{done, refused}
-use Rattle.tbr_wrap.specs.Wrapped.{padding_of}
+use Rattle.tbr_wrap.specs.Wrapped.{HasBestLines, padding_of}
 use Rattle.tbr_tagged.specs.declared.Error.TheVariants as E
 use Rattle.tbr_wrap.proofs.runs.LinesLeft.{handed_keeps, left_after}
 use Rattle.tbr_wrap.proofs.runs.BlockLaws.{HandsOne, flush_allowed, flush_leaves, taking_leaves, left_taken, left_flushed, waiting_loose}
 use Rattle.tbr_renderer.specs.Renderer.{KeepsSettings, settings_of, Open, Renderer, with_line, block_width, may_overflow}
 use Rattle.tbr_renderer.specs.View.{block_seen, open_seen, names_of, AreMarkers, IsFresh}
-use Rattle.tbr_renderer.specs.Flush.{filled_line, block_lines, lines_at_end, fits_at_end, after_block}
+use Rattle.tbr_renderer.specs.Flush.{EndsBest, filled_line, block_lines, lines_at_end, fits_at_end, after_block}
 use Rattle.tbr_renderer.specs.Flush as flush
 use Rattle.tbr_annotations.specs.Annotations.{same_annotations}
 use Rattle.tbr_annotations.proofs.Told.{items_told}
@@ -85,6 +86,12 @@ module _ {D A : Type 0} (columns : ℕ → Option ℕ) (r : Renderer D A (List A
         subst (λ (o : Option (Open (List A))). after_block columns r o ≡ done s2) seen
         (fitting (fits_at_end columns r opened) _ (fits_seen columns r b fresh ∙ flush_allowed columns b after e)
         ∙ sym (ap (λ m. done m) (waits ∙ (λ i. record (after_lines i) { waiting = (after_lines i).waiting ++ names i }))))
+
+  -- its lines are the best ones, where a block's are
+  pub block_best : (WrapsNormally b → HasBestLines columns b.width (run_of b.events) (all_lines columns b)) → EndsBest columns r
+  block_best best =
+      let of = subst (λ (s : Block (List A)). WrapsNormally s → HasBestLines columns s.width (run_of s.events) (all_lines columns s)) fresh.is best in
+      subst (λ (o : Option (Open (List A))). EndsBest columns (record r { block = o })) seen (λ narrow normal. of (refl, narrow, normal))
 
   -- and where it is refused
   pub block_refused : after_flush columns b ≡ refused E.TooNarrow → flush.after_flush columns r ≡ refused E.TooNarrow

@@ -1,10 +1,11 @@
 -- The end of the open run.
-use Rattle.std.specs.Prelude.{◌≡◌, ℕ, Bool, false, if◌then◌else◌, Option, None, Some, List, [], ◌++◌, map, fold}
-use Rattle.tbr_model.specs.Rule.{Event}
+use Rattle.std.specs.Prelude.{◌≡◌, ℕ, Bool, false, if◌then◌else◌, Option, None, Some, IfSome, List, [], ◌++◌, map, fold}
+use Rattle.tbr_model.specs.Rule.{Event, run_of}
 use Rattle.tbr_model.specs.Run.{Item}
 use Rattle.tbr_wrap.specs.Block.{Block, lines, all_lines, waiting_names, allows, grown}
 use Rattle.tbr_wrap.specs.Block as block
-use Rattle.tbr_wrap.specs.Wrapped.{padding_of}
+use Rattle.tbr_wrap.specs.Runs.{IsNormal}
+use Rattle.tbr_wrap.specs.Wrapped.{HasBestLines, padding_of}
 use Rattle.tbr_tagged.specs.Outcome.{Outcome, done, refused}
 use Rattle.tbr_tagged.specs.declared.Error.TheVariants.{TooNarrow}
 use Rattle.tbr_renderer.specs.Renderer.{Open, Renderer, with_line, block_width, may_overflow}
@@ -29,6 +30,13 @@ names_at_end columns r b = waiting_names columns (block_in r b)
 -- whether no line is wider than the block, or may be, where its run ends
 abbrev pub fits_at_end : {D A T : Type 0} → (ℕ → Option ℕ) → Renderer D A T → Open T → Bool
 fits_at_end columns r b = allows columns (block_in r b) (lines_at_end columns r b)
+
+-- What an open run leaves where it ends. In `Normal`, where no line may be wider than the block, no legal layout of it
+-- has placed more after any number of lines.
+abbrev pub EndsBest : {D A T : Type 0} → (ℕ → Option ℕ) → Renderer D A T → Type 0
+EndsBest columns r =
+    IfSome r.block (λ b. may_overflow r ≡ false → IsNormal (run_of b.events) →
+    HasBestLines columns (block_width r) (run_of b.events) (lines_at_end columns r b))
 
 -- ---- its lines
 

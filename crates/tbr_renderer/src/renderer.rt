@@ -25,6 +25,10 @@ use tbr_lines::{CellAlign, Error, WhiteSpace};
 /// than the block, and lines may not be wider. In blocks of two columns or more it never does. Calls answer
 /// `OutOfMemory` where memory is refused or a size passes `usize`.
 ///
+/// A call that ends the open line also ends its run, whether its own or that of a renderer that it takes. In `Normal`,
+/// where no line may be wider than the block, no legal layout has then placed more after any number of lines. Clauses
+/// `best` say so.
+///
 /// A call that refuses leaves the renderer failed. The renderer keeps that refusal: each later call that can refuse
 /// answers it, and does nothing else. A call that can't refuse does nothing then. The four calls for prefixes and
 /// `new_sub_renderer` neither leave the renderer failed nor look at a failure.
@@ -39,6 +43,10 @@ pub trait Renderer {
     // The lines that it hands out where its open line is ended.
     ghost handed_out: { Self → Outcome (List (Line Self.Tag)) };
 
+    // What holds of one whose open line was ended: after any number of lines no legal layout of a `Normal` run has
+    // placed more of it.
+    ghost ends_best: { Self → Type 0 };
+
     // Whether a row of such renderers, each with a span, has a place for each cell that overhangs.
     ghost has_places_for: { Self → List (Self × ℕ) → Type 0 };
 
@@ -51,23 +59,28 @@ pub trait Renderer {
 
     /// Ends the open line, and adds an empty one.
     fn add_empty_line(&mut self) -> Result<(), Error>
-        ensures answers { Answers calls call.add_empty_line self.old result self.new };
+        ensures answers { Answers calls call.add_empty_line self.old result self.new }
+        ensures best { OnOk result (ends_best self.old) };
 
     /// Ends the open line, if there is one.
     fn new_line(&mut self) -> Result<(), Error>
-        ensures answers { Answers calls call.new_line self.old result self.new };
+        ensures answers { Answers calls call.new_line self.old result self.new }
+        ensures best { OnOk result (ends_best self.old) };
 
     /// Ends the open line. Where no line is open, or it has no columns, an empty line is added.
     fn new_line_hard(&mut self) -> Result<(), Error>
-        ensures answers { Answers calls call.new_line_hard self.old result self.new };
+        ensures answers { Answers calls call.new_line_hard self.old result self.new }
+        ensures best { OnOk result (ends_best self.old) };
 
     /// Begins a block: ends the open line, and adds an empty line if any line has content.
     fn start_block(&mut self) -> Result<(), Error>
-        ensures answers { Answers calls call.start_block self.old result self.new };
+        ensures answers { Answers calls call.start_block self.old result self.new }
+        ensures best { OnOk result (ends_best self.old) };
 
     /// Begins a table, as `start_block` begins a block.
     fn start_table(&mut self) -> Result<(), Error>
-        ensures answers { Answers calls call.start_table self.old result self.new };
+        ensures answers { Answers calls call.start_table self.old result self.new }
+        ensures best { OnOk result (ends_best self.old) };
 
     /// Ends a block: later text begins a new one, except white space in `Normal`, which is ignored. It takes no memory.
     fn end_block(&mut self)
@@ -160,11 +173,13 @@ pub trait Renderer {
     /// Ends the open line, and adds a border of the renderer's width under the annotations. Markers that wait keep
     /// waiting. Where lines are padded, the border becomes text.
     fn add_horizontal_border(&mut self) -> Result<(), Error>
-        ensures answers { Answers calls (call.add_border (kept_in calls self.old).width) self.old result self.new };
+        ensures answers { Answers calls (call.add_border (kept_in calls self.old).width) self.old result self.new }
+        ensures best { OnOk result (ends_best self.old) };
 
     /// Ends the open line, and adds a border of `width` columns, as `add_horizontal_border` does.
     fn add_horizontal_border_width(&mut self, width: usize) -> Result<(), Error>
-        ensures answers { Answers calls (call.add_border width) self.old result self.new };
+        ensures answers { Answers calls (call.add_border width) self.old result self.new }
+        ensures best { OnOk result (ends_best self.old) };
 
     /// Ends the open line, and then that of another renderer, and adds the lines of that one, each after a prefix and
     /// under the annotations. A border becomes text.
@@ -182,14 +197,16 @@ pub trait Renderer {
             × Leads calls (call.append_subrender (texts_of P.text given) lines) self.old self.new) }
         ensures too_narrow { result ≡ Err E.TooNarrow → TakesNone calls (handed_out other) self.old }
         ensures two_columns { IsWide calls self.old → IsWide calls other → result ≢ Err E.TooNarrow }
-        ensures fails { Fails calls self.old result self.new };
+        ensures fails { Fails calls self.old result self.new }
+        ensures best { OnOk result (ends_best self.old × ends_best other) };
 
     /// Ends the open line, and adds the lines of other renderers, one below another, as `append_subrender` does without
     /// prefixes. Where borders are drawn, a border of slashes is added between two renderers, and a plain one after all
     /// of them, even if there are none. If some of them refuse, the first refusal is passed on.
     fn append_vert_row(&mut self, cols: Vec<Self>) -> Result<(), Error>
         ensures takes { Takes calls (gathered handed_out cols.items) (Each (IsWide calls) cols.items)
-            (λ cells. calls.after (call.append_vert_row cells)) self.old result self.new };
+            (λ cells. calls.after (call.append_vert_row cells)) self.old result self.new }
+        ensures best { OnOk result (ends_best self.old × Each ends_best cols.items) };
 
     /// Ends the open line, and then those of other renderers, in order. It adds a row of their lines, side by side and
     /// separated by `│`, or by spaces where borders aren't drawn. With each renderer the rows that it spans are given,
@@ -210,7 +227,8 @@ pub trait Renderer {
         requires fits { has_places_for self.old cols.items }
         ensures takes { let given = cells_given (λ r. (kept_in calls r).width) handed_out cols.items aligns.now in
             let wide = Each (λ col. IsWide calls col.0) cols.items in
-            Takes calls given wide (calls.after_row collapse) self.old result self.new };
+            Takes calls given wide (calls.after_row collapse) self.old result self.new }
+        ensures best { OnOk result (ends_best self.old × Each (λ col. ends_best col.0) cols.items) };
 
     /// Adds a row, as `append_columns_aligned` does, with all texts at the left.
     fn append_columns_with_borders(
@@ -222,7 +240,8 @@ pub trait Renderer {
         requires fits { has_places_for self.old cols.items }
         ensures takes { let given = cells_given (λ r. (kept_in calls r).width) handed_out cols.items [] in
             let wide = Each (λ col. IsWide calls col.0) cols.items in
-            Takes calls given wide (calls.after_row collapse) self.old result self.new };
+            Takes calls given wide (calls.after_row collapse) self.old result self.new }
+        ensures best { OnOk result (ends_best self.old × Each (λ col. ends_best col.0) cols.items) };
 
     /// Begins text in a colour, whose annotation is added to the others, if the decorator has one. The only refusal of
     /// its own is `OutOfMemory`.

@@ -1,5 +1,5 @@
 -- Where in a script is what came to one of its renderers: in it, or in lines that others took from it.
-use Rattle.tbr_runner.proofs.Common.{◌∙◌, ◌≡◌, ◌≤◌, ◌<◌, ◌^◌, ◌⊎◌, inl, inr, ℕ, zero, suc, Option, None, Some, Ok, List, [], ◌∷◌, ◌++◌, length, chars, refl, ap, sym, subst, arith, append_assoc, AllZip, Each, Entry, done, Decoration, Line, run, Renderer, handed_out, append_subrender, append_vert_row, Act, call, row_of_cells, after_act, act_brought, act_comes, acts_come, Takes, NothingOverhangs, TakesIn, AreTakenIn, Level, first_renderer, prefixes, Opened, Progress, after_line, IsLed, EndsWhole, KeepsAll, IsShort}
+use Rattle.tbr_runner.proofs.Common.{◌∙◌, ◌≡◌, ◌≤◌, ◌⊎◌, inl, inr, ℕ, zero, suc, Option, None, Some, Ok, List, [], ◌∷◌, ◌++◌, length, chars, refl, ap, sym, subst, arith, append_assoc, AllZip, Each, Entry, done, Decoration, Line, run, Renderer, handed_out, append_subrender, append_vert_row, Act, call, row_of_cells, after_act, act_brought, act_comes, acts_come, Takes, NothingOverhangs, TakesIn, AreTakenIn, Level, first_renderer, prefixes, Opened, Progress, after_line, IsLed, EndsWhole, KeepsAll}
 use Rattle.tbr_model.proofs.lists.Each.{each_map}
 use Rattle.tbr_rows.specs.CellsShown.{StandsAmong}
 use Rattle.tbr_rows.proofs.Among.{among_front}
@@ -177,10 +177,6 @@ module _ {D M : Type 0} (columns : ℕ → Option ℕ) (decoration : Decoration 
     abbrev Before : Holds columns decoration
     Before rs cells levels = (Each (IsLed columns decoration) rs × Each (λ (c : Top × ℕ). IsLed columns decoration c.0) cells × Each (λ (c : Top × ℕ). NothingOverhangs c.0) cells) × IsSomewhere rs cells levels
 
-    -- Nothing overhangs where a level ends, and it has fewer than 2^64 lines.
-    abbrev Ends : Top → Type 0
-    Ends r = NothingOverhangs r × ((lines : Lines) → handed_out columns r ≡ done lines → length lines < 2 ^ 64)
-
     -- the first changes
     first_goes : (r s : Top) (rs : List Top) (cells : List (Top × ℕ)) (levels : List (Opened D M (List M))) → (Has r → Has s) → IsSomewhere (r ∷ rs) cells levels → IsSomewhere (s ∷ rs) cells levels
     first_goes r s rs cells levels goes (inl (inl has)) = inl (inl (goes has))
@@ -195,7 +191,7 @@ module _ {D M : Type 0} (columns : ℕ → Option ℕ) (decoration : Decoration 
     ended_has inside rs cells levels (inr (inl none)) = absurd none
     ended_has inside rs cells levels (inr (inr rest)) = inr (inr rest)
 
-    has_walk : Walk columns decoration (Unit {0}) Sized (λ command. Ends) Before IsSomewhere
+    has_walk : Walk columns decoration (Unit {0}) Sized (λ command. NothingOverhangs) Before IsSomewhere
     has_walk = record {
       ready = λ rs cells levels h. (each_any _ (any_ready columns decoration) rs, each_any _ (λ c. any_ready columns decoration c.0) cells);
       kept = λ rs cells levels h. h.1;
@@ -204,7 +200,7 @@ module _ {D M : Type 0} (columns : ℕ → Option ℕ) (decoration : Decoration 
       joins = λ one next lines inside r s rs left levels ends gives does h.
           let more = call (append_subrender (prefixes one next (length lines)) lines) in
           elim (ended_has inside (r ∷ rs) left.cells levels h.1) [
-            | inl has ↦ inl (inl (takes_on more lines 1 r s (refl, as_many one next (length lines)) h.0.0.1.0 does (gives_on inside lines (let led = h.0.0.0 in led.live) ends.0 gives has)))
+            | inl has ↦ inl (inl (takes_on more lines 1 r s (refl, as_many one next (length lines)) h.0.0.1.0 does (gives_on inside lines (let led = h.0.0.0 in led.live) ends gives has)))
             | inr on ↦ first_goes r s rs left.cells levels (has_on more r s (λ fs. refl) does) on
           ];
       waits = λ span align inside rs left levels ends h. elim (ended_has inside rs left.cells levels h.1) [
@@ -220,10 +216,10 @@ module _ {D M : Type 0} (columns : ℕ → Option ℕ) (decoration : Decoration 
       ];
     }
 
-    pub line_has : (number : ℕ) (line : List ℕ) (p next : Progress D M (List M)) → KeepsAll columns decoration p → IsShort columns decoration p →
+    pub line_has : (number : ℕ) (line : List ℕ) (p next : Progress D M (List M)) → KeepsAll columns decoration p →
         EndsWhole (line ∷ []) p → after_line columns decoration number line p ≡ Ok next → IsIn p → IsIn next
-    line_has number line p next keeps short whole does h =
+    line_has number line p next keeps whole does h =
         let led = keeps.renderers in
-        line_makes columns decoration Sized (λ command. Ends) Before IsSomewhere has_walk p next number line
-        (λ command is. (sized columns decoration line command is, λ ends r top. (whole (command, is, ends) r top, λ lines. short r lines top)))
+        line_makes columns decoration Sized (λ command. NothingOverhangs) Before IsSomewhere has_walk p next number line
+        (λ command is. (sized columns decoration line command is, λ ends. whole (command, is, ends)))
         ((each_map (λ l. l.renderer) _ (IsLed columns decoration) (λ l is. is) p.stack.levels led.on_stack, led.waiting, keeps.waiting), h) does

@@ -40,7 +40,7 @@ pub use Rattle.tbr_program.specs.Prefixes.{prefixes}
 pub use Rattle.tbr_program.specs.Progress.{GoesOn, Opened, Pending, Progress, renderers_of, without_cells}
 pub use Rattle.tbr_program.specs.declared.opened.Opener.{Opener}
 pub use Rattle.tbr_program.specs.declared.opened.Opener.TheVariants.{Sub}
-pub use Rattle.tbr_runner.specs.Kept.{EndsOne, EndsWhole, IsOfOneRow, IsShort, KeepsAll, LineAsksForOneRow, OverhangsNowhere, TextKeeps}
+pub use Rattle.tbr_runner.specs.Kept.{EndsOne, EndsWhole, IsOfOneRow, KeepsAll, LineAsksForOneRow, OverhangsNowhere, TextKeeps}
 pub use Rattle.tbr_runner.specs.Led.{AllAre, AreLed, CellsAre, IsFresh, IsLed, IsTextOfLed, IsTextOfScript, LineAsksForTwo}
 pub use Rattle.tbr_runner.specs.Scripts.{rendered, rendered_on, unless_refused}
 pub use Rattle.tbr_runner.specs.StackCalls.{AskAfterFirst, AskFor, LinesDo, calls_of, link_targets, stack_calls}

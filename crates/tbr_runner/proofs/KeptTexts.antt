@@ -1,5 +1,5 @@
 -- What came to a renderer of a script is in the lines of its text.
-use Rattle.tbr_runner.proofs.Common.{◌≡◌, ◌<◌, ◌+◌, inl, ℕ, Option, Some, Ok, List, [], ◌∷◌, ◌++◌, length, append-nil, ◌≢◌, refl, ap, sym, subst, arith, Entry, Decoration, Renderer, acts_come, IsWrittenSoFar, NothingOverhangs, top_of, Command, Progress, after_line, IsLed, EndsWhole, KeepsAll, IsShort, TextKeeps, rendered_on, stack_calls, link_targets, AskFor, LinesDo, Opening, started}
+use Rattle.tbr_runner.proofs.Common.{◌≡◌, ◌<◌, ◌+◌, inl, ℕ, Option, Some, Ok, List, [], ◌∷◌, ◌++◌, length, append-nil, ◌≢◌, refl, ap, sym, subst, arith, Entry, Decoration, Renderer, acts_come, IsWrittenSoFar, NothingOverhangs, top_of, Command, Progress, after_line, IsLed, EndsWhole, KeepsAll, TextKeeps, rendered_on, stack_calls, link_targets, AskFor, LinesDo, Opening, started}
 use Rattle.text_block_renderer.proofs.TakenLines.{brought_within}
 use Rattle.tbr_runner.proofs.StackCalls.{lines_step, lines_end}
 use Rattle.text_block_renderer.proofs.LinkNumbers.{targets_come}
@@ -24,18 +24,18 @@ module _ {D M : Type 0} (columns : ℕ → Option ℕ) (decoration : Decoration 
 
   module _ (first : Renderer D M (List M)) (es : List (Entry (List M))) where
     lines_keep : (number : ℕ) (lines : List (List ℕ)) (p q : Progress D M (List M)) → KeepsAll columns decoration p →
-        ((front back : List (List ℕ)) (there : Progress D M (List M)) → lines ≡ front ++ back → LinesDo columns decoration p number front there → IsShort columns decoration there × EndsWhole back there) →
+        ((front back : List (List ℕ)) (there : Progress D M (List M)) → lines ≡ front ++ back → LinesDo columns decoration p number front there → EndsWhole back there) →
         LinesDo columns decoration p number lines q → IsIn columns decoration first es p → KeepsAll columns decoration q × IsIn columns decoration first es q
     lines_keep number [] p q keeps at same h = (subst (KeepsAll columns decoration) (sym same) keeps, subst (IsIn columns decoration first es) (sym same) h)
     lines_keep number (line ∷ lines) p q keeps at (next, does, lead) h =
-        let (short, whole) = at [] (line ∷ lines) p refl refl in
+        let whole = at [] (line ∷ lines) p refl refl in
         lines_keep (number + 1) lines next q (line_keeps_all p next number line keeps whole does)
         (λ front back there are led. at (line ∷ front) back there (ap (λ ls. line ∷ ls) are) (next, does, led)) lead
-        (line_has columns decoration first es number line p next keeps short whole does h)
+        (line_has columns decoration first es number line p next keeps whole does h)
 
   -- what came to the renderer on top, and later, is in the lines of the text
   pub text_keeps : (p : Progress D M (List M)) (number : ℕ) (lines : List (List ℕ)) (bytes : List ℕ) (r : Renderer D M (List M)) → KeepsAll columns decoration p →
-      ((front back : List (List ℕ)) (there : Progress D M (List M)) → lines ≡ front ++ back → LinesDo columns decoration p number front there → IsShort columns decoration there × EndsWhole back there) →
+      ((front back : List (List ℕ)) (there : Progress D M (List M)) → lines ≡ front ++ back → LinesDo columns decoration p number front there → EndsWhole back there) →
       top_of p.stack ≡ Some r → (led : IsLed columns decoration r) → rendered_on columns decoration number lines p ≡ Ok bytes →
       (commands : List Command) × AskFor lines commands × TextKeeps columns decoration (p.stack.links ++ link_targets commands) bytes (acts_come columns decoration led.acts led.first [])
   text_keeps p number lines bytes r keeps at is_top led gives =
@@ -48,7 +48,7 @@ module _ {D M : Type 0} (columns : ℕ → Option ℕ) (decoration : Decoration 
       let led_there = kept.renderers in
       let led_last = first_led columns decoration (IsLed columns decoration) there.stack.levels top is led_there.on_stack in
       let (of, gives_it) = closed_led columns decoration there.stack.links top bytes led_last closed_is in
-      let none_left = (at lines [] there (sym (append-nil lines)) end.lead).1 tt top is in
+      let none_left = at lines [] there (sym (append-nil lines)) end.lead tt top is in
       let gave = gives_on columns decoration led.first es top _ led_last.live none_left gives_it
       (only_one columns decoration led.first es there.stack.levels top is (omega (arith, kept.levels, ap length none_open)) (only_on_stack columns decoration led.first es there none_open none_wait has)) in
       let origin : IsLed columns decoration gave.origin = record { first = led.first; fresh = led.fresh; sound = led.sound; acts = gave.still.acts; leads = gave.still.leads; live = gave.live } in

@@ -39,8 +39,8 @@ module _ {D M : Type 0} (columns : ℕ → Option ℕ) (decoration : Decoration 
 
   pub led_undrawn : (r : Top) (led : IsLed columns decoration r) → DrawNone columns decoration led.acts led.first → Shows columns r (came r led) × Stands columns r (came r led)
   led_undrawn r led none = (
-    holds_of_all columns decoration (λ q. Shows columns q (came r led)) led.acts led.first r led.sound led.leads none (led_shows r led),
-    holds_of_all columns decoration (λ q. Stands columns q (came r led)) led.acts led.first r led.sound led.leads none (led_stands r led),
+    holds_of_all columns decoration (λ q. Shows columns q (came r led)) led.acts led.first r led.leads none (led_shows r led),
+    holds_of_all columns decoration (λ q. Stands columns q (came r led)) led.acts led.first r led.leads none (led_stands r led),
   )
 
   pub led_writes : (r : Top) (led : IsLed columns decoration r) → IsWrittenSoFar columns r (acts_come columns decoration led.acts led.first [])

@@ -1,12 +1,9 @@
 -- Scripts of which no visible character and no marker is lost.
-use Rattle.std.specs.Prelude.{◌≡◌, ℕ, ◌+◌, ◌<◌, ◌^◌, Option, Some, List, [], ◌∷◌, ◌++◌, length}
+use Rattle.std.specs.Prelude.{◌≡◌, ℕ, ◌+◌, Option, Some, List, [], ◌∷◌, ◌++◌, length}
 use Rattle.std.specs.List.{AllByRecursion as Each}
 use Rattle.tbr_model.specs.Run.{Entry}
-use Rattle.tbr_tagged.specs.Outcome.{done}
 use Rattle.tbr_decor.specs.Decoration.{Decoration}
-use Rattle.text_block_renderer.specs.Line.{Line}
 use Rattle.text_block_renderer.specs.Renderer.{Renderer}
-use Rattle.text_block_renderer.specs.Appended.{handed_out}
 use Rattle.text_block_renderer.specs.Taken.{AreWrittenIn, NothingOverhangs}
 use Rattle.tbr_stack.specs.Stack.{top_of}
 use Rattle.tbr_commands.specs.Command.{Command, append, cell, end_cell}
@@ -69,12 +66,6 @@ module _ {D M : Type 0} (columns : ℕ → Option ℕ) (decoration : Decoration 
     pub levels : length p.stack.levels ≡ length p.opened + 1
     pub waiting : CellsAre NothingOverhangs p.pending
     pub below : Each (λ level. CellsAre NothingOverhangs level.below) p.opened
-
-  -- The innermost block has fewer than 2^64 lines.
-  abbrev pub IsShort : Progress D M (List M) → Type 0
-  IsShort p =
-      (r : Renderer D M (List M)) (lines : List (Line (List M))) → top_of p.stack ≡ Some r →
-      handed_out columns r ≡ done lines → length lines < 2 ^ 64
 
   -- A text is that of a renderer's lines, with footnotes after them. In these lines the visible characters and the
   -- markers of what came to a renderer before, and of what came to it later, are in order, each character under an

@@ -20,7 +20,7 @@ ghost use Rattle.tbr_commands.specs.Syntax.{IsCommand};
 ghost use Rattle.tbr_commands.specs.Read.{command_read, opening_read};
 ghost use Rattle.tbr_runner.specs.StackCalls.{stack_calls, link_targets, AskFor, AskAfterFirst, LinesDo};
 ghost use Rattle.tbr_stack.specs.Stack.{top_of};
-ghost use Rattle.tbr_runner.specs.Kept.{EndsWhole, LineAsksForOneRow, OverhangsNowhere, KeepsAll, IsShort, TextKeeps};
+ghost use Rattle.tbr_runner.specs.Kept.{EndsWhole, LineAsksForOneRow, OverhangsNowhere, KeepsAll, TextKeeps};
 ghost use Rattle.tbr_runner.specs.Led.{IsLed, AreLed, IsTextOfLed, IsTextOfScript, LineAsksForTwo};
 ghost use Rattle.std.specs.List.{AllByRecursion as Each};
 ghost use Rattle.tbr_script.specs.declared.error.RunError.TheVariants.{TooNarrow};
@@ -98,12 +98,12 @@ pub fn the_renderers_of_a_script_are_led_to<D, M>()
         IsWrittenSoFar columns r (acts_come columns decoration led.acts led.first []) }
 {}
 
-/// No visible character is lost between the blocks and cells of a script, and no marker before one. No block may have
-/// 2^64 lines or more, and nothing may overhang in a block, a cell or the script where that ends. Take what is added to
-/// a renderer up to any line, and after it. Its visible characters, each under an annotation of its call, and its
-/// markers are in order in the lines of the text, or in front of their borders. Only markers may be missing after which
-/// that renderer gets no visible character. Prefixes, borders and what was added to other renderers may be between
-/// them. In a script whose cells span one row each nothing overhangs.
+/// No visible character is lost between the blocks and cells of a script, and no marker before one. Nothing may overhang
+/// in a block, a cell or the script where that ends. Take what is added to a renderer up to any line, and after it. Its
+/// visible characters, each under an annotation of its call, and its markers are in order in the lines of the text, or
+/// in front of their borders. Only markers may be missing after which that renderer gets no visible character. Prefixes,
+/// borders and what was added to other renderers may be between them. In a script whose cells span one row each nothing
+/// overhangs.
 pub fn no_visible_character_of_a_script_is_lost<D, M>()
     ensures first { (columns : ℕ → Option ℕ) (decoration : Decoration D M) → columns 32 ≡ Some 1 →
         (opening : Opening) (decorator : D) → 0 < opening.width → opening.options.wrap_width ≢ Some 0 →
@@ -114,7 +114,7 @@ pub fn no_visible_character_of_a_script_is_lost<D, M>()
     ensures text { (columns : ℕ → Option ℕ) (decoration : Decoration D M) (p : Progress D M (List M)) (number : ℕ)
         (lines : List (List ℕ)) (text : List ℕ) (r : Renderer D M (List M)) → KeepsAll columns decoration p →
         ((front back : List (List ℕ)) (there : Progress D M (List M)) → lines ≡ front ++ back →
-        LinesDo columns decoration p number front there → IsShort columns decoration there × EndsWhole back there) →
+        LinesDo columns decoration p number front there → EndsWhole back there) →
         top_of p.stack ≡ Some r → (led : IsLed columns decoration r) →
         rendered_on columns decoration number lines p ≡ Ok text → (commands : List Command) × AskFor lines commands
         × TextKeeps columns decoration (p.stack.links ++ link_targets commands) text

@@ -32,6 +32,24 @@ fn is_best(alloc: Global, width: usize, text: &str, cuts: &[usize]) -> Result<bo
     })
 }
 
+/// How many items a layout has placed after so many lines: all of them once its lines are used up.
+fn placed(cuts: &[usize], lines: usize) -> usize {
+    match cuts.get(lines) {
+        Some(cut) => *cut,
+        None => cuts.last().copied().unwrap_or(0),
+    }
+}
+
+/// Whether a layout has placed at least as much as another after any number of lines.
+fn is_ahead(cuts: &[usize], others: &[usize]) -> bool {
+    for lines in 0..cuts.len().max(others.len()) {
+        if placed(cuts, lines) < placed(others, lines) {
+            return false;
+        }
+    }
+    true
+}
+
 /// Cuts of a text at a width.
 struct Layouts {
     name: &'static str,
@@ -95,6 +113,27 @@ fn worked_layouts_are_legal_and_the_best(rt: HostRuntime) {
         are_legal(&rt, alloc, layouts);
         let is_best = is_best(alloc, layouts.width, layouts.text, layouts.best);
         holds(&rt, layouts.name, is_best);
+    }
+}
+
+/// The best layout is ahead of each legal one, and of these only itself is ahead of it.
+fn no_rival_is_ahead(rt: &impl Abort, layouts: &Layouts) {
+    for cuts in layouts.legal {
+        let rival = *cuts;
+        let is_best = rival == layouts.best;
+        assert!(rt; is_ahead(layouts.best, rival), "{}", layouts.name);
+        assert!(rt;
+            is_best || !is_ahead(rival, layouts.best),
+            "{}",
+            layouts.name
+        );
+    }
+}
+
+#[test]
+fn the_best_layout_is_ahead_of_its_rivals(rt: HostRuntime) {
+    for layouts in LAYOUTS {
+        no_rival_is_ahead(&rt, layouts);
     }
 }
 

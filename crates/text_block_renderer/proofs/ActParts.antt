@@ -194,6 +194,3 @@ module _ {D A : Type 0} (columns : ℕ → Option ℕ) where
         subst (λ o. Along (rows_of (act ∷ acts)) (adds ++ told_by (acts_add columns decoration acts) o) r (enters ++ told_by (acts_enter columns decoration acts) o) s) (sym does)
         (subst (λ xs. Along xs (adds ++ acts_add columns decoration acts m) r (enters ++ acts_enter columns decoration acts m) s) (sym (rows_one act acts))
         (along_on (rows_of (act ∷ [])) (rows_of acts) adds (acts_add columns decoration acts m) r m s enters (acts_enter columns decoration acts m) here there))
-
-    pub act_sound : (act : Act A) (r s : Renderer D A (List A)) → IsSound columns r → ActStep columns decoration act r s → (s.options ≡ r.options) × IsSound columns s
-    act_sound act r s sound h = let along = act_along act r s sound h in (along.options, sound_alike columns r s along.width along.options sound)

@@ -1,5 +1,5 @@
 -- Calls and rows one by one: each is a call, or a row that is put after a flush.
-use Rattle.text_block_renderer.proofs.Common.{◌≡◌, ℕ, Option, Some, List, [], ◌∷◌, ◌++◌, subst, ap, sym, ◌∙◌, arith, pointwise, Entry, MeansRow, TellsApart, Decoration, Outcome, done, if_live, last_border, Renderer, after_flush, listed, with_footnotes, and_then, run, told_by, style_in, PutsRow, cells_from, Does, laid_entries, Act, call, row, fmt_links, finalise, after_act, row_seen, texts_of_row, act_brought, act_comes, acts_come}
+use Rattle.text_block_renderer.proofs.Common.{◌≡◌, ℕ, Option, Some, List, [], ◌∷◌, ◌++◌, map, append-nil, append_assoc, subst, ap, sym, ◌∙◌, arith, pointwise, Entry, MeansRow, TellsApart, Decoration, Outcome, done, if_live, last_border, Renderer, after_flush, listed, with_footnotes, and_then, run, told_by, style_in, PutsRow, cells_from, Call, Does, Steps, after, entries_brought, brought, laid_entries, Act, call, row, fmt_links, finalise, after_act, row_seen, texts_of_row, act_brought, act_comes, acts_come}
 use Rattle.tbr_model.specs.Layout.{joined}
 use Rattle.tbr_rows.proofs.ComputedRow.{computed}
 use Rattle.tbr_decor.specs.Change as change
@@ -35,6 +35,19 @@ module _ {D A : Type 0} (columns : ℕ → Option ℕ) (decoration : Decoration 
       (m, flushed, puts, ap (told_by (λ q. texts_of_row columns decoration (row_seen columns decoration collapses cells q))) (live_done r.failure (after_flush columns r) m flushed).1 ∙ ap (texts_of_row columns decoration) seen, seen)
   act_step (fmt_links links) r s h = one_done (with_footnotes columns r links) s (live_done r.failure (done (with_footnotes columns r links)) s h).1
   act_step (finalise targets) r s h = grind (arith, one_done, live_done)
+
+  -- calls alone are acts, and bring what they bring
+  pub calls_come : (calls : List (Call (List A))) (r s : Renderer D A (List A)) (es : List (Entry (List A))) → Steps columns decoration calls r s →
+      (after_acts (map call calls) r ≡ done s) × (acts_come columns decoration (map call calls) r es ≡ es ++ brought columns decoration calls r)
+  calls_come [] r s es h = (h, sym (append-nil es))
+  calls_come (c ∷ calls) r s es h =
+      let (m, first, others) = done_first (after columns decoration c r) (run (after columns decoration) calls) s h in
+      let here = entries_brought columns decoration c r in
+      let (leads, come) = calls_come calls m s (es ++ here) others in
+      subst
+      (λ o. (and_then o (after_acts (map call calls)) ≡ done s) × (told_by (λ q. acts_come columns decoration (map call calls) q (es ++ here)) o
+      ≡ es ++ (here ++ told_by (λ q. brought columns decoration calls q) o)))
+      (sym first) (leads, come ∙ append_assoc es here (brought columns decoration calls m))
 
   -- one act more
   pub acts_then : (acts : List (Act A)) (act : Act A) (r m s : Renderer D A (List A)) (es : List (Entry (List A))) → after_acts acts r ≡ done m → after_act columns decoration act m ≡ done s →

@@ -7,7 +7,7 @@ use Rattle.tbr_model.proofs.lists.Each.{each_front, each_back}
 use Rattle.tbr_model.proofs.rule.Markers.{names_in_items-append, names_in_run-append}
 use Rattle.tbr_tagged.proofs.SameItems.{all_zip_append}
 use Rattle.tbr_renderer.proofs.FlushedBlocks.{EndsBlock}
-use Rattle.text_block_renderer.proofs.DrawnBorders.{Keeps, Less, less_goes_on, none_among, holds_of_all}
+use Rattle.text_block_renderer.proofs.DrawnBorders.{Keeps, SoundLess, less_goes_on, none_among, holds_of_all}
 use Rattle.text_block_renderer.proofs.LineContents.{Looks, no_text_after, seen_line, seen_flushed}
 use Rattle.text_block_renderer.proofs.LastingLines.{stay_texts}
 use Rattle.text_block_renderer.proofs.EndedEntries.{Texts, acts_on}
@@ -200,7 +200,7 @@ module _ {D A : Type 0} (columns : ℕ → Option ℕ) where
       WithoutDrawnBorders borders (λ q. Stands columns q before) r → WithoutDrawnBorders (borders ++ borders_drawn columns decoration acts r) (λ q. Stands columns q (acts_come columns decoration acts r before)) s
   acts_stand decoration acts r s borders before sound h (rest, among, k) =
       let start : InLines (record r { lines = rest }) k.ended = in_lines (record r { lines = rest }) before k in
-      let (last, whole, (left, there, all)) = acts_on columns (Less columns InLines stands_on) (less_goes_on columns InLines stands_on) decoration acts r s before borders sound h (k.ended, k.whole, (rest, among, start)) in
+      let (last, whole, (still, (left, there, all))) = acts_on columns (SoundLess columns InLines stands_on) (less_goes_on columns InLines stands_on) decoration acts r s before borders h (k.ended, k.whole, (sound, (rest, among, start))) in
       (left, there, stands (record s { lines = left }) last (acts_come columns decoration acts r before) whole all)
 
   pub new_acts_stand : (decoration : Decoration D A) (width : ℕ) (options : RenderOptions) (decorator : D) (acts : List (Act A)) (s : Renderer D A (List A)) → (let r : Renderer D A (List A) = new_renderer width options decorator in
@@ -211,4 +211,4 @@ module _ {D A : Type 0} (columns : ℕ → Option ℕ) where
   pub acts_stand_all : (decoration : Decoration D A) (acts : List (Act A)) (r s : Renderer D A (List A)) (before : List (Entry (List A))) → IsSound columns r → DrawNone columns decoration acts r → run (after_act columns decoration) acts r ≡ done s →
       Stands columns r before → Stands columns s (acts_come columns decoration acts r before)
   acts_stand_all decoration acts r s before sound none h k =
-      holds_of_all columns decoration (λ q. Stands columns q (acts_come columns decoration acts r before)) acts r s sound h none (acts_stand decoration acts r s [] before sound h (r.lines, none_among r.lines, k))
+      holds_of_all columns decoration (λ q. Stands columns q (acts_come columns decoration acts r before)) acts r s h none (acts_stand decoration acts r s [] before sound h (r.lines, none_among r.lines, k))

@@ -1,9 +1,9 @@
 -- Borders that were drawn as text, and what holds of a renderer with its lines less these.
-use Rattle.text_block_renderer.proofs.Common.{◌≡◌, ℕ, inl, inr, Bool, true, false, if◌then◌else◌, Option, Some, None, List, [], ◌∷◌, ◌++◌, map, flat_map, fold, refl, ap, sym, ◌∙◌, subst, append_assoc, append-nil, arith, AllZip, Each, map-append, flat_map-append, run_of, Entry, Item, Border, shown, without_holes, SeenRow, Decoration, Line, text, border, Open, Renderer, RenderOptions, line_padding, with_line, IsSound, marker_items, block_lines, flushed, lines_at_end, names_at_end, with_border, laid_entries, run, done, ended, laid, ruled, Act, after_act, row_seen, Piece, part, put, noted, added_of_piece, IsPiece, StaysLine, as_it_is, drawn, line_put, not_drawn, text_drawn, AreDrawnAmong, WithoutDrawnBorders, border_drawn, drawn_of_row, drawn_of_added, borders_drawn, DrawNone}
+use Rattle.text_block_renderer.proofs.Common.{◌≡◌, ℕ, inl, inr, Bool, true, false, if◌then◌else◌, Option, None, List, [], ◌∷◌, ◌++◌, map, flat_map, fold, refl, ap, sym, ◌∙◌, subst, append_assoc, append-nil, arith, AllZip, map-append, flat_map-append, run_of, Entry, Item, Border, shown, Decoration, Line, text, border, Open, Renderer, RenderOptions, line_padding, with_line, IsSound, marker_items, block_lines, flushed, lines_at_end, names_at_end, with_border, laid_entries, run, done, open_run, Act, after_act, StaysLine, as_it_is, drawn, line_put, not_drawn, text_drawn, AreDrawnAmong, WithoutDrawnBorders, border_drawn, borders_drawn, DrawNone}
 use Rattle.text_block_renderer.specs.Drawn.{Put}
 use Rattle.tbr_renderer.proofs.FlushedBlocks.{EndsBlock}
-use Rattle.text_block_renderer.proofs.ActParts.{acts_along}
-use Rattle.text_block_renderer.proofs.EndedEntries.{Texts, GoesOn}
+use Rattle.text_block_renderer.proofs.Moves.{Frame, sound_alike, frame_ended, sound_ended}
+use Rattle.text_block_renderer.proofs.EndedEntries.{Texts, GoesOn, acts_on}
 
 -- ---- lines less borders
 
@@ -85,7 +85,7 @@ module _ {D A : Type 0} (columns : ℕ → Option ℕ) where
     pub stays : (r s : Renderer D A (List A)) (es : List (Entry (List A))) → AllZip StaysLine r.lines s.lines → s.waiting ≡ r.waiting → Q r es → Q s es
 
   module _ (Q : Renderer D A (List A) → List (Entry (List A)) → Type 0) (keeps : Keeps Q) where
-    abbrev pub Less : Renderer D A (List A) → List (Entry (List A)) → Texts A → Type 0
+    abbrev Less : Renderer D A (List A) → List (Entry (List A)) → Texts A → Type 0
     Less r es bs = WithoutDrawnBorders bs (λ q. Q q es) r
 
     flushed_less : (r s : Renderer D A (List A)) (b : Open (List A)) (es : List (Entry (List A))) (bs : Texts A) → EndsBlock columns r b s → IsSound columns r → Less r es bs → Less s (es ++ run_of b.events) bs
@@ -117,39 +117,40 @@ module _ {D A : Type 0} (columns : ℕ → Option ℕ) where
         let (left, here, same) = among_stay bs r.lines rest s.lines among stay in
         (left, here, keeps.stays (on r rest) (on s left) es same waiting k)
 
-    pub less_goes_on : GoesOn columns Less
-    less_goes_on = record { flushed = flushed_less; laid = laid_less; ruled = ruled_less; stays = stays_less }
+    -- of a sound renderer
+    abbrev pub SoundLess : Renderer D A (List A) → List (Entry (List A)) → Texts A → Type 0
+    SoundLess r es bs = IsSound columns r × Less r es bs
+
+    pub less_goes_on : GoesOn columns SoundLess
+    less_goes_on = record {
+      flushed = λ r s b es bs h k. (sound_ended columns r s b h k.0, flushed_less r s b es bs h k.0 k.1);
+      laid = λ r t es bs k. (record { space = k.0.space; wide = k.0.wide }, laid_less r t es bs k.1);
+      ruled = λ r b es bs k. (record { space = k.0.space; wide = k.0.wide }, ruled_less r b es bs k.1);
+      stays = λ r s es bs stay waiting width options k. (sound_alike columns r s width options k.0, stays_less r s es bs stay waiting k.1);
+    }
 
   -- ---- where none is drawn
 
   module _ (decoration : Decoration D A) where
-    border_undrawn : (q : Renderer D A (List A)) (b : Border (List A)) → q.options.pad_block_width ≡ false → border_drawn columns q b ≡ []
-    border_undrawn q b e = rw e refl
+    -- where lines aren't padded
+    abbrev NoneYet : Renderer D A (List A) → List (Entry (List A)) → Texts A → Type 0
+    NoneYet r es bs = (r.options.pad_block_width ≡ false) × (bs ≡ [])
 
-    row_undrawn : (q : Renderer D A (List A)) (o : Option (SeenRow (List A))) → q.options.pad_block_width ≡ false → drawn_of_row columns q o ≡ []
-    row_undrawn q None e = refl
-    row_undrawn q (Some seen) e = grind (arith, border_undrawn)
+    none_yet : GoesOn columns NoneYet
+    none_yet = record {
+      flushed = λ r s b es bs h k. (ap (λ (o : RenderOptions). o.pad_block_width) (ap (λ (f : Frame A). f.options) (frame_ended columns r s b h)) ∙ k.0, k.1);
+      laid = λ r t es bs k. k;
+      ruled = λ r b es bs k. (k.0, ap (λ cs. cs ++ border_drawn columns r b) k.1 ∙ rw k.0 refl);
+      stays = λ r s es bs stay waiting width options k. (ap (λ (o : RenderOptions). o.pad_block_width) options ∙ k.0, k.1);
+    }
 
-    piece_undrawn : (r : Renderer D A (List A)) (p : Piece D A columns) → r.options.pad_block_width ≡ false → IsPiece columns r p → drawn_of_added columns decoration (added_of_piece p) ≡ []
-    piece_undrawn r (part (ended q b)) e h = refl
-    piece_undrawn r (part (laid q is)) e h = refl
-    piece_undrawn r (part (ruled q cells)) e h = border_undrawn q (without_holes cells q.annotations) (ap (λ (o : RenderOptions). o.pad_block_width) h.options ∙ e)
-    piece_undrawn r (put p) e h = row_undrawn p.before (row_seen columns decoration p.collapses p.cells p.before) (ap (λ (o : RenderOptions). o.pad_block_width) h.options ∙ e)
-    piece_undrawn r (noted q is) e h = refl
-
-    pieces_undrawn : (r : Renderer D A (List A)) (ps : List (Piece D A columns)) → r.options.pad_block_width ≡ false → Each (IsPiece columns r) ps → flat_map (drawn_of_added columns decoration) (map added_of_piece ps) ≡ []
-    pieces_undrawn r [] e h = refl
-    pieces_undrawn r (p ∷ ps) e h = ap (λ ts. ts ++ flat_map (drawn_of_added columns decoration) (map added_of_piece ps)) (piece_undrawn r p e h.0) ∙ pieces_undrawn r ps e h.1
-
-    pub none_drawn : (acts : List (Act A)) (r s : Renderer D A (List A)) → IsSound columns r → run (after_act columns decoration) acts r ≡ done s → DrawNone columns decoration acts r → borders_drawn columns decoration acts r ≡ []
-    none_drawn acts r s sound h (inr none) = none
-    none_drawn acts r s sound h (inl unpadded) =
-        let along = acts_along columns decoration acts r s sound h in
-        ap (flat_map (drawn_of_added columns decoration)) (sym along.added) ∙ pieces_undrawn r along.came.pieces unpadded along.came.are
+    pub none_drawn : (acts : List (Act A)) (r s : Renderer D A (List A)) → run (after_act columns decoration) acts r ≡ done s → DrawNone columns decoration acts r → borders_drawn columns decoration acts r ≡ []
+    none_drawn acts r s h (inr none) = none
+    none_drawn acts r s h (inl unpadded) = (acts_on columns NoneYet none_yet decoration acts r s (open_run r.block) [] h ([], refl, (unpadded, refl))).2.1
 
     -- what holds of the lines less those that are drawn then holds of all lines
-    pub holds_of_all : (P : Renderer D A (List A) → Type 0) (acts : List (Act A)) (r s : Renderer D A (List A)) → IsSound columns r → run (after_act columns decoration) acts r ≡ done s → DrawNone columns decoration acts r →
+    pub holds_of_all : (P : Renderer D A (List A) → Type 0) (acts : List (Act A)) (r s : Renderer D A (List A)) → run (after_act columns decoration) acts r ≡ done s → DrawNone columns decoration acts r →
         WithoutDrawnBorders (borders_drawn columns decoration acts r) P s → P s
-    holds_of_all P acts r s sound h none k =
-        let (rest, among, holds) = subst (λ bs. WithoutDrawnBorders bs P s) (none_drawn acts r s sound h none) k in
+    holds_of_all P acts r s h none k =
+        let (rest, among, holds) = subst (λ bs. WithoutDrawnBorders bs P s) (none_drawn acts r s h none) k in
         subst (λ ls. P (on s ls)) (all_are_left s.lines rest among) holds

@@ -1,8 +1,8 @@
 -- The moves of which calls consist. What holds of lists of calls is shown move by move.
-use Rattle.text_block_renderer.proofs.Common.{◌≡◌, ◌<◌, ℕ, done, told_by, after_block, flush_adds, Bool, Option, None, List, [], ◌∷◌, ◌++◌, flat_map, fold, refl, ap, sym, ◌∙◌, subst, append-nil, arith, ⊤, flat_map-append, Each, Event, run_of, Entry, Item, without_holes, Overhanging, RenderOptions, Open, Renderer, with_line, with_events, block_width, IsSound, with_border, Call, laid_entries, Part, ended, laid, ruled, flush_ends, AppendsNothing}
+use Rattle.text_block_renderer.proofs.Common.{◌≡◌, ◌<◌, ℕ, done, told_by, after_block, flush_adds, Bool, Option, None, List, [], ◌∷◌, ◌++◌, flat_map, fold, refl, ap, sym, ◌∙◌, subst, append-nil, arith, ⊤, flat_map-append, Each, Event, run_of, Entry, Item, without_holes, Overhanging, RenderOptions, block_lines, lines_at_end, Open, Renderer, with_line, with_events, block_width, IsSound, with_border, Call, laid_entries, Part, laid, ruled, flush_ends, AppendsNothing}
 use Rattle.tbr_model.specs.declared.white_space.WhiteSpace.{WhiteSpace}
 use Rattle.tbr_border.specs.Cell.{Cell}
-use Rattle.tbr_renderer.proofs.FlushedBlocks.{FlushesBlock, Flushes}
+use Rattle.tbr_renderer.proofs.FlushedBlocks.{EndsBlock, FlushesBlock, Flushes}
 use Rattle.tbr_renderer.proofs.CallParts.{FlushesThen}
 
 -- Each with the renderer that it comes to: the end of the open run; a line of text or a border, where no block is open. Or what comes to the open
@@ -101,6 +101,14 @@ module _ {D A : Type 0} (columns : ℕ → Option ℕ) where
 
   pub flush_beside : (r s : Renderer D A (List A)) (o : Option (Open (List A))) → o ≡ r.block → FlushesBlock columns r o s → beside s ≡ record (beside r) { block = None }
   flush_beside r s o e h = grind (arith, lines_beside)
+
+  -- the end of a run changes no width and no option
+  pub frame_ended : (r s : Renderer D A (List A)) (b : Open (List A)) → EndsBlock columns r b s → frame s ≡ frame r
+  frame_ended r s b h = ap (λ (q : Renderer D A (List A)). frame q) h.is ∙ ap (λ (q : Renderer D A (List A)). frame q) (lines_beside (block_lines columns r b (lines_at_end columns r b)) (record r { block = None }))
+
+  pub sound_ended : (r s : Renderer D A (List A)) (b : Open (List A)) → EndsBlock columns r b s → IsSound columns r → IsSound columns s
+  sound_ended r s b h sound =
+      let same = frame_ended r s b h in sound_alike columns r s (ap (λ (f : Frame A). f.width) same) (ap (λ (f : Frame A). f.options) same) sound
 
   pub flush_done : (r s : Renderer D A (List A)) (o : Option (Open (List A))) → FlushesBlock columns r o s → after_block columns r o ≡ done s
   flush_done r s o h = grind arith

@@ -1,5 +1,5 @@
 -- Visible characters are there once.
-use Rattle.text_block_renderer.proofs.Common.{◌≡◌, ℕ, zero, suc, false, Option, None, List, [], ◌∷◌, ◌++◌, filter, fold, refl, ap, sym, ◌∙◌, subst, append-nil, arith, AllZip, run_of, Entry, Item, glyph, marker, marker_items, glyphs_of, is_visible, is_visible_entry, IsShown, visible_glyphs, visible_entries, filter-append, text_items, spaces, Line, border, Open, Renderer, RenderOptions, new_renderer, with_line, open_run, block_width, IsSound, block_lines, lines_at_end, run, append_cancel_right, handed_out, done, Decoration, laid_entries, text_of_lines, Shows, AreDrawnAmong, WithoutDrawnBorders, borders_drawn, DrawNone, Act, after_act, acts_come, items_so_far}
+use Rattle.text_block_renderer.proofs.Common.{◌≡◌, ℕ, zero, suc, false, Option, None, List, [], ◌∷◌, ◌++◌, filter, fold, map, refl, ap, sym, ◌∙◌, subst, append-nil, arith, AllZip, run_of, Entry, Item, glyph, marker, marker_items, glyphs_of, is_visible, is_visible_entry, IsShown, visible_glyphs, visible_entries, filter-append, text_items, spaces, Line, border, Open, Renderer, RenderOptions, new_renderer, with_line, open_run, block_width, IsSound, block_lines, lines_at_end, run, append_cancel_right, handed_out, done, Decoration, laid_entries, text_of_lines, Call, Brings, Shows, AreDrawnAmong, WithoutDrawnBorders, borders_drawn, DrawNone, Act, call, after_act, acts_come, items_so_far}
 use Rattle.std.proofs.Math.Bool.{and-false}
 use Rattle.tbr_model.specs.Codes.{space_character}
 use Rattle.tbr_model.specs.Layout.{joined}
@@ -7,8 +7,9 @@ use Rattle.tbr_model.proofs.words.Items.{glyphs_of-append}
 use Rattle.tbr_tagged.proofs.SameItems.{all_zip_append}
 use Rattle.tbr_renderer.proofs.FlushedBlocks.{EndsBlock}
 use Rattle.tbr_renderer.proofs.CallParts.{handed_then}
+use Rattle.text_block_renderer.proofs.ActSteps.{calls_come}
 use Rattle.text_block_renderer.proofs.Moves.{flushed_none}
-use Rattle.text_block_renderer.proofs.DrawnBorders.{Keeps, Less, less_goes_on, none_among, all_are_left, holds_of_all}
+use Rattle.text_block_renderer.proofs.DrawnBorders.{Keeps, SoundLess, less_goes_on, none_among, all_are_left, holds_of_all}
 use Rattle.text_block_renderer.proofs.LineContents.{Looks, unpadded, no_text_after, seen_line, seen_texts}
 use Rattle.text_block_renderer.proofs.LastingLines.{stay_texts}
 use Rattle.text_block_renderer.proofs.EndedEntries.{Texts, flushed_on, acts_on}
@@ -87,7 +88,7 @@ module _ {D A : Type 0} (columns : ℕ → Option ℕ) where
   }
 
   abbrev ShownLess : Renderer D A (List A) → List (Entry (List A)) → Texts A → Type 0
-  ShownLess = Less columns InLines shows_on
+  ShownLess = SoundLess columns InLines shows_on
 
   -- where the run that is open is known
   ended_are : (r : Renderer D A (List A)) (ended es : List (Entry (List A))) → visible_entries columns (es ++ open_run r.block) ≡ visible_entries columns (ended ++ open_run r.block) → visible_entries columns es ≡ visible_entries columns ended
@@ -102,7 +103,7 @@ module _ {D A : Type 0} (columns : ℕ → Option ℕ) where
       let before = ended ++ open_run r.block in
       let shown : AllZip (IsShown (λ x y. x ≡ y)) (visible_glyphs columns (text_of_lines rest)) (visible_entries columns ended) =
       subst (AllZip (IsShown (λ x y. x ≡ y)) (visible_glyphs columns (text_of_lines rest))) (ended_are r ended k.ended k.whole) k.shown in
-      let (last, whole, (left, there, all)) = acts_on columns ShownLess (less_goes_on columns InLines shows_on) decoration acts r s before borders sound h (ended, refl, (rest, among, shown)) in
+      let (last, whole, (still, (left, there, all))) = acts_on columns ShownLess (less_goes_on columns InLines shows_on) decoration acts r s before borders h (ended, refl, (sound, (rest, among, shown))) in
       (left, there, record { ended = last; shown = all; whole = ap (visible_entries columns) whole })
 
   pub new_acts_show : (decoration : Decoration D A) (width : ℕ) (options : RenderOptions) (decorator : D) (acts : List (Act A)) (s : Renderer D A (List A)) → (let r : Renderer D A (List A) = new_renderer width options decorator in
@@ -114,7 +115,28 @@ module _ {D A : Type 0} (columns : ℕ → Option ℕ) where
       (let before = ended ++ open_run r.block in Shows columns r before → Shows columns s (acts_come columns decoration acts r before))
   acts_show_all decoration acts r s ended sound none h k =
       let before = ended ++ open_run r.block in
-      holds_of_all columns decoration (λ q. Shows columns q (acts_come columns decoration acts r before)) acts r s sound h none (acts_show decoration acts r s [] ended sound h (r.lines, none_among r.lines, k))
+      holds_of_all columns decoration (λ q. Shows columns q (acts_come columns decoration acts r before)) acts r s h none (acts_show decoration acts r s [] ended sound h (r.lines, none_among r.lines, k))
+
+  -- calls alone come after whatever was shown before
+  come_after : (decoration : Decoration D A) (calls : List (Call (List A))) (r s : Renderer D A (List A)) (ended before es : List (Entry (List A))) → Brings columns decoration calls r es s →
+      visible_entries columns (ended ++ open_run r.block) ≡ visible_entries columns before →
+      visible_entries columns (acts_come columns decoration (map call calls) r (ended ++ open_run r.block)) ≡ visible_entries columns (before ++ es)
+  come_after decoration calls r s ended before es h same =
+      let all = ended ++ open_run r.block in
+      ap (visible_entries columns) ((calls_come columns decoration calls r s all h.0).1 ∙ ap (λ fs. all ++ fs) (sym h.1)) ∙ entries-append columns all es
+      ∙ ap (λ fs. fs ++ visible_entries columns es) same ∙ sym (entries-append columns before es)
+
+  pub calls_show : (decoration : Decoration D A) (calls : List (Call (List A))) (r s : Renderer D A (List A)) (borders : Texts A) (before es : List (Entry (List A))) → IsSound columns r → Brings columns decoration calls r es s →
+      WithoutDrawnBorders borders (λ q. Shows columns q before) r → WithoutDrawnBorders (borders ++ borders_drawn columns decoration (map call calls) r) (λ q. Shows columns q (before ++ es)) s
+  calls_show decoration calls r s borders before es sound h (rest, among, k) =
+      let start : Shows columns (record r { lines = rest }) (k.ended ++ open_run r.block) = record { ended = k.ended; shown = k.shown; whole = refl } in
+      let (left, there, all) = acts_show decoration (map call calls) r s borders k.ended sound (calls_come columns decoration calls r s [] h.0).0 (rest, among, start) in
+      (left, there, record { ended = all.ended; shown = all.shown; whole = all.whole ∙ come_after decoration calls r s k.ended before es h k.whole })
+
+  pub calls_show_all : (decoration : Decoration D A) (calls : List (Call (List A))) (r s : Renderer D A (List A)) (before es : List (Entry (List A))) → IsSound columns r → DrawNone columns decoration (map call calls) r →
+      Brings columns decoration calls r es s → Shows columns r before → Shows columns s (before ++ es)
+  calls_show_all decoration calls r s before es sound none h k =
+      holds_of_all columns decoration (λ q. Shows columns q (before ++ es)) (map call calls) r s (calls_come columns decoration calls r s [] h.0).0 none (calls_show decoration calls r s [] before es sound h (r.lines, none_among r.lines, k))
 
   -- ---- lines that are handed out
 
@@ -123,7 +145,7 @@ module _ {D A : Type 0} (columns : ℕ → Option ℕ) where
   handed_out_less r borders es lines sound (rest, among, k) h =
       let (s, flushes, is) = handed_then columns r lines h in
       let all = k.ended ++ open_run r.block in
-      let (last, whole, (left, there, shown)) = flushed_on columns ShownLess (less_goes_on columns InLines shows_on) r s all borders flushes sound (k.ended, refl, (rest, among, k.shown)) in
+      let (last, whole, (still, (left, there, shown))) = flushed_on columns ShownLess (less_goes_on columns InLines shows_on) r s all borders flushes (k.ended, refl, (sound, (rest, among, k.shown))) in
       let same : last ≡ all = sym (append-nil last) ∙ ap (λ (o : Option (Open (List A))). last ++ open_run o) (sym (flushed_none columns r s flushes)) ∙ whole in (
         left,
         subst (λ ls. AreDrawnAmong borders ls left) (sym is) there,

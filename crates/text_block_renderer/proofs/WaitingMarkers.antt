@@ -1,11 +1,13 @@
 -- Markers that wait, where a run ends and until a line of text comes, by a call or under a row.
-use Rattle.text_block_renderer.proofs.Common.{◌≡◌, ℕ, Bool, true, false, if◌then◌else◌, Option, Some, None, List, [], ◌∷◌, ◌++◌, map, flat_map, fold, refl, ap, sym, ◌∙◌, subst, arith, append_assoc, append-nil, rules, AllZip, Each, or_parts, run_of, Entry, Item, Word, kept_items, has_character, words_of, trailing, word_slots, slots_of, HasNoEmptyLine, names_in_run, marker_items, marker_run, without_spaces, Border, shown, IsNormal, HasBestLines, Decoration, Line, text, border, Open, Renderer, with_line, block_width, may_overflow, open_run, line_padding, IsSound, done, run, block_lines, flushed, lines_at_end, names_at_end, after_flush, with_border, text_of_lines, Act, after_act, StaysLine, AreDrawnAmong, border_drawn, borders_drawn, DrawNone, items_so_far, FlushStands, first_text, BeginsWith, WaitForText}
+use Rattle.text_block_renderer.proofs.Common.{◌≡◌, ℕ, Bool, true, false, if◌then◌else◌, Option, Some, None, List, [], ◌∷◌, ◌++◌, map, flat_map, fold, refl, ap, sym, ◌∙◌, subst, arith, append_assoc, append-nil, rules, AllZip, Each, or_parts, run_of, Entry, Item, Word, kept_items, has_character, words_of, trailing, word_slots, slots_of, HasNoEmptyLine, names_in_run, marker_items, marker_run, without_spaces, Border, shown, IsNormal, HasBestLines, Decoration, Line, text, border, Open, Renderer, with_line, block_width, may_overflow, open_run, line_padding, IsSound, done, run, block_lines, lines_at_end, names_at_end, after_flush, with_border, text_of_lines, Call, Steps, Act, call, after_act, StaysLine, AreDrawnAmong, border_drawn, borders_drawn, DrawNone, items_so_far, FlushStands, first_text, BeginsWith, WaitForText}
 use Rattle.tbr_model.specs.Layout.{line_text, joined}
 use Rattle.tbr_model.proofs.words.Items.{has_character-append}
 use Rattle.tbr_model.proofs.words.KeptItems.{words_hold}
 use Rattle.tbr_model.proofs.words.LinesHaveCharacters.{words_have}
 use Rattle.tbr_renderer.proofs.FlushedBlocks.{flushes, FlushesBlock}
 use Rattle.text_block_renderer.proofs.DrawnBorders.{end_alike, among_more, among_drawn, among_stay, none_among, none_drawn}
+use Rattle.text_block_renderer.proofs.ActSteps.{calls_come}
+use Rattle.text_block_renderer.proofs.AddedLines.{steps_grow}
 use Rattle.text_block_renderer.proofs.LineContents.{marker_items-append, seen_flushed}
 use Rattle.text_block_renderer.proofs.LastingLines.{all_stay, stay_on}
 use Rattle.text_block_renderer.proofs.EndedEntries.{Texts, GoesOn, acts_on}
@@ -118,6 +120,12 @@ module _ {T : Type 0} where
   parted (l ∷ ls) ms [] h = absurd h
   parted (l ∷ ls) ms (n ∷ ns) h = let (front, back, both, first, others) = parted ls ms ns h.1 in (n ∷ front, back, ap (λ os. n ∷ os) both, (h.0, first), others)
 
+  -- as many lines as there were
+  kept_are : (ls ks more others : List (Line T)) → AllZip StaysLine ls ks → ks ++ more ≡ ls ++ others → ks ≡ ls
+  kept_are [] [] more others h e = refl
+  kept_are (l ∷ ls) (k ∷ ks) more others h e = let same : ks ≡ ls = kept_are ls ks more others h.1 (cc) in cc
+  kept_are ls ks more others h e = absurd h
+
 module _ {D A : Type 0} (columns : ℕ → Option ℕ) where
   abbrev Waits : Renderer D A (List A) → Renderer D A (List A) → Type 0
   Waits r s = (more : List (Line (List A))) × (s.lines ≡ r.lines ++ more) × Waiting (first_text more) r.waiting s.waiting
@@ -188,16 +196,16 @@ module _ {D A : Type 0} (columns : ℕ → Option ℕ) where
 
   waiting_goes_on : (r : Renderer D A (List A)) → GoesOn columns (λ s es bs. WaitsOn r s bs)
   waiting_goes_on r = record {
-    flushed = λ q s b es bs h sound k. waits_on r q s bs k (flush_waits q s (Some b) h);
+    flushed = λ q s b es bs h k. waits_on r q s bs k (flush_waits q s (Some b) h);
     laid = λ q t es bs k. waits_on r q (with_line columns q t) bs k (line_came q t);
     ruled = λ q b es bs k. rule_waits r q b bs k;
-    stays = λ q s es bs stay waiting k. lines_stay r q s bs stay waiting k;
+    stays = λ q s es bs stay waiting width options k. lines_stay r q s bs stay waiting k;
   }
 
-  pub acts_wait : (decoration : Decoration D A) (acts : List (Act A)) (r s : Renderer D A (List A)) → IsSound columns r → run (after_act columns decoration) acts r ≡ done s → WaitForText (borders_drawn columns decoration acts r) r s
-  acts_wait decoration acts r s sound h =
+  pub acts_wait : (decoration : Decoration D A) (acts : List (Act A)) (r s : Renderer D A (List A)) → run (after_act columns decoration) acts r ≡ done s → WaitForText (borders_drawn columns decoration acts r) r s
+  acts_wait decoration acts r s h =
       let nothing : WaitsOn r r [] = (r.lines, [], [], sym (append-nil r.lines), all_stay r.lines, none_among [], ([], sym (append-nil r.waiting))) in
-      let (kept, more, rest, lines, stay, among, k) = (acts_on columns (λ t es bs. WaitsOn r t bs) (waiting_goes_on r) decoration acts r s (open_run r.block) [] sound h ([], refl, nothing)).2 in
+      let (kept, more, rest, lines, stay, among, k) = (acts_on columns (λ t es bs. WaitsOn r t bs) (waiting_goes_on r) decoration acts r s (open_run r.block) [] h ([], refl, nothing)).2 in
       record {
         kept = kept;
         more = more;
@@ -209,5 +217,22 @@ module _ {D A : Type 0} (columns : ℕ → Option ℕ) where
         wait = λ none. subst (λ o. Waiting o r.waiting s.waiting) none k;
       }
 
-  pub acts_wait_all : (decoration : Decoration D A) (acts : List (Act A)) (r s : Renderer D A (List A)) → IsSound columns r → DrawNone columns decoration acts r → run (after_act columns decoration) acts r ≡ done s → WaitForText [] r s
-  acts_wait_all decoration acts r s sound none h = subst (λ bs. WaitForText bs r s) (none_drawn columns decoration acts r s sound h none) (acts_wait decoration acts r s sound h)
+  pub acts_wait_all : (decoration : Decoration D A) (acts : List (Act A)) (r s : Renderer D A (List A)) → DrawNone columns decoration acts r → run (after_act columns decoration) acts r ≡ done s → WaitForText [] r s
+  acts_wait_all decoration acts r s none h = subst (λ bs. WaitForText bs r s) (none_drawn columns decoration acts r s h none) (acts_wait decoration acts r s h)
+
+  -- after calls alone all lines are as they were
+  calls_keep : (decoration : Decoration D A) (calls : List (Call (List A))) (r s : Renderer D A (List A)) (bs : Texts A) → Steps columns decoration calls r s → (waits : WaitForText bs r s) → waits.kept ≡ r.lines
+  calls_keep decoration calls r s bs h waits =
+      let (more, lines) = steps_grow columns decoration calls r s h in kept_are r.lines waits.kept waits.more more waits.stay (sym waits.lines ∙ lines)
+
+  pub calls_wait : (decoration : Decoration D A) (calls : List (Call (List A))) (r s : Renderer D A (List A)) → Steps columns decoration calls r s →
+      (waits : WaitForText (borders_drawn columns decoration (map call calls) r) r s) × (waits.kept ≡ r.lines)
+  calls_wait decoration calls r s h =
+      let waits = acts_wait decoration (map call calls) r s (calls_come columns decoration calls r s [] h).0 in
+      (waits, calls_keep decoration calls r s (borders_drawn columns decoration (map call calls) r) h waits)
+
+  pub calls_wait_all : (decoration : Decoration D A) (calls : List (Call (List A))) (r s : Renderer D A (List A)) → DrawNone columns decoration (map call calls) r → Steps columns decoration calls r s →
+      (waits : WaitForText [] r s) × (waits.kept ≡ r.lines)
+  calls_wait_all decoration calls r s none h =
+      let waits = acts_wait_all decoration (map call calls) r s none (calls_come columns decoration calls r s [] h).0 in
+      (waits, calls_keep decoration calls r s [] h waits)

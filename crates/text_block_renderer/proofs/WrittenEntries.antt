@@ -7,6 +7,7 @@ use Rattle.text_block_renderer.proofs.Written.{written-append, stays_written}
 use Rattle.text_block_renderer.proofs.LineContents.{unpadded, marker_items-append}
 use Rattle.text_block_renderer.proofs.BroughtEntries.{Show, show_both, at_shown, shown_markers, laid_stand}
 use Rattle.text_block_renderer.proofs.EndedEntries.{Texts, Ended, GoesOn, flushed_on, acts_on}
+use Rattle.text_block_renderer.proofs.Moves.{sound_alike, sound_ended}
 
 module _ {A : Type 0} (columns : ℕ → Option ℕ) where
   abbrev seen : List (Item (List A)) → List (Item (List A))
@@ -60,6 +61,9 @@ module _ {D A : Type 0} (columns : ℕ → Option ℕ) where
       } in
       (all ++ new, show_both columns all new es (run_of b.events) order (h.ends sound).order, subst (λ (q : Renderer D A (List A)). InLines q (all ++ new)) (sym h.is) after)
 
+  laid_written : (r : Renderer D A (List A)) (t : List (Item (List A))) (es : List (Entry (List A))) → AreWritten r es → AreWritten (with_line columns r t) (es ++ laid_entries t)
+  laid_written r t es (all, order, k) = (all ++ seen columns t, show_both columns all (seen columns t) es (laid_entries t) order (laid_stand columns t).order, text_in r t all k)
+
   rule_written : (r : Renderer D A (List A)) (b : Border (List A)) (es : List (Entry (List A))) → AreWritten r es → AreWritten (with_border columns r b) es
   rule_written r b es (all, order, k) =
       let put = border_line columns r b ∷ [] in
@@ -73,25 +77,25 @@ module _ {D A : Type 0} (columns : ℕ → Option ℕ) where
       (all, order, record { shown = k.shown; whole = whole; stand = stand })
 
   abbrev Written : Renderer D A (List A) → List (Entry (List A)) → Texts A → Type 0
-  Written r es bs = AreWritten r es
+  Written r es bs = IsSound columns r × AreWritten r es
 
   written_on : GoesOn columns Written
   written_on = record {
-    flushed = λ r s b es bs h sound k. end_written r s b es h sound k;
-    laid = λ r t es bs k. (k.0 ++ seen columns t, show_both columns k.0 (seen columns t) es (laid_entries t) k.1 (laid_stand columns t).order, text_in r t k.0 k.2);
-    ruled = λ r b es bs k. rule_written r b es k;
-    stays = λ r s es bs stay waiting k. stay_written r s es stay waiting k;
+    flushed = λ r s b es bs h k. (sound_ended columns r s b h k.0, end_written r s b es h k.0 k.1);
+    laid = λ r t es bs k. (record { space = k.0.space; wide = k.0.wide }, laid_written r t es k.1);
+    ruled = λ r b es bs k. (record { space = k.0.space; wide = k.0.wide }, rule_written r b es k.1);
+    stays = λ r s es bs stay waiting width options k. (sound_alike columns r s width options k.0, stay_written r s es stay waiting k.1);
   }
 
   so_far : (r : Renderer D A (List A)) (es : List (Entry (List A))) (bs : Texts A) → Ended Written r es bs → IsWrittenSoFar columns r es
-  so_far r es bs (ended, whole, (all, order, k)) = record { ended = ended; whole = whole; shown = k.shown; order = subst (λ is. Show columns is ended) (sym k.whole) order; stand = k.stand }
+  so_far r es bs (ended, whole, (still, (all, order, k))) = record { ended = ended; whole = whole; shown = k.shown; order = subst (λ is. Show columns is ended) (sym k.whole) order; stand = k.stand }
 
-  less_open : (r : Renderer D A (List A)) (es : List (Entry (List A))) → IsWrittenSoFar columns r es → Ended Written r es []
-  less_open r es h = (h.ended, h.whole, (h.shown ++ marker_items r.waiting, h.order, record { shown = h.shown; whole = refl; stand = h.stand }))
+  less_open : (r : Renderer D A (List A)) (es : List (Entry (List A))) → IsSound columns r → IsWrittenSoFar columns r es → Ended Written r es []
+  less_open r es sound h = (h.ended, h.whole, (sound, (h.shown ++ marker_items r.waiting, h.order, record { shown = h.shown; whole = refl; stand = h.stand })))
 
   pub flush_written : (r s : Renderer D A (List A)) (es : List (Entry (List A))) → Flushes columns r s → IsSound columns r → IsWrittenSoFar columns r es → IsWrittenSoFar columns s es
-  flush_written r s es h sound k = so_far s es [] (flushed_on columns Written written_on r s es [] h sound (less_open r es k))
+  flush_written r s es h sound k = so_far s es [] (flushed_on columns Written written_on r s es [] h (less_open r es sound k))
 
   pub acts_write : (decoration : Decoration D A) (acts : List (Act A)) (r s : Renderer D A (List A)) (before : List (Entry (List A))) → IsSound columns r → run (after_act columns decoration) acts r ≡ done s → IsWrittenSoFar columns r before →
       IsWrittenSoFar columns s (acts_come columns decoration acts r before)
-  acts_write decoration acts r s before sound h k = so_far s _ (borders_drawn columns decoration acts r) (acts_on columns Written written_on decoration acts r s before [] sound h (less_open r before k))
+  acts_write decoration acts r s before sound h k = so_far s _ (borders_drawn columns decoration acts r) (acts_on columns Written written_on decoration acts r s before [] h (less_open r before sound k))

@@ -6,7 +6,7 @@ pub mod levels;
 pub mod links;
 pub mod rows;
 
-ghost use Rattle.std.specs.Prelude.{◌≡◌, ◌≢◌, ◌<◌, ℕ, ◌⊎◌, Option, Some, List, [], ◌++◌, flat_map};
+ghost use Rattle.std.specs.Prelude.{◌≡◌, ◌≢◌, ◌<◌, ℕ, ◌⊎◌, Option, Some, List, [], ◌++◌, map, flat_map};
 ghost use Rattle.std.specs.List.{AllByRecursion as Each};
 ghost use Rattle.tbr_kept_lines.specs.Line.{Line};
 ghost use Rattle.tbr_renderer.specs.Renderer.{Open, Renderer, new_renderer, settings_of, open_run, IsSound};
@@ -21,7 +21,7 @@ ghost use Rattle.text_block_renderer.specs.Drawn.{WithoutDrawnBorders, borders_a
 ghost use Rattle.text_block_renderer.specs.MarkersStand.{Stands, FlushStands, WaitForText};
 ghost use Rattle.text_block_renderer.specs.Stretches.{StandsAsStretch, StaysOpen, EndsAsStretch, ComesInParts, borders_of_part, AppendsNothing, IsOwnPart};
 ghost use Rattle.text_block_renderer.specs.Added.{calls_add};
-ghost use Rattle.text_block_renderer.specs.Acts.{Act, after_act, acts_come};
+ghost use Rattle.text_block_renderer.specs.Acts.{Act, call, after_act, acts_come};
 ghost use Rattle.tbr_model.specs.Run.{Entry, Item};
 ghost use Rattle.tbr_decor.specs.Decoration.{Decoration};
 
@@ -58,7 +58,7 @@ pub fn renderers_stay_sound<D, A>()
 /// After any calls, rows and footnotes the visible characters that they brought are in the lines of text, except those
 /// of the open run. They are there once and in order, each under an annotation of its call. A row brings the texts of
 /// its lines. Footnotes come before the run that is open. Borders that became text by padding aren't counted: these are
-/// known. To a new renderer nothing was brought.
+/// known. To a new renderer nothing was brought. Of calls alone the same holds whatever was shown before.
 pub fn visible_characters_stand_once<D, A>()
     ensures acts { (columns : ℕ → Option ℕ) (decoration : Decoration D A) (acts : List (Act A))
         (r s : Renderer D A (List A)) (borders : List (List (Item (List A)))) (ended : List (Entry (List A))) →
@@ -77,6 +77,16 @@ pub fn visible_characters_stand_once<D, A>()
         DrawNone columns decoration acts r → run (after_act columns decoration) acts r ≡ done s →
         let before = ended ++ open_run r.block in
         Shows columns r before → Shows columns s (acts_come columns decoration acts r before) }
+    ensures calls { (columns : ℕ → Option ℕ) (decoration : Decoration D A) (calls : List (Call (List A)))
+        (r s : Renderer D A (List A)) (borders : List (List (Item (List A)))) (before es : List (Entry (List A))) →
+        IsSound columns r → Brings columns decoration calls r es s →
+        WithoutDrawnBorders borders (λ q. Shows columns q before) r →
+        WithoutDrawnBorders (borders ++ borders_drawn columns decoration (map call calls) r)
+        (λ q. Shows columns q (before ++ es)) s }
+    ensures undrawn_calls { (columns : ℕ → Option ℕ) (decoration : Decoration D A) (calls : List (Call (List A)))
+        (r s : Renderer D A (List A)) (before es : List (Entry (List A))) → IsSound columns r →
+        DrawNone columns decoration (map call calls) r → Brings columns decoration calls r es s →
+        Shows columns r before → Shows columns s (before ++ es) }
 {}
 
 /// After any calls, rows and footnotes what they brought, except the open run, is in the lines of text, or is a marker
@@ -114,14 +124,20 @@ pub fn what_a_flush_makes_stand<D, A>()
 {}
 
 /// After any calls, rows and footnotes the markers that wait begin the next line of text, and until then they wait. A
-/// border that became text by padding doesn't count as such a line.
+/// border that became text by padding doesn't count as such a line. Calls alone change no line that there was.
 pub fn waiting_markers_begin_the_next_text<D, A>()
     ensures acts { (columns : ℕ → Option ℕ) (decoration : Decoration D A) (acts : List (Act A))
-        (r s : Renderer D A (List A)) → IsSound columns r → run (after_act columns decoration) acts r ≡ done s →
+        (r s : Renderer D A (List A)) → run (after_act columns decoration) acts r ≡ done s →
         WaitForText (borders_drawn columns decoration acts r) r s }
     ensures undrawn { (columns : ℕ → Option ℕ) (decoration : Decoration D A) (acts : List (Act A))
-        (r s : Renderer D A (List A)) → IsSound columns r → DrawNone columns decoration acts r →
+        (r s : Renderer D A (List A)) → DrawNone columns decoration acts r →
         run (after_act columns decoration) acts r ≡ done s → WaitForText [] r s }
+    ensures calls { (columns : ℕ → Option ℕ) (decoration : Decoration D A) (calls : List (Call (List A)))
+        (r s : Renderer D A (List A)) → Steps columns decoration calls r s →
+        (waits : WaitForText (borders_drawn columns decoration (map call calls) r) r s) × (waits.kept ≡ r.lines) }
+    ensures undrawn_calls { (columns : ℕ → Option ℕ) (decoration : Decoration D A) (calls : List (Call (List A)))
+        (r s : Renderer D A (List A)) → DrawNone columns decoration (map call calls) r →
+        Steps columns decoration calls r s → (waits : WaitForText [] r s) × (waits.kept ≡ r.lines) }
 {}
 
 /// The lines of a run stay together for good, where a flush put them: the first after the markers that waited, and each

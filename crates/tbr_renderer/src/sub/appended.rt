@@ -12,7 +12,7 @@ ghost use Rattle.tbr_kept_lines.specs.Prefixed.{as_text, prefixed_lines, Appends
 ghost use Rattle.tbr_renderer.specs.Renderer.{KeepsSettings, with_line, block_width};
 ghost use Rattle.tbr_tagged.specs.Outcome.{done, refused};
 ghost use Rattle.tbr_renderer.specs.Outcomes.{and_then, gathered, taking};
-ghost use Rattle.tbr_renderer.specs.Flush.{after_flush};
+ghost use Rattle.tbr_renderer.specs.Flush.{EndsBest, after_flush};
 ghost use Rattle.tbr_renderer.specs.Calls as call;
 ghost use Rattle.tbr_renderer.specs.Calls.{Takes, IsWide, calls_by};
 ghost use Rattle.tbr_renderer.specs.Appended.{GivesFirst, AreAlike, alike, texts_of, with_prefixed, with_cell, with_cell_below, with_cells, after_lines, after_cells, handed_out};
@@ -224,6 +224,7 @@ impl<D: TextDecorator, W: CharWidth> SubRenderer<D, W> {
             (λ _. handed_out W.columns other) ≡ refused E.TooNarrow }
         ensures two_columns { 2 ≤ block_width self.old → other.failure ≡ None → 2 ≤ block_width other →
             result ≢ Err E.TooNarrow }
+        ensures best { OnOk result (EndsBest W.columns self.old × EndsBest W.columns other) }
         ensures settings { KeepsSettings self.old self.new }
     {
         self.try_flush()?;
@@ -245,6 +246,7 @@ impl<D: TextDecorator, W: CharWidth> SubRenderer<D, W> {
             let prefixes = alike (chars first.now) (chars others.now) in
             Takes calls (handed_out W.columns other) (IsWide calls other)
             (λ lines. calls.after (call.append_subrender (prefixes (length lines)) lines)) self.old result self.new }
+        ensures best { OnOk result (EndsBest W.columns self.old × EndsBest W.columns other) }
     {
         self.refusal()?;
         let done = self.try_append_prefixed(other, first, others);
@@ -267,6 +269,7 @@ impl<D: TextDecorator, W: CharWidth> SubRenderer<D, W> {
             (λ _. handed_out W.columns other) ≡ refused E.TooNarrow }
         ensures two_columns { 2 ≤ block_width self.old → (other.failure ≡ None) × (2 ≤ block_width other) →
             result ≢ Err E.TooNarrow }
+        ensures best { OnOk result (EndsBest W.columns self.old × EndsBest W.columns other) }
         ensures settings { KeepsSettings self.old self.new }
     {
         self.try_flush()?;
@@ -286,6 +289,7 @@ impl<D: TextDecorator, W: CharWidth> SubRenderer<D, W> {
             (λ _. gathered (λ col. handed_out W.columns col) cols.items) ≡ refused E.TooNarrow }
         ensures two_columns { 2 ≤ block_width self.old →
             Each (λ col. (col.failure ≡ None) × (2 ≤ block_width col)) cols.items → result ≢ Err E.TooNarrow }
+        ensures best { OnOk result (EndsBest W.columns self.old × Each (λ col. EndsBest W.columns col) cols.items) }
         ensures settings { KeepsSettings self.old self.new }
     {
         self.try_flush()?;
@@ -305,6 +309,7 @@ impl<D: TextDecorator, W: CharWidth> SubRenderer<D, W> {
         ensures two_columns { Each (λ col. (col.failure ≡ None) × (2 ≤ block_width col)) cols.items →
             result ≢ Err E.TooNarrow }
         ensures unfailed { OnOk result (self.new.failure ≡ None) }
+        ensures best { OnOk result (Each (λ col. EndsBest W.columns col) cols.items) }
         ensures settings { KeepsSettings self.old self.new }
     {
         let mut cols = cols.into_iter();
@@ -327,6 +332,7 @@ impl<D: TextDecorator, W: CharWidth> SubRenderer<D, W> {
         ensures two_columns { Each (λ col. (col.failure ≡ None) × (2 ≤ block_width col)) (into_iter_items cols) →
             result ≢ Err E.TooNarrow }
         ensures unfailed { OnOk result (self.new.failure ≡ None) }
+        ensures best { OnOk result (Each (λ col. EndsBest W.columns col) (into_iter_items cols)) }
         ensures settings { KeepsSettings self.old self.new }
     {
         for col in cols {

@@ -5,7 +5,7 @@ ghost use Rattle.tbr_wrap.specs.Block.{has_no_character, left};
 ghost use Rattle.tbr_kept_lines.specs.Line.{text_lines};
 ghost use Rattle.tbr_tagged.specs.declared.Error.TheVariants as E;
 ghost use Rattle.tbr_renderer.specs.Renderer.{KeepsSettings, with_line, block_width};
-ghost use Rattle.tbr_renderer.specs.Flush.{filled_line, AddsAsIs, after_flush};
+ghost use Rattle.tbr_renderer.specs.Flush.{EndsBest, filled_line, AddsAsIs, after_flush};
 ghost use Rattle.tbr_renderer.specs.Outcomes.{Tries};
 ghost use Rattle.tbr_renderer.specs.Steps.{with_empty_line, after_empty_line, block_started, after_block_start, at_line_start, after_break};
 
@@ -83,6 +83,7 @@ impl<D: TextDecorator, W: CharWidth> SubRenderer<D, W> {
         ensures tries { Tries (after_flush W.columns) self.old result self.new }
         ensures unfailed { OnOk result (self.new.failure ≡ None) }
         ensures two_columns { 2 ≤ block_width self.old → result ≢ Err E.TooNarrow }
+        ensures best { OnOk result (EndsBest W.columns self.old) }
         ensures settings { KeepsSettings self.old self.new }
     {
         let Some(boxed) = self.take_block() else {
@@ -101,6 +102,7 @@ impl<D: TextDecorator, W: CharWidth> SubRenderer<D, W> {
         requires { self.old.failure ≡ None }
         ensures tries { Tries (after_empty_line W.columns) self.old result self.new }
         ensures two_columns { 2 ≤ block_width self.old → result ≢ Err E.TooNarrow }
+        ensures best { OnOk result (EndsBest W.columns self.old) }
         ensures settings { KeepsSettings self.old self.new }
     {
         self.try_flush()?;
@@ -127,6 +129,7 @@ impl<D: TextDecorator, W: CharWidth> SubRenderer<D, W> {
         ensures unfailed { OnOk result (self.new.failure ≡ None) }
         ensures columns { OnOk result (block_width self.new ≡ block_width self.old) }
         ensures two_columns { 2 ≤ block_width self.old → result ≢ Err E.TooNarrow }
+        ensures best { OnOk result (EndsBest W.columns self.old) }
         ensures settings { KeepsSettings self.old self.new }
     {
         self.try_flush()?;
@@ -164,6 +167,7 @@ impl<D: TextDecorator, W: CharWidth> SubRenderer<D, W> {
         requires { self.old.failure ≡ None }
         ensures tries { Tries (after_break W.columns) self.old result self.new }
         ensures two_columns { 2 ≤ block_width self.old → result ≢ Err E.TooNarrow }
+        ensures best { OnOk result (EndsBest W.columns self.old) }
         ensures settings { KeepsSettings self.old self.new }
     {
         if self.is_at_line_start() {

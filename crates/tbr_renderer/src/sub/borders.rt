@@ -5,6 +5,7 @@ ghost use Rattle.tbr_tagged.specs.declared.Error.TheVariants as E;
 ghost use Rattle.tbr_renderer.specs.Renderer.{KeepsSettings, block_width};
 ghost use Rattle.tbr_rows.specs.Meant.{map_border};
 ghost use Rattle.tbr_renderer.specs.Appended.{with_border, border_of_cells, with_divider, after_border};
+ghost use Rattle.tbr_renderer.specs.Flush.{EndsBest};
 ghost use Rattle.tbr_renderer.specs.Outcomes.{Tries};
 
 use crate::sub::SubRenderer;
@@ -49,6 +50,7 @@ impl<D: TextDecorator, W: CharWidth> SubRenderer<D, W> {
         requires { self.old.failure ≡ None }
         ensures tries { Tries (after_border W.columns width) self.old result self.new }
         ensures two_columns { 2 ≤ block_width self.old → result ≢ Err E.TooNarrow }
+        ensures best { OnOk result (EndsBest W.columns self.old) }
         ensures settings { KeepsSettings self.old self.new }
     {
         self.try_flush()?;

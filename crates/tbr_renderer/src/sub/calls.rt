@@ -9,6 +9,7 @@ ghost use Rattle.tbr_renderer.specs.Calls as call;
 ghost use Rattle.tbr_tagged.specs.Outcome.{done};
 ghost use Rattle.tbr_renderer.specs.Outcomes.{gathered};
 ghost use Rattle.tbr_renderer.specs.Appended.{handed_out};
+ghost use Rattle.tbr_renderer.specs.Flush.{EndsBest};
 ghost use Rattle.tbr_rows.specs.Cells.{row_fits};
 ghost use Rattle.tbr_renderer.specs.Rows.{cells_handed_out, spots_of};
 ghost use Rattle.tbr_decor.specs.Decoration.{decoration_of};
@@ -87,6 +88,7 @@ impl<D: TextDecorator, W: CharWidth> Renderer for SubRenderer<D, W> {
     ghost use Rattle.tbr_renderer.specs.Renderer.{Renderer as Seen};
     ghost use Rattle.tbr_renderer.specs.Steps.{is_empty};
     ghost use Rattle.tbr_renderer.specs.Appended.{handed_out};
+    ghost use Rattle.tbr_renderer.specs.Flush.{EndsBest};
     ghost use Rattle.tbr_decor.specs.Decoration.{decoration_of};
     ghost use Rattle.std.specs.Prelude.{◌≡◌, List, true};
     ghost use Rattle.tbr_rows.specs.Cells.{row_fits};
@@ -101,6 +103,8 @@ impl<D: TextDecorator, W: CharWidth> Renderer for SubRenderer<D, W> {
     ghost calls = { calls_by W.columns (decoration_of D.TextDecorator D.Annotation.tells) };
 
     ghost handed_out = { λ r. handed_out W.columns r };
+
+    ghost ends_best = { λ r. EndsBest W.columns r };
 
     ghost has_places_for = { λ r cols. row_fits r.hanging (spots_of W.columns cols) ≡ true };
 
@@ -263,6 +267,7 @@ impl<D: TextDecorator, W: CharWidth> Renderer for SubRenderer<D, W> {
             let given = gathered (λ col. handed_out W.columns col) cols.items in
             Takes calls given (Each (IsWide calls) cols.items) (λ cells. calls.after (call.append_vert_row cells))
             self.old result self.new }
+        ensures best { OnOk result (EndsBest W.columns self.old × Each (λ col. EndsBest W.columns col) cols.items) }
     {
         self.refusal()?;
         let done = self.try_append_vert_row(cols);
@@ -282,6 +287,7 @@ impl<D: TextDecorator, W: CharWidth> Renderer for SubRenderer<D, W> {
             let given = cells_handed_out W.columns cols.items aligns.now in
             Takes calls given (Each (λ col. IsWide calls col.0) cols.items) (calls.after_row collapse)
             self.old result self.new }
+        ensures best { OnOk result (EndsBest W.columns self.old × Each (λ col. EndsBest W.columns col.0) cols.items) }
     {
         self.refusal()?;
         let done = self.try_append_columns(cols, aligns, collapse);
@@ -299,6 +305,7 @@ impl<D: TextDecorator, W: CharWidth> Renderer for SubRenderer<D, W> {
             let given = cells_handed_out W.columns cols.items [] in
             Takes calls given (Each (λ col. IsWide calls col.0) cols.items) (calls.after_row collapse)
             self.old result self.new }
+        ensures best { OnOk result (EndsBest W.columns self.old × Each (λ col. EndsBest W.columns col.0) cols.items) }
     {
         self.refusal()?;
         let done = self.try_append_columns(cols, &[], collapse);

@@ -13,6 +13,7 @@ ghost use Rattle.tbr_kept_lines.specs.Text.{line_text, lines_text};
 ghost use Rattle.tbr_tagged.specs.View.{chars_of};
 ghost use Rattle.tbr_renderer.specs.Mapped.{map_line};
 ghost use Rattle.tbr_tagged.specs.Outcome.{done, refused};
+ghost use Rattle.tbr_renderer.specs.Flush.{EndsBest};
 ghost use Rattle.tbr_renderer.specs.Outcomes.{changed};
 ghost use Rattle.tbr_renderer.specs.Appended.{handed_out};
 
@@ -40,6 +41,7 @@ impl<D: TextDecorator, W: CharWidth> SubRenderer<D, W> {
             handed_out W.columns self ≡ refused E.TooNarrow }
         ensures two_columns { self.failure ≡ None → 2 ≤ block_width self → result ≢ Err E.TooNarrow }
         ensures kept { (e : Refusal) → self.failure ≡ Some e → result ≡ Err e }
+        ensures best { OnOk result (EndsBest W.columns self) }
     {
         let alloc = self.alloc;
         let lines = self.into_shared_lines()?;
@@ -58,6 +60,7 @@ impl<D: TextDecorator, W: CharWidth> SubRenderer<D, W> {
             handed_out W.columns self ≡ refused E.TooNarrow }
         ensures two_columns { self.failure ≡ None → 2 ≤ block_width self → result ≢ Err E.TooNarrow }
         ensures kept { (e : Refusal) → self.failure ≡ Some e → result ≡ Err e }
+        ensures best { OnOk result (EndsBest W.columns self) }
     {
         Ok(self.into_kept()?.into_vec()?)
     }
@@ -72,6 +75,7 @@ impl<D: TextDecorator, W: CharWidth> SubRenderer<D, W> {
             handed_out W.columns self ≡ refused E.TooNarrow }
         ensures two_columns { self.failure ≡ None → 2 ≤ block_width self → result ≢ Err E.TooNarrow }
         ensures kept { (e : Refusal) → self.failure ≡ Some e → result ≡ Err e }
+        ensures best { OnOk result (EndsBest W.columns self) }
     {
         self.refusal()?;
         self.try_flush()?;
@@ -88,6 +92,7 @@ impl<D: TextDecorator, W: CharWidth> SubRenderer<D, W> {
             handed_out W.columns self ≡ refused E.TooNarrow }
         ensures two_columns { self.failure ≡ None → 2 ≤ block_width self → result ≢ Err E.TooNarrow }
         ensures kept { (e : Refusal) → self.failure ≡ Some e → result ≡ Err e }
+        ensures best { OnOk result (EndsBest W.columns self) }
     {
         Ok(self.into_kept()?.into_text()?)
     }

@@ -13,7 +13,7 @@ ghost use Rattle.tbr_rows.specs.Meant.{MeansRow, SeenRow};
 ghost use Rattle.tbr_renderer.specs.Renderer.{KeepsSettings, with_line, block_width};
 ghost use Rattle.tbr_tagged.specs.Outcome.{done, refused};
 ghost use Rattle.tbr_renderer.specs.Outcomes.{and_then, taking};
-ghost use Rattle.tbr_renderer.specs.Flush.{after_flush};
+ghost use Rattle.tbr_renderer.specs.Flush.{EndsBest, after_flush};
 ghost use Rattle.tbr_kept_lines.specs.LastBorder.{last_border, before_border};
 ghost use Rattle.tbr_renderer.specs.Rows as model;
 ghost use Rattle.tbr_renderer.specs.Rows.{GivenCell, ComesAs, cells_handed_out, after_row, row_seen};
@@ -93,6 +93,7 @@ impl<D: TextDecorator, W: CharWidth> SubRenderer<D, W> {
             (λ _. cells_handed_out W.columns cols.items aligns.now) ≡ refused E.TooNarrow }
         ensures two_columns { 2 ≤ block_width self.old →
             Each (λ col. (col.0.failure ≡ None) × (2 ≤ block_width col.0)) cols.items → result ≢ Err E.TooNarrow }
+        ensures best { OnOk result (EndsBest W.columns self.old × Each (λ col. EndsBest W.columns col.0) cols.items) }
         ensures settings { KeepsSettings self.old self.new }
     {
         self.try_flush()?;
@@ -117,6 +118,7 @@ impl<D: TextDecorator, W: CharWidth> SubRenderer<D, W> {
             cells_handed_out W.columns cols.items aligns.now ≡ refused E.TooNarrow }
         ensures two_columns { Each (λ col. (col.0.failure ≡ None) × (2 ≤ block_width col.0)) cols.items →
             result ≢ Err E.TooNarrow }
+        ensures best { OnOk result (Each (λ col. EndsBest W.columns col.0) cols.items) }
     {
         let tag = self.tag()?;
         let mut aligns = aligns.iter();

@@ -5,7 +5,7 @@ use Rattle.tbr_tagged.specs.Outcome.{done}
 use Rattle.text_block_renderer.specs.Rows.{cells_given}
 use Rattle.text_block_renderer.specs.Calls.{IsWide}
 use Rattle.callers.specs.Counted.{Counted, with_more, handed_out, after_row, calls}
-use Rattle.callers.proofs.Counts.{takes_so, takes_given, cells_come}
+use Rattle.callers.proofs.Counts.{nothing_said, takes_so, takes_given, cells_come}
 use Rattle.callers.proofs.counter.CounterRenderer.append_columns_with_borders.Goals as goal
 
 pub returns : goal.returns
@@ -19,4 +19,5 @@ returns c =
           let (cells, gives, sum) = cells_come cols [] h.1 in
           (h.0, takes_given given (after_row c.args.collapse) old c.take_cells.new.self cells gives (ap (λ n. done (with_more n old)) sum ∙ ap (λ (d : Counted). done d) (sym h.2)))) c.take_cells.ensures.ok)
           c.take_cells.ensures.err;
+      best = on_ok_weaker c.take_cells.result (λ h. (tt, nothing_said cols)) c.take_cells.ensures.ok;
     }

@@ -6,7 +6,7 @@ use Rattle.text_block_renderer.specs.Line.{Line}
 use Rattle.text_block_renderer.specs.Outcomes.{gathered}
 use Rattle.text_block_renderer.specs.Calls.{append_vert_row, IsWide}
 use Rattle.callers.specs.Counted.{Counted, with_more, one_line, handed_out, after, calls}
-use Rattle.callers.proofs.Counts.{takes_so, takes_given, all_handed, lines_of_all}
+use Rattle.callers.proofs.Counts.{nothing_said, takes_so, takes_given, all_handed, lines_of_all}
 use Rattle.callers.proofs.counter.CounterRenderer.append_vert_row.Goals as goal
 
 pub returns : goal.returns
@@ -22,4 +22,5 @@ returns c =
                 (ap (λ n. done (with_more n old)) (lines_of_all (λ (x : Counted). x) cols) ∙ ap (λ (d : Counted). done d) (sym h.2)),
           )) c.take_all.ensures.ok)
           c.take_all.ensures.err;
+      best = on_ok_weaker c.take_all.result (λ h. (tt, nothing_said cols)) c.take_all.ensures.ok;
     }

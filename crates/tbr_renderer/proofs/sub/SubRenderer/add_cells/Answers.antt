@@ -1,7 +1,9 @@
-use Rattle.std.proofs.Common.{◌≡◌, ◌∙◌, ◌∷◌, ap, sym, map, fold}
+use Rattle.std.proofs.Common.{◌≡◌, ◌∙◌, ◌∷◌, ap, sym, subst, map, fold}
+use Rattle.std.specs.List.{AllByRecursion as Each}
 use Rattle.std.specs.Vec.Iter.{into_iter_items}
 use Rattle.std.proofs.lemmas.Result.{on_ok_weaker}
 use Rattle.tbr_kept_lines.specs.Line.{line_seen}
+use Rattle.tbr_renderer.specs.Flush.{EndsBest}
 use Rattle.tbr_renderer.specs.Outcomes.{and_then, changed, gathered}
 use Rattle.tbr_renderer.specs.Appended.{with_cell_below}
 use Rattle.tbr_renderer.proofs.AppendedLines.{hands}
@@ -20,3 +22,8 @@ returns-clause-ok g c =
       h.2 ∙ ap (λ r. fold (with_cell_below columns) r h.0) c.in_ok-add_cell.ensures.lines,
     ))
     c.add_cells_below.ensures.ok
+
+pub returns-clause-best : goal.returns-clause-best
+returns-clause-best g c =
+    let whole : c.args.cols.items ≡ c.in-Some.first ∷ into_iter_items c.next.new.self = sym c.into_iter-cols.ensures.rest ∙ c.in-Some.ensures.items in
+    on_ok_weaker c.add_cells_below.result (λ h. subst (Each (λ col. EndsBest g.W.CharWidth.columns col)) (sym whole) (c.in_ok-lines.ensures.best, h)) c.add_cells_below.ensures.best

@@ -1,17 +1,18 @@
-use Rattle.std.proofs.Common.{ap, subst, map, ◌∙◌}
+use Rattle.std.proofs.Common.{[], ◌∷◌, ap, subst, sym, map, ◌∙◌}
 use Rattle.std.specs.List.{AllByRecursion as Each}
 use Rattle.std.specs.Vec.Iter.{into_iter_items}
 use Rattle.tbr_tagged.specs.declared.Error.TheVariants.{TooNarrow}
 use Rattle.tbr_kept_lines.specs.Line.{line_seen}
+use Rattle.tbr_renderer.specs.Flush.{EndsBest}
 use Rattle.tbr_renderer.specs.Outcomes.{gathered}
 use Rattle.tbr_renderer.proofs.OutcomeParts.{passed_on, gathered_stops}
 use Rattle.tbr_renderer.proofs.AppendedLines.{hands, no_cells, cells_go_on}
-use Rattle.tbr_kept_lines.proofs.KeptParts.{each_at}
+use Rattle.tbr_kept_lines.proofs.KeptParts.{each_append, each_at}
 use Rattle.tbr_kept_lines.proofs.ItemsLeft.{items_left, items_taken}
 use Rattle.tbr_renderer.proofs.sub.SubRenderer.add_cells_below.Goals as goal
 
 pub loop-col-init : goal.loop-col-init
-loop-col-init g c = no_cells g.W.CharWidth.columns c.args.self.now c.requires
+loop-col-init g c = (no_cells g.W.CharWidth.columns c.args.self.now c.requires, tt)
 
 pub returns-in_err-lines-clause-too_narrow : goal.returns-in_err-lines-clause-too_narrow
 returns-in_err-lines-clause-too_narrow g c = λ is.
@@ -20,7 +21,7 @@ returns-in_err-lines-clause-too_narrow g c = λ is.
     let whole = items_left c.args.cols c.into_iter-col-iterator.result c.loop-col.col-iterator c.next.new.self c.loop-col.yielded c.in-Some.col c.into_iter-col-iterator.ensures.into_iter_gives c.loop-col.yielded_by c.in-Some.ensures.steps.0 in
     let give = hands columns c.args.self.now in
     ap (gathered give) whole
-    ∙ gathered_stops give c.loop-col.yielded c.loop-col.invariant.cells c.in-Some.col (into_iter_items c.next.new.self) TooNarrow c.loop-col.invariant.hand (c.into_shared_lines.ensures.too_narrow e)
+    ∙ gathered_stops give c.loop-col.yielded c.loop-col.invariant.0.cells c.in-Some.col (into_iter_items c.next.new.self) TooNarrow c.loop-col.invariant.0.hand (c.into_shared_lines.ensures.too_narrow e)
 
 pub returns-in_err-lines-clause-two_columns : goal.returns-in_err-lines-clause-two_columns
 returns-in_err-lines-clause-two_columns g c = λ wide is.
@@ -32,12 +33,20 @@ returns-in_err-lines-clause-two_columns g c = λ wide is.
 pub loop-col-preserved : goal.loop-col-preserved
 loop-col-preserved g c =
     let lines = c.in_ok-lines.lines.items in
-    cells_go_on g.W.CharWidth.columns c.args.self.now c.loop-col.yielded c.in-Some.col (map line_seen lines) c.loop-col.self c.add_divider.new.self c.add_cell.new.self c.loop-col.invariant
-    c.in_ok-lines.ensures.lines
-    c.in_ok-add_divider.ensures.divider c.in_ok-add_cell.ensures.lines c.in_ok-add_divider.ensures.settings c.in_ok-add_cell.ensures.settings c.in_ok-add_cell.ensures.unfailed
+    let columns = g.W.CharWidth.columns in (
+      cells_go_on columns c.args.self.now c.loop-col.yielded c.in-Some.col (map line_seen lines) c.loop-col.self c.add_divider.new.self c.add_cell.new.self c.loop-col.invariant.0
+          c.in_ok-lines.ensures.lines
+          c.in_ok-add_divider.ensures.divider c.in_ok-add_cell.ensures.lines c.in_ok-add_divider.ensures.settings c.in_ok-add_cell.ensures.settings c.in_ok-add_cell.ensures.unfailed,
+      each_append (λ col. EndsBest columns col) c.loop-col.yielded (c.in-Some.col ∷ []) c.loop-col.invariant.1 (c.in_ok-lines.ensures.best, tt),
+    )
 
 pub returns-clause-ok : goal.returns-clause-ok
 returns-clause-ok g c =
-    let h = c.loop-col.invariant in
+    let h = c.loop-col.invariant.0 in
     let whole = items_taken c.args.cols c.into_iter-col-iterator.result c.loop-col.col-iterator c.next.new.self c.loop-col.yielded c.into_iter-col-iterator.ensures.into_iter_gives c.loop-col.yielded_by c.in-None.ensures.steps in
     (h.cells, ap (gathered (hands g.W.CharWidth.columns c.args.self.now)) whole ∙ h.hand, h.is)
+
+pub returns-clause-best : goal.returns-clause-best
+returns-clause-best g c =
+    let whole = items_taken c.args.cols c.into_iter-col-iterator.result c.loop-col.col-iterator c.next.new.self c.loop-col.yielded c.into_iter-col-iterator.ensures.into_iter_gives c.loop-col.yielded_by c.in-None.ensures.steps in
+    subst (Each (λ col. EndsBest g.W.CharWidth.columns col)) (sym whole) c.loop-col.invariant.1

@@ -3,5 +3,5 @@ use Rattle.tbr_tagged.proofs.Outcomes.{live_goes}
 use Rattle.tbr_renderer.proofs.KeptRefusals.{settled_takes}
 use Rattle.tbr_renderer.proofs.sub.SubRenderer.append_prefixed.Goals as goal
 
-pub returns : goal.returns
-returns g c = search (rules, settled_takes, live_goes, c.keep.ensures, c.try_append_prefixed-done.ensures, c.in_ok-refusal.ensures)
+pub returns-clause-takes : goal.returns-clause-takes
+returns-clause-takes g c = search (rules, settled_takes, live_goes, c.keep.ensures, c.try_append_prefixed-done.ensures, c.in_ok-refusal.ensures)

@@ -7,9 +7,10 @@ use Rattle.tbr_tagged.specs.declared.CellAlign.TheVariants.{Left}
 use Rattle.tbr_rows.specs.Meant.{map_line as map_row_line}
 use Rattle.tbr_renderer.specs.Rows.{LeavesFree, FillsCell, cells_handed_out}
 use Rattle.tbr_renderer.specs.Appended.{handed_out}
+use Rattle.tbr_renderer.specs.Flush.{EndsBest}
 use Rattle.tbr_renderer.proofs.GivenCells.{given_stops}
 use Rattle.tbr_kept_lines.proofs.ItemsLeft.{items_left, items_taken}
-use Rattle.tbr_kept_lines.proofs.KeptParts.{each_at}
+use Rattle.tbr_kept_lines.proofs.KeptParts.{each_append, each_at}
 use Rattle.tbr_renderer.proofs.OutcomeParts.{passed_on}
 use Rattle.tbr_renderer.proofs.PutRows.{no_columns, columns_go_on, next_taken, lines_fill}
 use Rattle.tbr_renderer.proofs.sub.SubRenderer.columns_of.Goals as goal
@@ -54,6 +55,7 @@ loop-col-preserved g c =
           (subst (λ (n : ℕ). AllZip (FillsCell columns c.unwrap_or-align.result n c.in_ok-tag.tag) seen filled) c.width-width.ensures fills))
           (c.in_ok-push_cell.ensures.ok.2 ∙ ap (λ n. own ++ cell_after own n c.in-Some.span filled ∷ []) c.width-width.ensures),
       c.in_ok-push_cell.ensures.side_by_side,
+      each_append (λ cell. EndsBest columns cell.0) c.loop-col.yielded ((col, c.in-Some.span) ∷ []) c.loop-col.invariant.2 (c.in_ok-lines.ensures.best, tt),
     )
 
 pub returns-clause-cells : goal.returns-clause-cells
@@ -68,3 +70,9 @@ returns-clause-free g c =
     let all = c.into_iter-col-iterator.result in
     let whole = sym c.into_iter-col-iterator.ensures.into_iter_gives.0 ∙ items_taken all all c.loop-col.col-iterator c.next.new.self c.loop-col.yielded refl c.loop-col.yielded_by c.in-None.ensures.steps in
     subst (λ cols. AllZip (LeavesFree g.W.CharWidth.columns) cols c.loop-col.columns) (sym whole) c.loop-col.invariant.0.free
+
+pub returns-clause-best : goal.returns-clause-best
+returns-clause-best g c =
+    let all = c.into_iter-col-iterator.result in
+    let whole = sym c.into_iter-col-iterator.ensures.into_iter_gives.0 ∙ items_taken all all c.loop-col.col-iterator c.next.new.self c.loop-col.yielded refl c.loop-col.yielded_by c.in-None.ensures.steps in
+    subst (Each (λ col. EndsBest g.W.CharWidth.columns col.0)) (sym whole) c.loop-col.invariant.2

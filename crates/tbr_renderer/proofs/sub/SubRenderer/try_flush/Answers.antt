@@ -5,7 +5,7 @@ use Rattle.tbr_wrap.proofs.runs.BlockLaws.{flush_in_two, flush_leaves, none_open
 use Rattle.tbr_renderer.specs.Renderer.{block_width, may_overflow}
 use Rattle.tbr_renderer.specs.View.{block_seen, names_of, IsFresh}
 use Rattle.tbr_renderer.proofs.OutcomeParts.{passed_on, never_narrow, tries_ok, tries_err}
-use Rattle.tbr_renderer.proofs.BlockEnds.{markers_named, are_markers, block_flushed, block_refused}
+use Rattle.tbr_renderer.proofs.BlockEnds.{markers_named, are_markers, block_flushed, block_best, block_refused}
 use Rattle.tbr_renderer.proofs.sub.SubRenderer.try_flush.Given.{Over}
 use Rattle.tbr_renderer.proofs.sub.SubRenderer.try_flush.Goals.{In_ok-flush}
 use Rattle.tbr_renderer.proofs.sub.SubRenderer.try_flush.Goals as goal
@@ -55,3 +55,9 @@ returns-clause-tries g c =
     (block_flushed columns c.args.self.now c.into_inner-block.result seen fresh c.flush.new.self c.take_trailing_fragments.new.self c.in_ok-flush.ensures.answers.ok c.in_ok-markers.ensures.answers.ok
     (names_of (map element_of c.in_ok-markers.markers.items)) c.take_block.new.self c.add_lines_of.new.self c.add_waiting.new.self c.in-Some.ensures.rest c.in_ok-add_lines_of.ensures.lines
     (markers_named (map element_of c.in_ok-markers.markers.items) (loose columns c.flush.new.self) c.in_ok-markers.ensures.markers) c.in_ok-add_waiting.ensures.waiting)
+
+pub returns-clause-best : goal.returns-clause-best
+returns-clause-best g c =
+    let fresh = subst (λ b. IsFresh g.W.CharWidth.columns (block_width c.args.self.now) (may_overflow c.args.self.now) b) (sym c.into_inner-block.ensures) c.in-Some.ensures.opened in
+    let seen = ap (λ b. block_seen (Some b)) c.into_inner-block.ensures ∙ c.in-Some.ensures.block in
+    block_best g.W.CharWidth.columns c.args.self.now c.into_inner-block.result seen fresh c.in_ok-flush.ensures.best
