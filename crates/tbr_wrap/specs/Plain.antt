@@ -12,9 +12,20 @@ use Rattle.tbr_wrap.specs.declared.plain.Stretch.{Stretch}
 abbrev pub plain_width : (ℕ → Option ℕ) → ℕ → Option ℕ
 plain_width columns c = if is_ascii_graphic c then columns c else None
 
--- the same, and of the space where it joins a word too
-abbrev pub stretch_width : (ℕ → Option ℕ) → Bool → ℕ → Option ℕ
-stretch_width columns spaced c = if spaced && c == space_character then columns c else plain_width columns c
+-- printable ASCII, other than the space, of one column
+abbrev pub is_narrow : (ℕ → Option ℕ) → ℕ → Bool
+is_narrow columns c = unwrap_or (plain_width columns c) 0 == 1
+
+-- the same, or the space where it joins a word too
+abbrev pub is_plain : (ℕ → Option ℕ) → Bool → ℕ → Bool
+is_plain columns spaced c = is_narrow columns c || (spaced && c == space_character)
+
+abbrev pub ArePlain : (ℕ → Option ℕ) → Bool → List ℕ → Type 0
+ArePlain columns spaced cs = Each (λ c. is_plain columns spaced c ≡ true) cs
+
+abbrev pub begins_with_space : List ℕ → Bool
+begins_with_space [] = false
+begins_with_space (c ∷ cs) = c == space_character
 
 -- A character joins the word where it is: one at which no word ends, or the space where it joins a word too.
 abbrev pub joins : (ℕ → Option ℕ) → Bool → ℕ → Bool
@@ -22,6 +33,12 @@ joins columns spaced c = is_kept columns c || (spaced && c == space_character)
 
 abbrev pub JoinWord : (ℕ → Option ℕ) → Bool → List ℕ → Type 0
 JoinWord columns spaced cs = Each (λ c. joins columns spaced c ≡ true) cs
+
+-- The characters join the word, one after the other. Where white space is kept, spaces do inside the word, and so after
+-- its first character.
+abbrev pub JoinInTurn : (ℕ → Option ℕ) → Bool → Bool → List ℕ → Type 0
+JoinInTurn columns keeps inside [] = Unit {0}
+JoinInTurn columns keeps inside (c ∷ cs) = (joins columns (keeps && inside) c ≡ true) × JoinWord columns keeps cs
 
 -- the columns of a character at which no word ends
 abbrev pub kept_width : (ℕ → Option ℕ) → ℕ → Option ℕ
@@ -33,15 +50,11 @@ pub record IsFront (text : List ℕ) (bytes count : ℕ) : Type 0 where
   pub utf8 : IsUtf8 (take bytes text)
   pub number : count ≡ length (chars (take bytes text))
 
--- The same with the columns, of characters that join the word where it is.
-pub record IsStretch (columns : ℕ → Option ℕ) (spaced : Bool) (text : List ℕ) (s : Stretch) : Type 0 where
+-- The same with the columns, of characters that join the word.
+pub record IsStretch (columns : ℕ → Option ℕ) (keeps inside : Bool) (text : List ℕ) (s : Stretch) : Type 0 where
   pub front : IsFront text s.bytes s.count
   pub width : s.columns ≡ width_of_text columns (chars (take s.bytes text))
-  pub join : JoinWord columns spaced (chars (take s.bytes text))
-
--- printable ASCII, other than the space, of one column
-abbrev pub is_narrow : (ℕ → Option ℕ) → ℕ → Bool
-is_narrow columns c = unwrap_or (plain_width columns c) 0 == 1
+  pub join : JoinInTurn columns keeps inside (chars (take s.bytes text))
 
 -- Whether a word is under way after one more character, where narrow words come with one space between two. None
 -- where the character isn't one of these.

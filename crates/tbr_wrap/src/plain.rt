@@ -1,41 +1,38 @@
 //! Plain characters, which can be added to a word or a line many at once.
-ghost use Rattle.std.specs.Prelude.{◌≡◌, ◌≤◌, ◌<◌, ◌+◌, ◌∷◌, ℕ, List, length, take, drop, IfSome, Some, false, fold, nat_lt};
-ghost use Rattle.std.specs.Str.{IsAscii};
-ghost use Rattle.tbr_model.specs.Width.{width_of_text};
+ghost use Rattle.std.specs.Prelude.{◌≡◌, ◌≤◌, ◌<◌, ◌+◌, ◌∷◌, ℕ, Bool, List, length, take, drop, Some, false, fold, nat_lt};
 ghost use Rattle.tbr_wrap.specs.Plain as plain;
-ghost use Rattle.tbr_wrap.specs.Plain.{JoinWord, IsStretch, AreWords, reads};
+ghost use Rattle.tbr_wrap.specs.Plain.{ArePlain, IsStretch, AreWords, reads};
 
 use tbr_model::CharWidth;
 use tbr_tagged::is_wordbreak_point;
 
-/// The plain characters at the beginning of a text that fit into `room` columns: how many bytes they are, and their
-/// columns.
+/// How many plain characters a text begins with, at most `room`.
 ///
-/// A plain character is printable ASCII that has a width; the space is one only if `spaced` is set. The character after
-/// these isn't plain, or doesn't fit.
-pub fn plain_in_front<W: CharWidth>(text: &str, spaced: bool, room: usize) -> (usize, usize)
-    ensures within { result.0 ≤ length text.now }
-    ensures ascii { IsAscii (take result.0 text.now) }
-    ensures join { JoinWord W.columns spaced (take result.0 text.now) }
-    ensures room { result.1 ≤ room }
-    ensures columns { result.1 ≡ width_of_text W.columns (take result.0 text.now) }
-    ensures all { (b : ℕ) (rest : List ℕ) → drop result.0 text.now ≡ b ∷ rest →
-        IfSome (plain.stretch_width W.columns spaced b) (λ n. room < result.1 + n) }
+/// A plain character is printable ASCII of one column; the space is one only if `spaced` is set.
+pub fn plain_in_front<W: CharWidth>(text: &str, spaced: bool, room: usize) -> usize
+    ensures within { result ≤ length text.now }
+    ensures room { result ≤ room }
+    ensures plain { ArePlain W.columns spaced (take result text.now) }
+    ensures all { (b : ℕ) (rest : List ℕ) → drop result text.now ≡ b ∷ rest → result < room →
+        plain.is_plain W.columns spaced b ≡ false }
 {
     let bytes = text.as_bytes();
-    let mut columns = 0;
+    let most = bytes.len().min(room);
     let mut count = 0;
-    while count < bytes.len() {
-        let Some(width) = stretch_width::<W>(bytes[count], spaced) else {
-            return (count, columns);
-        };
-        if width > room - columns {
-            return (count, columns);
-        }
-        columns += width;
+    while count < most && is_plain::<W>(bytes[count], spaced) {
         count += 1;
     }
-    (count, columns)
+    count
+}
+
+/// Whether a text begins with a space.
+pub fn begins_with_space(text: &str) -> bool
+    ensures { result ≡ plain.begins_with_space text.now }
+{
+    match text.as_bytes().first() {
+        Some(byte) => *byte == b' ',
+        None => false,
+    }
 }
 
 /// The beginning of a text: its bytes, its characters and the columns that these take.
@@ -46,17 +43,20 @@ pub struct Stretch {
     pub columns: usize,
 }
 
+/// The beginning of no characters.
+pub const NO_STRETCH: Stretch = Stretch {
+    bytes: 0,
+    count: 0,
+    columns: 0,
+};
+
 /// The characters at the beginning of a text at which no word ends, as many as fit into `room` columns. Each has a
 /// width.
 pub fn letters_in_front<W: CharWidth>(text: &str, room: usize) -> Stretch
-    ensures letters { IsStretch W.columns false text.now result }
+    ensures letters { (keeps inside : Bool) → IsStretch W.columns keeps inside text.now result }
     ensures room { result.columns ≤ room }
 {
-    let mut front = Stretch {
-        bytes: 0,
-        count: 0,
-        columns: 0,
-    };
+    let mut front = NO_STRETCH;
     for c in text.chars() {
         let Some(width) = kept_width::<W>(c) else {
             return front;
@@ -81,12 +81,15 @@ fn kept_width<W: CharWidth>(c: char) -> Option<usize>
     W::width(c)
 }
 
-/// How many bytes the first words of a text take, each with the space after it. Their characters are plain, of one
-/// column each. All but the last space fit into `room` columns.
-pub fn words_in_front<W: CharWidth>(text: &str, room: usize) -> usize
-    ensures within { result ≤ length text.now }
-    ensures room { result ≤ room + 1 }
-    ensures words { 0 < result → AreWords W.columns (take result text.now) }
+/// How many bytes the first words of a text take, each with the space after it, and how many bytes it has read. Where it
+/// has found no words, these are of the first one.
+///
+/// The characters of words are plain. All but the last space fit into `room` columns.
+pub fn words_in_front<W: CharWidth>(text: &str, room: usize) -> (usize, usize)
+    ensures within { result.0 ≤ length text.now }
+    ensures room { result.0 ≤ room + 1 }
+    ensures words { 0 < result.0 → AreWords W.columns (take result.0 text.now) }
+    ensures read { result.0 ≡ 0 → ArePlain W.columns false (take result.1 text.now) }
 {
     let bytes = text.as_bytes();
     let most = bytes.len().min(room.saturating_add(1));
@@ -94,11 +97,11 @@ pub fn words_in_front<W: CharWidth>(text: &str, room: usize) -> usize
     while end < most {
         let after = word_end::<W>(bytes, end, most);
         if after == end || after == most || bytes[after] != b' ' {
-            return end;
+            return (end, after);
         }
         end = after + 1;
     }
-    end
+    (end, end)
 }
 
 /// Where the narrow characters that begin at a place end, at most at another place.
@@ -107,6 +110,7 @@ fn word_end<W: CharWidth>(bytes: &[u8], start: usize, most: usize) -> usize
     ensures within { (start ≤ result) × (result ≤ most) }
     ensures read { fold (reads W.columns) (Some false) (take start bytes.now) ≡ Some false →
         fold (reads W.columns) (Some false) (take result bytes.now) ≡ Some (nat_lt start result) }
+    ensures first { start ≡ 0 → ArePlain W.columns false (take result bytes.now) }
 {
     let mut at = start;
     while at < most && is_narrow::<W>(bytes[at]) {
@@ -115,7 +119,7 @@ fn word_end<W: CharWidth>(bytes: &[u8], start: usize, most: usize) -> usize
     at
 }
 
-/// Whether a byte is a plain character of one column.
+/// Whether a byte is a plain character other than the space.
 fn is_narrow<W: CharWidth>(byte: u8) -> bool
     ensures { result ≡ plain.is_narrow W.columns byte }
 {
@@ -125,18 +129,14 @@ fn is_narrow<W: CharWidth>(byte: u8) -> bool
     }
 }
 
-/// The columns of a plain character. The space is one only if `spaced` is set.
-fn stretch_width<W: CharWidth>(byte: u8, spaced: bool) -> Option<usize>
-    ensures { result ≡ plain.stretch_width W.columns spaced byte }
+/// Whether a byte is a plain character. The space is one only if `spaced` is set.
+fn is_plain<W: CharWidth>(byte: u8, spaced: bool) -> bool
+    ensures { result ≡ plain.is_plain W.columns spaced byte }
 {
-    if spaced && byte == b' ' {
-        W::width(' ')
-    } else {
-        plain_width::<W>(byte)
-    }
+    is_narrow::<W>(byte) || (spaced && byte == b' ')
 }
 
-/// The columns of a plain character other than the space.
+/// The columns of printable ASCII other than the space.
 fn plain_width<W: CharWidth>(byte: u8) -> Option<usize>
     ensures { result ≡ plain.plain_width W.columns byte }
 {

@@ -2,8 +2,8 @@
 //! character wider than a line, and lines may not be wider. It answers `OutOfMemory` as `LaidLines` does.
 //!
 //! Its stages, in the words of its functions:
-//! - The beginning of a text is *added*, as much at once as possible: words, a stretch of characters, or one
-//!   (`add_front`).
+//! - The beginning of a text is *added*, as much at once as possible: words, or a stretch of characters and the one
+//!   after it (`add_front`).
 //! - A character *joins* the word (`join`), or a stretch of characters at which no word ends does (`add_stretch`).
 //!   White space that doesn't join is pending before the word (`collapse`, `keep_space`).
 //! - The word is *laid* where it ends. If it fits the open line after what is pending, it is laid here (`lay_here`).
@@ -13,7 +13,7 @@
 //! - What fits the open line is *placed* on it (`place_pending`, `place_word`). What may not fit is *put* on it and the
 //!   next ones (`put_pending`, `put_fresh`, `put_tab`).
 //! - Ended lines are *taken*, the first one first ([`LaidLines::take_line`]).
-ghost use Rattle.std.specs.Prelude.{◌≡◌, ◌≤◌, ◌<◌, ◌+◌, ◌&&◌, ◌↔◌, [], ℕ, List, fold, length, take, map, chars, string_bytes, Bool, if◌then◌else◌, IsTrue, Option, None, Some, true, false, OnOk, IfOk, IfSome, Err};
+ghost use Rattle.std.specs.Prelude.{◌≡◌, ◌≤◌, ◌<◌, ◌+◌, ◌&&◌, ◌||◌, ◌↔◌, [], ℕ, List, fold, length, take, map, chars, string_bytes, Bool, not, if◌then◌else◌, IsTrue, Option, None, Some, true, false, OnOk, IfOk, IfSome, Err};
 ghost use Rattle.tbr_model.specs.Width.{width_of_text};
 ghost use Rattle.tbr_model.specs.Run.{Item, items_width, character, marker_entry, has_character, is_break};
 ghost use Rattle.tbr_model.specs.Laid.{extended, put_items};
@@ -28,7 +28,9 @@ ghost use Rattle.tbr_tagged.specs.View.{element_of};
 ghost use Rattle.tbr_tagged.specs.declared.error.Error.TheVariants as E;
 
 use crate::laid_lines::LaidLines;
-use crate::plain::{Stretch, letters_in_front, plain_in_front, words_in_front};
+use crate::plain::{
+    NO_STRETCH, Stretch, begins_with_space, letters_in_front, plain_in_front, words_in_front,
+};
 use std::alloc::Global;
 use std::mem;
 use tbr_model::{CharWidth, WhiteSpace};
@@ -111,7 +113,8 @@ impl<T> Wrapper<T> {
 
 impl<T: Tag> Wrapper<T> {
     ghost use Rattle.tbr_wrap.specs.LaidLines.{KeepsLimits};
-    ghost use Rattle.tbr_wrap.specs.Plain.{JoinWord, IsFront, IsStretch, AreWords};
+    ghost use Rattle.tbr_wrap.specs.Plain as plain;
+    ghost use Rattle.tbr_wrap.specs.Plain.{ArePlain, JoinInTurn, IsFront, IsStretch, AreWords};
     ghost use Rattle.tbr_wrap.specs.Runs.{text_entries};
     ghost use Rattle.tbr_wrap.specs.Wrapper.{IsAtProgress, IsUnderWay, Wherever, WrapperFollows, RefusesWider, Enters, RunIsFinished, SameSpace, KeepsTag, DropsSpace, AreMoved, held_width, join_all};
 
@@ -616,30 +619,34 @@ impl<T: Tag> Wrapper<T> {
         self.room()
     }
 
+    /// Whether the spaces that a text begins with, or that come after its first character, join the word.
+    fn joins_spaces(&self, text: &str, mode: WhiteSpace) -> bool
+        ensures { result ≡ (model.is_pre mode
+            && (has_character self.now.lines.flat.word || not (plain.begins_with_space text.now))) }
+    {
+        is_pre(mode) && (self.lines.flat.has_word() || !begins_with_space(text))
+    }
+
     /// The characters at the beginning of a text that join the word under the tag of this call. They are plain ones, or
     /// if there are none, characters of any script, as many as there are. In `Pre` the spaces after a character of the
-    /// word are plain. `None` where there are none.
-    fn fitting_stretch<W: CharWidth>(&self, text: &str, mode: WhiteSpace) -> Option<Stretch>
-        ensures some { IfSome result (λ s. 0 < s.count) }
-        ensures stretch { IfSome result (λ s.
-            IsStretch W.columns (model.is_pre mode && has_character self.now.lines.flat.word) text.now s) }
-        ensures tag { IfSome result (λ s. KeepsTag self.now mode s.columns) }
+    /// word are plain.
+    fn fitting_stretch<W: CharWidth>(&self, text: &str, mode: WhiteSpace) -> Stretch
+        ensures stretch { IsStretch W.columns (model.is_pre mode) (has_character self.now.lines.flat.word) text.now
+            result }
+        ensures tag { 0 < result.count → KeepsTag self.now mode result.columns }
     {
-        let room = self.room_under_tag(mode)?;
-        let spaced = is_pre(mode) && self.lines.flat.has_word();
-        let (count, columns) = plain_in_front::<W>(text, spaced, room);
+        let Some(room) = self.room_under_tag(mode) else {
+            return NO_STRETCH;
+        };
+        let count = plain_in_front::<W>(text, self.joins_spaces(text, mode), room);
         if count > 0 {
-            return Some(Stretch {
+            return Stretch {
                 bytes: count,
                 count,
-                columns,
-            });
+                columns: count,
+            };
         }
-        let letters = letters_in_front::<W>(text, room);
-        if letters.count > 0 {
-            return Some(letters);
-        }
-        None
+        letters_in_front::<W>(text, room)
     }
 
     /// Adds `count` characters of a run, of `width` columns. No word ends there, and no continuation begins.
@@ -652,37 +659,40 @@ impl<T: Tag> Wrapper<T> {
         wrap_tag: &T,
         mode: WhiteSpace,
     ) -> Result<(), OutOfMemory>
-        requires some { 0 < count }
         requires count { count ≡ length (chars text.now) }
-        requires join { JoinWord W.columns (model.is_pre mode && has_character self.old.lines.flat.word)
-            (chars text.now) }
         requires width { width ≡ width_of_text W.columns (chars text.now) }
-        requires tag { KeepsTag self.old mode width }
+        requires join { JoinInTurn W.columns (model.is_pre mode) (has_character self.old.lines.flat.word)
+            (chars text.now) }
+        requires tag { 0 < count → KeepsTag self.old mode width }
         ensures entered { WrapperFollows W.columns T.eq self.old self.new result (λ p.
             fold (enter W.columns self.old.lines.width) p
             (text_entries (chars text.now) main_tag.now wrap_tag.now mode)) }
         ensures limits { KeepsLimits self.old.lines self.new.lines }
     {
+        if count == 0 {
+            return Ok(());
+        }
         let tag = self.call_tag(main_tag, wrap_tag);
         self.join_text(text, count, width, tag, mode)
     }
 
-    /// How many bytes the first words of a text take, each with the space after it. They are as many as fit the open
-    /// line.
-    fn fitting_words<W: CharWidth>(&self, text: &str, mode: WhiteSpace) -> usize
-        ensures within { result ≤ length text.now }
-        ensures mode { 0 < result → mode ≡ Normal }
-        ensures word { 0 < result → has_character self.now.lines.flat.word ≡ false }
-        ensures words { 0 < result → AreWords W.columns (take result text.now) }
-        ensures room { 0 < result → self.now.lines.line_width + (held_width self.now.space + (self.now.word_width
-            + result)) ≤ self.now.lines.width + 1 }
+    /// How many bytes the first words of a text take, each with the space after it, and how many bytes were read. They
+    /// are as many as fit the open line. Where there are none, the first word was read.
+    fn fitting_words<W: CharWidth>(&self, text: &str, mode: WhiteSpace) -> (usize, usize)
+        ensures within { result.0 ≤ length text.now }
+        ensures mode { 0 < result.0 → mode ≡ Normal }
+        ensures word { 0 < result.0 → has_character self.now.lines.flat.word ≡ false }
+        ensures words { 0 < result.0 → AreWords W.columns (take result.0 text.now) }
+        ensures room { 0 < result.0 → self.now.lines.line_width + (held_width self.now.space + (self.now.word_width
+            + result.0)) ≤ self.now.lines.width + 1 }
+        ensures read { result.0 ≡ 0 → ArePlain W.columns false (take result.1 text.now) }
     {
         if !is_normal(mode) || self.lines.flat.has_word() {
-            return 0;
+            return (0, 0);
         }
         match self.room() {
             Some(room) => words_in_front::<W>(text, room),
-            None => 0,
+            None => (0, 0),
         }
     }
 
@@ -747,9 +757,10 @@ impl<T: Tag> Wrapper<T> {
         }
     }
 
-    /// How many bytes the first words of a text take, each with the space after it. The first one doesn't fit the open
-    /// line, and a new line has room for all.
-    fn moved_words<W: CharWidth>(&self, text: &str, mode: WhiteSpace) -> usize
+    /// How many bytes the first words of a text take, each with the space after it. The first one, of which `read`
+    /// characters are known, doesn't fit the open line, and a new line has room for all.
+    fn moved_words<W: CharWidth>(&self, text: &str, mode: WhiteSpace, read: usize) -> usize
+        requires { ArePlain W.columns false (take read text.now) }
         ensures within { result ≤ length text.now }
         ensures mode { 0 < result → mode ≡ Normal }
         ensures word { 0 < result → has_character self.now.lines.flat.word ≡ false }
@@ -761,11 +772,11 @@ impl<T: Tag> Wrapper<T> {
         let Some(room) = self.room() else {
             return 0;
         };
-        let (first, _) = plain_in_front::<W>(text, false, self.lines.width);
-        if first <= room {
+        if read <= room {
             return 0;
         }
-        words_in_front::<W>(text, self.lines.width - self.word_width)
+        let (words, _) = words_in_front::<W>(text, self.lines.width - self.word_width);
+        words
     }
 
     /// Adds words, each with a space after it, to a new line. The last space waits, and the one before them is dropped.
@@ -790,7 +801,7 @@ impl<T: Tag> Wrapper<T> {
 
     /// Adds the beginning of a text to a run, and answers how many bytes and characters that is. It adds the first
     /// words, if they fit the open line or a new one. Otherwise it adds the characters that join the word under the tag
-    /// of this call, or else the first character.
+    /// of this call, and the character after them.
     pub fn add_front<W: CharWidth>(
         &mut self,
         text: &str,
@@ -809,26 +820,24 @@ impl<T: Tag> Wrapper<T> {
             (text_entries (chars text.now) main_tag.now wrap_tag.now mode)).laid.done) }
         ensures limits { KeepsLimits self.old.lines self.new.lines }
     {
-        let words = self.fitting_words::<W>(text, mode);
+        let (words, read) = self.fitting_words::<W>(text, mode);
         if words > 0 {
             self.add_words::<W>(&text[..words], main_tag, wrap_tag)?;
             return Ok((words, words));
         }
-        let moved = self.moved_words::<W>(text, mode);
+        let moved = self.moved_words::<W>(text, mode, read);
         if moved > 0 {
             self.move_words::<W>(&text[..moved], main_tag, wrap_tag)?;
             return Ok((moved, moved));
         }
-        if let Some(s) = self.fitting_stretch::<W>(text, mode) {
-            let front = &text[..s.bytes];
-            self.add_stretch::<W>(front, s.count, s.columns, main_tag, wrap_tag, mode)?;
+        let s = self.fitting_stretch::<W>(text, mode);
+        let front = &text[..s.bytes];
+        self.add_stretch::<W>(front, s.count, s.columns, main_tag, wrap_tag, mode)?;
+        let Some(c) = text[s.bytes..].chars().next() else {
             return Ok((s.bytes, s.count));
-        }
-        let Some(c) = text.chars().next() else {
-            return Ok((0, 0));
         };
         self.add_char::<W>(c, main_tag, wrap_tag, mode)?;
-        Ok((c.len_utf8(), 1))
+        Ok((s.bytes + c.len_utf8(), s.count + 1))
     }
 
     /// Adds a marker to the word.

@@ -1,23 +1,19 @@
 -- Characters at which no word ends join the word, one after the other.
-use Rattle.std.proofs.Common.{◌≡◌, ◌≢◌, ℕ, ◌+◌, ◌<◌, ◌≤◌, ◌==◌, Bool, true, false, not, ◌&&◌, ◌||◌, if◌then◌else◌, Option, None, Some, is_some, unwrap_or, List, [], ◌∷◌, ◌++◌, fold, length, get_or, take, refl, ap, sym, ◌∙◌, subst, arith, append_assoc, le-ltb}
+use Rattle.std.proofs.Common.{◌≡◌, ◌≢◌, ℕ, ◌+◌, ◌<◌, ◌≤◌, ◌==◌, Bool, true, false, not, ◌&&◌, ◌||◌, if◌then◌else◌, Option, None, Some, is_some, unwrap_or, List, [], ◌∷◌, ◌++◌, fold, length, refl, ap, sym, ◌∙◌, subst, arith, append_assoc, le-ltb}
 use Rattle.std.specs.Char.{is_ascii_graphic, is_whitespace}
 use Rattle.std.specs.Str.{IsAscii}
 use Rattle.std.proofs.lemmas.Bool.{and_left, and_right, and_parts}
 use Rattle.std.proofs.lemmas.Bool.Decides.{nat_tests}
-use Rattle.std.proofs.lemmas.List.{take_more}
-use Rattle.std.proofs.lemmas.Str.{IsAscii-append}
 use Rattle.std.proofs.lemmas.Str.Ascii.{IsAscii-nil, IsAscii-cons}
-use Rattle.std.proofs.Math.Bool.{or-true}
+use Rattle.std.proofs.Math.Bool.{or-true, and-true}
 use Rattle.tbr_model.specs.declared.white_space.WhiteSpace.{WhiteSpace}
 use Rattle.tbr_model.specs.declared.white_space.WhiteSpace.TheVariants.{Normal, Pre, PreWrap}
 use Rattle.tbr_model.specs.Run.{glyph, character, has_character, items_width, is_break, is_kept, always_takes_space}
 use Rattle.tbr_model.specs.Rule.{Progress, enter, is_pre, join, tag_of, pending_width, keep_character}
 use Rattle.tbr_model.specs.Width.{width_of_text}
-use Rattle.tbr_model.proofs.lists.Each.{each_append}
 use Rattle.tbr_model.proofs.words.Items.{has_character-append, items_width-append}
 use Rattle.tbr_tagged.specs.Elements.{text_items}
-use Rattle.tbr_tagged.proofs.TextColumns.{width_of_text-append}
-use Rattle.tbr_wrap.specs.Plain.{stretch_width, joins, JoinWord}
+use Rattle.tbr_wrap.specs.Plain.{is_narrow, is_plain, ArePlain, joins, JoinWord, JoinInTurn}
 use Rattle.tbr_wrap.specs.Runs.{text_entries}
 use Rattle.tbr_wrap.specs.Wrapper.{join_all}
 use Rattle.tbr_wrap.proofs.words.ModeCases.{normal_kept, preserve_kept, preserve_space, keep_joins}
@@ -30,40 +26,54 @@ graphic_low c h = (grind (arith, nat_tests), grind (arith, nat_tests))
 pub graphic_joins : (c : ℕ) → is_ascii_graphic c ≡ true → is_break c ≡ false
 graphic_joins c h = grind (arith, nat_tests)
 
--- what is known of a character of a stretch
-record Plain (columns : ℕ → Option ℕ) (spaced : Bool) (c n : ℕ) : Type 0 where
-  pub ascii : c < 128
-  pub joins_word : joins columns spaced c ≡ true
-  pub has_width : columns c ≡ Some n
+-- what is known of a narrow character
+pub record Narrow (columns : ℕ → Option ℕ) (c : ℕ) : Type 0 where
+  pub graphic : is_ascii_graphic c ≡ true
+  pub one : columns c ≡ Some 1
 
-plain_parts : (columns : ℕ → Option ℕ) (spaced : Bool) (c n : ℕ) → stretch_width columns spaced c ≡ Some n → Plain columns spaced c n
-plain_parts columns spaced c n h = go (spaced && c == 32) (is_ascii_graphic c) refl refl h
+pub narrow_parts : (columns : ℕ → Option ℕ) (c : ℕ) → is_narrow columns c ≡ true → Narrow columns c
+narrow_parts columns c h = go (is_ascii_graphic c) (columns c) refl refl h
   where
-    go : (s g : Bool) → (spaced && c == 32) ≡ s → is_ascii_graphic c ≡ g → (if s then columns c else (if g then columns c else None)) ≡ Some n → Plain columns spaced c n
-    go true g e f h = record {
-      ascii = grind (arith, nat_tests, (and_parts spaced (c == 32) e).1);
-      joins_word = ap (λ s. is_kept columns c || s) e ∙ or-true (is_kept columns c);
-      has_width = h;
-    }
-    go false true e f h = record {
-      ascii = omega (arith, (graphic_low c f).1);
-      joins_word = ap (λ o. (is_some o && not (is_break c)) || (spaced && c == 32)) h ∙ ap (λ t. not t || (spaced && c == 32)) (graphic_joins c f);
-      has_width = h;
-    }
+    go : (g : Bool) (o : Option ℕ) → is_ascii_graphic c ≡ g → columns c ≡ o → (unwrap_or (if g then o else None) 0 == 1) ≡ true → Narrow columns c
+    go true (Some n) e f h = record { graphic = e; one = f ∙ ap Some (grind (arith, nat_tests)) }
+    go true None e f h = cc
+    go false o e f h = cc
+
+plain_character : (columns : ℕ → Option ℕ) (spaced : Bool) (c : ℕ) → columns 32 ≡ Some 1 → is_plain columns spaced c ≡ true → (c < 128) × (joins columns spaced c ≡ true) × (columns c ≡ Some 1)
+plain_character columns spaced c one h = go (is_narrow columns c) (spaced && c == 32) refl refl h
+  where
+    go : (n s : Bool) → is_narrow columns c ≡ n → (spaced && c == 32) ≡ s → (n || s) ≡ true → (c < 128) × (joins columns spaced c ≡ true) × (columns c ≡ Some 1)
+    go true s e f h =
+        let n = narrow_parts columns c e in (
+          omega (arith, (graphic_low c n.graphic).1),
+          ap (λ o. (is_some o && not (is_break c)) || (spaced && c == 32)) n.one ∙ ap (λ t. not t || (spaced && c == 32)) (graphic_joins c n.graphic),
+          n.one,
+        )
+    go false true e f h =
+        let is : c ≡ 32 = grind (arith, nat_tests, (and_parts spaced (c == 32) f).1) in
+        (omega (arith, is), ap (λ s. is_kept columns c || s) f ∙ or-true (is_kept columns c), ap columns is ∙ one)
     go false false e f h = cc
 
--- ---- going over them
+-- what is known of plain characters
+pub record Plain (columns : ℕ → Option ℕ) (spaced : Bool) (cs : List ℕ) : Type 0 where
+  pub ascii : IsAscii cs
+  pub join : JoinWord columns spaced cs
+  pub width : width_of_text columns cs ≡ length cs
 
-pub plain_more : (columns : ℕ → Option ℕ) (spaced : Bool) (bs : List ℕ) (k n : ℕ) → k < length bs → stretch_width columns spaced (get_or bs k 0) ≡ Some n → IsAscii (take k bs) → JoinWord columns spaced (take k bs) →
-    IsAscii (take (k + 1) bs) × JoinWord columns spaced (take (k + 1) bs) × (width_of_text columns (take (k + 1) bs) ≡ width_of_text columns (take k bs) + n)
-plain_more columns spaced bs k n h e ascii plain =
-    let b = get_or bs k 0 in let more = take_more bs k 0 h in
-    let p = plain_parts columns spaced b n e in
-    let width : width_of_text columns (b ∷ []) ≡ n = omega (arith, ap (λ o. unwrap_or o 0) p.has_width) in (
-      subst IsAscii (sym more) (IsAscii-append (take k bs) (b ∷ []) ascii (IsAscii-cons b [] p.ascii IsAscii-nil)),
-      subst (JoinWord columns spaced) (sym more) (each_append (λ c. joins columns spaced c ≡ true) (take k bs) (b ∷ []) plain (p.joins_word, tt)),
-      omega (arith, ap (width_of_text columns) more, width_of_text-append columns (take k bs) (b ∷ []), width),
-    )
+pub plain_parts : (columns : ℕ → Option ℕ) (spaced : Bool) (cs : List ℕ) → columns 32 ≡ Some 1 → ArePlain columns spaced cs → Plain columns spaced cs
+plain_parts columns spaced [] one h = record { ascii = IsAscii-nil; join = tt; width = refl }
+plain_parts columns spaced (c ∷ cs) one h =
+    let first = plain_character columns spaced c one h.0 in let k = plain_parts columns spaced cs one h.1 in
+    record {
+      ascii = IsAscii-cons c cs first.0 k.ascii;
+      join = (first.1, k.join);
+      width = omega (arith, ap (λ o. unwrap_or o 0) first.2, k.width);
+    }
+
+-- inside a word, spaces join from the first character on
+inside : (columns : ℕ → Option ℕ) (keeps some : Bool) (cs : List ℕ) → some ≡ true → JoinWord columns keeps cs → JoinInTurn columns keeps some cs
+inside columns keeps some [] e h = tt
+inside columns keeps some (c ∷ cs) e h = (subst (λ s. joins columns s c ≡ true) (sym (and-true keeps) ∙ ap (λ b. keeps && b) (sym e)) h.0, h.1)
 
 -- ---- what the rule does with them
 
@@ -131,25 +141,21 @@ module _ {A : Type 0} (columns : ℕ → Option ℕ) (width : ℕ) (a b : A) whe
       preserve_space columns width 32 a b Pre p (λ e. omega (arith, e)) (λ e. omega (arith, e)) (λ e. omega (arith, e)) 1 refl one ∙ keep_joins 32 (tag_of p a b) Pre 1 p some
   space_entered _ p one is some = cc
 
-  module _ (mode : WhiteSpace) (spaced : Bool) (one : columns 32 ≡ Some 1) where
-    -- spaces join where white space is kept, after a character of the word
-    abbrev pub SpacesJoin : Progress A → Type 0
-    SpacesJoin p = spaced ≡ true → (is_pre mode ≡ true) × (has_character p.word ≡ true)
-
-    joins_entered : (c : ℕ) (p : Progress A) → joins columns spaced c ≡ true → SpacesJoin p → StaysUnder width columns mode (unwrap_or (columns c) 0) p → enter columns width p (character c a b mode) ≡ join c (tag_of p a b) mode p
-    joins_entered c p h spaces stays =
-        elim (joining columns spaced c h) [
+  module _ (mode : WhiteSpace) (one : columns 32 ≡ Some 1) where
+    joins_entered : (c : ℕ) (p : Progress A) → joins columns (is_pre mode && has_character p.word) c ≡ true → StaysUnder width columns mode (unwrap_or (columns c) 0) p → enter columns width p (character c a b mode) ≡ join c (tag_of p a b) mode p
+    joins_entered c p h stays =
+        elim (joining columns (is_pre mode && has_character p.word) c h) [
           | kept n has_width is ↦ kept_entered mode c n p has_width is (subst (λ o. StaysUnder width columns mode (unwrap_or o 0) p) has_width stays)
-          | space e is ↦ let k = spaces e in ap (λ d. enter columns width p (character d a b mode)) is ∙ space_entered mode p one k.0 k.1 ∙ ap (λ d. join d (tag_of p a b) mode p) (sym is)
+          | space e is ↦ let k = and_parts (is_pre mode) (has_character p.word) e in ap (λ d. enter columns width p (character d a b mode)) is ∙ space_entered mode p one k.0 k.1 ∙ ap (λ d. join d (tag_of p a b) mode p) (sym is)
         ]
 
-    pub all_join : (cs : List ℕ) (p : Progress A) → JoinWord columns spaced cs → SpacesJoin p → StaysUnder width columns mode (width_of_text columns cs) p → fold (enter columns width) p (text_entries cs a b mode) ≡ join_all cs (tag_of p a b) mode p
-    all_join [] p h spaces stays = refl
-    all_join (c ∷ cs) p h spaces stays =
+    pub all_join : (cs : List ℕ) (p : Progress A) → JoinInTurn columns (is_pre mode) (has_character p.word) cs → StaysUnder width columns mode (width_of_text columns cs) p → fold (enter columns width) p (text_entries cs a b mode) ≡ join_all cs (tag_of p a b) mode p
+    all_join [] p h stays = refl
+    all_join (c ∷ cs) p h stays =
         let t = tag_of p a b in let q : Progress A = join c t mode p in
         let some : has_character q.word ≡ true = has_character-append p.word (glyph c t ∷ []) ∙ or-true (has_character p.word) in
-        rw (fold, joins_entered c p h.0 spaces (stays_first width columns mode _ _ p (omega arith) stays))
-        (all_join cs q h.1 (λ e. ((spaces e).0, some)) (stays_after width columns mode c (width_of_text columns cs) t p stays))
+        rw (fold, joins_entered c p h.0 (stays_first width columns mode _ _ p (omega arith) stays))
+        (all_join cs q (inside columns (is_pre mode) (has_character q.word) cs some h.1) (stays_after width columns mode c (width_of_text columns cs) t p stays))
 
 -- all of them at once
 joined_all : {A : Type 0} (c : ℕ) (cs : List ℕ) (a : A) (mode : WhiteSpace) (p : Progress A) →

@@ -1,6 +1,5 @@
 -- Narrow words with one space between two go on the open line as one word does.
 use Rattle.std.proofs.Common.{◌≡◌, ℕ, suc, zero, ◌+◌, ◌<◌, ◌≤◌, ◌==◌, Bool, true, false, if◌then◌else◌, Option, None, Some, unwrap_or, List, [], ◌∷◌, ◌++◌, fold, length, take, slice_range, ◌-◌, refl, ap, sym, ◌∙◌, subst, arith, append_assoc, append-nil, length-append, lt-ltb, le-leb}
-use Rattle.std.specs.Char.{is_ascii_graphic}
 use Rattle.std.specs.Str.{IsAscii}
 use Rattle.std.proofs.lemmas.Bool.{lt-leb}
 use Rattle.std.proofs.lemmas.Bool.Decides.{nat_tests}
@@ -20,24 +19,11 @@ use Rattle.tbr_wrap.specs.Plain.{is_narrow, joins, reads, JoinWord, AreWords}
 use Rattle.tbr_wrap.specs.Runs.{text_entries}
 use Rattle.tbr_wrap.specs.Wrapper.{join_all}
 use Rattle.tbr_wrap.proofs.words.ModeCases.{normal_kept, normal_break}
-use Rattle.tbr_wrap.proofs.words.PlainText.{joined_text, graphic_low, graphic_joins}
+use Rattle.tbr_wrap.proofs.words.PlainText.{Narrow, narrow_parts, joined_text, graphic_low, graphic_joins}
 use Rattle.tbr_model.proofs.rule.Walk.{extended_twice}
 use Rattle.tbr_wrap.proofs.words.WordsLaid.{put_fitting, lay_fresh_some}
 
 -- ---- what is read
-
--- what is known of a narrow character
-pub record Narrow (columns : ℕ → Option ℕ) (c : ℕ) : Type 0 where
-  pub graphic : is_ascii_graphic c ≡ true
-  pub one : columns c ≡ Some 1
-
-narrow_parts : (columns : ℕ → Option ℕ) (c : ℕ) → is_narrow columns c ≡ true → Narrow columns c
-narrow_parts columns c h = go (is_ascii_graphic c) (columns c) refl refl h
-  where
-    go : (g : Bool) (o : Option ℕ) → is_ascii_graphic c ≡ g → columns c ≡ o → (unwrap_or (if g then o else None) 0 == 1) ≡ true → Narrow columns c
-    go true (Some n) e f h = record { graphic = e; one = f ∙ ap Some (grind (arith, nat_tests)) }
-    go true None e f h = cc
-    go false o e f h = cc
 
 reads_none : (columns : ℕ → Option ℕ) (cs : List ℕ) → fold (reads columns) None cs ≡ None
 reads_none columns [] = refl

@@ -1,10 +1,8 @@
 -- Where no character changes the tag.
-use Rattle.std.proofs.Common.{◌≡◌, ◌&&◌, ℕ, Bool, true, false, Option, List, inl, inr, refl, sym, ◌∙◌, arith}
-use Rattle.std.proofs.lemmas.Bool.{and_parts}
+use Rattle.std.proofs.Common.{◌≡◌, ℕ, Bool, true, false, Option, List, inl, inr, refl, sym, ◌∙◌, arith}
 use Rattle.tbr_model.specs.declared.white_space.WhiteSpace.{WhiteSpace}
-use Rattle.tbr_model.specs.Run.{Item, has_character}
+use Rattle.tbr_model.specs.Run.{Item}
 use Rattle.tbr_model.specs.Rule.{Progress, is_pre}
-use Rattle.tbr_tagged.proofs.SameItems.{same_has}
 use Rattle.tbr_wrap.specs.declared.wrapper.Wrapper.{Wrapper}
 use Rattle.tbr_wrap.specs.Wrapper.{IsAtProgress, KeepsTag}
 use Rattle.tbr_wrap.proofs.words.PlainText.{StaysUnder, elsewhere, fits, goes_on}
@@ -21,6 +19,3 @@ module _ {A : Type 0} (columns : ℕ → Option ℕ) (eq : A → A → Bool) (b 
             | inl room ↦ fits (omega (arith, room, s.word_width, s.lays.holds.width, s.lays.shows.width, same_held_width eq b.space p.space s.space))
             | inr on ↦ goes_on (sym s.continuation_flag ∙ on.0) (sym s.in_continuation ∙ on.1)
           ]
-
-  pub spaces_join : IsAtProgress columns eq b before given p → (is_pre mode && has_character b.lines.flat.word) ≡ true → (is_pre mode ≡ true) × (has_character p.word ≡ true)
-  spaces_join s h = let k = and_parts (is_pre mode) (has_character b.lines.flat.word) h in (k.0, sym (same_has eq b.lines.flat.word p.word s.word) ∙ k.1)

@@ -1,5 +1,5 @@
 use Rattle.std.proofs.Common.{◌≡◌, ◌≤◌, ◌-◌, false, nat_lt, Some, take, fold}
-use Rattle.tbr_wrap.specs.Plain.{reads}
+use Rattle.tbr_wrap.specs.Plain.{ArePlain, reads}
 use Rattle.tbr_wrap.proofs.plain.word_end.Given as goal
 
 abbrev pub invariant-loop-at : goal.invariant-loop-at
@@ -8,6 +8,7 @@ invariant-loop-at g l = record {
   within : l.at ≤ l.most;
   read : fold (reads g.W.CharWidth.columns) (Some false) (take l.start l.bytes) ≡ Some false →
       fold (reads g.W.CharWidth.columns) (Some false) (take l.at l.bytes) ≡ Some (nat_lt l.start l.at);
+  first : l.start ≡ 0 → ArePlain g.W.CharWidth.columns false (take l.at l.bytes);
 }
 
 abbrev pub decreases-loop-at : goal.decreases-loop-at
