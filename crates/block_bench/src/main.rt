@@ -39,7 +39,7 @@ impl Kind {
         }
     }
 
-    fn new_block(self, alloc: Global) -> WrappedBlock<u8> {
+    fn new_block(self, alloc: Global) -> Result<WrappedBlock<u8>, OutOfMemory> {
         match self {
             Kind::Tags | Kind::Markers | Kind::Pre => {
                 WrappedBlock::new(alloc, WIDTH, false, false, 1)
@@ -100,7 +100,7 @@ fn run(rt: &HostRuntime) -> Option<()> {
     let input = io::read_to_string(rt.alloc(), rt.reader()).ok()?;
     let (word, text) = input.as_str().split_once('\n')?;
     let kind = Kind::parse(word)?;
-    let mut block = kind.new_block(rt.alloc());
+    let mut block = kind.new_block(rt.alloc()).ok()?;
     kind.add(rt.alloc(), &mut block, text).ok()?;
     let lines = block.into_lines().ok()?;
     let mut bytes = 0usize;

@@ -18,7 +18,7 @@ pub fn wrapped(alloc: Global, text: &str, width: usize) -> Result<Vec<TaggedLine
         × AllZip (ShowsText unicode_columns (λ _ _. true) None width) lines.items texts) }
     ensures memory { IfErr result (λ e. e ≡ E.OutOfMemory) }
 {
-    let mut block: WrappedBlock<()> = WrappedBlock::new(alloc, width, false, false, ());
+    let mut block: WrappedBlock<()> = WrappedBlock::new(alloc, width, false, false, ())?;
     block.add_text(text, WhiteSpace::Normal, &(), &())?;
     block.into_lines()
 }

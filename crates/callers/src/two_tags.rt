@@ -4,7 +4,7 @@ use tbr_lines::{Error, WhiteSpace, WrappedBlock};
 
 /// The lines of a text under two characters as tags, each with a newline.
 pub fn under_two_tags(alloc: Global) -> Result<String, Error> {
-    let mut block: WrappedBlock<char> = WrappedBlock::new(alloc, 20, false, false, 'a');
+    let mut block: WrappedBlock<char> = WrappedBlock::new(alloc, 20, false, false, 'a')?;
     block.add_text("Words under a ", WhiteSpace::Normal, &'a', &'a')?;
     block.add_text("second tag.", WhiteSpace::Normal, &'b', &'b')?;
     let lines = block.into_lines()?;

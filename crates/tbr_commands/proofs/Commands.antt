@@ -1,17 +1,18 @@
 -- What the code finds is what is read.
 use Rattle.std.proofs.Common.{◌≡◌, ◌≢◌, ℕ, zero, suc, Bool, true, false, ◌||◌, ◌<◌, ◌==◌, if◌then◌else◌, List, [], ◌∷◌, ◌++◌, length, get_or, Option, Some, None, MatchResult, Result, Ok, Err, IfSome, codes, arith, rules, refl, sym, ap, ◌∙◌, subst, inr}
 use Rattle.std.specs.Borrow.{Bor}
+use Rattle.std.proofs.lemmas.Bool.{false≢true}
 use Rattle.std.specs.List.{list_any}
 use Rattle.std.specs.Option.{option_map}
 use Rattle.std.specs.Result.{result_ok}
 use Rattle.std.specs.Str.{IsUtf8, is_utf8}
 use Rattle.std.proofs.lemmas.Str.{IsUtf8-append, IsUtf8-from_ascii, IsUtf8-from_is_utf8, is_utf8-from_IsUtf8}
-use Rattle.tbr_script.specs.Script.{backslash}
+use Rattle.tbr_script.specs.Script.{IsText, backslash}
 use Rattle.tbr_script.proofs.Texts.{plain_all}
-use Rattle.tbr_script.proofs.Reading.{test, if_so, if_not, written_text}
+use Rattle.tbr_script.proofs.Reading.{no_some, some_once, test, if_so, if_not, written_text}
 use Rattle.tbr_commands.specs.Request.{text}
-use Rattle.tbr_commands.specs.Command.{ask}
-use Rattle.tbr_commands.specs.Read.{split_at_space, command_read, as_written, plain_read}
+use Rattle.tbr_commands.specs.Command.{ask, link}
+use Rattle.tbr_commands.specs.Read.{split_at_space, command_read, as_written}
 use Rattle.tbr_commands.proofs.Reading.{no_byte, command_is_read}
 
 -- ---- lines
@@ -31,10 +32,6 @@ unread read line other =
     test (is_utf8 line) (λ so. absurd (other (IsUtf8-from_is_utf8 line so))) (λ so. sym (if_not (is_utf8 line) (read line) None so))
 
 -- ---- a text as it is written
-
--- a line that begins with its word
-pub plain_is : (line bytes : List ℕ) → line ≡ codes "text " ++ bytes → as_written bytes ≡ plain_read line
-plain_is line bytes is = ap plain_read (sym is)
 
 any_backslash : (bytes : List ℕ) (i : ℕ) → i < length bytes → get_or bytes i 0 ≡ 92 → list_any (λ b. b == backslash) bytes ≡ true
 any_backslash [] i lt is = absurd (omega (arith, lt))
@@ -62,15 +59,35 @@ as_it_is {E} bytes r none h = go r h ∙ sym (if_not (list_any (λ b. b == backs
     go (Ok s) h = ap Some h.0 ∙ sym (if_so (is_utf8 bytes) (Some bytes) None (is_utf8-from_IsUtf8 bytes h.1))
     go (Err e) h = unread Some bytes h
 
--- without a backslash a text means itself
-plain_command : (line bytes : List ℕ) → line ≡ codes "text " ++ bytes → IsUtf8 bytes → ((i : ℕ) → i < length bytes → get_or bytes i 0 ≢ 92) → command_read line ≡ Some (ask (text bytes))
-plain_command line bytes is utf8 none =
-    command_is_read line (ask (text bytes)) (record {
-      utf8 = subst IsUtf8 (sym is) (IsUtf8-append (codes "text ") bytes (IsUtf8-from_ascii (codes "text ") (search rules)) utf8);
-      writes = inr (bytes, is, written_text bytes bytes (plain_all bytes none));
-    })
+-- what is written so is a text of its own
+means_itself : (bytes t : List ℕ) → as_written bytes ≡ Some t → IsUtf8 bytes × IsText bytes t
+means_itself bytes t e =
+    test (list_any (λ b. b == backslash) bytes) (λ any. absurd (no_some t (sym (if_so _ _ _ any) ∙ e)))
+    (λ none.
+    test (is_utf8 bytes)
+    (λ so.
+    let same = sym (some_once bytes t (sym (if_so (is_utf8 bytes) (Some bytes) None so) ∙ sym (if_not _ _ _ none) ∙ e)) in
+    (IsUtf8-from_is_utf8 bytes so, subst (IsText bytes) same (written_text bytes bytes (plain_all bytes (λ i lt is. false≢true (sym none ∙ any_backslash bytes i lt is))))))
+    (λ not. absurd (no_some t (sym (if_not (is_utf8 bytes) (Some bytes) None not) ∙ sym (if_not _ _ _ none) ∙ e))))
 
-pub plain_text : {E : Type 0} (Q : E → Type 0) (line bytes : List ℕ) (r : Result (Bor (List ℕ)) E) → line ≡ codes "text " ++ bytes → ((i : ℕ) → i < length bytes → get_or bytes i 0 ≢ 92) →
-    MatchResult r (λ s. (s.now ≡ bytes) × IsUtf8 bytes) Q → IfSome (result_ok r) (λ s. command_read line ≡ Some (ask (text s.now)))
-plain_text Q line bytes (Ok s) is none h = subst (λ bs. command_read line ≡ Some (ask (text bs))) (sym h.0) (plain_command line bytes is h.1 none)
-plain_text Q line bytes (Err e) is none h = tt
+-- what holds of a text that is written so, where there is one
+pub if_written : (P : List ℕ → Type 0) (r : Option (Bor (List ℕ))) (bytes : List ℕ) → option_map (λ s. s.now) r ≡ as_written bytes → ((t : List ℕ) → as_written bytes ≡ Some t → P t) → IfSome r (λ s. P s.now)
+if_written P None bytes is holds = tt
+if_written P (Some s) bytes is holds = holds s.now (sym is)
+
+module _ (line bytes t : List ℕ) (e : as_written bytes ≡ Some t) where
+  after_ascii : (word : List ℕ) → IsUtf8 word → line ≡ word ++ bytes → IsUtf8 line
+  after_ascii word ascii is = subst IsUtf8 (sym is) (IsUtf8-append word bytes ascii (means_itself bytes t e).0)
+
+  -- after the word of a text, and of a link
+  pub plain_text : line ≡ codes "text " ++ bytes → command_read line ≡ Some (ask (text t))
+  plain_text is = command_is_read line (ask (text t)) (record {
+    utf8 = after_ascii (codes "text ") (IsUtf8-from_ascii (codes "text ") (search rules)) is;
+    writes = inr (bytes, is, (means_itself bytes t e).1);
+  })
+
+  pub plain_link : line ≡ codes "link " ++ bytes → command_read line ≡ Some (link t)
+  plain_link is = command_is_read line (link t) (record {
+    utf8 = after_ascii (codes "link ") (IsUtf8-from_ascii (codes "link ") (search rules)) is;
+    writes = (bytes, is, (means_itself bytes t e).1);
+  })

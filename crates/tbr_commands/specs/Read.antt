@@ -156,9 +156,9 @@ abbrev pub as_written : List ℕ → Option (List ℕ)
 as_written writing =
     if list_any (λ b. b == backslash) writing then None else if is_utf8 writing then Some writing else None
 
--- the text of a line that is written so after its word
-abbrev pub plain_read : List ℕ → Option (List ℕ)
-plain_read line = option_and_then as_written (after_word (codes "text ") line)
+-- the text of a line that is written so after a word
+abbrev pub plain_read : List ℕ → List ℕ → Option (List ℕ)
+plain_read word line = option_and_then as_written (after_word word line)
 
 -- ---- the first command
 

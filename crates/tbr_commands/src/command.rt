@@ -1,9 +1,9 @@
 //! What a line of a script asks for.
-ghost use Rattle.std.specs.Prelude.{◌≡◌, Some, None, IfOk, IfSome};
+ghost use Rattle.std.specs.Prelude.{◌≡◌, Some, None, IfOk, IfSome, codes};
 ghost use Rattle.std.specs.Option.{option_map};
 ghost use Rattle.tbr_commands.specs.Command as asked;
 ghost use Rattle.tbr_commands.specs.Command.{command_of};
-ghost use Rattle.tbr_commands.specs.Read.{looked_up, endings, names, name_read, level_readers, read_by, argument_read, line_read, command_read, plain_read};
+ghost use Rattle.tbr_commands.specs.Read.{looked_up, endings, names, name_read, level_readers, read_by, argument_read, line_read, command_read, as_written, plain_read};
 ghost use Rattle.tbr_commands.specs.Request as requests;
 
 use crate::command::new_cell::NewCell;
@@ -50,14 +50,19 @@ impl Command {
     /// The text that a line asks for, where it is written without a backslash: what follows the word and a space.
     /// `None` for any other line. It takes no memory.
     pub fn plain_text(line: &[u8]) -> Option<&str>
-        ensures value { option_map (λ text. text.now) result ≡ plain_read line.now }
+        ensures value { option_map (λ text. text.now) result ≡ plain_read (codes "text ") line.now }
         ensures asked { IfSome result (λ text. command_read line.now ≡ Some (asked.ask (requests.text text.now))) }
     {
-        let writing = line.strip_prefix(b"text ")?;
-        match memchr(b'\\', writing) {
-            Some(_) => None,
-            None => from_utf8(writing).ok(),
-        }
+        as_written(line.strip_prefix(b"text ")?)
+    }
+
+    /// The target of the link that a line begins, where it is written so too. `None` for any other line. It takes no
+    /// memory.
+    pub fn plain_link(line: &[u8]) -> Option<&str>
+        ensures value { option_map (λ target. target.now) result ≡ plain_read (codes "link ") line.now }
+        ensures asked { IfSome result (λ target. command_read line.now ≡ Some (asked.link target.now)) }
+    {
+        as_written(line.strip_prefix(b"link ")?)
     }
 
     /// What a line asks for, without its newline. `Ok(None)` where it is no command. It refuses only where memory is
@@ -161,5 +166,15 @@ impl Command {
             "row" if argument == "collapse" => Ok(Some(Command::Row { collapse: true })),
             _ => Ok(None),
         }
+    }
+}
+
+/// A writing in UTF-8, as it is, where it has no backslash.
+fn as_written(writing: &[u8]) -> Option<&str>
+    ensures { option_map (λ text. text.now) result ≡ as_written writing.now }
+{
+    match memchr(b'\\', writing) {
+        Some(_) => None,
+        None => from_utf8(writing).ok(),
     }
 }

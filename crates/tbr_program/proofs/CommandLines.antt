@@ -1,5 +1,5 @@
 -- What a line makes of a script.
-use Rattle.tbr_program.proofs.Common.{◌≡◌, ℕ, suc, ◌==◌, true, false, Option, None, Some, Ok, Err, List, [], ◌∷◌, length, refl, sym, ap, arith, false≢true, eqb-true, Decoration, NotACommand, Command, Place, after_command}
+use Rattle.tbr_program.proofs.Common.{◌≡◌, ℕ, suc, ◌==◌, true, false, Option, Some, List, [], ◌∷◌, length, sym, ap, arith, false≢true, eqb-true, Decoration, Command, Place, after_command}
 use Rattle.std.specs.Prelude.{Bool}
 use Rattle.tbr_program.specs.Safe.{shown_command}
 use Rattle.tbr_program.specs.Commands.{after_shown_read, after_shown_line}

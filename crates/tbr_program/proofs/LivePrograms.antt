@@ -1,8 +1,8 @@
 -- Programs that go on after their commands.
-use Rattle.tbr_program.proofs.Common.{◌≡◌, ℕ, Option, Result, Ok, List, [], ◌∷◌, map, length, refl, ap, sym, subst, chars, arith, Outcome, done, gathered, Decoration, Renderer, append_subrender, append_vert_row, spots_of, handed_out, row_fits, RunError, NothingToEnd, RowDoesNotFit, Level, top_of, below, in_top, open_links, Command, ask, link, end_link, sub, append, cell, end_cell, row, vertical_row, Begun, ends_nothing, counted, Opener, Sub, Cell, prefixes, Pending, Opened, Progress, renderers_of, without_cells, IsLive, begun_on_each, GoesOn, Runs, with_stack, level_opened, block_made, block_joined, request_made, cells_waiting, row_made, vertical_made, after_command}
+use Rattle.tbr_program.proofs.Common.{◌≡◌, ℕ, Option, Result, Ok, List, length, refl, sym, subst, chars, arith, Outcome, done, gathered, Decoration, Renderer, append_subrender, append_vert_row, spots_of, handed_out, row_fits, RunError, NothingToEnd, RowDoesNotFit, top_of, in_top, open_links, Command, ask, link, end_link, sub, append, cell, end_cell, row, vertical_row, ends_nothing, counted, Opener, Sub, Cell, prefixes, Pending, Progress, renderers_of, without_cells, IsLive, GoesOn, Runs, with_stack, level_opened, block_made, block_joined, request_made, cells_waiting, row_made, vertical_made, after_command}
 use Rattle.tbr_stack.proofs.Tops.{top_changed}
 use Rattle.tbr_program.proofs.CommandParts.{one_ok, unless, if_so, some_are, of_top, stack_done, opens, Ends, block_ends, cell_ends}
-use Rattle.tbr_program.proofs.Levels.{Zipped, top_live, with_top_live, below_live}
+use Rattle.tbr_program.proofs.Levels.{top_live, with_top_live, below_live}
 use Rattle.tbr_program.proofs.LiveRenderers.{still_live, uncounted_live, row_live, taken_live}
 use Rattle.tbr_program.proofs.LiveLinks.{start_live, end_live}
 use Rattle.tbr_program.proofs.Results.{runs_done}

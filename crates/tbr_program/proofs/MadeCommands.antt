@@ -1,9 +1,8 @@
 -- What commands make of a program, by what its renderers leave.
-use Rattle.tbr_program.proofs.Common.{◌≡◌, ◌≢◌, ◌⊎◌, ℕ, Bool, true, false, if◌then◌else◌, Option, None, Some, Result, Ok, Err, List, [], ◌∷◌, map, drop, length, chars, refl, sym, ap, ◌∙◌, arith, rules, pointwise, map-append, nil_from_length, CellAlign, Outcome, done, refused, row_fits, spots_from, Decoration, and_then, changed, taking, gathered, Renderer, Line, sub_renderer, handed_out, new_line, append_vert_row, after, Does, IsTooNarrow, looks, spots_of, GivenCell, cells_handed_out, after_row, RunError, NotACommand, NothingToEnd, RowDoesNotFit, Stack, Level, top_of, with_top, pushed, below, in_top, open_links, after_link_start, after_link_end, Request, call_of, Command, ask, link, end_link, append, end_cell, row, vertical_row, ends_nothing, counted, Opener, Sub, Cell, closed_text, Pending, Opened, Progress, nothing_pending, opener, renderers_of, with_cell, without_cells, Closes, Top, Place, Made, answered, on_top, if_some_are, with_stack, level_opened, ended_as, level_ended, block_made, block_joined, joins, waits, request_made, row_made, vertical_made, after_command, ended}
+use Rattle.tbr_program.proofs.Common.{◌≡◌, ◌≢◌, ◌⊎◌, ℕ, Bool, true, false, if◌then◌else◌, Option, None, Some, Result, Ok, Err, List, [], ◌∷◌, length, chars, refl, sym, ap, ◌∙◌, arith, rules, pointwise, map-append, nil_from_length, CellAlign, Outcome, done, refused, row_fits, Decoration, taking, gathered, Renderer, Line, sub_renderer, handed_out, new_line, append_vert_row, after, Does, IsTooNarrow, spots_of, GivenCell, cells_handed_out, after_row, RunError, NotACommand, NothingToEnd, RowDoesNotFit, Stack, top_of, with_top, pushed, below, in_top, open_links, after_link_start, after_link_end, Request, call_of, Command, ask, link, end_link, append, end_cell, row, vertical_row, ends_nothing, counted, Opener, Sub, Cell, closed_text, Pending, Opened, Progress, nothing_pending, opener, renderers_of, with_cell, without_cells, Closes, Top, Place, Made, answered, on_top, if_some_are, with_stack, level_opened, ended_as, level_ended, block_made, block_joined, joins, waits, request_made, row_made, vertical_made, after_command, ended}
 use Rattle.tbr_tagged.specs.declared.Error.TheVariants as E
 use Rattle.tbr_script.specs.declared.error.RunError.TheVariants.{TooNarrow}
 use Rattle.tbr_stack.proofs.Tops.{done_in, refused_in}
-use Rattle.tbr_program.proofs.Levels.{below_top}
 
 -- ---- questions
 

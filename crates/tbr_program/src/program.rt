@@ -100,9 +100,12 @@ impl<D: TextDecorator, W: CharWidth> Program<D, W> {
         if line.is_empty() {
             return Ok(());
         }
-        // A text without escapes needs no copy.
+        // A text without escapes needs no copy, nor does such a target.
         if let Some(text) = Command::plain_text(line) {
             return self.add_text(text);
+        }
+        if let Some(target) = Command::plain_link(line) {
+            return self.start_link(target);
         }
         match Command::parse(alloc, line)? {
             Some(command) => self.run_shown(alloc, number, &command, raw),

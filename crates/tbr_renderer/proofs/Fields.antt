@@ -1,6 +1,6 @@
 -- What the fields of a renderer hold after they change.
 use Rattle.std.proofs.Common.{◌≡◌, ℕ, Option, None, Some, List, [], ◌∷◌, ◌++◌, map, refl, ap, ◌∙◌, arith}
-use Rattle.std.specs.Global.{Box, Vec}
+use Rattle.std.specs.Global.{Vec}
 use Rattle.tbr_wrap.specs.Block.{Block}
 use Rattle.std.proofs.lemmas.List.{map-append}
 use Rattle.tbr_tagged.specs.Elements.{Element, piece, marker_element}
@@ -33,8 +33,8 @@ module _ {D W A M : Type 0} (columns : ℕ → Option ℕ) (r : Inside D W A M) 
 
 -- ---- the open block
 
--- the block that is in the box is the open one, and fresh
-pub boxed_opens : {D W A M : Type 0} (columns : ℕ → Option ℕ) (inside : Inside D W A M) (r : Renderer D M (List M)) (boxed : Box (Block (List M))) →
-    HoldsRenderer columns inside → renderer_of inside ≡ r → r.failure ≡ None → inside.wrapping ≡ Some boxed →
-    (block_seen (Some boxed.value) ≡ r.block) × IsFresh columns (block_width r) (may_overflow r) boxed.value
-boxed_opens {D} {W} {A} {M} columns inside r boxed holds view live is = grind arith
+-- the open block as it is seen, and that it is fresh
+pub block_opens : {D W A M : Type 0} (columns : ℕ → Option ℕ) (inside : Inside D W A M) (r : Renderer D M (List M)) (block : Block (List M)) →
+    HoldsRenderer columns inside → renderer_of inside ≡ r → r.failure ≡ None → inside.wrapping ≡ Some block →
+    (block_seen (Some block) ≡ r.block) × IsFresh columns (block_width r) (may_overflow r) block
+block_opens {D} {W} {A} {M} columns inside r block holds view live is = grind arith

@@ -1,7 +1,6 @@
 -- What the fields of a renderer mean.
 use Rattle.std.specs.Prelude.{◌≡◌, ◌<◌, ℕ, Bool, true, false, ⊤, Option, Some, None, Result, Err, OnOk, List, [], ◌∷◌, map, chars}
 use Rattle.std.specs.Option.{option_map}
-use Rattle.std.specs.Global.{Box}
 use Rattle.tbr_model.specs.Rule.{Event}
 use Rattle.tbr_tagged.specs.View.{element_of}
 use Rattle.tbr_tagged.specs.declared.Error.{Error}
@@ -25,11 +24,7 @@ use Rattle.tbr_renderer.specs.Flush.{fits_grown}
 abbrev pub open_seen : {T : Type 0} → Block T → Open T
 open_seen b = record { padding = b.padding; events = b.events }
 
--- the block that is in a box, if there is one
-abbrev pub unboxed : {T : Type 0} → Option (Box (Block T)) → Option (Block T)
-unboxed boxed = option_map (λ b. b.value) boxed
-
--- and so the open block, if there is one
+-- and so one that may be open
 abbrev pub block_seen : {T : Type 0} → Option (Block T) → Option (Open T)
 block_seen block = option_map open_seen block
 
@@ -67,7 +62,7 @@ renderer_of r = record {
   options = r.options;
   decorator = r.decorator;
   lines = r.lines;
-  block = block_seen (unboxed r.wrapping);
+  block = block_seen r.wrapping;
   waiting = names_of (map element_of r.waiting.items);
   block_ended = r.block_ended;
   annotations = r.annotations;
@@ -81,7 +76,7 @@ renderer_of r = record {
 -- What the fields of a renderer that hasn't failed hold: a fresh block, if any, and markers that wait.
 pub record HoldsFresh {D W A M : Type 0} (columns : ℕ → Option ℕ) (r : Inside D W A M) : Type 0 where
   pub opened : IsOpened columns (least r.width r.options.wrap_width)
-      (overflows r.options (least r.width r.options.wrap_width)) (unboxed r.wrapping)
+      (overflows r.options (least r.width r.options.wrap_width)) r.wrapping
   pub markers : AreMarkers (map element_of r.waiting.items)
 
 -- and what those of any renderer do

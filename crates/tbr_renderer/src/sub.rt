@@ -5,7 +5,7 @@ ghost use Rattle.tbr_tagged.specs.declared.Error.{Error as Refusal};
 ghost use Rattle.tbr_tagged.specs.declared.Error.TheVariants as E;
 ghost use Rattle.tbr_renderer.specs.Renderer.{KeepsSettings, kept_of, new_renderer, has_content, line_padding, with_filled, with_line, block_width, may_overflow};
 ghost use Rattle.tbr_kept_lines.specs.Line.{line_seen};
-ghost use Rattle.tbr_renderer.specs.View.{unboxed, block_seen, IsFresh, IsOpened, AreMarkers, names_of};
+ghost use Rattle.tbr_renderer.specs.View.{block_seen, IsFresh, IsOpened, AreMarkers, names_of};
 ghost use Rattle.tbr_tagged.specs.View.{element_of};
 ghost use Rattle.tbr_annotations.specs.Annotations.{same_annotations};
 ghost use Rattle.tbr_tagged.specs.Elements.{items_of, SameItems, IsMerged};
@@ -48,8 +48,8 @@ pub struct SubRenderer<D: TextDecorator, W: CharWidth = UnicodeColumns> {
     options: RenderOptions,
     decorator: D,
     lines: KeptLines<Annotations<D::Annotation>>,
-    /// The open block. It is in a box, so that taking it and putting it back for each text doesn't copy its fields.
-    wrapping: Option<Box<WrappedBlock<Annotations<D::Annotation>, W>>>,
+    /// The open block.
+    wrapping: Option<WrappedBlock<Annotations<D::Annotation>, W>>,
     /// Markers that wait for a line of text.
     waiting: Vec<TaggedLineElement<Annotations<D::Annotation>>>,
     /// Whether the next text begins a block.
@@ -189,19 +189,19 @@ impl<D: TextDecorator, W: CharWidth> SubRenderer<D, W> {
     }
 
     /// Takes the open block.
-    fn take_block(&mut self) -> Option<Box<WrappedBlock<Annotations<D::Annotation>, W>>>
+    fn take_block(&mut self) -> Option<WrappedBlock<Annotations<D::Annotation>, W>>
         requires { self.old.failure ≡ None }
-        ensures block { block_seen (unboxed result) ≡ self.old.block }
-        ensures opened { IsOpened W.columns (block_width self.old) (may_overflow self.old) (unboxed result) }
+        ensures block { block_seen result ≡ self.old.block }
+        ensures opened { IsOpened W.columns (block_width self.old) (may_overflow self.old) result }
         ensures rest { self.new ≡ record self.old { block = None } }
     {
         self.wrapping.take()
     }
 
     /// Opens a block again.
-    fn put_block(&mut self, block: Box<WrappedBlock<Annotations<D::Annotation>, W>>)
-        requires { IsFresh W.columns (block_width self.old) (may_overflow self.old) block.value }
-        ensures { self.new ≡ record self.old { block = block_seen (Some block.value) } }
+    fn put_block(&mut self, block: WrappedBlock<Annotations<D::Annotation>, W>)
+        requires { IsFresh W.columns (block_width self.old) (may_overflow self.old) block }
+        ensures { self.new ≡ record self.old { block = block_seen (Some block) } }
     {
         self.wrapping = Some(block);
     }

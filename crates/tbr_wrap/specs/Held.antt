@@ -32,10 +32,10 @@ padding_tag b = if b.pads then Some b.default_tag else None
 -- what a contract sees of the fields
 abbrev pub block_of : {A W : Type 0} → (ℕ → Option ℕ) → Inside A W → Block A
 block_of columns b =
-    let s = story columns b.wrapper.lines.width b.wrapper.lines.may_overflow (padding_tag b) b.changes.items in
+    let s = story columns b.wrapper.value.lines.width b.wrapper.value.lines.may_overflow (padding_tag b) b.changes.items in
     record {
-      width = b.wrapper.lines.width;
-      may_overflow = b.wrapper.lines.may_overflow;
+      width = b.wrapper.value.lines.width;
+      may_overflow = b.wrapper.value.lines.may_overflow;
       padding = padding_tag b;
       failure = b.failure;
       begun = s.begun;
@@ -46,4 +46,4 @@ block_of columns b =
 
 -- and what those of a block that hasn't failed hold
 abbrev pub HoldsBlock : {A W : Type 0} → (ℕ → Option ℕ) → (A → A → Bool) → Inside A W → Type 0
-HoldsBlock columns eq b = b.failure ≡ None → HoldsRun columns eq b.wrapper b.begun (block_of columns b)
+HoldsBlock columns eq b = b.failure ≡ None → HoldsRun columns eq b.wrapper.value b.begun (block_of columns b)

@@ -31,7 +31,7 @@ use tbr_tags::Tag;
 #[derive(Drop)]
 pub struct WrappedBlock<T: Eq + Clone, W: CharWidth = UnicodeColumns> {
     alloc: Global,
-    wrapper: Wrapper<T>,
+    wrapper: Box<Wrapper<T>>,
     /// The tag of the padding.
     default_tag: T,
     /// Whether lines are padded.
@@ -62,7 +62,8 @@ impl<T: Tag, W: CharWidth> WrappedBlock<T, W> {
     ghost use Rattle.tbr_tagged.specs.Outcome.{Answers, done, refused};
     ghost use Rattle.tbr_wrap.specs.Block.{Block, new_block, settings_of, failure_of, lines, all_lines, left, any_line, takes_no_columns, has_no_character, loose, allows, grown, settled, HasGrown, after_text, after_marker, after_taking, after_flush, after_line, line_handed_out, HandsOutFirst, WrapsNormally};
 
-    /// A block without text. Its lines take at most `width` columns, which must be at least 1. It takes no memory.
+    /// A block without text. Its lines take at most `width` columns, which must be at least 1. It refuses only where memory
+    /// is refused.
     ///
     /// With `pad_blocks` each line that is handed out is padded to the width by spaces under the default tag. In a
     /// block of one column a character of two columns is refused; with `allow_overflow` it goes on a line of its own
@@ -73,21 +74,22 @@ impl<T: Tag, W: CharWidth> WrappedBlock<T, W> {
         pad_blocks: bool,
         allow_overflow: bool,
         default_tag: T,
-    ) -> WrappedBlock<T, W>
+    ) -> Result<WrappedBlock<T, W>, OutOfMemory>
         requires { 0 < width }
         ensures { let padding = if pad_blocks then Some default_tag else None in
-            result ≡ new_block width (allow_overflow && nat_lt width 2) padding }
+            IfOk result (λ b. b ≡ new_block width (allow_overflow && nat_lt width 2) padding) }
     {
-        WrappedBlock {
+        let wrapper = Wrapper::new(alloc, width, allow_overflow && width < 2);
+        Ok(WrappedBlock {
             alloc,
-            wrapper: Wrapper::new(alloc, width, allow_overflow && width < 2),
+            wrapper: Box::new(alloc, wrapper)?,
             default_tag,
             pads: pad_blocks,
             failure: None,
             begun: false,
             changes: History::new(),
             char_width: PhantomData,
-        }
+        })
     }
 
     /// The kept refusal, if a call has refused.
@@ -428,7 +430,7 @@ impl<T: Tag, W: CharWidth> WrappedBlock<T, W> {
             let texts = all_lines W.columns before in HasBestLines W.columns before.width (run_of before.events) texts
             × AllZip (SameItems T.eq) result (before.ended ++ drop before.handed texts) }
     {
-        EndedLines::new(self.wrapper.lines.flat, self.wrapper.lines.ended)
+        EndedLines::new(self.wrapper)
     }
 
     /// Hands out all ended lines that aren't handed out yet.

@@ -7,11 +7,13 @@ ghost use Rattle.tbr_tagged.specs.Elements.{SameItems, IsMerged, items_of};
 ghost use Rattle.tbr_tagged.specs.View.{chars_of};
 ghost use Rattle.tbr_wrap.specs.EndedLines.{AreLines, line_characters, prefixed_characters};
 
+use crate::laid_lines::LaidLines;
+use crate::wrapper::Wrapper;
 use std::alloc::Global;
 use std::collections::VecDeque;
 use std::fmt;
 use std::marker::Model;
-use tbr_flat::{FlatText, PlacedItems};
+use tbr_flat::PlacedItems;
 use tbr_model::CharWidth;
 use tbr_tagged::{OutOfMemory, TaggedLine};
 use tbr_tags::Tag;
@@ -20,9 +22,7 @@ use tbr_tags::Tag;
 /// sees the lines that are left, each as its items.
 #[derive(Drop)]
 pub struct EndedLines<T> {
-    flat: FlatText<T>,
-    /// How many items each line has.
-    lens: VecDeque<usize>,
+    laid: Box<Wrapper<T>>,
 }
 
 impl<T> Model for EndedLines<T> {
@@ -33,10 +33,10 @@ impl<T> Model for EndedLines<T> {
 
     ghost Value = { List (List (Item T)) };
 
-    ghost view = { λ a. cut a.lens.items a.flat.placed };
+    ghost view = { λ a. let lines = a.laid.value.lines in cut lines.ended.items lines.flat.placed };
 
-    ghost invariant = { λ a. (deque_len a.lens ≡ length a.lens.items)
-        × AreLines a.lens.items a.flat.placed (cut a.lens.items a.flat.placed) };
+    ghost invariant = { λ a. let lines = a.laid.value.lines in (deque_len lines.ended ≡ length lines.ended.items)
+        × AreLines lines.ended.items lines.flat.placed (cut lines.ended.items lines.flat.placed) };
 }
 
 /// Shows each line between `<` and `>` on a line of its own, without its markers.
@@ -68,9 +68,9 @@ impl<T> EndedLines<T> {
         first: &'a str,
         others: &'a str,
     ) -> fmt::Result {
-        let mut items = self.flat.items();
+        let mut items = self.laid.lines.flat.items();
         let mut prefix = first;
-        for len in &self.lens {
+        for len in &self.laid.lines.ended {
             write!(f, "<{prefix}")?;
             print_items(f, &mut items, *len)?;
             f.write_str(">\n")?;
@@ -89,29 +89,30 @@ impl<T> EndedLines<T> {
         ensures missing { IfOk result (λ m. m.items ≡ map (λ is. width - items_width W.columns is) self.now) }
         ensures counted { IfOk result (λ m. deque_len m ≡ length self.now) }
     {
-        let mut items = self.flat.items();
-        let mut missing = VecDeque::with_capacity(alloc, self.lens.len())?;
-        for len in &self.lens {
+        let mut items = self.laid.lines.flat.items();
+        let mut missing = VecDeque::with_capacity(alloc, self.laid.lines.ended.len())?;
+        for len in &self.laid.lines.ended {
             missing.push_back(width.saturating_sub(items.next_width::<W>(*len)))?;
         }
         Ok(missing)
     }
 
     /// Lines of these lengths, made of the first placed items.
-    pub(crate) fn new(flat: FlatText<T>, lens: VecDeque<usize>) -> EndedLines<T>
-        requires counted { deque_len lens ≡ length lens.items }
-        requires held { (lines : List (List (Item T))) × AreLines lens.items flat.placed lines }
-        ensures { (lines : List (List (Item T))) → AreLines lens.items flat.placed lines → result ≡ lines }
+    pub(crate) fn new(laid: Box<Wrapper<T>>) -> EndedLines<T>
+        requires counted { let ended = laid.value.lines.ended in deque_len ended ≡ length ended.items }
+        requires held { let laid = laid.value.lines in
+            (lines : List (List (Item T))) × AreLines laid.ended.items laid.flat.placed lines }
+        ensures { let laid = laid.value.lines in
+            (lines : List (List (Item T))) → AreLines laid.ended.items laid.flat.placed lines → result ≡ lines }
     {
-        EndedLines { flat, lens }
+        EndedLines { laid }
     }
 
     /// How many lines are left.
     pub fn len(&self) -> usize
         ensures { result ≡ length self.now }
     {
-        let _ = &self.flat;
-        self.lens.len()
+        self.laid.lines.ended.len()
     }
 
     /// Whether none is left.
@@ -128,8 +129,8 @@ impl<T> EndedLines<T> {
         before: &'a str,
         after: &'a str,
     ) -> fmt::Result {
-        let mut items = self.flat.items();
-        for len in &self.lens {
+        let mut items = self.laid.lines.flat.items();
+        for len in &self.laid.lines.ended {
             f.write_str(before)?;
             print_items(f, &mut items, *len)?;
             f.write_str(after)?;
@@ -141,8 +142,7 @@ impl<T> EndedLines<T> {
     pub fn has_character(&self) -> bool
         ensures { result ≡ list_any has_character self.now }
     {
-        let _ = &self.lens;
-        self.flat.has_placed()
+        self.laid.lines.flat.has_placed()
     }
 }
 
@@ -186,11 +186,12 @@ impl<T: Drop> EndedLines<T> {
         ensures { (is : List (Item T)) (rest : List (List (Item T))) → self.old ≡ is ∷ rest →
             OnOk result ((chars_of text.new ≡ chars_of text.old ++ line_characters is) × (self.new ≡ rest)) }
     {
-        let Some(len) = self.lens.pop_front() else {
+        let lines = &mut self.laid.lines;
+        let Some(len) = lines.ended.pop_front() else {
             return Ok(());
         };
-        if let Err(e) = self.flat.move_text(len, text) {
-            clear(&mut self.flat, &mut self.lens);
+        if let Err(e) = lines.flat.move_text(len, text) {
+            clear(lines);
             return Err(e);
         }
         text.push('\n')?;
@@ -209,12 +210,13 @@ impl<T: Tag> EndedLines<T> {
         ensures none { self.old ≡ [] → OnOk result (line.new ≡ line.old) }
         ensures err { OnErr result (line.new ≡ line.old) }
     {
-        let Some(len) = self.lens.pop_front() else {
+        let lines = &mut self.laid.lines;
+        let Some(len) = lines.ended.pop_front() else {
             return Ok(());
         };
-        let moved = self.flat.move_line(len, line);
+        let moved = lines.flat.move_line(len, line);
         if moved.is_err() {
-            clear(&mut self.flat, &mut self.lens);
+            clear(lines);
         }
         moved
     }
@@ -232,11 +234,11 @@ fn append_prefix(text: &mut String, prefix: &str) -> Result<(), OutOfMemory>
 }
 
 /// Forgets all lines.
-fn clear<T: Drop>(flat: &mut FlatText<T>, lens: &mut VecDeque<usize>)
-    ensures flat { flat.new ≡ record { placed = []; word = [] } }
-    ensures lens { lens.new.items ≡ [] }
-    ensures counted { deque_len lens.new ≡ 0 }
+fn clear<T: Drop>(lines: &mut LaidLines<T>)
+    ensures flat { lines.new.flat ≡ record { placed = []; word = [] } }
+    ensures ended { lines.new.ended.items ≡ [] }
+    ensures counted { deque_len lines.new.ended ≡ 0 }
 {
-    flat.clear();
-    lens.clear();
+    lines.flat.clear();
+    lines.ended.clear();
 }

@@ -88,7 +88,7 @@ fn letters(alloc: Global, count: usize) -> Result<String, AllocError> {
 fn a_word_of_many_letters_is_cut_into_full_lines(rt: HostRuntime) -> Result<(), Fail> {
     let alloc = rt.alloc();
     let word = letters(alloc, 100_000)?;
-    let block = plain::<UnicodeColumns>(alloc, 7);
+    let block = plain::<UnicodeColumns>(alloc, 7)?;
     let lines = told(alloc, block, &[Normal(word.as_str())])?;
     // Each line ends in a newline.
     counts(&rt, lines.len(), 100_000 + 14_286);

@@ -32,7 +32,7 @@ fn ended<W: CharWidth + Drop>(
 ) -> Result<EndedLines<Voice>, Error>
     requires { 0 < width }
 {
-    let mut block = plain::<W>(alloc, width);
+    let mut block = plain::<W>(alloc, width)?;
     fill(&mut block, alloc, text)?;
     block.flush()?;
     Ok(block.into_ended())

@@ -2,7 +2,7 @@
 use crate::steps::{Step, overflowing, padding, pieces, plain, told};
 use std::alloc::Global;
 use std::process::Abort;
-use tbr_lines::{CharWidth, Error, UnicodeColumns, WrappedBlock};
+use tbr_lines::{CharWidth, Error, OutOfMemory, UnicodeColumns, WrappedBlock};
 use test_support::columns::{EveryOne, NoEmSpace};
 use test_support::texts::Voice;
 
@@ -44,7 +44,7 @@ fn of_columns<W: CharWidth + Drop>(
     rt: &impl Abort,
     alloc: Global,
     width: usize,
-) -> WrappedBlock<Voice, W> {
+) -> Result<WrappedBlock<Voice, W>, OutOfMemory> {
     assert!(rt; 0 < width);
     plain(alloc, width)
 }
@@ -53,9 +53,12 @@ fn of_columns<W: CharWidth + Drop>(
 fn meet_on<W: CharWidth + Drop>(
     rt: &impl Abort,
     alloc: Global,
-    block: WrappedBlock<Voice, W>,
+    block: Result<WrappedBlock<Voice, W>, OutOfMemory>,
     example: Example,
 ) {
+    let Ok(block) = block else {
+        panic!(rt; "{}: no memory for a block", example.name)
+    };
     let shown = match example.expected {
         Expected::Lines(_) => told(alloc, block, example.steps),
         Expected::Pieces(_) => pieces(alloc, block, example.steps),

@@ -74,7 +74,7 @@ fn lines_after(
     steps: &[Step<'_>],
 ) -> Result<String, Error> {
     assert!(rt; 0 < width);
-    let mut block = plain::<UnicodeColumns>(alloc, width);
+    let mut block = plain::<UnicodeColumns>(alloc, width)?;
     if let Err(refusal) = take_steps(&mut block, alloc, steps) {
         if block.failure().is_none() {
             return Err(refusal);

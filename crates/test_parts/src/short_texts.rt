@@ -115,7 +115,7 @@ fn plainly(alloc: Global, width: usize, text: &str) -> Result<String, OutOfMemor
 fn wrapped(alloc: Global, width: usize, text: &str) -> Result<String, Error>
     requires { 0 < width }
 {
-    let mut block = plain::<UnicodeColumns>(alloc, width);
+    let mut block = plain::<UnicodeColumns>(alloc, width)?;
     join_all(&mut block, alloc, text)?;
     let trailing = flushed(&mut block)?;
     let mut all = told(alloc, block, &[])?;

@@ -29,19 +29,22 @@ pub enum Step<'a> {
 }
 
 /// A block that doesn't pad and has no wider lines.
-pub fn plain<W: CharWidth + Drop>(alloc: Global, width: usize) -> WrappedBlock<Voice, W>
+pub fn plain<W: CharWidth + Drop>(
+    alloc: Global,
+    width: usize,
+) -> Result<WrappedBlock<Voice, W>, OutOfMemory>
     requires { 0 < width }
 {
     WrappedBlock::new(alloc, width, false, false, Voice::First)
 }
 
 /// A block of one column, where lines may be wider.
-pub fn overflowing(alloc: Global) -> WrappedBlock<Voice> {
+pub fn overflowing(alloc: Global) -> Result<WrappedBlock<Voice>, OutOfMemory> {
     WrappedBlock::new(alloc, 1, false, true, Voice::First)
 }
 
 /// A block of five columns, whose lines are padded under the second tag.
-pub fn padding(alloc: Global) -> WrappedBlock<Voice> {
+pub fn padding(alloc: Global) -> Result<WrappedBlock<Voice>, OutOfMemory> {
     WrappedBlock::new(alloc, 5, true, false, Voice::Second)
 }
 

@@ -136,7 +136,7 @@ fn is_too_narrow<T: Drop>(answer: Result<T, Error>) -> bool {
 
 /// A block that has refused a text.
 fn refusing(alloc: Global) -> Result<WrappedBlock<u8>, Fail> {
-    let mut block: WrappedBlock<u8> = WrappedBlock::new(alloc, 1, false, false, 1);
+    let mut block: WrappedBlock<u8> = WrappedBlock::new(alloc, 1, false, false, 1)?;
     block.add_text("漢", WhiteSpace::Normal, &1, &1)?;
     Ok(block)
 }
@@ -144,7 +144,7 @@ fn refusing(alloc: Global) -> Result<WrappedBlock<u8>, Fail> {
 #[test]
 fn a_character_wider_than_the_block_is_refused_for_good(rt: HostRuntime) -> Result<(), Fail> {
     let alloc = rt.alloc();
-    let block = plain::<UnicodeColumns>(alloc, 1);
+    let block = plain::<UnicodeColumns>(alloc, 1)?;
     assert!(rt; is_too_narrow(told(alloc, block, &[Normal("漢")])));
     refuses_for_good(&rt, refusing(alloc)?);
     Ok(())
@@ -161,7 +161,7 @@ fn refuses_for_good(rt: &impl Abort, mut block: WrappedBlock<u8>) {
 
 /// The lines of two texts under tags of their own.
 fn under_two_tags(alloc: Global) -> Result<Vec<TaggedLine<Voice>>, Error> {
-    let mut block = plain(alloc, 9);
+    let mut block = plain(alloc, 9)?;
     add_under(&mut block, "ab", Voice::First)?;
     add_under(&mut block, "c d", Voice::Second)?;
     block.into_lines()

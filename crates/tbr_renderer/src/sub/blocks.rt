@@ -14,9 +14,6 @@ use tbr_annotations::Annotations;
 use tbr_decor::TextDecorator;
 use tbr_lines::{CharWidth, EndedLines, Error, OutOfMemory, TaggedLine, WrappedBlock};
 
-/// A block with at least this many lines keeps them in its one text, which takes less memory than lines by themselves.
-const MANY: usize = 4;
-
 impl<D: TextDecorator, W: CharWidth> SubRenderer<D, W> {
     /// Adds the lines that a block has ended. It refuses only where memory is refused.
     fn add_lines_of(
@@ -32,7 +29,7 @@ impl<D: TextDecorator, W: CharWidth> SubRenderer<D, W> {
         ensures memory { IfErr result (λ e. e ≡ E.OutOfMemory) }
         ensures settings { KeepsSettings self.old self.new }
     {
-        if block.lines_left() < MANY || !self.adds_as_is(&block) {
+        if block.lines_left() == 0 || !self.adds_as_is(&block) {
             return self.add_each_line_of(block);
         }
         self.push_ended(block.into_ended())?;
@@ -86,10 +83,9 @@ impl<D: TextDecorator, W: CharWidth> SubRenderer<D, W> {
         ensures best { OnOk result (EndsBest W.columns self.old) }
         ensures settings { KeepsSettings self.old self.new }
     {
-        let Some(boxed) = self.take_block() else {
+        let Some(mut block) = self.take_block() else {
             return Ok(());
         };
-        let mut block = Box::into_inner(boxed);
         block.flush()?;
         let markers = block.take_trailing_fragments()?;
         self.add_lines_of(block)?;

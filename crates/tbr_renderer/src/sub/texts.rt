@@ -45,29 +45,28 @@ impl<D: TextDecorator, W: CharWidth> SubRenderer<D, W> {
     }
 
     /// A block without text.
-    fn new_block(&self) -> Result<Box<WrappedBlock<Annotations<D::Annotation>, W>>, OutOfMemory>
-        ensures fresh { IfOk result (λ b. IsFresh W.columns (block_width self.now) (may_overflow self.now) b.value) }
+    fn new_block(&self) -> Result<WrappedBlock<Annotations<D::Annotation>, W>, OutOfMemory>
+        ensures fresh { IfOk result (λ b. IsFresh W.columns (block_width self.now) (may_overflow self.now) b) }
         ensures block { IfOk result (λ b.
-            open_seen b.value ≡ new_block self.now) }
+            open_seen b ≡ new_block self.now) }
     {
-        let block = WrappedBlock::new(
+        WrappedBlock::new(
             self.alloc,
             self.block_columns(),
             self.options.pad_block_width,
             self.options.allow_width_overflow,
             self.tag()?,
-        );
-        Ok(Box::new(self.alloc, block)?)
+        )
     }
 
     /// Takes the open block, or a new one.
     fn take_or_new_block(
         &mut self,
-    ) -> Result<Box<WrappedBlock<Annotations<D::Annotation>, W>>, OutOfMemory>
+    ) -> Result<WrappedBlock<Annotations<D::Annotation>, W>, OutOfMemory>
         requires { self.old.failure ≡ None }
-        ensures fresh { IfOk result (λ b. IsFresh W.columns (block_width self.old) (may_overflow self.old) b.value) }
+        ensures fresh { IfOk result (λ b. IsFresh W.columns (block_width self.old) (may_overflow self.old) b) }
         ensures block { IfOk result (λ b.
-            open_seen b.value ≡ open_block self.old) }
+            open_seen b ≡ open_block self.old) }
         ensures rest { OnOk result (self.new ≡ record self.old { block = None }) }
         ensures settings { KeepsSettings self.old self.new }
     {

@@ -47,15 +47,15 @@ module _ {A : Type 0} (columns : ℕ → Option ℕ) where
 
   module _ {W : Type 0} where
     -- where a block hasn't failed, that is what its changes have led to
-    seen_is : (r : Inside A W) → r.failure ≡ None → block_of columns r ≡ story columns r.wrapper.lines.width r.wrapper.lines.may_overflow (padding_tag r) r.changes.items
+    seen_is : (r : Inside A W) → r.failure ≡ None → block_of columns r ≡ story columns r.wrapper.value.lines.width r.wrapper.value.lines.may_overflow (padding_tag r) r.changes.items
     seen_is r live = grind (arith, all_keep)
 
     -- more changes lead on
-    pub led_on : (r t : Inside A W) (new : List (RunChange × A × A)) → KeepsLimits r.wrapper.lines t.wrapper.lines → padding_tag t ≡ padding_tag r → t.changes.items ≡ r.changes.items ++ new → r.failure ≡ None → t.failure ≡ None →
+    pub led_on : (r t : Inside A W) (new : List (RunChange × A × A)) → KeepsLimits r.wrapper.value.lines t.wrapper.value.lines → padding_tag t ≡ padding_tag r → t.changes.items ≡ r.changes.items ++ new → r.failure ≡ None → t.failure ≡ None →
         block_of columns t ≡ fold (changed columns) (block_of columns r) new
     led_on r t new same pads more live still = grind (arith, seen_is, fold-append)
 
-    pub settings_kept : (r t : Inside A W) → KeepsLimits r.wrapper.lines t.wrapper.lines → padding_tag t ≡ padding_tag r → settings_of (block_of columns t) ≡ settings_of (block_of columns r)
+    pub settings_kept : (r t : Inside A W) → KeepsLimits r.wrapper.value.lines t.wrapper.value.lines → padding_tag t ≡ padding_tag r → settings_of (block_of columns t) ≡ settings_of (block_of columns r)
     settings_kept r t same pads = λ i. record { width = same.width i; may_overflow = same.may_overflow i; padding = pads i }
 
   pub grown_more : (s : Block A) (es fs : List (Event A)) → grown (grown s es) fs ≡ grown s (es ++ fs)

@@ -1,11 +1,15 @@
-use Rattle.std.proofs.Common.{◌++◌, if◌then◌else◌, map, refl, ap, sym, subst, ◌∙◌, append_assoc, arith, rules}
-use Rattle.std.specs.Prelude.{is_some}
+use Rattle.std.proofs.Common.{◌≡◌, ℕ, Bool, [], ◌∷◌, ◌++◌, if◌then◌else◌, map, length, refl, ap, sym, subst, ◌∙◌, append_assoc, rules}
+use Rattle.std.specs.Global.{Vec}
+use Rattle.std.specs.Prelude.{is_some, filter}
 use Rattle.std.specs.List.{AllByRecursion as Each}
 use Rattle.std.proofs.lemmas.List.{map-append}
 use Rattle.tbr_border.specs.RenderLine.{IsMergedText}
+use Rattle.tbr_border.specs.Border.{Border}
+use Rattle.tbr_border.specs.declared.RenderLine.{RenderLine}
 use Rattle.tbr_border.specs.declared.RenderLine.TheVariants.{Line as Rule}
 use Rattle.tbr_kept_lines.specs.KeptLines.{parts_seen, HoldsKept}
-use Rattle.tbr_kept_lines.specs.Line.{border, line_seen}
+use Rattle.tbr_kept_lines.specs.Line.{line_seen, line_has_content}
+use Rattle.tbr_kept_lines.specs.declared.kept_lines.KeptLines.TheInside.{Inside}
 use Rattle.tbr_kept_lines.specs.LastBorder.{without_last, last_border}
 use Rattle.tbr_kept_lines.proofs.KeptParts.{each_front, some_counted, one_less, none_less, no_border}
 use Rattle.tbr_kept_lines.proofs.LastBorder.{border_is, front_is}
@@ -33,21 +37,27 @@ overflow_sub-self g c =
 pub invariant_of-self : goal.invariant_of-self
 invariant_of-self g c = subst (λ lines. HoldsKept g.T.PartialEq.eq (record c.self.inside { last = lines })) (sym (c.in_err-border.ensures.none refl).0) c.self.invariant
 
+-- what is kept holds without its last border, where so many lines have content then
+holds_front : {T : Type 0} (eq : T → T → Bool) (k : Inside T) (lines : Vec (RenderLine T)) (b : Border T) (n : ℕ) → HoldsKept eq k → k.last.items ≡ lines.items ++ Rule b ∷ [] →
+    n ≡ length (filter line_has_content (map line_seen lines.items)) → HoldsKept eq (record k { last = lines; with_content = n })
+holds_front eq k lines b n h is count = record {
+  parts = h.parts;
+  content_above = h.content_above;
+  merged = each_front (IsMergedText eq) lines.items (Rule b) (subst (λ ls. Each (IsMergedText eq) ls) is h.merged);
+  content = count;
+}
+
 pub invariant_of-self-then-not-has_holes : goal.invariant_of-self-then-not-has_holes
-invariant_of-self-then-not-has_holes g c = grind (arith, each_front, one_less, c.self.invariant, c.in_ok-border.ensures.some, c.has_holes.ensures, c.if-not-has_holes.true)
+invariant_of-self-then-not-has_holes g c =
+    let is = c.in_ok-border.ensures.some in let h = c.self.invariant in
+    holds_front g.T.PartialEq.eq c.self.inside _ c.in_ok-border.border _ h is
+    (one_less c.in_ok-border.border _ _ is c.self.inside.with_content h.content (sym c.has_holes.ensures ∙ c.if-not-has_holes.true))
 
 pub invariant_of-self-else-not-has_holes : goal.invariant_of-self-else-not-has_holes
 invariant_of-self-else-not-has_holes g c =
-    let eq = g.T.PartialEq.eq in
-    let h = c.self.invariant in
-    let is = c.in_ok-border.ensures.some in
-    let last = c.take_last_border.new.lines.items in
-    record {
-      parts = h.parts;
-      content_above = h.content_above;
-      merged = each_front (IsMergedText eq) last (Rule c.in_ok-border.border) (subst (λ ls. Each (IsMergedText eq) ls) is h.merged);
-      content = none_less c.in_ok-border.border c.self.inside.last.items last is c.self.inside.with_content h.content (sym c.has_holes.ensures ∙ c.if-not-has_holes.false);
-    }
+    let is = c.in_ok-border.ensures.some in let h = c.self.invariant in
+    holds_front g.T.PartialEq.eq c.self.inside _ c.in_ok-border.border _ h is
+    (none_less c.in_ok-border.border _ _ is c.self.inside.with_content h.content (sym c.has_holes.ensures ∙ c.if-not-has_holes.false))
 
 pub returns-clause-border : goal.returns-clause-border
 returns-clause-border g c = search (rules, map-append, append_assoc, border_is, c.self.view_is, c.in_ok-border.ensures.some)

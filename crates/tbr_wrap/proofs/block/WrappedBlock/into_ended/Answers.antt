@@ -26,7 +26,7 @@ returns-clause-best g c = λ before ends normal.
     let gives : AllZip (SameItems g.T.PartialEq.eq) c.new.result (left columns c.args.self) =
     subst (λ (s : Block g.row.T.Denot). AllZip (SameItems g.T.PartialEq.eq) c.new.result (left columns s)) c.self.view_is (rw (c.new.ensures _ held) (left_shown _ _ _ _ _ k)) in
     let is = flush_leaves columns before c.args.self ends in
-    let here : 0 < c.args.self.width = rw (← c.self.view_is) c.self.inside.wrapper.lines.positive in
+    let here : 0 < c.args.self.width = rw (← c.self.view_is) c.self.inside.wrapper.value.lines.positive in
     let wide : 0 < before.width = subst (λ n. 0 < n) (ap (λ (s : Block g.row.T.Denot). s.width) is) here in (
       flush_best columns (g.met.W.CharWidth.drawn_in_one 32 refl) before wide c.args.self ends normal.1 normal.2,
       subst (AllZip (SameItems g.T.PartialEq.eq) c.new.result) (ap (left columns) is ∙ left_flushed columns before) gives,

@@ -10,7 +10,7 @@ use Rattle.tbr_wrap.proofs.block.WrappedBlock.take_trailing_fragments.Goals.{In_
 use Rattle.tbr_wrap.proofs.block.WrappedBlock.take_trailing_fragments.Goals as goal
 
 -- what a block that hasn't failed holds
-held : (g : Over) (c : In_ok-refusal g) → HoldsRun g.W.CharWidth.columns g.T.PartialEq.eq c.self.inside.wrapper c.self.inside.begun (block_of g.W.CharWidth.columns c.self.inside)
+held : (g : Over) (c : In_ok-refusal g) → HoldsRun g.W.CharWidth.columns g.T.PartialEq.eq c.self.inside.wrapper.value c.self.inside.begun (block_of g.W.CharWidth.columns c.self.inside)
 held g c = c.self.invariant (ap (λ (s : Block g.row.T.Denot). s.failure) c.self.view_is ∙ c.in_ok-refusal.ensures)
 
 -- ---- a word that has a character
@@ -26,22 +26,22 @@ returns-then-has_word-clause-markers g c = grind (arith, held, In_ok-refusal, wo
 pub invariant_of-self-2 : goal.invariant_of-self-2
 invariant_of-self-2 g c = λ live.
     let columns = g.W.CharWidth.columns in let r = c.self.inside in
-    let t = record r { wrapper = c.take_markers-taken.new.self; failure = c.keep_want.new.failure; changes = c.appended-self-inside.result } in
+    let t = record r { wrapper = record r.wrapper { value = c.take_markers-taken.new.self }; failure = c.keep_want.new.failure; changes = c.appended-self-inside.result } in
     let was = c.in_ok-markers.ensures.ok in
     let before = sym was.1 ∙ live in
     let k = c.self.invariant before in
-    let none = sym (word_held _ _ _ _ _ k) ∙ sym c.has_word.ensures ∙ c.if-has_word.false in
-    let limits = c.take_markers-taken.ensures.limits in
-    let stands = rw was.0 at (c.take_markers-taken.ensures.taken columns _ _ _ k.stands) in
-    subst (HoldsRun columns g.T.PartialEq.eq t.wrapper r.begun)
+    let none = sym (word_held _ _ _ _ _ k) ∙ sym (rw c.deref.ensures at c.has_word.ensures) ∙ c.if-has_word.false in
+    let limits = rw c.deref_mut.ensures.value at c.take_markers-taken.ensures.limits in
+    let stands = rw was.0 at (rw c.deref_mut.ensures.value at (c.take_markers-taken.ensures.taken columns) _ _ _ k.stands) in
+    subst (HoldsRun columns g.T.PartialEq.eq t.wrapper.value r.begun)
     (sym (led_on columns r t _ limits refl c.appended-self-inside.ensures before live))
-    (holds_taken _ _ _ _ _ k t.wrapper none stands)
+    (holds_taken _ _ _ _ _ k t.wrapper.value none stands)
 
 pub returns-clause-answers : goal.returns-clause-answers
 returns-clause-answers g c =
     let columns = g.W.CharWidth.columns in let r = c.self.inside in
-    let t = record r { wrapper = c.take_markers-taken.new.self; failure = c.keep_want.new.failure; changes = c.appended-self-inside.result } in
-    let limits = c.take_markers-taken.ensures.limits in
+    let t = record r { wrapper = record r.wrapper { value = c.take_markers-taken.new.self }; failure = c.keep_want.new.failure; changes = c.appended-self-inside.result } in
+    let limits = rw c.deref_mut.ensures.value at c.take_markers-taken.ensures.limits in
     let was = ap (λ (s : Block g.row.T.Denot). s.failure) c.self.view_is ∙ c.in_ok-refusal.ensures in
     answers_ok _ _ _ _ _ _ c.in_ok-refusal.ensures
     (ap done (sym (led_on columns r t _ limits refl c.appended-self-inside.ensures was (c.in_ok-markers.ensures.ok.1 ∙ was) ∙ ap (without_loose columns) c.self.view_is)))
@@ -51,5 +51,5 @@ pub returns-clause-markers : goal.returns-clause-markers
 returns-clause-markers g c =
     let columns = g.W.CharWidth.columns in
     let k = held g (goal.at.returns-clause-markers g c).In_ok-refusal in
-    let none = sym (word_held _ _ _ _ _ k) ∙ sym c.has_word.ensures ∙ c.if-has_word.false in
-    rw (← c.self.view_is, ← word_names_held _ _ _ _ _ k none) (rw c.in_ok-markers.ensures.ok.0 at c.take_markers-taken.ensures.markers)
+    let none = sym (word_held _ _ _ _ _ k) ∙ sym (rw c.deref.ensures at c.has_word.ensures) ∙ c.if-has_word.false in
+    rw (← c.self.view_is, ← word_names_held _ _ _ _ _ k none) (rw c.in_ok-markers.ensures.ok.0 at (rw c.deref_mut.ensures.value at c.take_markers-taken.ensures.markers))
