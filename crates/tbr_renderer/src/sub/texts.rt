@@ -76,15 +76,6 @@ impl<D: TextDecorator, W: CharWidth> SubRenderer<D, W> {
         }
     }
 
-    /// The annotations and one more.
-    fn tag_with(&self, annotation: D::Annotation) -> Result<Annotations<D::Annotation>, OutOfMemory>
-        ensures { IfOk result (λ tag. tag
-            ≡ self.now.annotations ++ D.Annotation.meaning annotation ∷ []) }
-    {
-        let tag = self.tag()?;
-        tag.with(self.alloc, annotation)
-    }
-
     /// Writes text into a block, in the mode that was pushed last, under these annotations.
     fn write_under(
         &self,
@@ -109,23 +100,25 @@ impl<D: TextDecorator, W: CharWidth> SubRenderer<D, W> {
 
     /// Writes text without strokes into a block.
     fn write_plain(
-        &self,
+        &mut self,
         block: &mut WrappedBlock<Annotations<D::Annotation>, W>,
         text: &str,
     ) -> Result<(), Error>
-        requires fresh { IsFresh W.columns (block_width self.now) (may_overflow self.now) block.old }
-        ensures fresh { OnOk result (IsFresh W.columns (block_width self.now) (may_overflow self.now) block.new) }
-        ensures writes { let r = self.now in
+        requires fresh { IsFresh W.columns (block_width self.old) (may_overflow self.old) block.old }
+        ensures fresh { OnOk result (IsFresh W.columns (block_width self.old) (may_overflow self.old) block.new) }
+        ensures writes { let r = self.old in
             let es = entries_under D.preformatted r (chars text.now) in
             Writes W.columns r (called es) block.old result block.new }
-        ensures two_columns { 2 ≤ block_width self.now → result ≢ Err E.TooNarrow }
+        ensures two_columns { 2 ≤ block_width self.old → result ≢ Err E.TooNarrow }
+        ensures same { self.new ≡ self.old }
     {
         if self.preformatted == 0 {
             let tag = self.tag()?;
             return self.write_under(block, text, &tag, &tag);
         }
-        let first = self.tag_with(self.decorator.decorate_preformat_first(self.alloc)?)?;
-        let continued = self.tag_with(self.decorator.decorate_preformat_cont(self.alloc)?)?;
+        let first = self.decorator.decorate_preformat_first(self.alloc)?;
+        let continued = self.decorator.decorate_preformat_cont(self.alloc)?;
+        let (first, continued) = self.annotations.with_each(self.alloc, first, continued)?;
         self.write_under(block, text, &first, &continued)
     }
 
@@ -144,16 +137,17 @@ impl<D: TextDecorator, W: CharWidth> SubRenderer<D, W> {
 
     /// Writes text into a block, with strokes inside strikeouts.
     fn write(
-        &self,
+        &mut self,
         block: &mut WrappedBlock<Annotations<D::Annotation>, W>,
         text: &str,
     ) -> Result<(), Error>
-        requires fresh { IsFresh W.columns (block_width self.now) (may_overflow self.now) block.old }
-        ensures fresh { OnOk result (IsFresh W.columns (block_width self.now) (may_overflow self.now) block.new) }
-        ensures writes { let r = self.now in
+        requires fresh { IsFresh W.columns (block_width self.old) (may_overflow self.old) block.old }
+        ensures fresh { OnOk result (IsFresh W.columns (block_width self.old) (may_overflow self.old) block.new) }
+        ensures writes { let r = self.old in
             let es = entries_of W.columns D.preformatted r (chars text.now) in
             Writes W.columns r (called es) block.old result block.new }
-        ensures two_columns { 2 ≤ block_width self.now → result ≢ Err E.TooNarrow }
+        ensures two_columns { 2 ≤ block_width self.old → result ≢ Err E.TooNarrow }
+        ensures same { self.new ≡ self.old }
     {
         if text.is_empty() {
             return self.write_nothing(block);
