@@ -27,7 +27,7 @@ use tbr_lines::{CellAlign, Error, WhiteSpace};
 ///
 /// A call that ends the open line also ends its run, whether its own or that of a renderer that it takes. In `Normal`,
 /// where no line may be wider than the block, no legal layout has then placed more after any number of lines. Clauses
-/// `best` say so.
+/// `best` say so. Text that begins a block has none; there the law `the_headline` says it.
 ///
 /// A call that refuses leaves the renderer failed. The renderer keeps that refusal: each later call that can refuse
 /// answers it, and does nothing else. A call that can't refuse does nothing then. The four calls for prefixes and
