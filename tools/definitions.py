@@ -6,25 +6,29 @@ from pathlib import Path
 TOP = Path(__file__).resolve().parent.parent
 # Contracts, each with the members that its clauses name, and how many definitions may be behind it.
 WATCHED = [
-    ("crates/tbr_renderer/src/renderer.rt", "add_inline_text", ["crates/tbr_renderer/src/sub/calls.rt:calls"], 301),
+    ("crates/tbr_renderer/src/renderer.rt", "add_inline_text", ["crates/tbr_renderer/src/sub/calls.rt:calls"], 149),
     (
         "crates/tbr_renderer/src/renderer.rt",
         "append_columns_aligned",
         ["crates/tbr_renderer/src/sub/calls.rt:" + it for it in ("calls", "handed_out", "has_places_for", "ends_best")],
-        354,
+        287,
     ),
-    ("crates/tbr_runner/src/runner.rt", "run", [], 383),
-    ("crates/text_block_renderer/src/laws/headline.rt", "the_headline", [], 510),
+    ("crates/tbr_runner/src/runner.rt", "run", [], 500),
+    ("crates/text_block_renderer/src/laws/headline.rt", "the_headline", [], 518),
 ]
 WORD = re.compile(r"[^\s(){}\[\],;.]+")
 USE = re.compile(r"^\s*(?:pub |ghost )?use (Rattle[^\s{]*?)(?:\.\{([^}]*)\})?(?: as (\S+?))?;?\s*$", re.M)
+# A definition that is a record, and its fields.
+RECORD = re.compile(r"[^\n]*\n[^\n]* = record \{\n")
+FIELD = re.compile(r" +(\w+) = ")
 DECLARED = re.compile(r"( *)(?:abbrev pub|abbrev|pub record|pub data|pub) (?P<name>[^\s(){}:,]+)")
 
 
 class Module:
     """A file of definitions: what it defines, by name, and where other names come from."""
 
-    def __init__(self, path):
+    def __init__(self, name, path):
+        self.name = name
         self.text = re.sub(r"(?m)--.*$", "", path.read_text(encoding="utf-8"))
         self.names, self.aliases = imported(self.text)
         self.bodies = bodies(self.text)
@@ -61,14 +65,24 @@ def module(name):
     """The module of that name, if it is one of this repository that isn't made of Rust."""
     _, crate, *parts = name.split(".")
     path = TOP / "crates" / crate / Path(*parts).with_suffix(".antt") if parts else None
-    return Module(path) if path and path.is_file() and "declared" not in parts else None
+    if path is None or "declared" in parts:
+        return None
+    return Module(name, path) if path.is_file() else passed_on(crate, *parts)
+
+
+def passed_on(crate, *parts):
+    """The module that a crate passes on under this name, if it does."""
+    whole = TOP / "crates" / crate / parts[0] / "Lib.antt"
+    text = whole.read_text(encoding="utf-8") if whole.is_file() else ""
+    found = re.search(rf"^pub use (\S+\.{parts[-1]})$", text, re.M)
+    return module(found[1]) if found else None
 
 
 def origin(name, own):
     """The module that defines a name which a module gives, and its name there."""
     found = module(name)
     if found is None or own in found.bodies:
-        return (name, own) if found else None
+        return (found.name, own) if found else None
     return origin(*found.names[own]) if own in found.names else None
 
 
@@ -82,19 +96,37 @@ def named(text, names, aliases):
             yield origin(*names[word])
 
 
-def behind(roots):
+def counted(body, said):
+    """What of a definition counts. Of a record these are the fields that are read, as `.field`, in what is said."""
+    if not RECORD.match(body):
+        return body
+    lines = [(FIELD.match(line), line) for line in body.split("\n")]
+    return "\n".join(line for field, line in lines if not field or re.search(rf"\.{field[1]}\b", said))
+
+
+def reached(roots, said):
     """All definitions that these lead to, with themselves."""
-    seen, waiting = set(), [it for it in roots if it]
+    seen, waiting = set(), [*roots]
     while waiting:
         one = waiting.pop()
         if one in seen:
             continue
         seen.add(one)
         here = module(one[0])
-        body = here.bodies[one[1]]
+        body = counted(here.bodies[one[1]], said)
         waiting += [it for it in named(body, here.names, here.aliases) if it]
         waiting += [(one[0], word) for word in set(WORD.findall(body)) if word in here.bodies]
     return seen
+
+
+def behind(roots, text):
+    """All definitions that a text and these lead to, with themselves."""
+    roots, found, more = [it for it in roots if it], set(), True
+    while more:
+        said = "".join([text, *(module(name).bodies[own] for name, own in found)])
+        more = (now := reached(roots, said)) != found
+        found = now
+    return found
 
 
 def clauses(text, function):
@@ -112,14 +144,15 @@ def member(text, name):
 def count(file, function, members):
     """How many definitions are behind a contract, and how many lines these have."""
     text = (TOP / file).read_text(encoding="utf-8")
-    roots = list(named(clauses(text, function), *imported(text)))
+    said = clauses(text, function)
+    roots = list(named(said, *imported(text)))
     for it in members:
         file, _, name = it.partition(":")
         text = (TOP / file).read_text(encoding="utf-8")
         roots += named(member(text, name), *imported(text))
-    found = behind(roots)
-    lines = sum(len([line for line in module(name).bodies[own].split("\n") if line.strip()]) for name, own in found)
-    return len(found), lines
+    found = behind(roots, said)
+    bodies = [module(name).bodies[own] for name, own in found]
+    return len(found), sum(1 for body in bodies for line in body.split("\n") if line.strip())
 
 
 def watched():

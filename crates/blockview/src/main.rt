@@ -12,9 +12,9 @@ use clap::{ArgMatches, Command, Error};
 use std::io::{IsTerminal, Read};
 use std::process::ExitCode;
 use std::{env, fs, io};
-use tbr_lines::UnicodeColumns;
 use tbr_show::AmbiguousWide;
 use tbr_statements::{Problem, Refusal};
+use tbr_tagged::UnicodeColumns;
 use tbr_view::{Settings, Shown, view};
 
 mod arguments;

@@ -1,20 +1,18 @@
 -- What a counter has counted of several others, and of lines.
-use Rattle.std.proofs.Common.{◌≡◌, inl, inr, ℕ, ◌+◌, Bool, true, false, if◌then◌else◌, Option, None, Some, Result, Ok, Err, List, [], ◌∷◌, ◌++◌, map, length, take, drop, is_some, refl, ap, sym, ◌∙◌, arith}
+use Rattle.callers.proofs.Common.{◌≡◌, ℕ, Bool, true, false, if◌then◌else◌, Option, None, Some, Result, Ok, Err, List, [], ◌∷◌, ◌++◌, map, length, drop, is_some, refl, ap, sym, ◌∙◌, arith, Each}
+use Rattle.callers.proofs.Common.{Outcome, done, Error, OutOfMemory, TooNarrow, gathered, cells_given, Line, Counted, with_more, one_line, handed_out, failure, calls}
+use Rattle.std.proofs.Common.{inl, inr, ◌+◌, take}
 use Rattle.std.specs.Prelude.{OnOk, IfErr}
-use Rattle.std.specs.List.{AllByRecursion as Each}
 use Rattle.std.proofs.lemmas.List.{length-replicate}
-use Rattle.tbr_tagged.specs.Outcome.{Outcome, done}
 use Rattle.tbr_tagged.specs.declared.CellAlign.{CellAlign}
-use Rattle.tbr_tagged.specs.declared.Error.{Error}
-use Rattle.tbr_tagged.specs.declared.Error.TheVariants.{OutOfMemory, TooNarrow}
 use Rattle.tbr_model.specs.Run.{glyph}
 use Rattle.tbr_model.specs.Codes.{space_character}
 use Rattle.text_block_renderer.specs.Appended.{GivesFirst, texts_of}
-use Rattle.text_block_renderer.specs.Outcomes.{and_then, changed, taking, gathered}
-use Rattle.text_block_renderer.specs.Rows.{GivenCell, next_align, cells_given}
-use Rattle.text_block_renderer.specs.Line.{Line}
-use Rattle.text_block_renderer.specs.Calls.{new_line, Takes}
-use Rattle.callers.specs.Counted.{Counted, with_more, sum_of, in_lines, in_row, one_line, handed_out, kept_of, calls}
+use Rattle.text_block_renderer.specs.Outcomes.{and_then, changed, taking}
+use Rattle.text_block_renderer.specs.Rows.{GivenCell, next_align}
+use Rattle.text_block_renderer.specs.Calls.{after_step, Takes}
+use Rattle.callers.specs.Counted.{sum_of, in_lines, in_row, kept_of}
+use Rattle.text_block_renderer.proofs.OutcomeParts.{taking_live}
 
 -- it hasn't failed
 pub goes_on : (b : Bool) (u : Unit {0}) → Ok u ≡ (if b then Err OutOfMemory else Ok tt) → b ≡ false
@@ -118,24 +116,35 @@ was_failed false e was = absurd (let no : ⊥ = cc in no)
 not_narrow : {R : Type 0} (e : Error) → e ≡ OutOfMemory → (let told : Result R Error = Err e in told ≡ Err TooNarrow) → ⊥
 not_narrow e memory is = let no : OutOfMemory ≡ TooNarrow = sym memory ∙ (let same : e ≡ TooNarrow = cc in same) in let none : ⊥ = cc in none
 
+-- one that hasn't failed keeps no refusal
+pub unfailed : (c : Counted) → c.failed ≡ false → failure c ≡ None
+unfailed c is = ap (λ b. if b then Some OutOfMemory else None) is
+
 module _ {X : Type 0} (given : Outcome X) where
-  pub takes_given : (count : X → Counted → Outcome Counted) (old new : Counted) (x : X) → given ≡ done x → count x old ≡ done new → taking (calls.after new_line) given count old ≡ done new
-  takes_given count old new x gives is = ap (λ o. and_then o (λ y. count y old)) gives ∙ is
+  -- what a counter makes of what others give
+  abbrev pub counted_of : (X → Counted → Outcome Counted) → Counted → Outcome Counted
+  counted_of count = taking (after_step calls calls.new_line) given (λ x. after_step calls (count x))
+
+  pub takes_given : (count : X → Counted → Outcome Counted) (old new : Counted) (x : X) → old.failed ≡ false →
+      given ≡ done x → count x old ≡ done new → counted_of count old ≡ done new
+  takes_given count old new x live gives is =
+      taking_live done given count old failure (unfailed old live)
+      ∙ ap (λ o. and_then o (λ y. count y old)) gives ∙ is
 
   -- a counter refuses with `OutOfMemory` alone
-  pub takes_so : {R : Type 0} (wide : Type 0) (count : X → Counted → Outcome Counted) (old new : Counted) (result : Result R Error) →
-      OnOk result ((old.failed ≡ false) × (taking (calls.after new_line) given count old ≡ done new)) →
+  pub takes_so : {R : Type 0} (wide : Type 0) (count : X → Counted → Outcome Counted) (old new : Counted)
+      (result : Result R Error) → OnOk result ((old.failed ≡ false) × (counted_of count old ≡ done new)) →
       IfErr result (λ e. (e ≡ OutOfMemory) × (kept_of new ≡ kept_of old) × (new.failed ≡ true) × (old.failed ≡ true → new ≡ old)) → Takes calls given wide count old result new
   takes_so wide count old new (Ok r) ok err = record {
     ok = ok.1;
     too_narrow = λ is. absurd (let no : ⊥ = cc in no);
-    two_columns = λ broad others is. (let no : ⊥ = cc in no);
+    two_columns = λ wide is. (let no : ⊥ = cc in no);
     fails = record { refusal = (tt, λ e was. absurd (none_failed old.failed e ok.0 was)); kept = tt };
   }
   takes_so wide count old new (Err e) ok err = record {
     ok = tt;
     too_narrow = λ is. absurd (not_narrow e err.0 is);
-    two_columns = λ broad others is. not_narrow e err.0 is;
+    two_columns = λ wide is. not_narrow e err.0 is;
     fails = record {
       refusal = (
         if_failed new.failed err.2 ∙ ap (λ (x : Error). Some x) (sym err.0),

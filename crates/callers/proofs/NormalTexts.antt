@@ -1,14 +1,10 @@
 -- Runs of texts in `Normal`, for callers.
-use Rattle.std.proofs.Common.{◌≡◌, ℕ, ◌<◌, Bool, false, Option, Some, List, [], ◌∷◌, refl, sym, subst}
-use Rattle.std.specs.List.{AllZip}
-use Rattle.tbr_model.specs.Run.{Entry, Item}
-use Rattle.tbr_model.specs.declared.white_space.WhiteSpace.TheVariants.{Normal}
-use Rattle.tbr_tagged.specs.Elements.{Element}
-use Rattle.tbr_tagged.specs.Outcome.{done}
-use Rattle.tbr_wrap.specs.Wrapped.{HasBestLines, ShowsText}
-use Rattle.tbr_wrap.specs.Runs.{text_entries, IsNormal}
-use Rattle.tbr_wrap.specs.Block.{Block, new_block, all_lines, grown, text_events, after_text, after_flush}
-use Rattle.tbr_wrap.proofs.runs.BlockLaws.{text_leaves, flush_leaves, flush_best, entries_run}
+use Rattle.callers.proofs.Common.{◌≡◌, ℕ, ◌<◌, Bool, false, Option, Some, List, [], ◌∷◌, refl, sym, subst, AllZip, Item, Normal, Element, done, HasBestLines, ShowsText, text_entries, Block, new_block}
+use Rattle.callers.proofs.Common.{all_lines, grown, after_text, after_flush, text_leaves, flush_leaves}
+use Rattle.tbr_model.specs.Run.{Entry}
+use Rattle.tbr_wrap.specs.Runs.{IsNormal}
+use Rattle.tbr_wrap.specs.Block.{text_events}
+use Rattle.tbr_wrap.proofs.runs.BlockLaws.{flush_best, entries_run}
 
 -- a text in `Normal` makes a `Normal` run
 pub text_normal : {A : Type 0} (cs : List ℕ) (a b : A) → IsNormal (text_entries cs a b Normal)
@@ -16,7 +12,9 @@ text_normal [] a b = tt
 text_normal (c ∷ cs) a b = (refl, text_normal cs a b)
 
 -- what a new block hands out whose only run is `Normal`
-pub best_lines : {A : Type 0} (columns : ℕ → Option ℕ) (one : columns 32 ≡ Some 1) (eq : A → A → Bool) (width : ℕ) (wide : 0 < width) (padding : Option A) (cs : List ℕ) (a b : A) (s : Block A) (lines : List (List (Element A))) →
+pub best_lines : {A : Type 0} (columns : ℕ → Option ℕ) (one : columns 32 ≡ Some 1) (eq : A → A → Bool) (width : ℕ)
+    (wide : 0 < width) (padding : Option A) (cs : List ℕ) (a b : A) (s : Block A) (lines : List (List (Element A)))
+    →
     after_text columns cs a b Normal (new_block width false padding) ≡ done s → ((t : Block A) × (after_flush columns s ≡ done t) × AllZip (ShowsText columns eq s.padding s.width) lines t.ended) →
     (texts : List (List (Item A))) × HasBestLines columns width (text_entries cs a b Normal) texts × AllZip (ShowsText columns eq padding width) lines texts
 best_lines {A} columns one eq width wide padding cs a b s lines joins given =

@@ -1,25 +1,22 @@
 -- Markers that are walked over, and lines that are taken one by one.
-use Rattle.std.proofs.Common.{◌≡◌, ℕ, zero, suc, ◌<◌, ◌||◌, Bool, true, Option, drop, subst, List, [], ◌∷◌, ◌++◌, map, length, get_or, refl, ap, sym, ◌∙◌, arith, append_assoc, append-nil}
-use Rattle.std.specs.List.{AllZip}
-use Rattle.std.proofs.lemmas.List.{map-append}
+use Rattle.callers.proofs.Common.{◌≡◌, ℕ, ◌<◌, Bool, true, Option, drop, subst, List, [], ◌∷◌, ◌++◌, map, length, refl, ap, sym, ◌∙◌, arith, AllZip, map-append, Item, marker_entry, entry, Element}
+use Rattle.callers.proofs.Common.{marker_element, Block, all_lines, left, grown, after_flush, done, live_goes, ShowsText, HandsOne, flush_leaves, element_of}
+use Rattle.std.proofs.Common.{zero, suc, ◌||◌, get_or, append_assoc, append-nil}
 use Rattle.tbr_model.specs.Fits.{lines_fit}
-use Rattle.tbr_model.specs.Run.{Item, marker_entry}
-use Rattle.tbr_model.specs.Rule.{Event, entry, progress, finished}
+use Rattle.tbr_model.specs.Rule.{Event, progress, finished}
 use Rattle.tbr_model.proofs.rule.DoneLines.{finished_adds}
-use Rattle.tbr_tagged.specs.Elements.{Element, marker_element}
-use Rattle.tbr_wrap.specs.Block.{Block, Settings, settings_of, progress_of, lines, all_lines, left, allows, grown, after_marker, flushed, after_flush, line_handed_out, lines_handed_out}
-use Rattle.tbr_tagged.specs.Outcome.{done}
-use Rattle.tbr_tagged.proofs.Outcomes.{live_done, live_goes}
-use Rattle.tbr_wrap.specs.Wrapped.{ShowsText}
+use Rattle.tbr_wrap.specs.Block.{Settings, settings_of, progress_of, lines, allows, after_marker, flushed, line_handed_out, lines_handed_out}
+use Rattle.tbr_tagged.proofs.Outcomes.{live_done}
 use Rattle.tbr_wrap.proofs.runs.Blocks.{if_allowed}
-use Rattle.tbr_wrap.proofs.runs.BlockLaws.{HandsOne, flush_leaves, flush_allowed}
+use Rattle.tbr_wrap.proofs.runs.BlockLaws.{flush_allowed}
 use Rattle.tbr_wrap.proofs.runs.LinesLeft.{many_keep, handed_one_more}
 use Rattle.tbr_tagged.proofs.SameItems.{all_zip_append}
-use Rattle.tbr_tagged.specs.View.{element_of}
 use Rattle.tbr_tagged.specs.declared.TaggedLineElement.{TaggedLineElement}
 
 -- what is at a place is a marker
-pub marker_at : {T : Type 0} (all : List (TaggedLineElement T)) (names : List (List ℕ)) (k : ℕ) (x : TaggedLineElement T) → map element_of all ≡ map marker_element names → k < length all → x ≡ get_or all k x → (name : List ℕ) × (element_of x ≡ marker_element name)
+pub marker_at : {T : Type 0} (all : List (TaggedLineElement T)) (names : List (List ℕ)) (k : ℕ)
+    (x : TaggedLineElement T) → map element_of all ≡ map marker_element names → k < length all →
+    x ≡ get_or all k x → (name : List ℕ) × (element_of x ≡ marker_element name)
 marker_at [] names k x e below is = absurd (let none : ⊥ = omega (arith, below) in none)
 marker_at (y ∷ all) [] k x e below is = cc
 marker_at (y ∷ all) (name ∷ names) zero x e below is = (name, (let first : element_of y ≡ marker_element name = cc in ap element_of is ∙ first))
@@ -39,7 +36,9 @@ same_names T (m ∷ ms) (n ∷ ns) e = let rest = same_names T ms ns cc in let f
 pub no_marker_yet : {T : Type 0} (s : Block T) → s ≡ grown s []
 no_marker_yet {T} s = ap (λ (es : List (Event T)). record s { events = es }) (sym (append-nil s.events))
 
-pub one_marker_more : {T : Type 0} (first old new : Block T) (names : List (List ℕ)) (name : List ℕ) → old ≡ grown first (map (λ n. entry (marker_entry n)) names) → after_marker name old ≡ done new → new ≡ grown first (map (λ n. entry (marker_entry n)) (names ++ name ∷ []))
+pub one_marker_more : {T : Type 0} (first old new : Block T) (names : List (List ℕ)) (name : List ℕ) →
+    old ≡ grown first (map (λ n. entry (marker_entry n)) names) → after_marker name old ≡ done new →
+    new ≡ grown first (map (λ n. entry (marker_entry n)) (names ++ name ∷ []))
 one_marker_more {T} first old new names name is after =
     let joined : grown old (entry (marker_entry name) ∷ []) ≡ new = let e = (live_done old.failure _ new after).1 in cc in
     sym joined ∙ ap (λ (s : Block T). grown s (entry (marker_entry name) ∷ [])) is
@@ -83,7 +82,9 @@ module _ {T : Type 0} (columns : ℕ → Option ℕ) (eq : T → T → Bool) whe
   none_taken block = record { count = 0; block_is = refl; given = []; parts = refl; shown = tt }
 
   -- one line more
-  pub one_taken : (first old new : Block T) (lines more : List (List (Element T))) (line : List (Element T)) → HasTaken columns eq first old lines → HandsOne columns eq old line new → more ≡ lines ++ line ∷ [] → HasTaken columns eq first new more
+  pub one_taken : (first old new : Block T) (lines more : List (List (Element T))) (line : List (Element T)) →
+      HasTaken columns eq first old lines → HandsOne columns eq old line new → more ≡ lines ++ line ∷ [] →
+      HasTaken columns eq first new more
   one_taken first old new lines more line h one pushed =
       let settings : settings_of old ≡ settings_of first = ap settings_of h.block_is ∙ (many_keep h.count first).1 in
       let padding : old.padding ≡ first.padding = ap (λ (k : Settings T). k.padding) settings in

@@ -9,7 +9,7 @@ use Rattle.text_block_renderer.specs.Line.{Line, text, border}
 use Rattle.text_block_renderer.specs.Options.{default_options}
 use Rattle.text_block_renderer.specs.Renderer.{Kept}
 use Rattle.text_block_renderer.specs.Rows.{GivenCell}
-use Rattle.text_block_renderer.specs.Calls.{Call, CallsOf, add_inline_text, push_preformat, pop_preformat, add_image, append_subrender, append_vert_row}
+use Rattle.text_block_renderer.specs.Calls.{CallsOf}
 
 -- Its columns, what it has counted, how many preformatted stretches are open, and whether a count has passed `usize`.
 pub record Counted : Type 0 where
@@ -66,19 +66,33 @@ kept_of c = record {
   preformatted = c.preformatted;
 }
 
--- Texts, titles of images and the lines of others are counted, of prefixed ones as many as there are prefixes.
-abbrev pub after : Call (Unit {0}) → Counted → Outcome Counted
-after (add_inline_text cs) c = done (with_more (length cs) c)
-after (add_image source title) c = done (with_more (length title) c)
-after push_preformat c = done (record c { preformatted = suc c.preformatted })
-after pop_preformat c = done (record c { preformatted = c.preformatted - 1 })
-after (append_subrender prefixes lines) c = done (with_more (in_lines (take (length prefixes) lines)) c)
-after (append_vert_row cells) c = done (with_more (sum_of in_lines cells) c)
-after other c = done c
-
--- and of rows those of all cells
-abbrev pub after_row : Bool → List (GivenCell (Unit {0})) → Counted → Outcome Counted
-after_row collapses cells c = done (with_more (in_row cells) c)
-
+-- Texts, titles of images and the lines of others are counted, of prefixed ones as many as there are prefixes, and of
+-- rows those of all cells.
 abbrev pub calls : CallsOf (Unit {0}) Counted Counted
-calls = record { state = λ c. c; after = after; after_row = after_row; failure = failure; kept_of = kept_of }
+calls = record {
+  state = λ c. c;
+  failure = failure;
+  kept_of = kept_of;
+  add_empty_line = done;
+  new_line = done;
+  new_line_hard = done;
+  start_block = done;
+  end_block = λ c. c;
+  add_inline_text = λ cs c. done (with_more (length cs) c);
+  push_ws = λ mode c. done c;
+  pop_ws = λ c. c;
+  push_preformat = λ c. done (record c { preformatted = suc c.preformatted });
+  pop_preformat = λ c. record c { preformatted = c.preformatted - 1 };
+  record_frag_start = λ name c. done c;
+  begin = λ opened c. done c;
+  finish = λ closed c. done c;
+  start_strikeout = done;
+  end_strikeout = done;
+  add_image = λ source title c. done (with_more (length title) c);
+  push_colour = λ g colour c. done c;
+  pop_colour = λ g c. c;
+  add_border = λ width c. done c;
+  append_subrender = λ prefixes lines c. done (with_more (in_lines (take (length prefixes) lines)) c);
+  append_vert_row = λ cells c. done (with_more (sum_of in_lines cells) c);
+  append_row = λ collapse cells c. done (with_more (in_row cells) c);
+}

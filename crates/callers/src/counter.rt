@@ -4,7 +4,6 @@ ghost use Rattle.std.specs.List.{AllByRecursion as Each};
 ghost use Rattle.tbr_tagged.specs.declared.Error.TheVariants.{OutOfMemory};
 ghost use Rattle.text_block_renderer.specs.Outcomes.{gathered};
 ghost use Rattle.text_block_renderer.specs.Rows.{cells_given};
-ghost use Rattle.text_block_renderer.specs.Calls as call;
 ghost use Rattle.text_block_renderer.specs.Calls.{IsWide, Takes};
 ghost use Rattle.callers.specs.Counted as counted;
 ghost use Rattle.callers.specs.Counted.{with_more, nothing_counted};
@@ -293,7 +292,7 @@ impl Renderer for Counter {
 
     fn append_vert_row(&mut self, cols: Vec<Counter>) -> Result<(), Error>
         ensures takes { Takes counted.calls (gathered counted.handed_out cols.items)
-            (Each (IsWide counted.calls) cols.items) (λ cells. counted.after (call.append_vert_row cells))
+            (Each (IsWide counted.calls) cols.items) counted.calls.append_vert_row
             self.old result self.new }
         ensures best { OnOk result (Unit {0} × Each (λ _. Unit {0}) cols.items) }
     {
@@ -309,7 +308,7 @@ impl Renderer for Counter {
         requires spans { Each (λ col. 0 < col.1) cols.items }
         requires aligns { length aligns.now ≡ length cols.items }
         ensures takes { Takes counted.calls (cells_given (λ c. c.width) counted.handed_out cols.items aligns.now)
-            (Each (λ col. IsWide counted.calls col.0) cols.items) (counted.after_row collapse)
+            (Each (λ col. IsWide counted.calls col.0) cols.items) (counted.calls.append_row collapse)
             self.old result self.new }
         ensures best { OnOk result (Unit {0} × Each (λ _. Unit {0}) cols.items) }
     {
@@ -323,7 +322,7 @@ impl Renderer for Counter {
     ) -> Result<(), Error>
         requires spans { Each (λ col. 0 < col.1) cols.items }
         ensures takes { Takes counted.calls (cells_given (λ c. c.width) counted.handed_out cols.items [])
-            (Each (λ col. IsWide counted.calls col.0) cols.items) (counted.after_row collapse)
+            (Each (λ col. IsWide counted.calls col.0) cols.items) (counted.calls.append_row collapse)
             self.old result self.new }
         ensures best { OnOk result (Unit {0} × Each (λ _. Unit {0}) cols.items) }
     {

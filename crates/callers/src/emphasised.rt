@@ -5,7 +5,7 @@ ghost use Rattle.tbr_decor.specs.Start as start;
 ghost use Rattle.tbr_decor.specs.End as end;
 ghost use Rattle.text_block_renderer.specs.Outcomes.{run};
 ghost use Rattle.text_block_renderer.specs.Calls as call;
-ghost use Rattle.text_block_renderer.specs.Calls.{failure_in, KeepsFailure};
+ghost use Rattle.text_block_renderer.specs.Calls.{after_by, failure_in, KeepsFailure};
 
 use text_block_renderer::{Error, Renderer};
 
@@ -13,7 +13,7 @@ use text_block_renderer::{Error, Renderer};
 pub fn emphasised<R: Renderer>(r: &mut R, text: &str) -> Result<(), Error>
     ensures ok { let calls =
         call.begin start.emphasis ∷ call.add_inline_text (chars text.now) ∷ call.finish end.emphasis ∷ [] in
-        OnOk result (run R.calls.after calls (R.calls.state r.old) ≡ done (R.calls.state r.new)) }
+        OnOk result (run (after_by R.calls) calls (R.calls.state r.old) ≡ done (R.calls.state r.new)) }
     ensures kept { KeepsFailure (failure_in R.calls) r.old result r.new }
 {
     r.start_emphasis()?;

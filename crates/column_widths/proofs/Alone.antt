@@ -1,11 +1,9 @@
 -- A cell that is alone in its column.
-use Rattle.std.proofs.Common.{◌≡◌, ℕ, ◌+◌, ◌-◌, ◌*◌, ◌<◌, ◌≤◌, max, true, false, cond, eqb, [], ◌∷◌, refl, ap, ◌∙◌, arith, eq-eqb, add-zero, ⊎_elim}
-use Rattle.std.proofs.lemmas.Bool.{ne_eqb, cases_lt}
+use Rattle.column_widths.proofs.Common.{◌≡◌, ℕ, ◌+◌, ◌-◌, ◌*◌, ◌<◌, ◌≤◌, true, false, cond, eqb, [], ◌∷◌, refl, ap, ◌∙◌, arith, add-zero, ⊎_elim, cases_lt, Need, Bound, Least, Greatest, width_of}
+use Rattle.column_widths.proofs.Common.{widened, filled}
+use Rattle.std.proofs.Common.{max, eq-eqb}
+use Rattle.std.proofs.lemmas.Bool.{ne_eqb}
 use Rattle.std.proofs.Math.Nat.{div-one, mod-one}
-use Rattle.column_widths.specs.declared.need.Need.{Need}
-use Rattle.column_widths.specs.declared.need.Bound.{Bound}
-use Rattle.column_widths.specs.declared.need.Bound.TheVariants.{Least, Greatest}
-use Rattle.column_widths.specs.Needs.{width_of, widened, filled}
 
 abbrev pub need : ℕ → ℕ → Need
 need least greatest = record { least = least; greatest = greatest }
@@ -28,7 +26,10 @@ least_alone line asked n ordered =
     ⊎_elim
     (λ (less : n.least < asked).
     let some : eqb (asked - n.least) 0 ≡ false = ne_eqb (asked - n.least) 0 (λ e. omega arith) in
-    rw some (ap (λ m. m ∷ []) (same_need (n.least + (asked - n.least)) (max n.greatest (n.least + (asked - n.least))) (max n.least asked) (max n.greatest (max n.least asked)) (omega arith) (omega arith))))
+    rw some
+    (ap (λ m. m ∷ [])
+    (same_need (n.least + (asked - n.least)) (max n.greatest (n.least + (asked - n.least))) (max n.least asked)
+    (max n.greatest (max n.least asked)) (omega arith) (omega arith))))
     (λ (enough : asked ≤ n.least).
     let none : eqb (asked - n.least) 0 ≡ true = eq-eqb (asked - n.least) 0 (omega arith) in
     rw none (ap (λ m. m ∷ []) (same_need n.least n.greatest (max n.least asked) (max n.greatest (max n.least asked)) (omega arith) (omega arith))))

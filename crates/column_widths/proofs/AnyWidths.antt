@@ -1,14 +1,9 @@
 -- The laws of the widths, by the cases that the widths have.
-use Rattle.std.proofs.Common.{◌≡◌, ◌↔◌, ℕ, ◌+◌, ◌-◌, ◌<◌, ◌≤◌, List, length, map, get_or, Some, None, Option, refl, sym, subst, ◌∙◌, ⊎_elim, arith}
-use Rattle.std.specs.List.{sum, sum_by, AllZip, All, AllByRecursion as Each}
-use Rattle.std.proofs.lemmas.List.{get_or-map}
-use Rattle.std.proofs.lemmas.List.Sums.{sum-map}
-use Rattle.std.proofs.lemmas.Bool.{cases_lt, lt-ltb, le-ltb}
-use Rattle.column_widths.specs.declared.need.Bound.TheVariants.{Least, Greatest}
-use Rattle.column_widths.specs.Table.{Table, IsWithin}
-use Rattle.column_widths.specs.Needs.{width_of, needs_of, unspanned}
-use Rattle.column_widths.specs.Widths.{widths, widths_beside_lines, lines_of, slack, shared}
-use Rattle.column_widths.specs.Laws.{room_of, need_at, IsWithinNeed, HasRoom}
+use Rattle.column_widths.proofs.Common.{◌≡◌, ℕ, ◌+◌, ◌-◌, ◌<◌, ◌≤◌, List, length, map, get_or, Some, None, refl, sym, subst, ◌∙◌, ⊎_elim, arith, sum, sum_by, AllZip, All, Each, get_or-map, sum-map}
+use Rattle.column_widths.proofs.Common.{cases_lt, lt-ltb, le-ltb, Least, Greatest, Table, IsWithin, width_of, needs_of, unspanned, widths, widths_beside_lines, lines_of, slack, shared, IsWithinNeed}
+use Rattle.column_widths.proofs.Common.{HasRoom}
+use Rattle.std.proofs.Common.{◌↔◌, Option}
+use Rattle.column_widths.specs.Laws.{room_of, need_at}
 use Rattle.column_widths.proofs.Cases.{widths_of_narrow, widths_of_roomy, widths_between}
 use Rattle.column_widths.proofs.LeftOver.{shared_sum}
 use Rattle.column_widths.proofs.Ordered.{needs_ordered}

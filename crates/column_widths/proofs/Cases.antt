@@ -1,12 +1,7 @@
 -- The three cases of the widths.
-use Rattle.std.proofs.Common.{◌≡◌, ℕ, ◌-◌, ◌<◌, ◌≤◌, List, map, Some, None, refl}
-use Rattle.std.specs.List.{sum_by}
-use Rattle.std.proofs.lemmas.Bool.{lt-ltb, le-ltb, le-leb, lt-leb}
-use Rattle.column_widths.specs.declared.need.Need.{Need}
-use Rattle.column_widths.specs.declared.need.Bound.TheVariants.{Least, Greatest}
-use Rattle.column_widths.specs.Table.{Table}
-use Rattle.column_widths.specs.Needs.{width_of, needs_of}
-use Rattle.column_widths.specs.Widths.{widths, widths_beside_lines, lines_of, shared}
+use Rattle.column_widths.proofs.Common.{◌≡◌, ℕ, ◌-◌, ◌<◌, ◌≤◌, List, map, Some, None, refl, sum_by, lt-ltb, le-ltb, Need, Least, Greatest, Table, width_of, needs_of, widths, widths_beside_lines}
+use Rattle.column_widths.proofs.Common.{lines_of, shared}
+use Rattle.std.proofs.lemmas.Bool.{le-leb, lt-leb}
 
 -- what columns need at least, and what they need at most
 abbrev pub all_least : List Need → ℕ

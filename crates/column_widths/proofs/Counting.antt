@@ -1,7 +1,6 @@
 -- How many elements of a list are before a place of an order.
-use Rattle.std.proofs.Common.{◌≡◌, ℕ, ◌+◌, ◌<◌, ◌≤◌, Bool, true, false, cond, ◌⊎◌, inl, inr, List, [], ◌∷◌, refl, sym, ap, ◌∙◌, arith}
-use Rattle.std.specs.List.{count_by}
-use Rattle.std.proofs.lemmas.List.Sums.{sum_by-cons}
+use Rattle.column_widths.proofs.Common.{◌≡◌, ℕ, ◌+◌, ◌<◌, ◌≤◌, Bool, true, false, cond, inl, inr, List, [], ◌∷◌, refl, sym, ap, ◌∙◌, arith, count_by, sum_by-cons}
+use Rattle.std.proofs.Common.{◌⊎◌}
 
 -- an element of a list
 abbrev pub IsIn : {P : Type 0} → P → List P → Type 0

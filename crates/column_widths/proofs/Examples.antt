@@ -1,10 +1,5 @@
 -- Worked examples, by hand.
-use Rattle.std.proofs.Common.{◌≡◌, ℕ, [], ◌∷◌, Some, None, refl}
-use Rattle.column_widths.specs.declared.columns.CellNeed.{CellNeed}
-use Rattle.column_widths.specs.declared.need.Need.{Need}
-use Rattle.column_widths.specs.Table.{Table}
-use Rattle.column_widths.specs.Needs.{needs_of}
-use Rattle.column_widths.specs.Widths.{widths}
+use Rattle.column_widths.proofs.Common.{◌≡◌, ℕ, [], ◌∷◌, Some, None, refl, CellNeed, Need, Table, needs_of, widths}
 
 -- a cell by its first column, how many it spans, its longest word and its widest line
 abbrev cell : ℕ → ℕ → ℕ → ℕ → CellNeed

@@ -1,13 +1,8 @@
 -- What is left over after the shares, and who gets it.
-use Rattle.std.proofs.Common.{◌≡◌, ℕ, ◌+◌, ◌-◌, ◌*◌, ◌<◌, ◌≤◌, min, Bool, true, cond, ltb, List, [], ◌∷◌, inl, inr, refl, sym, ap, ◌∙◌, ⊎_elim, arith}
-use Rattle.std.specs.List.{sum, sum_by, count_by, enumerate_from}
-use Rattle.std.proofs.lemmas.List.Sums.{sum_by-cons, sum-map}
-use Rattle.std.proofs.lemmas.Bool.{cases_lt, lt-ltb}
-use Rattle.std.proofs.Math.Nat.{le_of_mul-le-mul_left, mul-div-le, lt-mul-div-succ}
-use Rattle.column_widths.specs.declared.need.Need.{Need}
-use Rattle.column_widths.specs.declared.need.Bound.TheVariants.{Least}
-use Rattle.column_widths.specs.Needs.{width_of}
-use Rattle.column_widths.specs.Widths.{slack, share, comes_before, gets_one, width_at, shared}
+use Rattle.column_widths.proofs.Common.{◌≡◌, ℕ, ◌+◌, ◌-◌, ◌*◌, ◌<◌, ◌≤◌, min, Bool, true, cond, ltb, List, [], ◌∷◌, inl, inr, refl, sym, ap, ◌∙◌, ⊎_elim, arith, sum, sum_by, count_by, enumerate_from}
+use Rattle.column_widths.proofs.Common.{sum_by-cons, sum-map, cases_lt, lt-ltb, lt-mul-div-succ, Need, Least, width_of, slack, share, gets_one, width_at, shared}
+use Rattle.std.proofs.Math.Nat.{le_of_mul-le-mul_left, mul-div-le}
+use Rattle.column_widths.specs.Widths.{comes_before}
 use Rattle.column_widths.proofs.Counting.{IsIn, one_if, count_cons}
 use Rattle.column_widths.proofs.Order.{lexicographic_trans, lexicographic_total, lexicographic_irrefl}
 use Rattle.column_widths.proofs.Ranks.{Order, IsTotal, early_count}
@@ -80,7 +75,8 @@ widths_sum : (extra all i : ℕ) (g : ℕ × Need → Bool) (ns : List Need) →
 widths_sum extra all i g [] = refl
 widths_sum extra all i g (n ∷ ns) =
     let rest = widths_sum extra all (i + 1) g ns in
-    rw (sum_by-cons (λ p. p.1.least + share extra all p.1 + cond (g p) 1 0) (i, n) (enumerate_from (i + 1) ns), sum_by-cons (width_of Least) n ns, sum_by-cons (share extra all) n ns, count_cons g (i, n) (enumerate_from (i + 1) ns))
+    rw
+    (sum_by-cons (λ p. p.1.least + share extra all p.1 + cond (g p) 1 0) (i, n) (enumerate_from (i + 1) ns), sum_by-cons (width_of Least) n ns, sum_by-cons (share extra all) n ns, count_cons g (i, n) (enumerate_from (i + 1) ns))
     (omega arith)
 
 -- what is left beside the least widths is given out to the last column of text

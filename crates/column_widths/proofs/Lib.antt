@@ -1,3 +1,4 @@
+pub mod Common
 pub mod Cases
 pub mod Counting
 pub mod Alone

@@ -1,6 +1,6 @@
 -- The order of columns by need.
-use Rattle.std.proofs.Common.{◌≡◌, ℕ, ◌<◌, Bool, true, false, not, ◌&&◌, ◌||◌, eqb, ltb, arith}
-use Rattle.std.proofs.lemmas.Bool.Decides.{nat_tests}
+use Rattle.column_widths.proofs.Common.{◌≡◌, ℕ, ◌<◌, Bool, true, false, not, ◌&&◌, eqb, ltb, arith, nat_tests}
+use Rattle.std.proofs.Common.{◌||◌}
 
 abbrev pub lexicographic : ℕ → ℕ → ℕ → ℕ → ℕ → ℕ → Bool
 lexicographic a b i c d j = ltb c a || (eqb c a && (ltb d b || (eqb d b && ltb i j)))

@@ -1,13 +1,6 @@
 -- What columns need at least and at most, from cell to cell.
-use Rattle.std.proofs.Common.{ℕ, ◌+◌, ◌-◌, ◌/◌, ◌%◌, ◌≤◌, min, true, false, cond, eqb, List, [], ◌∷◌, ◌++◌, length, take, drop, zero, suc, arith}
-use Rattle.std.specs.Prelude.{replicate}
-use Rattle.std.specs.List.{fold, filter, AllByRecursion as Each}
-use Rattle.column_widths.specs.declared.columns.CellNeed.{CellNeed}
-use Rattle.column_widths.specs.declared.need.Need.{Need}
-use Rattle.column_widths.specs.declared.need.Bound.{Bound}
-use Rattle.column_widths.specs.declared.need.Bound.TheVariants.{Least, Greatest}
-use Rattle.column_widths.specs.Table.{Table}
-use Rattle.column_widths.specs.Needs.{widened, missing, spread, filled, after_cell, needs_of, is_of, unspanned}
+use Rattle.column_widths.proofs.Common.{ℕ, ◌+◌, ◌-◌, ◌/◌, ◌%◌, ◌≤◌, min, true, false, cond, eqb, List, [], ◌∷◌, ◌++◌, length, take, drop, zero, suc, arith, replicate, fold, filter, Each, CellNeed}
+use Rattle.column_widths.proofs.Common.{Need, Bound, Least, Greatest, Table, widened, missing, spread, filled, after_cell, needs_of, is_of, unspanned}
 
 -- what a column needs at most is not below what it needs at least
 abbrev pub IsOrdered : Need → Type 0

@@ -1,8 +1,6 @@
 -- How many of a list's elements have less than so many others ahead of them.
-use Rattle.std.proofs.Common.{◌≡◌, ℕ, ◌+◌, ◌-◌, ◌<◌, ◌≤◌, min, Bool, true, false, not, ◌&&◌, ltb, List, [], ◌∷◌, refl, sym, ap, ◌∙◌, ⊎_elim, zero-add, arith}
-use Rattle.std.specs.List.{count_by}
-use Rattle.std.proofs.lemmas.Bool.{cases_lt, lt-ltb, le-ltb, false≢true}
-use Rattle.std.proofs.lemmas.Bool.Decides.{nat_tests}
+use Rattle.column_widths.proofs.Common.{◌≡◌, ℕ, ◌+◌, ◌-◌, ◌<◌, ◌≤◌, min, Bool, true, false, not, ◌&&◌, ltb, List, [], ◌∷◌, refl, sym, ap, ◌∙◌, ⊎_elim, zero-add, arith, count_by, cases_lt, lt-ltb}
+use Rattle.column_widths.proofs.Common.{le-ltb, false≢true, nat_tests}
 use Rattle.column_widths.proofs.Counting.{IsIn, one_if, count_cons, count_same, count_le, count_lt}
 
 -- an order of some elements, and which of them count

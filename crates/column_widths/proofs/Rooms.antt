@@ -1,19 +1,14 @@
 -- Cells have room for their longest words.
-use Rattle.std.proofs.Common.{◌≡◌, ℕ, ◌+◌, ◌-◌, ◌*◌, ◌/◌, ◌%◌, ◌<◌, ◌≤◌, min, Bool, true, false, cond, not, eqb, List, [], ◌∷◌, ◌++◌, length, get_or, take, drop, map, zero, suc, inl, inr, refl, sym, ap, subst, ◌∙◌, ⊎_elim, arith, length-drop}
-use Rattle.std.specs.Prelude.{replicate}
-use Rattle.std.specs.List.{sum, sum_by, fold, filter, AllZip, All, AllByRecursion as Each}
+use Rattle.column_widths.proofs.Common.{◌≡◌, ℕ, ◌+◌, ◌-◌, ◌*◌, ◌/◌, ◌%◌, ◌<◌, ◌≤◌, min, Bool, true, false, cond, not, eqb, List, [], ◌∷◌, ◌++◌, length, get_or, take, drop, map, zero, suc, inl, inr}
+use Rattle.column_widths.proofs.Common.{refl, sym, ap, subst, ◌∙◌, ⊎_elim, arith, replicate, sum, sum_by, fold, filter, AllZip, All, Each, sum_by-cons, CellNeed, Need, Bound, Least, Greatest, Table}
+use Rattle.column_widths.proofs.Common.{IsWithin, width_of, widened, missing, spread, filled, after_cell, needs_of, is_of, unspanned, IsWithinNeed, HasRoom}
+use Rattle.std.proofs.Common.{length-drop}
 use Rattle.std.proofs.lemmas.List.{take_at, drop_at, take-append-drop, length-take-le, length-replicate}
-use Rattle.std.proofs.lemmas.List.Sums.{sum_by-cons}
 use Rattle.std.proofs.lemmas.Bool.{eqb-true}
 use Rattle.std.proofs.lemmas.Nat.{div-add-mod'}
 use Rattle.std.proofs.Math.Nat.{mod-lt}
-use Rattle.column_widths.specs.declared.columns.CellNeed.{CellNeed}
-use Rattle.column_widths.specs.declared.need.Need.{Need}
-use Rattle.column_widths.specs.declared.need.Bound.{Bound}
-use Rattle.column_widths.specs.declared.need.Bound.TheVariants.{Least, Greatest}
-use Rattle.column_widths.specs.Table.{Table, IsWithin}
-use Rattle.column_widths.specs.Needs.{width_of, widened, missing, spread, filled, spanned_after, after_cell, needs_of, is_of, unspanned}
-use Rattle.column_widths.specs.Laws.{IsWithinNeed, HasRoom, asked_by}
+use Rattle.column_widths.specs.Needs.{spanned_after}
+use Rattle.column_widths.specs.Laws.{asked_by}
 use Rattle.column_widths.proofs.Counting.{IsIn}
 
 -- lists side by side, cut at the same place

@@ -1,15 +1,7 @@
 -- What is shared over columns.
-use Rattle.std.proofs.Common.{◌≡◌, ℕ, ◌+◌, ◌-◌, ◌*◌, ◌^◌, ◌<◌, ◌≤◌, min, ⊎_elim, List, [], ◌∷◌, ◌++◌, map, length, take, get_or, arith, refl, zero-add}
-use Rattle.std.specs.List.{sum_by, enumerate_from}
+use Rattle.column_widths.proofs.Common.{◌≡◌, ℕ, ◌+◌, ◌-◌, ◌*◌, ◌^◌, ◌<◌, ◌≤◌, min, ⊎_elim, List, [], ◌∷◌, ◌++◌, map, length, take, get_or, arith, refl, zero-add, sum_by, enumerate_from}
+use Rattle.column_widths.proofs.Common.{length-enumerate_from, get_or-enumerate_from, sum_by-cons, div_below, cases_lt, Need, Least, Greatest, width_of, slack, share, shared, width_at}
 use Rattle.std.proofs.lemmas.List.{take_more, map-append}
-use Rattle.std.proofs.lemmas.List.FromFn.{length-enumerate_from, get_or-enumerate_from}
-use Rattle.std.proofs.lemmas.List.Sums.{sum_by-cons}
-use Rattle.std.proofs.lemmas.Nat.{div_below}
-use Rattle.std.proofs.lemmas.Bool.{cases_lt}
-use Rattle.column_widths.specs.declared.need.Need.{Need}
-use Rattle.column_widths.specs.declared.need.Bound.TheVariants.{Least, Greatest}
-use Rattle.column_widths.specs.Needs.{width_of}
-use Rattle.column_widths.specs.Widths.{slack, share, shared, width_at}
 
 -- a column that can be wider has a share below its slack
 pub share_below_slack : (extra all : ℕ) (n : Need) → extra < all → 0 < slack n → share extra all n < slack n

@@ -1,10 +1,8 @@
 -- Steps of walks over columns.
-use Rattle.std.proofs.Common.{◌≡◌, ℕ, ◌+◌, ◌<◌, ◌≤◌, Bool, true, false, List, length, get_or, take, drop, ap, sym, ◌∙◌, refl, add-zero, zero-add, cond}
-use Rattle.std.specs.List.{sum_by, count_by, enumerate_from, fold, filter}
+use Rattle.column_widths.proofs.Common.{◌≡◌, ℕ, ◌+◌, ◌<◌, ◌≤◌, Bool, true, false, List, length, get_or, take, drop, ap, sym, ◌∙◌, refl, add-zero, zero-add, cond, sum_by, count_by, enumerate_from}
+use Rattle.column_widths.proofs.Common.{fold, filter, length-enumerate_from, get_or-enumerate_from, Need}
 use Rattle.std.proofs.lemmas.List.{get_or-drop, drop_more}
 use Rattle.std.proofs.lemmas.List.Sums.{get_or-le-sum_by, count_by_more_yes, count_by_more_no}
-use Rattle.std.proofs.lemmas.List.FromFn.{length-enumerate_from, get_or-enumerate_from}
-use Rattle.column_widths.specs.declared.need.Need.{Need}
 
 -- lists with the same rest have the same element there
 pub same_there : (xs ys : List Need) (i : ℕ) (d : Need) → drop i xs ≡ drop i ys → get_or xs i d ≡ get_or ys i d

@@ -1,16 +1,11 @@
 -- Widths against needs.
-use Rattle.std.proofs.Common.{◌≡◌, ℕ, ◌+◌, ◌-◌, ◌*◌, ◌/◌, ◌<◌, ◌≤◌, Bool, true, false, cond, ◌&&◌, ltb, List, [], ◌∷◌, map, length, get_or, refl, sym, ap, ◌∙◌, ⊎_elim, zero-add, arith}
-use Rattle.std.specs.List.{sum_by, enumerate_from, AllZip, AllByRecursion as Each}
-use Rattle.std.proofs.lemmas.List.{get_or-map}
-use Rattle.std.proofs.lemmas.List.FromFn.{length-enumerate_from, get_or-enumerate_from}
-use Rattle.std.proofs.lemmas.Bool.{cases_lt, lt-ltb, le-ltb, ltb-true, ltb-false, false≢true}
-use Rattle.std.proofs.lemmas.Nat.{div_below, le-div}
-use Rattle.std.proofs.Math.Nat.{mul-le-mul_left, lt-mul-div-succ, div-mul-le_self}
-use Rattle.column_widths.specs.declared.need.Need.{Need}
-use Rattle.column_widths.specs.declared.need.Bound.TheVariants.{Greatest}
-use Rattle.column_widths.specs.Needs.{width_of}
-use Rattle.column_widths.specs.Widths.{slack, share, rank, gets_one, width_at, shared}
-use Rattle.column_widths.specs.Laws.{IsWithinNeed}
+use Rattle.column_widths.proofs.Common.{◌≡◌, ℕ, ◌+◌, ◌-◌, ◌*◌, ◌/◌, ◌<◌, ◌≤◌, Bool, true, false, cond, ◌&&◌, ltb, List, [], ◌∷◌, map, length, get_or, refl, sym, ap, ◌∙◌, ⊎_elim, zero-add, arith}
+use Rattle.column_widths.proofs.Common.{sum_by, enumerate_from, AllZip, Each, get_or-map, length-enumerate_from, get_or-enumerate_from, cases_lt, lt-ltb, le-ltb, false≢true, div_below}
+use Rattle.column_widths.proofs.Common.{lt-mul-div-succ, Need, Greatest, width_of, slack, share, gets_one, width_at, shared, IsWithinNeed}
+use Rattle.std.proofs.lemmas.Bool.{ltb-true, ltb-false}
+use Rattle.std.proofs.lemmas.Nat.{le-div}
+use Rattle.std.proofs.Math.Nat.{mul-le-mul_left, div-mul-le_self}
+use Rattle.column_widths.specs.Widths.{rank}
 use Rattle.column_widths.proofs.Ordered.{IsOrdered}
 use Rattle.column_widths.proofs.Ranks.{after_ranks}
 use Rattle.column_widths.proofs.LeftOver.{by_need}
@@ -67,7 +62,9 @@ share_mono : (extra all : ℕ) (m n : Need) → extra < all → m.least ≤ n.le
 share_mono extra all m n less least greatest =
     let d = slack m - slack n in
     let up = share_more extra all (slack n) d less in
-    let step : extra * slack m / all ≤ extra * (slack n + d) / all = div_mono (extra * slack m) (extra * (slack n + d)) all (mul-le-mul_left {m = slack m} {n = slack n + d} extra (omega arith)) (omega arith) in
+    let step : extra * slack m / all ≤ extra * (slack n + d) / all =
+    div_mono (extra * slack m) (extra * (slack n + d)) all
+    (mul-le-mul_left {m = slack m} {n = slack n + d} extra (omega arith)) (omega arith) in
     ⊎_elim
     (λ more. omega (arith, up, step))
     (λ fewer. omega (arith, div_mono (extra * slack m) (extra * slack n) all (mul-le-mul_left {m = slack m} {n = slack n} extra fewer) (omega arith)))

@@ -1,23 +1,20 @@
 -- What calls and rows add to the lines, each to the renderer of that moment.
-use Rattle.std.proofs.Common.{◌≡◌, refl, ℕ, true, false, List, [], ◌∷◌, flat_map}
-use Rattle.std.specs.Prelude.{codes}
-use Rattle.tbr_model.specs.Run.{marker}
+use Rattle.rule_examples.proofs.Common.{◌≡◌, refl, ℕ, true, false, List, [], ◌∷◌, codes, marker, border, new_line, default_options, new_renderer, call, plain_decoration, example_columns, line}
+use Rattle.std.proofs.Common.{flat_map}
 use Rattle.tbr_border.specs.Border.{without_holes}
 use Rattle.tbr_border.specs.Cell.{horizontal}
 use Rattle.tbr_tagged.specs.declared.CellAlign.TheVariants.{Left}
 use Rattle.tbr_decor.specs.declared.PlainDecorator.{PlainDecorator}
 use Rattle.tbr_decor.specs.Start as start
 use Rattle.tbr_decor.specs.Style as style
-use Rattle.tbr_kept_lines.specs.Line.{text, border}
-use Rattle.tbr_renderer.specs.Calls.{begin, record_frag_start, new_line, add_border, append_subrender, append_vert_row}
-use Rattle.tbr_renderer.specs.Options.{default_options}
-use Rattle.tbr_renderer.specs.Renderer.{Renderer, new_renderer}
+use Rattle.tbr_kept_lines.specs.Line.{text}
+use Rattle.tbr_renderer.specs.Calls.{begin, record_frag_start, add_border, append_subrender, append_vert_row}
+use Rattle.tbr_renderer.specs.Renderer.{Renderer}
 use Rattle.text_block_renderer.specs.Added.{calls_add}
 use Rattle.text_block_renderer.specs.Stretches.{lines_of_part}
-use Rattle.text_block_renderer.specs.Acts.{Added, row_added, call, row, acts_add}
+use Rattle.text_block_renderer.specs.Acts.{Added, row_added, row, acts_add}
 use Rattle.text_block_renderer.specs.Drawn.{borders_drawn}
-use Rattle.tbr_program.specs.Decorations.{plain_decoration, rich_decoration}
-use Rattle.rule_examples.specs.Scripts.{example_columns, line}
+use Rattle.tbr_program.specs.Decorations.{rich_decoration}
 
 -- a plain renderer of so many columns that pads its lines
 abbrev padded_page : ℕ → Renderer PlainDecorator (Unit {0}) (List (Unit {0}))

@@ -1,12 +1,11 @@
 -- Whole scripts, from their bytes to those of their text, or to their refusal with its line.
-use Rattle.std.proofs.Common.{◌≡◌, [], refl, Ok, Err}
-use Rattle.std.specs.Prelude.{codes, encode_utf8_all}
+use Rattle.rule_examples.proofs.Common.{◌≡◌, [], refl, Ok, codes, rendered, example_columns}
 use Rattle.std.specs.Str.{chars, is_utf8}
 use Rattle.std.specs.Fmt.{digits}
 use Rattle.std.proofs.Math.Utf8.{encode}
+use Rattle.std.proofs.Common.{Err}
+use Rattle.std.specs.Prelude.{encode_utf8_all}
 use Rattle.tbr_script.specs.declared.error.RunError.TheVariants.{NotACommand, NothingToEnd}
-use Rattle.tbr_runner.specs.Scripts.{rendered}
-use Rattle.rule_examples.specs.Scripts.{example_columns}
 
 -- each link has its number, and its target stands at the end
 pub two_links_have_their_footnotes :

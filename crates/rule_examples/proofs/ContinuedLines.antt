@@ -1,9 +1,5 @@
 -- Lines of `Pre` that are too long, and the annotation for where they go on.
-use Rattle.std.proofs.Common.{◌≡◌, refl, [], ◌∷◌, ◌++◌}
-use Rattle.std.specs.Prelude.{codes}
-use Rattle.tbr_model.specs.declared.white_space.WhiteSpace.TheVariants.{Normal, Pre}
-use Rattle.tbr_tagged.specs.Outcome.{done}
-use Rattle.rule_examples.specs.Scripts.{text, lines_in, line}
+use Rattle.rule_examples.proofs.Common.{◌≡◌, refl, [], ◌∷◌, ◌++◌, codes, Normal, Pre, done, text, lines_in, line}
 
 -- what passes the end of a line has it, up to the newline
 pub long_lines_are_continued : {A : Type 0} (a b : A) →

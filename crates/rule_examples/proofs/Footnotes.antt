@@ -1,20 +1,12 @@
 -- Where footnotes come.
-use Rattle.std.proofs.Common.{◌≡◌, refl, [], ◌∷◌}
-use Rattle.std.specs.Prelude.{codes}
+use Rattle.rule_examples.proofs.Common.{◌≡◌, refl, [], ◌∷◌, codes, done, and_then, default_options, new_renderer, add_inline_text, new_line, call, plain_decoration, example_columns, plain_page}
+use Rattle.rule_examples.proofs.Common.{lines_on}
 use Rattle.tbr_model.specs.Hard.{entry_letters}
 use Rattle.tbr_tagged.specs.Elements.{piece}
-use Rattle.tbr_tagged.specs.Outcome.{done}
 use Rattle.tbr_renderer.specs.Flush.{after_flush}
 use Rattle.tbr_renderer.specs.Footnotes.{with_footnotes}
-use Rattle.tbr_renderer.specs.Outcomes.{and_then}
 use Rattle.tbr_renderer.specs.Steps.{after_text}
-use Rattle.tbr_renderer.specs.Options.{default_options}
-use Rattle.tbr_renderer.specs.Renderer.{new_renderer}
-use Rattle.tbr_renderer.specs.Calls.{add_inline_text, new_line}
-use Rattle.text_block_renderer.specs.Acts.{call, fmt_links, acts_come}
-use Rattle.tbr_program.specs.Decorations.{plain_decoration}
-use Rattle.rule_examples.specs.Scripts.{example_columns}
-use Rattle.rule_examples.specs.Tables.{plain_page, lines_on}
+use Rattle.text_block_renderer.specs.Acts.{fmt_links, acts_come}
 
 -- their lines come before those of the open run
 pub a_footnote_comes_before_the_open_run :

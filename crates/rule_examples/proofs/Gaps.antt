@@ -1,10 +1,5 @@
 -- White space that collapses, and other characters at which a line may break or not.
-use Rattle.std.proofs.Common.{◌≡◌, refl, [], ◌∷◌, ◌++◌}
-use Rattle.std.specs.Prelude.{codes}
-use Rattle.tbr_model.specs.declared.white_space.WhiteSpace.TheVariants.{Normal}
-use Rattle.tbr_model.specs.Codes.{no_break_space, zero_width_space}
-use Rattle.tbr_tagged.specs.Outcome.{done}
-use Rattle.rule_examples.specs.Scripts.{text, flush, lines_in, line}
+use Rattle.rule_examples.proofs.Common.{◌≡◌, refl, [], ◌∷◌, ◌++◌, codes, Normal, no_break_space, zero_width_space, done, text, flush, lines_in, line}
 
 -- and none comes in front of the first word or after the last
 pub a_gap_is_one_space : {A : Type 0} (a b : A) →

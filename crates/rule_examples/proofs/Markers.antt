@@ -1,11 +1,5 @@
 -- Markers among text.
-use Rattle.std.proofs.Common.{◌≡◌, refl, [], ◌∷◌, ◌++◌}
-use Rattle.std.specs.Prelude.{codes}
-use Rattle.tbr_model.specs.declared.white_space.WhiteSpace.{WhiteSpace}
-use Rattle.tbr_model.specs.declared.white_space.WhiteSpace.TheVariants.{Normal, Pre, PreWrap}
-use Rattle.tbr_model.specs.Run.{marker}
-use Rattle.tbr_tagged.specs.Outcome.{done}
-use Rattle.rule_examples.specs.Scripts.{text, mark, lines_in, line}
+use Rattle.rule_examples.proofs.Common.{◌≡◌, refl, [], ◌∷◌, ◌++◌, codes, WhiteSpace, Normal, Pre, PreWrap, marker, done, text, mark, lines_in, line}
 
 pub a_marker_goes_with_its_word : {A : Type 0} (a b : A) →
     lines_in 3 (text Normal a b (codes "ab ") ∷ mark (codes "x") ∷ text Normal a b (codes "cde") ∷ [])

@@ -1,10 +1,5 @@
 -- Lines that may be wider than the block.
-use Rattle.std.proofs.Common.{◌≡◌, refl, [], ◌∷◌, ◌++◌}
-use Rattle.std.specs.Prelude.{codes}
-use Rattle.tbr_model.specs.declared.white_space.WhiteSpace.TheVariants.{Normal}
-use Rattle.tbr_model.specs.Width.{stroke}
-use Rattle.tbr_tagged.specs.Outcome.{done}
-use Rattle.rule_examples.specs.Scripts.{text, overflowing_lines_in, line}
+use Rattle.rule_examples.proofs.Common.{◌≡◌, refl, [], ◌∷◌, ◌++◌, codes, Normal, stroke, done, text, overflowing_lines_in, line}
 
 pub a_wide_character_overflows : {A : Type 0} (a b : A) →
     overflowing_lines_in 1 (text Normal a b (codes "漢") ∷ []) ≡ done (line a (codes "漢") ∷ [])

@@ -1,10 +1,5 @@
 -- Texts in `Pre`, whose white space is kept and whose lines end at newlines.
-use Rattle.std.proofs.Common.{◌≡◌, refl, [], ◌∷◌, ◌++◌}
-use Rattle.std.specs.Prelude.{codes}
-use Rattle.tbr_model.specs.declared.white_space.WhiteSpace.{WhiteSpace}
-use Rattle.tbr_model.specs.declared.white_space.WhiteSpace.TheVariants.{Normal, Pre, PreWrap}
-use Rattle.tbr_tagged.specs.Outcome.{done}
-use Rattle.rule_examples.specs.Scripts.{text, lines_in, line}
+use Rattle.rule_examples.proofs.Common.{◌≡◌, refl, [], ◌∷◌, ◌++◌, codes, WhiteSpace, Normal, Pre, PreWrap, done, text, lines_in, line}
 
 pub lines_that_fit_stay_as_they_are : {A : Type 0} (a b : A) →
     lines_in 20 (text Pre a b (codes "foo\nbar\nwib   asdf;\n") ∷ [])

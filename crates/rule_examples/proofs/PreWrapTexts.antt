@@ -1,10 +1,5 @@
 -- Texts in `PreWrap`, whose white space is kept where no line breaks.
-use Rattle.std.proofs.Common.{◌≡◌, refl, [], ◌∷◌, ◌++◌}
-use Rattle.std.specs.Prelude.{codes}
-use Rattle.tbr_model.specs.declared.white_space.WhiteSpace.TheVariants.{PreWrap}
-use Rattle.tbr_model.specs.Codes.{no_break_space}
-use Rattle.tbr_tagged.specs.Outcome.{done}
-use Rattle.rule_examples.specs.Scripts.{text, lines_in, line}
+use Rattle.rule_examples.proofs.Common.{◌≡◌, refl, [], ◌∷◌, ◌++◌, codes, PreWrap, no_break_space, done, text, lines_in, line}
 
 pub spaces_at_a_break_are_dropped : {A : Type 0} (a b : A) →
     lines_in 5 (text PreWrap a b (codes "ab  cd") ∷ []) ≡ done (line a (codes "ab") ∷ line a (codes "cd") ∷ [])

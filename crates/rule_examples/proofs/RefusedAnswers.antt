@@ -1,23 +1,18 @@
 -- The smallest wrong answers that laws of calls and of scripts refuse, and the right ones.
-use Rattle.std.proofs.Common.{◌≡◌, ℕ, false, List, [], ◌∷◌, ◌++◌, Some, Ok, refl, sym, ap, ◌∙◌, subst}
-use Rattle.std.specs.Prelude.{codes}
+use Rattle.rule_examples.proofs.Common.{◌≡◌, ℕ, false, List, [], ◌∷◌, ◌++◌, Ok, refl, sym, ap, ◌∙◌, codes, done, border, and_then, add_inline_text, rendered}
 use Rattle.std.specs.Str.{chars, is_utf8}
 use Rattle.std.specs.Fmt.{digits}
 use Rattle.std.proofs.Math.Utf8.{encode}
-use Rattle.tbr_tagged.specs.Outcome.{done}
+use Rattle.rule_examples.proofs.Common.{example_columns, page_under_border, cell, after_rows, lines_on}
+use Rattle.std.proofs.Common.{Some, subst}
 use Rattle.tbr_border.specs.Border.{Border}
-use Rattle.tbr_kept_lines.specs.Line.{Line, text, border}
+use Rattle.tbr_kept_lines.specs.Line.{Line, text}
 use Rattle.tbr_kept_lines.specs.LastBorder.{before_border}
-use Rattle.tbr_renderer.specs.Outcomes.{and_then}
 use Rattle.tbr_renderer.specs.Steps.{after_empty_line}
-use Rattle.tbr_renderer.specs.Calls.{add_inline_text}
 use Rattle.tbr_script.specs.Script.{IsText}
 use Rattle.tbr_script.specs.Read.{text_read}
 use Rattle.tbr_script.proofs.Reading.{text_written}
-use Rattle.tbr_runner.specs.Named.{NamesCall}
-use Rattle.tbr_runner.specs.Scripts.{rendered}
-use Rattle.rule_examples.specs.Scripts.{example_columns}
-use Rattle.rule_examples.specs.Tables.{page_under_border, cell, after_rows, lines_on}
+use Rattle.script_laws.specs.Named.{NamesCall}
 
 -- ---- borders
 

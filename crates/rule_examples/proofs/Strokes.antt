@@ -1,10 +1,5 @@
 -- Characters that take no column.
-use Rattle.std.proofs.Common.{◌≡◌, refl, [], ◌∷◌, ◌++◌}
-use Rattle.std.specs.Prelude.{codes}
-use Rattle.tbr_model.specs.declared.white_space.WhiteSpace.TheVariants.{Normal}
-use Rattle.tbr_model.specs.Width.{stroke}
-use Rattle.tbr_tagged.specs.Outcome.{done}
-use Rattle.rule_examples.specs.Scripts.{text, lines_in, line}
+use Rattle.rule_examples.proofs.Common.{◌≡◌, refl, [], ◌∷◌, ◌++◌, codes, Normal, stroke, done, text, lines_in, line}
 
 -- a struck out text, whose space is struck out too
 pub strokes_take_no_column : {A : Type 0} (a b : A) →

@@ -1,9 +1,7 @@
 -- Rows of cells side by side.
-use Rattle.std.proofs.Common.{◌≡◌, false, true, refl, [], ◌∷◌}
-use Rattle.std.specs.Prelude.{codes}
-use Rattle.tbr_tagged.specs.Outcome.{done}
+use Rattle.rule_examples.proofs.Common.{◌≡◌, false, true, refl, [], ◌∷◌, codes, done, page_under_border, plain_page, cell, after_rows, lines_on}
 use Rattle.tbr_tagged.specs.declared.CellAlign.TheVariants.{Right, Centre}
-use Rattle.rule_examples.specs.Tables.{page_under_border, plain_page, cell, aligned, holding, after_rows, lines_on}
+use Rattle.rule_examples.specs.Tables.{aligned, holding}
 
 -- a border is joined to the rows above and below it
 pub borders_join_rows :

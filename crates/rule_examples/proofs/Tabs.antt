@@ -1,9 +1,5 @@
 -- Tabs, in a mode that preserves white space.
-use Rattle.std.proofs.Common.{◌≡◌, refl, [], ◌∷◌, ◌++◌}
-use Rattle.std.specs.Prelude.{codes}
-use Rattle.tbr_model.specs.declared.white_space.WhiteSpace.TheVariants.{Pre}
-use Rattle.tbr_tagged.specs.Outcome.{done}
-use Rattle.rule_examples.specs.Scripts.{text, lines_in, line}
+use Rattle.rule_examples.proofs.Common.{◌≡◌, refl, [], ◌∷◌, ◌++◌, codes, Pre, done, text, lines_in, line}
 
 pub a_tab_goes_to_a_multiple_of_eight : {A : Type 0} (a b : A) →
     lines_in 20 (text Pre a b (codes "ab\tc") ∷ []) ≡ done (line a (codes "ab      c") ∷ [])

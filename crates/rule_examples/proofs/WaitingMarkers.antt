@@ -1,11 +1,7 @@
 -- Markers that are on no line where a run ends, and begin the next one.
-use Rattle.std.proofs.Common.{◌≡◌, refl, true, false, [], ◌∷◌}
-use Rattle.std.specs.Prelude.{codes}
-use Rattle.tbr_model.specs.declared.white_space.WhiteSpace.TheVariants.{Normal, Pre, PreWrap}
-use Rattle.tbr_model.specs.Codes.{no_break_space}
-use Rattle.tbr_model.specs.Run.{marker}
-use Rattle.tbr_tagged.specs.Outcome.{done}
-use Rattle.rule_examples.specs.Scripts.{example_columns, text, mark, flush, take, made, loose_of, lines_in, overflowing_lines_in, line}
+use Rattle.rule_examples.proofs.Common.{◌≡◌, refl, true, false, [], ◌∷◌, codes, Normal, Pre, PreWrap, no_break_space, marker, done, example_columns, text, mark, flush, made, lines_in}
+use Rattle.rule_examples.proofs.Common.{overflowing_lines_in, line}
+use Rattle.rule_examples.specs.Scripts.{take, loose_of}
 
 pub a_marker_alone_is_no_line : {A : Type 0} → lines_in {A = A} 9 (mark (codes "x") ∷ []) ≡ done []
 a_marker_alone_is_no_line = refl

@@ -1,13 +1,9 @@
 -- Characters of two columns, and where they are too wide.
-use Rattle.std.proofs.Common.{◌≡◌, refl, true, false, None, [], ◌∷◌, ◌++◌}
-use Rattle.std.specs.Prelude.{codes}
-use Rattle.tbr_model.specs.declared.white_space.WhiteSpace.TheVariants.{Normal, Pre, PreWrap}
-use Rattle.tbr_model.specs.Codes.{no_break_space, zero_width_space}
-use Rattle.tbr_model.specs.Width.{stroke}
-use Rattle.tbr_tagged.specs.Outcome.{done, refused}
+use Rattle.rule_examples.proofs.Common.{◌≡◌, refl, true, false, None, [], ◌∷◌, ◌++◌, codes, Normal, Pre, PreWrap, no_break_space, zero_width_space, stroke, done, new_block, example_columns, text}
+use Rattle.rule_examples.proofs.Common.{flush, made, lines_of, lines_in, line}
+use Rattle.tbr_tagged.specs.Outcome.{refused}
 use Rattle.tbr_tagged.specs.declared.error.Error.TheVariants as E
-use Rattle.tbr_wrap.specs.Block.{new_block}
-use Rattle.rule_examples.specs.Scripts.{example_columns, wide_space, text, after_call, flush, made, lines_of, lines_in, failed, none_refuses, line}
+use Rattle.rule_examples.specs.Scripts.{wide_space, after_call, failed, none_refuses}
 
 pub wide_characters_are_not_cut : {A : Type 0} (a b : A) →
     lines_in 3 (text Normal a b (codes "漢漢漢") ∷ [])

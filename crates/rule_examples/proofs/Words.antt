@@ -1,9 +1,5 @@
 -- Words on lines, where white space collapses.
-use Rattle.std.proofs.Common.{◌≡◌, refl, [], ◌∷◌, ◌++◌}
-use Rattle.std.specs.Prelude.{codes}
-use Rattle.tbr_model.specs.declared.white_space.WhiteSpace.TheVariants.{Normal}
-use Rattle.tbr_tagged.specs.Outcome.{done}
-use Rattle.rule_examples.specs.Scripts.{text, flush, lines_in, line}
+use Rattle.rule_examples.proofs.Common.{◌≡◌, refl, [], ◌∷◌, ◌++◌, codes, Normal, done, text, flush, lines_in, line}
 
 -- words go to a new line where they don't fit, and a wider one is cut
 pub words_are_wrapped : {A : Type 0} (a b : A) →

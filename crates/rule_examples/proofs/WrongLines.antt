@@ -1,19 +1,14 @@
 -- The smallest wrong lines of `Normal` runs, which aren't those of the best layout that blocks and renderers promise.
-use Rattle.std.proofs.Common.{◌≡◌, ◌<◌, ℕ, ◌+◌, false, None, List, [], ◌∷◌, ◌++◌, map, refl, ap, sym, ◌∙◌, arith}
-use Rattle.std.specs.Prelude.{codes}
-use Rattle.tbr_model.specs.declared.white_space.WhiteSpace.TheVariants.{Normal}
-use Rattle.tbr_model.specs.Codes.{zero_width_space}
+use Rattle.rule_examples.proofs.Common.{◌≡◌, ℕ, false, None, List, [], ◌∷◌, ◌++◌, refl, ap, sym, ◌∙◌, codes, Normal, zero_width_space, marker, stroke, done, new_block, example_columns, line}
+use Rattle.std.proofs.Common.{◌<◌, ◌+◌, map, arith}
 use Rattle.tbr_model.specs.Layout.{line_text, slots_of, joined, placed}
 use Rattle.tbr_model.specs.Rule.{Event, entry, run_of}
-use Rattle.tbr_model.specs.Run.{Item, glyph, marker, marker_entry}
-use Rattle.tbr_model.specs.Width.{stroke}
+use Rattle.tbr_model.specs.Run.{Item, glyph, marker_entry}
 use Rattle.tbr_model.proofs.layouts.Ahead.{unique}
-use Rattle.tbr_tagged.specs.Outcome.{done}
-use Rattle.tbr_wrap.specs.Block.{Block, new_block, text_events, after_flush, flushed, all_lines}
+use Rattle.tbr_wrap.specs.Block.{Block, text_events, after_flush, flushed, all_lines}
 use Rattle.tbr_wrap.specs.Runs.{IsNormal, text_entries}
 use Rattle.tbr_wrap.specs.Wrapped.{HasBestLines}
 use Rattle.tbr_wrap.proofs.runs.BlockLaws.{flush_best}
-use Rattle.rule_examples.specs.Scripts.{example_columns, line}
 
 module _ {A : Type 0} where
   -- what a text under one annotation brings

@@ -1,18 +1,17 @@
 -- What a border shows.
 use Rattle.std.proofs.lemmas.Bool.{cond_both}
-use Rattle.std.proofs.Common.{◌≡◌, ℕ, zero, suc, ◌+◌, ◌-◌, ◌<◌, ◌≤◌, Bool, true, false, List, [], ◌∷◌, ◌++◌, map, length, get_or, take, drop, drop-cons, length-drop, refl, ap, ◌∙◌, arith, append_assoc}
-use Rattle.std.specs.List.{slice_range}
-use Rattle.std.specs.Prelude.{replicate}
+use Rattle.tbr_border.proofs.Common.{◌≡◌, ℕ, zero, suc, ◌+◌, ◌-◌, ◌<◌, ◌≤◌, Bool, true, false, List, [], ◌∷◌, ◌++◌, map, length, get_or, take, drop, drop-cons, refl, ap, ◌∙◌, arith, append_assoc}
+use Rattle.tbr_border.proofs.Common.{slice_range, replicate, map-append, take_all, element_characters, SameItems, item_characters, Cell, slash, arms, character, line_above, Hole, AreInOrder, drawn}
+use Rattle.tbr_border.proofs.Common.{shown_from, same_items, same_items_append, same_items_trans}
+use Rattle.std.proofs.Common.{length-drop}
 use Rattle.std.specs.Char.{IsScalar}
 use Rattle.std.specs.Cmp.{IsEquivalence}
-use Rattle.std.proofs.lemmas.List.{map-append, take_all, take-map, drop-map}
+use Rattle.std.proofs.lemmas.List.{take-map, drop-map}
 use Rattle.std.proofs.lemmas.List.Concat.{flat_map-append}
 use Rattle.tbr_model.specs.Run.{Item}
-use Rattle.tbr_tagged.specs.Elements.{element_items, element_characters, SameItems}
-use Rattle.tbr_tagged.specs.Walks.{item_characters}
-use Rattle.tbr_border.specs.Cell.{Cell, slash, arms, character, line_above, is_among}
-use Rattle.tbr_border.specs.Border.{Hole, AreInOrder, drawn, shown_from}
-use Rattle.tbr_tagged.proofs.SameItems.{same_items, same_items_append, same_from_path, same_items_trans}
+use Rattle.tbr_tagged.specs.Elements.{element_items}
+use Rattle.tbr_border.specs.Cell.{is_among}
+use Rattle.tbr_tagged.proofs.SameItems.{same_from_path}
 use Rattle.tbr_tagged.proofs.LineWalks.{text_characters, element_has}
 
 -- ---- characters

@@ -1,8 +1,6 @@
 -- Holes in order.
-use Rattle.std.proofs.Common.{◌≡◌, ℕ, ◌+◌, ◌-◌, ◌<◌, ◌≤◌, Bool, List, [], ◌∷◌, ◌++◌, map, length, get_or, refl, sym, arith, ◌↔◌}
-use Rattle.std.proofs.lemmas.List.{map_push}
-use Rattle.std.specs.List.{AllZip}
-use Rattle.tbr_border.specs.Border.{Hole, span_end, AreInOrder, SameHole, MapsHole}
+use Rattle.tbr_border.proofs.Common.{◌≡◌, ℕ, ◌+◌, ◌-◌, ◌<◌, ◌≤◌, Bool, List, [], ◌∷◌, ◌++◌, map, length, get_or, refl, sym, arith, map_push, AllZip, Hole, span_end, AreInOrder, SameHole, MapsHole}
+use Rattle.std.proofs.Common.{◌↔◌}
 
 -- where holes from a place on end
 abbrev pub last_end : {A : Type 0} → ℕ → List (Hole A) → ℕ
@@ -13,12 +11,16 @@ pub span_end-is : {A : Type 0} (hs : List (Hole A)) → span_end hs ≡ last_end
 span_end-is (h ∷ k ∷ hs) = span_end-is (k ∷ hs)
 span_end-is _ = refl
 
-pub in_order_push : {A : Type 0} (from : ℕ) (hs : List (Hole A)) (h : Hole A) (end longer : ℕ) → AreInOrder from hs end → last_end from hs ≤ h.place → h.place + h.width ≤ longer → AreInOrder from (hs ++ h ∷ []) longer
+pub in_order_push : {A : Type 0} (from : ℕ) (hs : List (Hole A)) (h : Hole A) (end longer : ℕ) →
+    AreInOrder from hs end → last_end from hs ≤ h.place → h.place + h.width ≤ longer →
+    AreInOrder from (hs ++ h ∷ []) longer
 in_order_push from [] h end longer k p q = (p, q)
 in_order_push from (g ∷ hs) h end longer k p q = (k.0, in_order_push (g.place + g.width) hs h end longer k.1 p q)
 
 -- one more of what holes mean
-pub mapped_push : {A X : Type 0} (f : X → Hole A) (xs more : List X) (x : X) (h : Hole A) (end longer : ℕ) → more ≡ xs ++ x ∷ [] → f x ≡ h → AreInOrder 0 (map f xs) end → last_end 0 (map f xs) ≤ h.place → h.place + h.width ≤ longer → AreInOrder 0 (map f more) longer
+pub mapped_push : {A X : Type 0} (f : X → Hole A) (xs more : List X) (x : X) (h : Hole A) (end longer : ℕ) →
+    more ≡ xs ++ x ∷ [] → f x ≡ h → AreInOrder 0 (map f xs) end → last_end 0 (map f xs) ≤ h.place →
+    h.place + h.width ≤ longer → AreInOrder 0 (map f more) longer
 mapped_push f xs more x h end longer e same k p q = rw (e, map_push, same) (in_order_push 0 (map f xs) h end longer k p q)
 
 pub in_order_longer : {A : Type 0} (from : ℕ) (hs : List (Hole A)) (end longer : ℕ) → AreInOrder from hs end → end ≤ longer → AreInOrder from hs longer
@@ -30,7 +32,8 @@ in_order_end from [] end h = h
 in_order_end from (g ∷ hs) end h = in_order_end (g.place + g.width) hs end h.1
 
 -- the last hole's end
-pub span_end-last : {X : Type 0} {A : Type 0} (f : X → Hole A) (xs : List X) (d : X) → 0 < length xs → (f (get_or xs (length xs - 1) d)).place + (f (get_or xs (length xs - 1) d)).width ≡ span_end (map f xs)
+pub span_end-last : {X : Type 0} {A : Type 0} (f : X → Hole A) (xs : List X) (d : X) → 0 < length xs →
+    (f (get_or xs (length xs - 1) d)).place + (f (get_or xs (length xs - 1) d)).width ≡ span_end (map f xs)
 span_end-last f [] d h = absurd (omega arith)
 span_end-last f (x ∷ []) d h = refl
 span_end-last f (x ∷ y ∷ xs) d h = grind (arith, span_end-last f (y ∷ xs) d (omega arith))
@@ -46,5 +49,6 @@ same_places R one _ _ p from end = absurd p
 pub same_order : {A : Type 0} (eq : A → A → Bool) (from : ℕ) (hs ks : List (Hole A)) (end : ℕ) → AllZip (SameHole eq) hs ks → AreInOrder from ks end → AreInOrder from hs end
 same_order eq from hs ks end p = (same_places (SameHole eq) (λ h k same. (same.0, same.1)) hs ks p from end).1
 
-pub mapped_order : {A B : Type 0} (gives : A → B → Type 0) (from : ℕ) (hs : List (Hole A)) (ks : List (Hole B)) (end : ℕ) → AllZip (MapsHole gives) hs ks → AreInOrder from hs end → AreInOrder from ks end
+pub mapped_order : {A B : Type 0} (gives : A → B → Type 0) (from : ℕ) (hs : List (Hole A)) (ks : List (Hole B))
+    (end : ℕ) → AllZip (MapsHole gives) hs ks → AreInOrder from hs end → AreInOrder from ks end
 mapped_order gives from hs ks end p = (same_places (MapsHole gives) (λ h k maps. (sym maps.0, sym maps.1)) hs ks p from end).0

@@ -1,12 +1,12 @@
 -- Cells that are changed, stretched and joined.
-use Rattle.tbr_tagged.proofs.ElementLoops.{one_more_at}
+use Rattle.tbr_border.proofs.Common.{one_more_at, lt-ltb, ◌≡◌, ℕ, zero, suc, ◌+◌, ◌-◌, ◌<◌, ◌≤◌, Bool, true, false, List, [], ◌∷◌, ◌++◌, map, length, get_or, take, drop, drop-cons, refl, ap, sym, ◌∙◌}
+use Rattle.tbr_border.proofs.Common.{arith, append_assoc, append-nil, replicate, take_all, take-append-drop, map-append, length-map, Cell, slash, arms, joined, joins_end, joined_under}
 use Rattle.tbr_border.proofs.BorderText.{map-copies}
-use Rattle.std.proofs.lemmas.Bool.{or_left, or_right, or_parts, lt-ltb}
-use Rattle.std.proofs.Common.{◌≡◌, ℕ, zero, suc, ◌+◌, ◌-◌, ◌<◌, ◌≤◌, max, cond, Bool, true, false, ◌||◌, List, [], ◌∷◌, ◌++◌, map, length, get_or, set, take, drop, drop-cons, refl, ap, sym, ◌∙◌, arith, append_assoc, append-nil, length-append, nat_lt}
-use Rattle.std.specs.Prelude.{replicate}
-use Rattle.std.proofs.lemmas.List.{take_all, length-take-le, take-append-drop, map-append, length-map, length-replicate, replicate-append-replicate}
-use Rattle.tbr_border.specs.Cell.{Cell, slash, arms, horizontal, Side, above, below, joined, merges}
-use Rattle.tbr_border.specs.Border.{stretched, changed_at, joined_at, any_joins, joins_end, joined_under}
+use Rattle.std.proofs.lemmas.Bool.{or_left, or_right, or_parts}
+use Rattle.std.proofs.Common.{max, cond, ◌||◌, set, length-append, nat_lt}
+use Rattle.std.proofs.lemmas.List.{length-take-le, length-replicate, replicate-append-replicate}
+use Rattle.tbr_border.specs.Cell.{horizontal, Side, above, below, merges}
+use Rattle.tbr_border.specs.Border.{stretched, changed_at, joined_at, any_joins}
 
 -- ---- one cell
 
@@ -24,7 +24,8 @@ joined_both below below (arms l r u d) = refl
 
 -- ---- changes
 
-pub set_changed : {X : Type 0} (cell : X → Cell) (f : Cell → Cell) (xs : List X) (i : ℕ) (d y : X) → i < length xs → cell y ≡ f (cell (get_or xs i d)) → map cell (set xs i y) ≡ changed_at f i (map cell xs)
+pub set_changed : {X : Type 0} (cell : X → Cell) (f : Cell → Cell) (xs : List X) (i : ℕ) (d y : X) → i < length xs →
+    cell y ≡ f (cell (get_or xs i d)) → map cell (set xs i y) ≡ changed_at f i (map cell xs)
 set_changed cell f [] i d y h e = absurd (omega arith)
 set_changed cell f (x ∷ xs) zero d y h e = ap (λ c. c ∷ map cell xs) e
 set_changed cell f (x ∷ xs) (suc i) d y h e = ap (λ cs. cell x ∷ cs) (set_changed cell f xs i d y (omega arith) e)
@@ -71,7 +72,8 @@ stretched_changed : (f : Cell → Cell) (i n : ℕ) (cs : List Cell) → i < len
 stretched_changed f i n cs h = rw (length-changed f i cs, changed-append f i cs (replicate (n - length cs) horizontal) h) refl
 
 -- what `resize` gives
-pub stretched_items : {X : Type 0} (cell : X → Cell) (xs : List X) (d : X) (n m : ℕ) → cell d ≡ horizontal → m ≡ length xs → m ≤ n → map cell (take n xs ++ replicate (n - m) d) ≡ stretched n (map cell xs)
+pub stretched_items : {X : Type 0} (cell : X → Cell) (xs : List X) (d : X) (n m : ℕ) → cell d ≡ horizontal →
+    m ≡ length xs → m ≤ n → map cell (take n xs ++ replicate (n - m) d) ≡ stretched n (map cell xs)
 stretched_items cell xs d n m drawn count h = grind (arith, take_all, length-map, map-append, map-copies)
 
 -- ---- joins at places

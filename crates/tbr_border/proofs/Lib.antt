@@ -1,3 +1,4 @@
+pub mod Common
 pub mod StraightCells
 pub mod BorderText
 pub mod HolesInOrder

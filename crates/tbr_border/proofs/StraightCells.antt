@@ -1,14 +1,12 @@
 -- Cells without a join at the beginning of others.
 use Rattle.std.proofs.lemmas.Bool.{and_parts}
-use Rattle.std.proofs.Common.{◌≡◌, ℕ, zero, suc, true, List, [], ◌∷◌, ◌++◌, take, drop, refl, sym}
-use Rattle.std.specs.Prelude.{replicate, chars}
+use Rattle.tbr_border.proofs.Common.{◌≡◌, ℕ, zero, suc, true, List, [], ◌∷◌, ◌++◌, take, drop, refl, sym, replicate, take-append-drop, chars-append, Horiz}
+use Rattle.std.specs.Prelude.{chars}
 use Rattle.std.specs.Str.{IsUtf8}
 use Rattle.std.proofs.Math.Utf8.{encodes}
 use Rattle.std.specs.Cmp.Lexicographic.{pointwise}
-use Rattle.std.proofs.lemmas.List.{take-append-drop}
-use Rattle.std.proofs.lemmas.Str.{chars-append, chars-encodes}
+use Rattle.std.proofs.lemmas.Str.{chars-encodes}
 use Rattle.tbr_border.specs.declared.border.cell.BorderSegHoriz.{BorderSegHoriz}
-use Rattle.tbr_border.specs.declared.border.cell.BorderSegHoriz.TheVariants.{Horiz}
 use Rattle.tbr_border.specs.contracts.border.cell.BorderSegHorizPartialEq.TheImpl as cell
 
 is_straight : (x : BorderSegHoriz) → cell.ghosts.eq x Horiz ≡ true → x ≡ Horiz

@@ -9,10 +9,10 @@ use Rattle.tbr_tagged.specs.Outcome.{Outcome, done, refused}
 use Rattle.tbr_tagged.specs.Walks.{item_characters}
 use Rattle.tbr_tagged.specs.declared.Error.TheVariants as block
 use Rattle.tbr_decor.specs.Decoration.{Decoration}
-use Rattle.text_block_renderer.specs.Line.{Line, line_seen}
-use Rattle.text_block_renderer.specs.Outcomes.{changed}
-use Rattle.text_block_renderer.specs.Text.{lines_text}
-use Rattle.text_block_renderer.specs.Top.{OfTop}
+use Rattle.tbr_kept_lines.specs.Line.{Line, line_seen}
+use Rattle.tbr_renderer.specs.Outcomes.{changed}
+use Rattle.tbr_kept_lines.specs.Text.{lines_text}
+use Rattle.tbr_stack.specs.Top.{OfTop}
 use Rattle.tbr_script.specs.declared.error.RunError.TheVariants.{TooNarrow}
 use Rattle.tbr_program.specs.Progress.{Progress}
 use Rattle.tbr_program.specs.Closing.{closed}

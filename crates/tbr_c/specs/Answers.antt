@@ -11,60 +11,43 @@ use Rattle.tbr_c_lines.specs.declared.fault.Fault.TheVariants as fault
 use Rattle.tbr_c_lines.specs.declared.line.LineSize.{LineSize}
 use Rattle.tbr_c_tables.specs.declared.table_call.TableCall.{TableCall}
 use Rattle.tbr_c.specs.declared.state.State.{State}
-use Rattle.tbr_c.specs.Tables.{DoesCall, RefusesCall}
-use Rattle.tbr_c.specs.State.{Begins, HasEnded, after_refusal, Does, Refuses, refused_as, EndsAs, EndsIn, RefusesEnd, HasText, TakesLine, HasNoNext}
+use Rattle.tbr_c.specs.declared.state.State.TheVariants.{Filled}
+use Rattle.tbr_c.specs.Page.{new_page}
+use Rattle.tbr_c.specs.State.{HasEnded, after_refusal, refused_as, after_command, after_call, end_of, EndsIn, HasText, TakesLine, HasNoNext}
 use Rattle.tbr_c.specs.Questions.{Puts, rest_of, rest_to_show, line_as}
 
--- It does what arguments ask for, as a script does.
-abbrev pub DoesAsked : State → Result Command Fault → State → Type 0
-DoesAsked before (Ok command) after = Does before command after
-DoesAsked before (Err why) after = ⊥
+-- what arguments make of a renderer that ask for a call, or for none
+abbrev pub made_of : {C : Type 0} → (C → State → Result State Fault) → State → Result C Fault → Result State Fault
+made_of make before (Ok call) = make call before
+made_of make before (Err why) = Err (refused_as before why)
 
--- With what it refuses that, but where memory is refused.
-abbrev pub RefusesAsked : State → Result Command Fault → Fault → Type 0
-RefusesAsked before (Ok command) f = Refuses before command f
-RefusesAsked before (Err why) f = f ≡ refused_as before why
-
--- What is answered to arguments that ask for this command, or for none, and what the renderer holds then. It was done,
--- or is refused as in a script.
-pub record IsAnswer (before : State) (asked : Result Command Fault) (done : Result (Unit {0}) Fault) (after : State) :
-    Type 0 where
+-- What is answered to arguments that ask for a call which makes this of a renderer, and what that is then. It was made,
+-- or is refused as that is.
+pub record IsAnswer {C : Type 0} (make : C → State → Result State Fault) (before : State) (asked : Result C Fault)
+    (done : Result (Unit {0}) Fault) (after : State) : Type 0 where
   pub ended : HasEnded before done
-  pub does : OnOk done (DoesAsked before asked after)
-  pub refused : IfErr done (λ f. f ≢ fault.OutOfMemory → RefusesAsked before asked f)
+  pub does : OnOk done (made_of make before asked ≡ Ok after)
+  pub refused : IfErr done (λ f. f ≢ fault.OutOfMemory → made_of make before asked ≡ Err f)
   pub left : IfErr done (λ f. after ≡ after_refusal f before)
 
 -- C is given this back, and the status of an answer.
-abbrev pub Gives : State → Result Command Fault → Option State → ℕ → Type 0
-Gives before asked back status =
-    (done : Result (Unit {0}) Fault) × (after : State) × IsAnswer before asked done after
+abbrev pub GivesMade :
+    {C : Type 0} → (C → State → Result State Fault) → State → Result C Fault → Option State → ℕ → Type 0
+GivesMade make before asked back status =
+    (done : Result (Unit {0}) Fault) × (after : State) × IsAnswer make before asked done after
     × (back ≡ Some after) × (status ≡ status_of done)
 
--- The same of a call of a table.
-abbrev pub DoesTable : State → Result TableCall Fault → State → Type 0
-DoesTable before (Ok asked) after = DoesCall asked before after
-DoesTable before (Err why) after = ⊥
-
-abbrev pub RefusesTable : State → Result TableCall Fault → Fault → Type 0
-RefusesTable before (Ok asked) f = RefusesCall asked before f
-RefusesTable before (Err why) f = f ≡ refused_as before why
-
-pub record IsTableAnswer (before : State) (asked : Result TableCall Fault) (done : Result (Unit {0}) Fault)
-    (after : State) : Type 0 where
-  pub ended : HasEnded before done
-  pub does : OnOk done (DoesTable before asked after)
-  pub refused : IfErr done (λ f. f ≢ fault.OutOfMemory → RefusesTable before asked f)
-  pub left : IfErr done (λ f. after ≡ after_refusal f before)
+-- so it is where arguments ask for a command of a script, or for a call of a table
+abbrev pub Gives : State → Result Command Fault → Option State → ℕ → Type 0
+Gives before asked back status = GivesMade after_command before asked back status
 
 abbrev pub GivesTable : State → Result TableCall Fault → Option State → ℕ → Type 0
-GivesTable before asked back status =
-    (done : Result (Unit {0}) Fault) × (after : State) × IsTableAnswer before asked done after
-    × (back ≡ Some after) × (status ≡ status_of done)
+GivesTable before asked back status = GivesMade after_call before asked back status
 
 -- What is refused at the end, and what the renderer holds then.
 pub record IsEnd {X : Type 0} (before : State) (done : Result X Fault) (after : State) : Type 0 where
   pub ended : HasEnded before done
-  pub refused : IfErr done (λ f. f ≢ fault.OutOfMemory → RefusesEnd before f)
+  pub refused : IfErr done (λ f. f ≢ fault.OutOfMemory → end_of before ≡ Err f)
   pub left : IfErr done (λ f. after ≡ after_refusal f before)
 
 -- C is given back lines, and the status of the end.
@@ -76,7 +59,7 @@ GivesEnd before back status =
 -- The text of the end has this many bytes, and is what the renderer holds.
 abbrev pub HasLength : State → State → ℕ → Type 0
 HasLength before after count =
-    (text : List ℕ) × EndsAs before (Ok text) × HasText after text × (count ≡ length text)
+    (text : List ℕ) × (end_of before ≡ Ok text) × HasText after text × (count ≡ length text)
 
 -- The same where its text is all that can be taken, whose length is answered.
 abbrev pub GivesText : State → Option State → ℕ → ℕ → ℕ → Type 0
@@ -87,7 +70,7 @@ GivesText before back old new status =
 -- A new renderer, which is raw or not, or why there is none.
 abbrev pub IsMade : Result Opening Fault → (raw : Bool) → Result State Fault → Type 0
 IsMade asked raw made =
-    MatchResult made (λ state. (opening : Opening) × (asked ≡ Ok opening) × Begins opening raw state)
+    MatchResult made (λ state. (opening : Opening) × (asked ≡ Ok opening) × (state ≡ Filled (new_page opening raw)))
     (λ f. f ≢ fault.OutOfMemory → asked ≡ Err f)
 
 -- C is given a new renderer where one is made, and the status of that.

@@ -4,5 +4,6 @@ pub mod Owned
 pub mod State
 pub mod Drawing
 pub mod Facts
+pub mod Page
 pub mod Tables
 pub mod Questions

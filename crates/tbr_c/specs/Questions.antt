@@ -1,10 +1,8 @@
 -- What questions to a renderer are answered with.
-use Rattle.std.specs.Prelude.{◌≡◌, ℕ, ◌-◌, max, nat_lt, not, ◌&&◌, if◌then◌else◌, Result, Ok, Err, MatchResult, List, [], length, slice_get, encode_utf8_all}
+use Rattle.std.specs.Prelude.{◌≡◌, ℕ, Result, Ok, Err, MatchResult, List, length, slice_get, encode_utf8_all}
 use Rattle.std.specs.Option.{ok_or}
 use Rattle.tbr_decor.specs.Prefix.{Prefix}
 use Rattle.tbr_decor.specs.declared.annotation.RichAnnotation.{RichAnnotation}
-use Rattle.text_block_renderer.specs.Renderer.{Renderer}
-use Rattle.tbr_program.specs.Decorations.{plain_decoration, trivial_decoration, rich_decoration}
 use Rattle.column_widths.specs.declared.room.Room.{Room}
 use Rattle.tbr_c_tables.specs.Given.{room_given}
 use Rattle.tbr_c_lines.specs.Status.{code_of, fault_of}
@@ -17,13 +15,15 @@ use Rattle.tbr_c_lines.specs.declared.fault.Fault.{Fault}
 use Rattle.tbr_c_lines.specs.declared.fault.Fault.TheVariants as fault
 use Rattle.tbr_c_lines.specs.declared.line.PiecePlace.{PiecePlace}
 use Rattle.tbr_c_lines.specs.declared.line.AnnotationKind.{AnnotationKind}
-use Rattle.tbr_c.specs.declared.state.Facts.{Facts}
+use Rattle.tbr_c.specs.declared.page.Facts.{Facts}
 use Rattle.tbr_c.specs.declared.state.State.{State}
-use Rattle.tbr_c.specs.declared.state.State.TheVariants.{Plain, Trivial, Rich, Table, Finished, Refused}
+use Rattle.tbr_c.specs.declared.state.State.TheVariants.{Filled, Table, Finished, Refused}
+use Rattle.tbr_c.specs.declared.page.Page.{Page}
+use Rattle.tbr_c.specs.declared.table.OpenTable.{OpenTable}
 use Rattle.tbr_c.specs.declared.extent.Extent.{Extent}
 use Rattle.tbr_c.specs.State.{lines_in}
-use Rattle.tbr_c.specs.Facts.{on_top, facts_in}
-use Rattle.tbr_c.specs.Tables.{page_prefix, levels_with}
+use Rattle.tbr_c.specs.Page.{page_facts, page_prefix, page_width_left}
+use Rattle.tbr_c.specs.Tables.{levels_with}
 use Rattle.tbr_c.specs.Arguments.{and_then, extent_of}
 
 -- ---- how C is answered
@@ -35,72 +35,39 @@ Puts answer before after status =
 
 -- ---- while calls go in
 
--- What a renderer answers. What is finished, or keeps a refusal, answers that.
+-- what is asked while calls go in, of what is filled or of the table that is open
+abbrev pub asked_of : {X : Type 0} → (Page → Result X Fault) → (OpenTable → Result X Fault) → State → Result X Fault
+asked_of page table (Filled p) = page p
+asked_of page table (Table t) = table t
+asked_of page table (Finished lines) = Err fault.Finished
+asked_of page table (Refused e) = Err (fault_of e)
+
+-- what it answers of itself and of its innermost level
 abbrev pub facts_of : State → Result Facts Fault
-facts_of (Plain f) = Ok (facts_in f.program)
-facts_of (Trivial f) = Ok (facts_in f.program)
-facts_of (Rich f) = Ok (facts_in f.program)
-facts_of (Table t) = Err fault.InTable
-facts_of (Finished lines) = Err fault.Finished
-facts_of (Refused e) = Err (fault_of e)
+facts_of state = asked_of (λ p. Ok (page_facts p)) (λ t. Err fault.InTable) state
 
 -- one of these facts
 abbrev pub fact_of : {X : Type 0} → (Facts → X) → State → Result X Fault
 fact_of fact state = and_then (facts_of state) (λ facts. Ok (fact facts))
 
--- The columns that are left after a prefix, but at least so many. It is too narrow where fewer are left, and no line may
--- be wider.
-abbrev pub columns_left : {D A T : Type 0} → ℕ → ℕ → Renderer D A T → Result ℕ Fault
-columns_left prefix least r =
-    if nat_lt (r.width - prefix) least && not r.options.allow_width_overflow then Err fault.TooNarrow
-    else Ok (max least (r.width - prefix))
-
+-- The columns that are left after a prefix, but at least so many.
 abbrev pub width_left : ℕ → ℕ → State → Result ℕ Fault
-width_left prefix least (Plain f) =
-    let p = f.program in on_top (Err fault.TooNarrow) (columns_left prefix least) p.stack
-width_left prefix least (Trivial f) =
-    let p = f.program in on_top (Err fault.TooNarrow) (columns_left prefix least) p.stack
-width_left prefix least (Rich f) =
-    let p = f.program in on_top (Err fault.TooNarrow) (columns_left prefix least) p.stack
-width_left prefix least (Table t) = Err fault.InTable
-width_left prefix least (Finished lines) = Err fault.Finished
-width_left prefix least (Refused e) = Err (fault_of e)
+width_left prefix least state = asked_of (page_width_left prefix least) (λ t. Err fault.InTable) state
 
 -- how many levels are open, and in a table how many parts of it too
 abbrev pub levels_of : State → Result ℕ Fault
-levels_of (Table t) = Ok (levels_with t.page t.given)
-levels_of (Plain f) = Ok (length f.program.opened)
-levels_of (Trivial f) = Ok (length f.program.opened)
-levels_of (Rich f) = Ok (length f.program.opened)
-levels_of (Finished lines) = Err fault.Finished
-levels_of (Refused e) = Err (fault_of e)
+levels_of state = asked_of (λ p. let facts = page_facts p in Ok facts.open_levels) (λ t. Ok (levels_with t)) state
 
 -- the columns of the longest word and of the widest line that came in the innermost part of a table
 abbrev pub room_in : State → Result Room Fault
-room_in (Table t) = room_given t.given
-room_in (Plain f) = Err fault.NoTable
-room_in (Trivial f) = Err fault.NoTable
-room_in (Rich f) = Err fault.NoTable
-room_in (Finished lines) = Err fault.Finished
-room_in (Refused e) = Err (fault_of e)
+room_in state = asked_of (λ p. Err fault.NoTable) (λ t. room_given t.given) state
 
 abbrev pub extent_in : State → Result Extent Fault
 extent_in state = and_then (room_in state) (λ room. Ok (extent_of room))
 
 -- the bytes of a prefix of the decorator
 abbrev pub prefix_of : Prefix → State → Result (List ℕ) Fault
-prefix_of asked (Plain f) =
-    let p = f.program in
-    Ok (encode_utf8_all (on_top [] (λ r. plain_decoration.prefix_text r.decorator asked) p.stack))
-prefix_of asked (Trivial f) =
-    let p = f.program in
-    Ok (encode_utf8_all (on_top [] (λ r. trivial_decoration.prefix_text r.decorator asked) p.stack))
-prefix_of asked (Rich f) =
-    let p = f.program in
-    Ok (encode_utf8_all (on_top [] (λ r. rich_decoration.prefix_text r.decorator asked) p.stack))
-prefix_of asked (Table t) = Ok (page_prefix asked t.page)
-prefix_of asked (Finished lines) = Err fault.Finished
-prefix_of asked (Refused e) = Err (fault_of e)
+prefix_of asked state = asked_of (λ p. Ok (page_prefix asked p)) (λ t. Ok (page_prefix asked t.page)) state
 
 -- there is such a text, and it has so many bytes
 abbrev pub Needs : Result (List ℕ) Fault → ℕ → Type 0

@@ -1,20 +1,13 @@
 -- How far a renderer is that C holds.
-use Rattle.std.specs.Prelude.{◌≡◌, ℕ, Bool, Option, None, Some, unwrap_or, Result, Ok, Err, MatchResult, List, [], chars, encode_utf8_all}
+use Rattle.std.specs.Prelude.{◌≡◌, ℕ, Bool, Option, None, Some, unwrap_or, Result, Ok, Err, MatchResult, List, [], ◌∷◌, chars, encode_utf8_all}
 use Rattle.std.specs.Option.{option_map}
+use Rattle.std.specs.Result.{result_map_both}
 use Rattle.tbr_tagged.specs.declared.Error.{Error}
 use Rattle.tbr_tagged.specs.declared.Error.TheVariants as block
-use Rattle.tbr_tagged.specs.UnicodeColumns.{unicode_columns}
-use Rattle.tbr_script.specs.declared.error.RunError.{RunError}
 use Rattle.tbr_commands.specs.Command.{Command}
-use Rattle.tbr_commands.specs.declared.opening.Decorator.TheVariants as decorator
-use Rattle.tbr_commands.specs.declared.opening.Opening.{Opening}
-use Rattle.tbr_program.specs.Progress.{GoesOn}
-use Rattle.tbr_program.specs.Decorations.{plain_decoration, trivial_decoration, rich_decoration}
-use Rattle.tbr_program.specs.Commands.{after_command, ended, started}
-use Rattle.tbr_program.specs.Safe.{shown_command, shown_links}
-use Rattle.tbr_recorded.specs.Texts.{noted}
-use Rattle.tbr_recorded.specs.declared.texts.Texts.{Texts}
-use Rattle.tbr_c_tables.specs.Given.{command_given}
+use Rattle.tbr_c_tables.specs.Given.{GivenTable, begun, call_given, command_given}
+use Rattle.tbr_c_tables.specs.declared.open_part.OpenPart.{OpenPart}
+use Rattle.tbr_c_tables.specs.declared.table_call.TableCall.{TableCall}
 use Rattle.tbr_c_lines.specs.Status.{fault_of, fault_of_command}
 use Rattle.tbr_c_lines.specs.Line.{Line, size_of}
 use Rattle.tbr_c_lines.specs.Lines.{Lines, NoneLeft, TakesFirst, text_of}
@@ -22,50 +15,31 @@ use Rattle.tbr_c_lines.specs.declared.line.LineSize.{LineSize}
 use Rattle.tbr_c_lines.specs.declared.lines.Rest.{Rest}
 use Rattle.tbr_c_lines.specs.declared.fault.Fault.{Fault}
 use Rattle.tbr_c_lines.specs.declared.fault.Fault.TheVariants as fault
-use Rattle.tbr_c.specs.declared.table.Page.{Page}
-use Rattle.tbr_c.specs.declared.table.Page.TheVariants as page
+use Rattle.tbr_c.specs.declared.page.Page.{Page}
+use Rattle.tbr_c.specs.declared.page.Facts.{Facts}
 use Rattle.tbr_c.specs.declared.state.State.{State}
-use Rattle.tbr_c.specs.declared.state.State.TheVariants.{Plain, Trivial, Rich, Table, Finished, Refused}
-
--- a program goes on, if calls go into one
-abbrev pub PageGoesOn : Page → Type 0
-PageGoesOn (page.Plain filled) = GoesOn filled.program
-PageGoesOn (page.Trivial filled) = GoesOn filled.program
-PageGoesOn (page.Rich filled) = GoesOn filled.program
+use Rattle.tbr_c.specs.declared.state.State.TheVariants.{Filled, Table, Finished, Refused}
+use Rattle.tbr_c.specs.Page.{PageGoesOn, IsPageClosed, page_after, page_drawn, page_end, page_facts, page_texts}
+use Rattle.tbr_c.specs.Tables.{misplaced, fault_of_drawing}
 
 abbrev pub CanGoOn : State → Type 0
-CanGoOn (Plain filled) = GoesOn filled.program
-CanGoOn (Trivial filled) = GoesOn filled.program
-CanGoOn (Rich filled) = GoesOn filled.program
+CanGoOn (Filled p) = PageGoesOn p
 CanGoOn (Table t) = PageGoesOn t.page
-CanGoOn (Finished lines) = Unit {0}
-CanGoOn (Refused e) = Unit {0}
+CanGoOn other = Unit {0}
 
--- what decides what calls write, before any
-abbrev pub texts_of : Opening → Texts
-texts_of opening = record { decorator = opening.decorator; options = opening.options; links = 0 }
+-- Calls go in, or a table is open.
+abbrev pub IsFilled : State → Type 0
+IsFilled (Filled p) = Unit {0}
+IsFilled other = ⊥
 
--- Nothing was called yet after this first command of a script, and the renderer is raw or not.
-abbrev pub Begins : Opening → (raw : Bool) → State → Type 0
-Begins opening raw (Plain filled) =
-    (opening.decorator ≡ decorator.Plain) × (filled.program ≡ started opening (record {})) × (filled.raw ≡ raw)
-    × (filled.texts ≡ texts_of opening)
-Begins opening raw (Trivial filled) =
-    (opening.decorator ≡ decorator.Trivial) × (filled.program ≡ started opening (record {})) × (filled.raw ≡ raw)
-    × (filled.texts ≡ texts_of opening)
-Begins opening raw (Rich filled) =
-    (opening.decorator ≡ decorator.Rich) × (filled.program ≡ started opening (record {})) × (filled.raw ≡ raw)
-    × (filled.texts ≡ texts_of opening)
-Begins opening raw other = ⊥
+abbrev pub IsTable : State → Type 0
+IsTable (Table t) = Unit {0}
+IsTable other = ⊥
 
--- calls go in, no level is open, and no cell waits
+-- Calls go in, no level is open, and no cell waits.
 abbrev pub MayFinish : State → Type 0
-MayFinish (Plain filled) = let p = filled.program in (p.opened ≡ []) × (p.pending.cells ≡ [])
-MayFinish (Trivial filled) = let p = filled.program in (p.opened ≡ []) × (p.pending.cells ≡ [])
-MayFinish (Rich filled) = let p = filled.program in (p.opened ≡ []) × (p.pending.cells ≡ [])
-MayFinish (Table t) = ⊥
-MayFinish (Finished lines) = ⊥
-MayFinish (Refused e) = ⊥
+MayFinish (Filled p) = IsPageClosed p
+MayFinish other = ⊥
 
 -- what is kept of a refusal, if it is one that is kept
 abbrev pub kept : Fault → Option Error
@@ -81,89 +55,65 @@ after_refusal f state = unwrap_or (option_map Refused (kept f)) state
 abbrev pub HasEnded : {X : Type 0} → State → Result X Fault → Type 0
 HasEnded (Finished lines) result = result ≡ Err fault.Finished
 HasEnded (Refused e) result = result ≡ Err (fault_of e)
-HasEnded (Plain program) result = Unit {0}
-HasEnded (Trivial program) result = Unit {0}
-HasEnded (Rich program) result = Unit {0}
-HasEnded (Table t) result = Unit {0}
-
--- ---- a command
-
--- It leads from one state to another under the same decorator, as it does in a script. Where the renderer isn't raw, it
--- has no control characters in prefixes. In a table it is recorded.
-abbrev pub Does : State → Command → State → Type 0
-Does (Plain f) command (Plain g) =
-    (after_command unicode_columns plain_decoration 0 (shown_command f.raw command) f.program ≡ Ok g.program)
-    × (g.raw ≡ f.raw) × (g.texts ≡ noted command f.texts)
-Does (Trivial f) command (Trivial g) =
-    (after_command unicode_columns trivial_decoration 0 (shown_command f.raw command) f.program ≡ Ok g.program)
-    × (g.raw ≡ f.raw) × (g.texts ≡ noted command f.texts)
-Does (Rich f) command (Rich g) =
-    (after_command unicode_columns rich_decoration 0 (shown_command f.raw command) f.program ≡ Ok g.program)
-    × (g.raw ≡ f.raw) × (g.texts ≡ noted command f.texts)
-Does (Table t) command (Table u) = (command_given command t.given ≡ Ok u.given) × (u.page ≡ t.page)
-Does (Plain f) command other = ⊥
-Does (Trivial f) command other = ⊥
-Does (Rich f) command other = ⊥
-Does (Table t) command other = ⊥
-Does (Finished lines) command other = ⊥
-Does (Refused e) command other = ⊥
-
--- With what it is refused, but where memory is refused: as in a script, whose lines don't count here.
-abbrev pub Refuses : State → Command → Fault → Type 0
-Refuses (Plain filled) command f =
-    let make = after_command unicode_columns plain_decoration 0 in
-    (e : RunError)
-    × (make (shown_command filled.raw command) filled.program ≡ Err e)
-    × (f ≡ fault_of_command e)
-Refuses (Trivial filled) command f =
-    let make = after_command unicode_columns trivial_decoration 0 in
-    (e : RunError)
-    × (make (shown_command filled.raw command) filled.program ≡ Err e)
-    × (f ≡ fault_of_command e)
-Refuses (Rich filled) command f =
-    let make = after_command unicode_columns rich_decoration 0 in
-    (e : RunError)
-    × (make (shown_command filled.raw command) filled.program ≡ Err e)
-    × (f ≡ fault_of_command e)
-Refuses (Table t) command f = command_given command t.given ≡ Err f
-Refuses (Finished lines) command f = f ≡ fault.Finished
-Refuses (Refused e) command f = f ≡ fault_of e
+HasEnded other result = Unit {0}
 
 -- With what arguments are refused that are no command. What is finished, or keeps a refusal, answers that.
 abbrev pub refused_as : State → Fault → Fault
 refused_as (Finished lines) why = fault.Finished
 refused_as (Refused e) why = fault_of e
-refused_as (Plain program) why = why
-refused_as (Trivial program) why = why
-refused_as (Rich program) why = why
-refused_as (Table t) why = why
+refused_as other why = why
 
--- ---- the end
+-- ---- what calls make of it
 
--- What the end gives, as that of a script: its text, with the footnotes of its links, or a refusal. Where the renderer
--- isn't raw, targets are listed there without control characters.
-abbrev pub EndsAs : State → Result (List ℕ) RunError → Type 0
-EndsAs (Plain f) outcome = ended unicode_columns plain_decoration 0 (shown_links f.raw f.program) ≡ outcome
-EndsAs (Trivial f) outcome = ended unicode_columns trivial_decoration 0 (shown_links f.raw f.program) ≡ outcome
-EndsAs (Rich f) outcome = ended unicode_columns rich_decoration 0 (shown_links f.raw f.program) ≡ outcome
-EndsAs (Table t) outcome = ⊥
-EndsAs (Finished lines) outcome = ⊥
-EndsAs (Refused e) outcome = ⊥
+-- A command, as in a script, whose lines don't count here. In a table it is recorded.
+abbrev pub after_command : Command → State → Result State Fault
+after_command command (Filled p) = result_map_both Filled fault_of_command (page_after command p)
+after_command command (Table t) =
+    result_map_both (λ given. Table (record t { given = given })) (λ f. f) (command_given command t.given)
+after_command command (Finished lines) = Err fault.Finished
+after_command command (Refused e) = Err (fault_of e)
+
+-- a table begins, or why it can't
+abbrev pub begun_in : Page → Option Fault → Result State Fault
+begun_in p None = Ok (Table (record { page = p; given = begun (page_texts p) }))
+begun_in p (Some f) = Err f
+
+-- a table is drawn by what was recorded of it
+abbrev pub drawn : Page → GivenTable → Result State Fault
+drawn p given = result_map_both Filled fault_of_drawing (page_drawn given.script p)
+
+abbrev pub drawn_in : State → Result State Fault
+drawn_in (Table t) = drawn t.page t.given
+drawn_in other = Err fault.NoTable
+
+-- A table after a call: it is drawn where no part of it is open any longer.
+abbrev pub after_parts : List OpenPart → Page → GivenTable → Result State Fault
+after_parts [] p given = drawn p given
+after_parts (part ∷ parts) p given = Ok (Table (record { page = p; given = given }))
+
+abbrev pub after_given : Page → Result GivenTable Fault → Result State Fault
+after_given p (Ok given) = after_parts given.parts p given
+after_given p (Err f) = Err f
+
+-- a call of a table
+abbrev pub after_call : TableCall → State → Result State Fault
+after_call asked (Filled p) = begun_in p (misplaced (page_facts p) asked)
+after_call asked (Table t) = after_given t.page (call_given asked t.given)
+after_call asked (Finished lines) = Err fault.Finished
+after_call asked (Refused e) = Err (fault_of e)
+
+-- What its end gives, as that of a script, whose lines don't count here.
+abbrev pub end_of : State → Result (List ℕ) Fault
+end_of (Filled p) = result_map_both (λ text. text) fault_of_command (page_end p)
+end_of (Table t) = Err fault.InTable
+end_of (Finished lines) = Err fault.Finished
+end_of (Refused e) = Err (fault_of e)
 
 -- Its lines are those of the end, and none was taken.
 abbrev pub EndsIn : State → State → Type 0
-EndsIn before (Finished lines) = EndsAs before (Ok (encode_utf8_all (text_of lines.rest))) × (lines.current ≡ None)
+EndsIn before (Finished lines) =
+    (end_of before ≡ Ok (encode_utf8_all (text_of lines.rest))) × (lines.current ≡ None)
 EndsIn before other = ⊥
-
--- With what the end is refused, but where memory is refused: as that of a script, whose lines don't count here; and where
--- a table is open.
-abbrev pub RefusesEnd : State → Fault → Type 0
-RefusesEnd (Table t) f = f ≡ fault.InTable
-RefusesEnd (Finished lines) f = f ≡ fault.Finished
-RefusesEnd (Refused e) f = f ≡ fault_of e
-RefusesEnd (Plain p) f = (e : RunError) × EndsAs (Plain p) (Err e) × (f ≡ fault_of_command e)
-RefusesEnd (Trivial p) f = (e : RunError) × EndsAs (Trivial p) (Err e) × (f ≡ fault_of_command e)
-RefusesEnd (Rich p) f = (e : RunError) × EndsAs (Rich p) (Err e) × (f ≡ fault_of_command e)
 
 -- ---- its lines
 
@@ -171,10 +121,7 @@ RefusesEnd (Rich p) f = (e : RunError) × EndsAs (Rich p) (Err e) × (f ≡ faul
 abbrev pub lines_in : State → Result Lines Fault
 lines_in (Finished lines) = Ok lines
 lines_in (Refused e) = Err (fault_of e)
-lines_in (Plain program) = Err fault.NotFinished
-lines_in (Trivial program) = Err fault.NotFinished
-lines_in (Rich program) = Err fault.NotFinished
-lines_in (Table t) = Err fault.NotFinished
+lines_in other = Err fault.NotFinished
 
 -- With what the next line is refused: as its lines are, or where none is left.
 abbrev pub HasNoNext : State → Fault → Type 0

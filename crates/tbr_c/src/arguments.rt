@@ -11,9 +11,10 @@ use std::str;
 use tbr_c_lines::Fault;
 use tbr_c_tables::TableCall;
 use tbr_commands::{Beginning, Command, NewCell, Request};
-use tbr_lines::{CellAlign, WhiteSpace};
+use tbr_model::WhiteSpace;
 use tbr_script::TextPair;
 use tbr_tables::TableCell;
+use tbr_tagged::CellAlign;
 
 /// A copy of a text.
 #[tactic(auto, using(crate::proofs::Texts::read_text, crate::proofs::Texts::read_no_text))]

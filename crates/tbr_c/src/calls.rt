@@ -13,7 +13,8 @@ ghost use Rattle.tbr_c_lines.specs.declared.fault.Fault.{Fault as Refusal};
 ghost use Rattle.tbr_c_lines.specs.declared.fault.Fault.TheVariants as F;
 ghost use Rattle.tbr_c.specs.Answers.{Gives, GivesNew, GivesEnd, GivesText};
 ghost use Rattle.tbr_c.specs.Arguments.{ReadsCommand, with_text, with_texts, mode_asked, sub_asked, cell_asked, opening_asked};
-ghost use Rattle.tbr_c.specs.State.{Begins};
+ghost use Rattle.tbr_c.specs.Page.{new_page};
+ghost use Rattle.tbr_c.specs.declared.state.State.TheVariants as S;
 
 use crate::answers::put;
 use crate::arguments;
@@ -28,7 +29,7 @@ use tbr_decor::Colour;
 /// A renderer, or why none can be made.
 fn made(alloc: Global, options: &Options) -> Result<Box<Held>, Fault>
     ensures made { IfOk result (λ held. (opening : Opening) × (opening_asked options.now ≡ Ok opening)
-        × Begins opening options.now.raw held.value) }
+        × (held.value ≡ S.Filled (new_page opening options.now.raw))) }
     ensures refused { IfErr result (λ fault. fault ≢ F.OutOfMemory → opening_asked options.now ≡ Err fault) }
 {
     let held = Held::new(alloc, options.opening()?, options.raw)?;

@@ -12,12 +12,12 @@ ghost use Rattle.tbr_c.specs.Drawing.{drawing, drawn_made, shown_made};
 use std::alloc::Global;
 use tbr_commands::Command;
 use tbr_decor::TextDecorator;
-use tbr_lines::{Error, UnicodeColumns};
 use tbr_program::Program;
 use tbr_recorded::TableScript;
 use tbr_renderer::Renderer;
 use tbr_script::RunError;
 use tbr_tables::Drawn;
+use tbr_tagged::{Error, UnicodeColumns};
 
 /// Draws what is recorded in the columns of the innermost level. Afterwards a program that refused isn't to be used any
 /// more.

@@ -1,8 +1,9 @@
 //! What C holds.
 ghost use Rattle.std.specs.Prelude.{◌≡◌, ◌≢◌, ◌<◌, ℕ, List, None, Some, Result, Ok, Err, IfOk, IfErr, IfSome, OnOk, MatchResult, string_bytes};
-ghost use Rattle.tbr_c.specs.Answers.{IsAnswer, IsTableAnswer, IsEnd, HasLength, IsNext};
+ghost use Rattle.tbr_c.specs.Answers.{IsAnswer, IsEnd, HasLength, IsNext};
 ghost use Rattle.tbr_c.specs.Arguments.{Reads};
-ghost use Rattle.tbr_c.specs.State.{CanGoOn, Begins, MayFinish, EndsIn, after_refusal};
+ghost use Rattle.tbr_c.specs.State.{CanGoOn, MayFinish, EndsIn, after_command, after_call, after_refusal};
+ghost use Rattle.tbr_c.specs.Page.{new_page};
 ghost use Rattle.tbr_c.specs.Questions.{facts_of, levels_of, room_in, width_left, prefix_of, Needs, refusal_of, line_taken, rest_of, rest_to_show, line_as};
 ghost use Rattle.tbr_c.specs.declared.state.State.TheVariants as S;
 ghost use Rattle.tbr_decor.specs.Prefix.{asked_prefix};
@@ -13,7 +14,8 @@ ghost use Rattle.tbr_c_lines.specs.declared.fault.Fault.{Fault as Refusal};
 ghost use Rattle.tbr_c_lines.specs.declared.fault.Fault.TheVariants as F;
 ghost use Rattle.tbr_commands.specs.Command.{Command as Asked, command_of, IsSized};
 
-use crate::state::{Facts, State};
+use crate::page::Facts;
+use crate::state::State;
 use column_widths::Room;
 use std::alloc::Global;
 use std::marker::Model;
@@ -22,7 +24,7 @@ use tbr_c_lines::{Fault, Format, Line, LineSize, Lines, Rest};
 use tbr_c_tables::TableCall;
 use tbr_commands::{Command, Opening};
 use tbr_decor::DecoratorPrefix;
-use tbr_lines::Error;
+use tbr_tagged::Error;
 
 /// A renderer that C fills, then finishes, and then takes lines of.
 #[derive(Drop)]
@@ -48,7 +50,7 @@ impl Held {
     pub fn new(alloc: Global, opening: Opening, raw: bool) -> Result<Held, Fault>
         requires width { 0 < opening.width }
         requires wrap_width { opening.options.wrap_width ≢ Some 0 }
-        ensures begins { IfOk result (λ held. Begins opening raw held) }
+        ensures new { IfOk result (λ held. held ≡ S.Filled (new_page opening raw)) }
         ensures memory { IfErr result (λ fault. fault ≡ F.OutOfMemory) }
     {
         let state = State::new(alloc, opening, raw)?;
@@ -62,7 +64,7 @@ impl Held {
     pub fn run(&mut self, read: Result<Command, Fault>) -> Result<(), Fault>
         requires { IfOk read (λ command. IsSized (command_of command)) }
         ensures { (asked : Result Asked Refusal) → Reads command_of asked read →
-            IsAnswer self.old asked result self.new }
+            IsAnswer after_command self.old asked result self.new }
     {
         let done = match read {
             Ok(command) => self.state.run(self.alloc, command),
@@ -73,7 +75,7 @@ impl Held {
 
     /// Does the call of a table that arguments ask for, or refuses those that are none. It refuses as `run` does.
     pub fn call_table(&mut self, read: Result<TableCall, Fault>) -> Result<(), Fault>
-        ensures { IsTableAnswer self.old read result self.new }
+        ensures { IsAnswer after_call self.old read result self.new }
     {
         let done = match read {
             Ok(call) => self.state.call_table(self.alloc, call),

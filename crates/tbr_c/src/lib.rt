@@ -10,6 +10,7 @@ mod extent;
 mod handle;
 mod held;
 mod options;
+mod page;
 mod parts;
 mod questions;
 mod state;

@@ -9,7 +9,7 @@ ghost use Rattle.tbr_c.specs.Questions.{Puts, facts_of, fact_of, levels_of, widt
 use crate::answers::{copy, put};
 use crate::handle::{Handle, Returned, hand_back};
 use crate::held::Held;
-use crate::state::Facts;
+use crate::page::Facts;
 use tbr_c_lines::{Fault, status};
 use tbr_decor::DecoratorPrefix;
 

@@ -11,8 +11,8 @@ use crate::extent::Extent;
 use crate::handle::{Handle, Returned, hand_back};
 use std::str;
 use tbr_c_lines::{Fault, answer, columns_of, status};
-use tbr_lines::UnicodeColumns;
 use tbr_tables::measure;
+use tbr_tagged::UnicodeColumns;
 
 /// The columns of a text.
 #[unsafe(no_mangle)]

@@ -6,7 +6,7 @@ ghost use Rattle.tbr_c_lines.specs.declared.fault.Fault.TheVariants as F;
 
 use crate::fault::Fault;
 use std::str;
-use tbr_lines::{UnicodeColumns, text_width};
+use tbr_tagged::{UnicodeColumns, text_width};
 
 /// How many columns a text takes. Its control characters take none. The call takes no memory.
 ///

@@ -3,8 +3,8 @@ ghost use Rattle.std.specs.Prelude.{◌≡◌};
 ghost use Rattle.tbr_c_lines.specs.Status.{code_of, status_of, fault_of, fault_of_command};
 ghost use Rattle.tbr_c_lines.specs.declared.fault.Fault.TheVariants as F;
 
-use tbr_lines::{Error, OutOfMemory, TooNarrow};
 use tbr_script::RunError;
+use tbr_tagged::{Error, OutOfMemory, TooNarrow};
 
 /// Why a call did nothing. `text_block_renderer.h` has these under the names of its statuses.
 #[derive(Clone, Copy, Debug, PartialEq, Eq)]

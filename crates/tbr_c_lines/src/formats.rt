@@ -10,8 +10,8 @@ use crate::fault::Fault;
 use crate::line::{Line, Piece, What};
 use json::Writer;
 use tbr_decor::RichAnnotation;
-use tbr_lines::{OutOfMemory, UnicodeColumns, text_width};
 use tbr_show::{ansi, html, ndjson};
+use tbr_tagged::{OutOfMemory, UnicodeColumns, text_width};
 
 /// How lines are shown.
 #[derive(Clone, Copy, PartialEq, Eq)]

@@ -9,10 +9,9 @@ use crate::annotation::Annotation;
 use crate::fault::Fault;
 use std::alloc::Global;
 use std::marker::Model;
+use tbr_border::RenderLine;
 use tbr_decor::{Colour, RichAnnotation};
-use tbr_lines::{
-    OutOfMemory, RenderLine, TaggedLine, TaggedLineElement, TaggedString, UnicodeColumns,
-};
+use tbr_tagged::{OutOfMemory, TaggedLine, TaggedLineElement, TaggedString, UnicodeColumns};
 
 /// A line: its text, and its pieces by their places in it.
 #[derive(Drop)]

@@ -18,8 +18,9 @@ use std::alloc::Global;
 use std::collections::VecDeque;
 use std::marker::Model;
 use tbr_annotations::{Annotations, written_out};
+use tbr_border::RenderLine;
 use tbr_decor::RichAnnotation;
-use tbr_lines::{OutOfMemory, RenderLine};
+use tbr_tagged::OutOfMemory;
 
 /// The lines of a renderer that is finished, and the one that was taken last.
 #[derive(Drop)]

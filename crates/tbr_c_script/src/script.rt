@@ -5,9 +5,9 @@ ghost use Rattle.tbr_runner.specs.Scripts.{shown};
 
 use std::alloc::Global;
 use tbr_c_lines::Fault;
-use tbr_lines::UnicodeColumns;
 use tbr_runner::render_shown;
 use tbr_script::RunError;
+use tbr_tagged::UnicodeColumns;
 
 /// `tbr_answer`.
 #[repr(C)]

@@ -12,9 +12,9 @@ use std::alloc::Global;
 use std::marker::Model;
 use tbr_c_lines::Fault;
 use tbr_commands::Command;
-use tbr_lines::UnicodeColumns;
 use tbr_recorded::{TableScript, Texts};
 use tbr_tables::Step;
+use tbr_tagged::UnicodeColumns;
 
 /// What is given of a table so far.
 #[derive(Drop)]

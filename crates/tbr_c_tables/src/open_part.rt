@@ -7,7 +7,7 @@ ghost use Rattle.tbr_c_tables.specs.Open.{opened, takes, takes_ending, takes_con
 use crate::table_call::TableCall;
 use tbr_c_lines::Fault;
 use tbr_commands::{Begun, Command};
-use tbr_lines::OutOfMemory;
+use tbr_tagged::OutOfMemory;
 
 /// What a part is.
 #[derive(Clone, Copy, Debug, PartialEq, Eq)]

@@ -9,7 +9,7 @@ use std::alloc::{AllocError, Global};
 use std::marker::Model;
 use tbr_c_lines::Fault;
 use tbr_commands::Command;
-use tbr_lines::OutOfMemory;
+use tbr_tagged::OutOfMemory;
 
 /// The parts that are open.
 #[derive(Drop)]

@@ -5,7 +5,7 @@ ghost use Rattle.tbr_commands.specs.Request.{request_of};
 
 use crate::request::Request;
 use crate::request::kind::Kind;
-use tbr_lines::OutOfMemory;
+use tbr_tagged::OutOfMemory;
 
 /// How many of each kind were begun and not ended yet.
 #[derive(Clone, Copy, Debug, PartialEq, Eq)]

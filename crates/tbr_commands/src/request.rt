@@ -18,9 +18,10 @@ use crate::request::kind::Kind;
 use crate::request::layout::Layout;
 use std::alloc::{AllocError, Global};
 use tbr_decor::{Colour, TextDecorator};
-use tbr_lines::{CharWidth, Error, WhiteSpace};
+use tbr_model::{CharWidth, WhiteSpace};
 use tbr_renderer::{Renderer, SubRenderer};
 use tbr_script::{TextPair, parse_number, unescape};
+use tbr_tagged::Error;
 
 pub mod beginning;
 pub mod colour;

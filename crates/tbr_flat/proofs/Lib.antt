@@ -1,3 +1,4 @@
+pub mod Common
 pub mod MarkedItems
 pub mod MarkedText
 pub mod MarkerPlaces

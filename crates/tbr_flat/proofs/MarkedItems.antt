@@ -1,20 +1,13 @@
 -- Items with markers among them.
-use Rattle.std.proofs.Common.{◌≡◌, ℕ, suc, zero, ◌+◌, ◌-◌, ◌<◌, ◌≤◌, ◌↔◌, inl, inr, Bool, true, false, not, IsTrue, Option, List, [], ◌∷◌, ◌++◌, length, take, drop, refl, ap, sym, ◌∙◌, arith, append_assoc, append-nil}
-use Rattle.std.specs.List.{AllByRecursion as Each}
-use Rattle.std.specs.Cmp.{IsEquivalence}
-use Rattle.std.proofs.lemmas.List.{take-append-drop, take-append-le, drop-append-le, take-take, drop-take, drop-drop, drop_at, length-append, length-take, length-drop}
-use Rattle.std.proofs.lemmas.Bool.{true≢false, false≢true, or_parts}
-use Rattle.tbr_model.specs.Run.{Item, glyph, marker, items_width, has_character}
-use Rattle.tbr_model.specs.Entry.{is_glyph}
-use Rattle.tbr_model.specs.Markers.{names_in_items}
-use Rattle.tbr_model.proofs.lists.Each.{each_front, each_back}
-use Rattle.tbr_model.proofs.words.Items.{items_width-append, has_character-append}
-use Rattle.tbr_model.proofs.lists.Joined.{cut_twice}
-use Rattle.tbr_tagged.specs.Elements.{SameItems, text_items}
-use Rattle.tbr_flat.specs.Flat.{MarkerPlaces, marked, before_last, covered, before_first, shortened, followed}
+use Rattle.tbr_flat.proofs.Common.{◌≡◌, ℕ, suc, zero, ◌+◌, ◌-◌, ◌<◌, ◌≤◌, ◌↔◌, inl, inr, Bool, true, false, IsTrue, Option, List, [], ◌∷◌, ◌++◌, length, take, drop, refl, ap, sym, ◌∙◌, arith}
+use Rattle.tbr_flat.proofs.Common.{append_assoc, append-nil, Each, IsEquivalence, take-append-drop, take-append-le, drop-append-le, take-take, drop-drop, drop_at, length-append, length-take}
+use Rattle.tbr_flat.proofs.Common.{length-drop, true≢false, false≢true, or_parts, Item, glyph, marker, items_width, has_character, is_glyph, names_in_items, each_front, each_back}
+use Rattle.tbr_flat.proofs.Common.{has_character-append, cut_twice, SameItems, text_items, MarkerPlaces, marked, before_last, covered, before_first, shortened, followed, same_items_append}
+use Rattle.std.proofs.Common.{not}
+use Rattle.std.proofs.lemmas.List.{drop-take}
+use Rattle.tbr_model.proofs.words.Items.{items_width-append}
 use Rattle.tbr_model.proofs.rule.Markers.{names_in_items-append}
 use Rattle.tbr_flat.proofs.RepeatedTags.{take_after}
-use Rattle.tbr_tagged.proofs.SameItems.{same_items_append}
 
 pub markers-append : {A : Type 0} (is js : List (Item A)) → length (names_in_items (is ++ js)) ≡ length (names_in_items is) + length (names_in_items js)
 markers-append is js = rw (names_in_items-append is js, length-append) refl
@@ -140,7 +133,9 @@ module _ {A : Type 0} where
       sym (drop_at xs ys (length front) len) ∙ ap (drop (length front)) e ∙ drop_at front line (length front) refl
 
   -- after the last marker are characters alone, so a line without a character is empty where there are some
-  pub none_at_end : (is : List (Item A)) (m : MarkerPlaces) (before line : List (Item A)) → Each (λ i. is_glyph i ≡ true) is → covered m ≡ length is → marked is m.markers ≡ before ++ line → has_character line ≡ false → 0 < m.after → line ≡ []
+  pub none_at_end : (is : List (Item A)) (m : MarkerPlaces) (before line : List (Item A)) →
+      Each (λ i. is_glyph i ≡ true) is → covered m ≡ length is → marked is m.markers ≡ before ++ line →
+      has_character line ≡ false → 0 < m.after → line ≡ []
   none_at_end is m before line h e parts none some =
       let s = before_last m.markers in let rest = drop s is in
       let glyphs : Each (λ i. is_glyph i ≡ true) rest = each_back (λ i. is_glyph i ≡ true) (take s is) rest (rw take-append-drop h) in

@@ -1,19 +1,17 @@
 -- A text with markers among its characters: what each call leaves.
-use Rattle.std.proofs.Common.{◌≡◌, ℕ, ◌+◌, ◌-◌, ◌<◌, ◌≤◌, ◌⊎◌, inl, inr, true, false, Result, Ok, Err, List, [], ◌∷◌, ◌++◌, length, take, drop, refl, ap, sym, ◌∙◌, arith, append_assoc}
+use Rattle.tbr_flat.proofs.Common.{◌≡◌, ℕ, ◌+◌, ◌-◌, ◌<◌, ◌≤◌, ◌⊎◌, inl, inr, true, false, List, [], ◌∷◌, ◌++◌, length, take, drop, refl, ap, sym, ◌∙◌, arith, append_assoc, Each, or_parts}
+use Rattle.tbr_flat.proofs.Common.{length-append, length-take, take-append-drop, take-append-le, take_at, take_all, drop_at, is_glyph, Item, marker, has_character, has_character-append, MarkerPlaces}
+use Rattle.tbr_flat.proofs.Common.{marked, covered, before_first, before_last}
+use Rattle.std.proofs.Common.{Result, Ok, Err}
 use Rattle.std.specs.Result.{OnOk, OnErr}
-use Rattle.std.specs.List.{AllByRecursion as Each}
-use Rattle.std.proofs.lemmas.Bool.{or_parts}
-use Rattle.std.proofs.lemmas.List.{length-append, length-take, take-append-drop, take-append-le, take_at, take_all, drop_at}
-use Rattle.tbr_model.specs.Entry.{is_glyph}
-use Rattle.tbr_model.specs.Run.{Item, marker, has_character}
-use Rattle.tbr_model.proofs.words.Items.{has_character-append}
-use Rattle.tbr_flat.specs.Flat.{MarkerPlaces, marked, covered, before_first, before_last}
 use Rattle.tbr_flat.proofs.RepeatedTags.{take_after}
 use Rattle.tbr_flat.proofs.MarkerPlaces.{covered_push, some_before, no_marks}
 use Rattle.tbr_flat.proofs.MarkedItems.{length-marked, marked_push, no_character, none_at_end}
 
 -- where memory is refused nothing has changed
-pub covered_pushed : {T E : Type 0} (r : Result T E) (m new : MarkerPlaces) (name : List ℕ) → OnOk r (new ≡ record { markers = m.markers ++ (m.after, name) ∷ []; after = 0 }) → OnErr r (new ≡ m) → covered new ≡ covered m
+pub covered_pushed : {T E : Type 0} (r : Result T E) (m new : MarkerPlaces) (name : List ℕ) →
+    OnOk r (new ≡ record { markers = m.markers ++ (m.after, name) ∷ []; after = 0 }) → OnErr r (new ≡ m) →
+    covered new ≡ covered m
 covered_pushed (Ok x) m new name h k = rw h (covered_push m name)
 covered_pushed (Err e) m new name h k = rw k
 
@@ -37,7 +35,9 @@ module _ {A : Type 0} where
   nothing_left is m glyphs h none other = grind (arith, no_character, no_marks)
 
   -- the last marker
-  pub marker_back : (is js : List (Item A)) (m n : MarkerPlaces) (front ms : List (ℕ × List ℕ)) (k : ℕ) (name : List ℕ) → covered m ≡ length is → m ≡ record { markers = front ++ (k, name) ∷ []; after = 0 } → n ≡ record { markers = front; after = k } →
+  pub marker_back : (is js : List (Item A)) (m n : MarkerPlaces) (front ms : List (ℕ × List ℕ)) (k : ℕ) (name : List ℕ)
+      → covered m ≡ length is → m ≡ record { markers = front ++ (k, name) ∷ []; after = 0 } →
+      n ≡ record { markers = front; after = k } →
       (covered n ≡ length is) × (marked is n.markers ++ marked js ((0, name) ∷ ms) ≡ marked is m.markers ++ marked js ms) × (length (marked is n.markers) + 1 ≡ length (marked is m.markers))
   marker_back is js m n front ms k name h e d =
       let fits = sym (covered_push (record { markers = front; after = k }) name) ∙ (rw e at h) in
@@ -47,7 +47,8 @@ module _ {A : Type 0} where
   same_front xs ys zs ws e h = sym (take_at xs ys (length xs) refl) ∙ ap (take (length xs)) e ∙ take-append-le (length xs) zs ws h
 
   -- not all of the line's markers are back: there is a last one
-  pub marker_left : (is word old before line : List (Item A)) (m : MarkerPlaces) (done : ℕ) → Each (λ i. is_glyph i ≡ true) is → covered m ≡ length is → marked is m.markers ++ word ≡ (before ++ line) ++ old →
+  pub marker_left : (is word old before line : List (Item A)) (m : MarkerPlaces) (done : ℕ) →
+      Each (λ i. is_glyph i ≡ true) is → covered m ≡ length is → marked is m.markers ++ word ≡ (before ++ line) ++ old →
       length (marked is m.markers) + done ≡ length (before ++ line) → done < length line → has_character line ≡ false → (0 < m.after) ⊎ (m.markers ≡ []) → ⊥
   marker_left is word old before line m done glyphs h e len less none stuck =
       let placed = marked is m.markers in let left = length line - done in
@@ -61,7 +62,8 @@ module _ {A : Type 0} where
       go (inr nothing) = omega (arith, h, ap before_last nothing, ap length nothing, length-marked is m.markers, len, length-append before line)
 
   -- all are back
-  pub line_back : (placed word old before line : List (Item A)) (done : ℕ) → placed ++ word ≡ (before ++ line) ++ old → length placed + done ≡ length (before ++ line) → length line ≡ done → (placed ≡ before) × (word ≡ line ++ old)
+  pub line_back : (placed word old before line : List (Item A)) (done : ℕ) → placed ++ word ≡ (before ++ line) ++ old →
+      length placed + done ≡ length (before ++ line) → length line ≡ done → (placed ≡ before) × (word ≡ line ++ old)
   line_back placed word old before line done e len all =
       let whole : placed ++ word ≡ before ++ (line ++ old) = e ∙ append_assoc before line old in
       let count : length placed ≡ length before = omega (arith, length-append before line) in (

@@ -1,10 +1,7 @@
 -- Markers among characters, as they are kept.
-use Rattle.std.proofs.Common.{◌≡◌, ℕ, suc, zero, ◌+◌, ◌<◌, ◌≤◌, inl, inr, IsTrue, ◌↔◌, nat_eq, List, [], ◌∷◌, ◌++◌, map, length, drop, get_or, refl, ap, sym, arith}
-use Rattle.std.specs.String.{string_bytes}
-use Rattle.std.proofs.lemmas.Bool.{eqb-true, eq-eqb, cases_lt}
-use Rattle.std.proofs.lemmas.List.{nil_from_length}
-use Rattle.tbr_flat.specs.declared.markers.Marker.{Marker}
-use Rattle.tbr_flat.specs.Flat.{MarkerPlaces, before_last, covered, before_first, shortened, followed}
+use Rattle.tbr_flat.proofs.Common.{◌≡◌, ℕ, suc, zero, ◌+◌, ◌<◌, ◌≤◌, inl, inr, IsTrue, ◌↔◌, List, [], ◌∷◌, ◌++◌, map, length, drop, get_or, refl, ap, sym, arith, string_bytes, eqb-true, eq-eqb}
+use Rattle.tbr_flat.proofs.Common.{cases_lt, nil_from_length, Marker, MarkerPlaces, before_last, covered, before_first, shortened, followed}
+use Rattle.std.proofs.Common.{nat_eq}
 
 -- a marker as it is seen
 abbrev pub mark_of : Marker → ℕ × List ℕ
@@ -49,7 +46,8 @@ first_within m = go m.markers m.after
 pub covered_shortened : (m : MarkerPlaces) (k : ℕ) → k ≤ before_first m → covered (shortened k m) + k ≡ covered m
 covered_shortened m k = go m.markers m.after
   where
-    go : (ms : List (ℕ × List ℕ)) (b : ℕ) → k ≤ before_first (record { markers = ms; after = b }) → covered (shortened k (record { markers = ms; after = b })) + k ≡ covered (record { markers = ms; after = b })
+    go : (ms : List (ℕ × List ℕ)) (b : ℕ) → k ≤ before_first (record { markers = ms; after = b }) →
+        covered (shortened k (record { markers = ms; after = b })) + k ≡ covered (record { markers = ms; after = b })
     go [] b h = omega arith
     go ((n, name) ∷ ms) b h = omega arith
 
@@ -57,7 +55,9 @@ covered_shortened m k = go m.markers m.after
 pub some_before : (m : MarkerPlaces) → 0 < covered m + length m.markers → ((name : List ℕ) (rest : List (ℕ × List ℕ)) → m.markers ≡ (0, name) ∷ rest → ⊥) → 0 < before_first m
 some_before m = go m.markers m.after
   where
-    go : (ms : List (ℕ × List ℕ)) (b : ℕ) → 0 < covered (record { markers = ms; after = b }) + length ms → ((name : List ℕ) (rest : List (ℕ × List ℕ)) → ms ≡ (0, name) ∷ rest → ⊥) → 0 < before_first (record { markers = ms; after = b })
+    go : (ms : List (ℕ × List ℕ)) (b : ℕ) → 0 < covered (record { markers = ms; after = b }) + length ms →
+        ((name : List ℕ) (rest : List (ℕ × List ℕ)) → ms ≡ (0, name) ∷ rest → ⊥) →
+        0 < before_first (record { markers = ms; after = b })
     go [] b h other = omega arith
     go ((zero, name) ∷ ms) b h other = absurd (other name ms refl)
     go ((suc n, name) ∷ ms) b h other = omega arith

@@ -1,9 +1,9 @@
 -- Tags that are stored once for neighbouring characters.
-use Rattle.std.proofs.Common.{◌≡◌, ℕ, suc, ◌+◌, ◌-◌, ◌<◌, ◌≤◌, List, [], ◌∷◌, ◌++◌, length, take, drop, get_or, set, replicate, ap, sym, ◌∙◌, arith, append_assoc, append-nil, add-one, drop-cons, refl}
-use Rattle.std.proofs.lemmas.List.{get_or_read, take_at, drop_at, set_split, drop-set, take_more_set, drop_all, drop-drop, take-append-drop, length-append, length-replicate, replicate-append-replicate}
+use Rattle.tbr_flat.proofs.Common.{◌≡◌, ℕ, suc, ◌+◌, ◌-◌, ◌<◌, ◌≤◌, List, [], ◌∷◌, ◌++◌, length, take, drop, get_or, set, replicate, ap, sym, ◌∙◌, arith, append_assoc, append-nil, add-one, refl}
+use Rattle.tbr_flat.proofs.Common.{get_or_read, take_at, drop_at, drop_all, drop-drop, take-append-drop, length-append, length-replicate, RepeatedTag, tags_of, IsPlace}
+use Rattle.std.proofs.Common.{drop-cons}
+use Rattle.std.proofs.lemmas.List.{set_split, drop-set, take_more_set, replicate-append-replicate}
 use Rattle.std.proofs.Math.Seq.{take-append-add, drop-append-add}
-use Rattle.tbr_flat.specs.declared.tags.RepeatedTag.{RepeatedTag}
-use Rattle.tbr_flat.specs.Tags.{tags_of, IsPlace}
 
 module _ {A : Type 0} where
   pub tags_of-append : (xs ys : List (RepeatedTag A)) → tags_of (xs ++ ys) ≡ tags_of xs ++ tags_of ys
@@ -41,14 +41,17 @@ module _ {A : Type 0} where
   runs m n t rest = rw (← replicate-append-replicate, append_assoc) refl
 
   -- the first of the tags that a stored one repeats, and what is after them
-  pub parted : (xs ys : List (RepeatedTag A)) (s : RepeatedTag A) (o p : ℕ) → xs ≡ s ∷ ys → suc s.more ≡ o + p → (take o (tags_of xs) ≡ replicate o s.tag) × (drop o (tags_of xs) ≡ replicate p s.tag ++ tags_of ys)
+  pub parted : (xs ys : List (RepeatedTag A)) (s : RepeatedTag A) (o p : ℕ) → xs ≡ s ∷ ys → suc s.more ≡ o + p →
+      (take o (tags_of xs) ≡ replicate o s.tag) × (drop o (tags_of xs) ≡ replicate p s.tag ++ tags_of ys)
   parted xs ys s o p at sum =
       let run = replicate o s.tag in let rest = replicate p s.tag ++ tags_of ys in
       let parts : tags_of xs ≡ run ++ rest = ap tags_of at ∙ ap (λ n. replicate n s.tag ++ tags_of ys) sum ∙ runs o p s.tag (tags_of ys) in
       rw parts (take_at run rest o (length-replicate o s.tag), drop_at run rest o (length-replicate o s.tag))
 
   -- the first of the tags that a stored one repeats are taken, or skipped; it is read twice
-  pub skip_part : (xs : List (RepeatedTag A)) (i n : ℕ) (r s y : RepeatedTag A) → 0 < n → n ≤ length (tags_of (drop i xs)) → r ≡ get_or xs i r → s ≡ get_or xs i s → n ≤ r.more → y ≡ record s { more = s.more - n } →
+  pub skip_part : (xs : List (RepeatedTag A)) (i n : ℕ) (r s y : RepeatedTag A) → 0 < n →
+      n ≤ length (tags_of (drop i xs)) → r ≡ get_or xs i r → s ≡ get_or xs i s → n ≤ r.more →
+      y ≡ record s { more = s.more - n } →
       (take n (tags_of (drop i xs)) ≡ replicate n s.tag) × (tags_of (drop i (set xs i y)) ≡ drop n (tags_of (drop i xs)))
   skip_part xs i n r s y some within other is less e =
       let h : i < length xs = has_stored xs i (omega arith) in let same : r ≡ s = get_or_read xs i r h other s ∙ sym is in
@@ -65,7 +68,9 @@ module _ {A : Type 0} where
 
   pub stored_len : (xs : List (RepeatedTag A)) (i k : ℕ) (s : RepeatedTag A) → k ≡ suc i → k ≤ length xs → s ≡ get_or xs i s → length (tags_of (drop i xs)) ≡ s.more + 1 + length (tags_of (drop k xs))
   stored_len xs i k s e h is =
-      ap (λ ys. length (tags_of ys)) (stored_at xs i s (omega arith) is) ∙ omega (arith, length-append (replicate s.more s.tag) (tags_of (drop (suc i) xs)), length-replicate s.more s.tag, ap (λ j. length (tags_of (drop j xs))) e)
+      ap (λ ys. length (tags_of ys)) (stored_at xs i s (omega arith) is)
+      ∙ omega
+      (arith, length-append (replicate s.more s.tag) (tags_of (drop (suc i) xs)), length-replicate s.more s.tag, ap (λ j. length (tags_of (drop j xs))) e)
 
   pub drop_on : (i j : ℕ) (xs ys : List (RepeatedTag A)) → i ≤ j → drop i xs ≡ drop i ys → drop j xs ≡ drop j ys
   drop_on i j xs ys h e = let n : i + (j - i) ≡ j = omega arith in cc (drop-drop (j - i) i xs, drop-drop (j - i) i ys)
@@ -73,7 +78,8 @@ module _ {A : Type 0} where
   pub fewer : (xs : List (RepeatedTag A)) (i j : ℕ) → i ≤ j → length (tags_of (drop j xs)) ≤ length (tags_of (drop i xs))
   fewer xs i j h =
       let n : i + (j - i) ≡ j = omega arith in
-      omega (arith, ap length (split_tags (drop i xs) (j - i)), length-append (tags_of (take (j - i) (drop i xs))) (tags_of (drop (j - i) (drop i xs))), ap (λ ys. length (tags_of ys)) (drop-drop (j - i) i xs ∙ ap (λ m. drop m xs) n))
+      omega
+      (arith, ap length (split_tags (drop i xs) (j - i)), length-append (tags_of (take (j - i) (drop i xs))) (tags_of (drop (j - i) (drop i xs))), ap (λ ys. length (tags_of ys)) (drop-drop (j - i) i xs ∙ ap (λ m. drop m xs) n))
 
   pub offset_in : (xs : List (RepeatedTag A)) (i o last : ℕ) (s : RepeatedTag A) → IsPlace xs i o last → s ≡ get_or xs i s → o ≤ s.more
   offset_in xs i o last s p is = grind (arith, p.tags, p.inside, none_left xs i, λ (h : suc i ≤ length xs). stored_len xs i (suc i) s refl h is)

@@ -1,16 +1,9 @@
 -- Characters beside their tags.
-use Rattle.std.proofs.Common.{◌≡◌, ◌↔◌, IsTrue, ℕ, suc, zero, ◌+◌, ◌-◌, ◌<◌, ◌≤◌, Bool, true, Option, None, Some, List, [], ◌∷◌, ◌++◌, length, take, drop, replicate, refl, ap, sym, ◌∙◌, arith, append_assoc}
-use Rattle.std.specs.Option.{MatchOption}
-use Rattle.std.specs.List.{AllZip}
-use Rattle.std.proofs.lemmas.List.{nil_from_length, take-append-drop, drop_at, length-append, length-take, length-take-le, length-drop, length-replicate, drop-append-le, drop-drop}
-use Rattle.tbr_model.specs.Run.{Item, glyph}
+use Rattle.tbr_flat.proofs.Common.{◌≡◌, ◌↔◌, IsTrue, ℕ, suc, zero, ◌+◌, ◌-◌, ◌<◌, ◌≤◌, Bool, true, Option, None, Some, List, [], ◌∷◌, ◌++◌, length, take, drop, replicate, refl, ap, sym, ◌∙◌, arith}
+use Rattle.tbr_flat.proofs.Common.{append_assoc, MatchOption, AllZip, nil_from_length, take-append-drop, drop_at, length-append, length-take, length-take-le, length-drop, length-replicate}
+use Rattle.tbr_flat.proofs.Common.{drop-append-le, drop-drop, Item, glyph, SameItems, text_items, item_characters, Flat, flat, glyphs, same_items, same_items_append, IsEquivalence, take-add}
 use Rattle.tbr_model.specs.Rule.{spaces}
-use Rattle.tbr_tagged.specs.Elements.{SameItems, text_items}
-use Rattle.tbr_tagged.specs.Walks.{item_characters}
-use Rattle.tbr_flat.specs.Flat.{Flat, flat, glyphs}
-use Rattle.tbr_tagged.proofs.SameItems.{same_items, same_items_trans, same_items_append}
-use Rattle.std.specs.Cmp.{IsEquivalence}
-use Rattle.std.proofs.Math.Seq.{take-add}
+use Rattle.tbr_tagged.proofs.SameItems.{same_items_trans}
 
 glyphs_none : {A : Type 0} (cs : List ℕ) → glyphs {A = A} cs [] ≡ []
 glyphs_none [] = refl
@@ -160,10 +153,12 @@ module _ {A : Type 0} (eq : A → A → Bool) (laws : IsEquivalence eq) where
       (same_items_append eq laws is is (text_items (take n cs) b) (take n (glyphs cs ts)) (same_items eq laws is) (taken_same eq n cs ts a b t h k))
 
   -- the line has the items that are handed out after its own
-  pub line_turn : (front is js ps qs : List (Item A)) (m n k : ℕ) → k ≡ m + n → qs ≡ drop m ps → SameItems eq is (front ++ take m ps) → SameItems eq js (is ++ take n qs) → SameItems eq js (front ++ take k ps)
+  pub line_turn : (front is js ps qs : List (Item A)) (m n k : ℕ) → k ≡ m + n → qs ≡ drop m ps →
+      SameItems eq is (front ++ take m ps) → SameItems eq js (is ++ take n qs) → SameItems eq js (front ++ take k ps)
   line_turn front is js ps qs m n k e q h j =
       rw (e, take-add m n ps, ← q, ← append_assoc front (take m ps) (take n qs))
-      (same_items_trans eq laws js (is ++ take n qs) ((front ++ take m ps) ++ take n qs) j (same_items_append eq laws is (front ++ take m ps) (take n qs) (take n qs) h (same_items eq laws (take n qs))))
+      (same_items_trans eq laws js (is ++ take n qs) ((front ++ take m ps) ++ take n qs) j
+      (same_items_append eq laws is (front ++ take m ps) (take n qs) (take n qs) h (same_items eq laws (take n qs))))
 
 -- ---- the characters that are placed
 

@@ -1,16 +1,15 @@
 -- The bytes of characters.
-use Rattle.std.proofs.Common.{◌≡◌, ℕ, suc, zero, ◌+◌, ◌-◌, ◌<◌, ◌≤◌, true, List, [], ◌∷◌, ◌++◌, Option, length, take, drop, encode_utf8, refl, ap, sym, ◌∙◌, subst, arith, append_assoc, append-nil, None, Some, add-one, take-append-drop, length-append, length-take-le, length-drop, replicate}
-use Rattle.std.specs.List.{slice_get}
-use Rattle.std.specs.Option.{MatchOption}
-use Rattle.std.specs.Str.{IsAscii, IsUtf8, chars, IsCharBoundary}
+use Rattle.tbr_flat.proofs.Common.{◌≡◌, ℕ, suc, zero, ◌+◌, ◌-◌, ◌<◌, ◌≤◌, true, List, [], ◌∷◌, ◌++◌, Option, length, take, drop, refl, ap, sym, ◌∙◌, subst, arith, append_assoc, append-nil, None, Some}
+use Rattle.tbr_flat.proofs.Common.{add-one, replicate, slice_get, MatchOption, IsUtf8, IsCharBoundary, take-append_seam, drop_at, take_at, drop-drop, drop-append-le, length-replicate}
+use Rattle.tbr_flat.proofs.Common.{IsCharBoundary-from_drop, encodes-chars, scalars-chars, chars-encodes, encodes-append, IsUtf8-past_char, is_utf8-from_IsUtf8, IsUtf8-from_is_utf8, chars-append}
+use Rattle.tbr_flat.proofs.Common.{chars_past_char, IsUtf8-from_ascii, chars-IsAscii, encodes-IsAscii, IsLeft, chars_none, spaces_ascii}
+use Rattle.std.proofs.Common.{encode_utf8, take-append-drop, length-append, length-take-le, length-drop}
+use Rattle.std.specs.Str.{IsAscii, chars}
 use Rattle.std.specs.Char.{IsScalar}
-use Rattle.std.proofs.Math.Seq.{take-append_seam}
 use Rattle.std.proofs.lemmas.Bool.{and_parts}
-use Rattle.std.proofs.lemmas.List.{drop_at, take_at, drop-drop, drop-append-le, length-replicate}
-use Rattle.std.proofs.lemmas.Str.{IsUtf8-append, IsUtf8-nil, IsCharBoundary-from_drop, length-le-encodes, encodes-chars, scalars-chars, chars-encodes, encodes-append, IsCharBoundary-at_seam, IsUtf8-encode, IsUtf8-past_char, is_utf8-from_IsUtf8, IsUtf8-from_is_utf8, chars-append, chars-nil, chars_past_char, IsUtf8-from_ascii, chars-IsAscii, encodes-IsAscii}
+use Rattle.std.proofs.lemmas.Str.{IsUtf8-append, IsUtf8-nil, length-le-encodes, IsCharBoundary-at_seam, IsUtf8-encode, chars-nil}
 use lib.Utf8.{encodes, scalar, scalars}
-use Rattle.tbr_flat.specs.Flat.{IsLeft}
-use Rattle.tbr_tagged.proofs.TextAfter.{chars_push, chars_none, spaces_ascii}
+use Rattle.tbr_tagged.proofs.TextAfter.{chars_push}
 
 -- ---- what is left of a text
 

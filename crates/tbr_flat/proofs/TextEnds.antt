@@ -1,12 +1,11 @@
 -- What is counted and taken away at the end of a text and at its beginning.
-use Rattle.std.proofs.Common.{◌≡◌, true, ℕ, suc, ◌+◌, ◌-◌, ◌<◌, ◌≤◌, List, ◌++◌, length, take, drop, get_or, replicate, refl, ap, sym, ◌∙◌, arith, append_assoc}
-use Rattle.std.specs.Str.{IsUtf8, chars, IsCharBoundary}
-use Rattle.std.proofs.Math.Seq.{take-append_seam, get_or-append_seam}
-use Rattle.std.proofs.lemmas.List.{take-append-drop, take_at, drop_at, length-append, length-take, length-replicate}
-use Rattle.std.proofs.lemmas.Str.{IsUtf8-take, IsUtf8-from_ascii, IsCharBoundary-from_drop, chars-append, chars-IsAscii, encodes-chars, encodes-append, encodes-IsAscii, scalars-chars, chars-encodes}
+use Rattle.tbr_flat.proofs.Common.{◌≡◌, true, ℕ, suc, ◌+◌, ◌-◌, ◌<◌, ◌≤◌, List, ◌++◌, length, take, drop, get_or, replicate, refl, ap, sym, ◌∙◌, arith, append_assoc, IsUtf8, IsCharBoundary}
+use Rattle.tbr_flat.proofs.Common.{take-append_seam, take-append-drop, take_at, drop_at, length-append, length-take, length-replicate, IsUtf8-from_ascii, IsCharBoundary-from_drop, chars-append}
+use Rattle.tbr_flat.proofs.Common.{chars-IsAscii, encodes-chars, encodes-append, encodes-IsAscii, scalars-chars, chars-encodes, IsLeft, spaces_ascii}
+use Rattle.std.specs.Str.{chars}
+use Rattle.std.proofs.Math.Seq.{get_or-append_seam}
+use Rattle.std.proofs.lemmas.Str.{IsUtf8-take}
 use lib.Utf8.{encodes, scalars}
-use Rattle.tbr_flat.specs.Flat.{IsLeft}
-use Rattle.tbr_tagged.proofs.TextAfter.{spaces_ascii}
 use Rattle.tbr_flat.proofs.TextBytes.{IsAfter, left_after, left_utf8, left_count, scalars_take}
 
 -- ---- spaces at the end
@@ -59,5 +58,7 @@ module _ (bytes front : List ℕ) (i n m k : ℕ) (cs : List ℕ) (h : IsLeft by
       rw (seen, e, take-append_seam front (replicate m 32)) at (scalars_take (length front) (chars (drop i bytes)) (scalars-chars (drop i bytes) (left_utf8 bytes i n cs h seen))) in
       let whole : xs ≡ kept = is ∙ ap (take k) parted ∙ take_at kept (replicate m 32) k seam in
       let first : length (take i bytes) ≡ i = omega (arith, length-take i bytes, h.within) in
-      left_after xs i (n - m) (encodes front) front (omega (arith, ap length whole, length-append (take i bytes) (encodes front), first)) (ap (drop i) whole ∙ drop_at (take i bytes) (encodes front) i first)
+      left_after xs i (n - m) (encodes front) front
+      (omega (arith, ap length whole, length-append (take i bytes) (encodes front), first))
+      (ap (drop i) whole ∙ drop_at (take i bytes) (encodes front) i first)
       (front, (single, refl)) (omega (arith, left_count bytes i n cs h seen, spaces_short cs front m e)) (chars-encodes front single)

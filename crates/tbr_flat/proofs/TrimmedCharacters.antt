@@ -1,15 +1,10 @@
 -- Characters beside their tags: what they take, and what is left without the spaces and the white space where words
 -- part.
-use Rattle.std.proofs.Common.{◌≡◌, ℕ, suc, zero, ◌+◌, ◌-◌, ◌<◌, ◌≤◌, if◌then◌else◌, Bool, true, false, Option, List, [], ◌∷◌, ◌++◌, length, take, drop, replicate, refl, ap, sym, ◌∙◌, arith, append_assoc, ne_eqb}
-use Rattle.std.specs.List.{AllByRecursion as Each}
-use Rattle.std.specs.Char.{is_whitespace}
-use Rattle.std.proofs.Math.Seq.{drop-append_seam, take-append_seam}
-use Rattle.std.proofs.lemmas.List.{take-append-drop, drop_at, length-append, length-take, length-drop, length-replicate, drop-append-le, drop-drop}
-use Rattle.tbr_model.specs.Run.{Item, glyph, items_width}
-use Rattle.tbr_model.specs.Entry.{is_glyph}
-use Rattle.tbr_model.specs.Rule.{without_leading, without_trailing, is_space_item, is_white_item}
-use Rattle.tbr_model.specs.Width.{width_of_text}
-use Rattle.tbr_flat.specs.Flat.{flat, glyphs}
+use Rattle.tbr_flat.proofs.Common.{◌≡◌, ℕ, suc, zero, ◌+◌, ◌-◌, ◌<◌, ◌≤◌, Bool, true, false, Option, List, [], ◌∷◌, ◌++◌, length, take, drop, replicate, refl, ap, sym, ◌∙◌, arith, append_assoc, Each}
+use Rattle.tbr_flat.proofs.Common.{is_whitespace, drop-append_seam, take-append_seam, take-append-drop, drop_at, length-append, length-take, length-drop, length-replicate, drop-append-le, drop-drop}
+use Rattle.tbr_flat.proofs.Common.{Item, glyph, items_width, is_glyph, without_leading, without_trailing, width_of_text, flat, glyphs}
+use Rattle.std.proofs.Common.{if◌then◌else◌, ne_eqb}
+use Rattle.tbr_model.specs.Rule.{is_space_item, is_white_item}
 use Rattle.tbr_flat.proofs.TaggedCharacters.{glyphs-drop, glyphs-take, glyphs_kept, length-glyphs}
 use Rattle.tbr_flat.proofs.RepeatedTags.{take_after}
 
@@ -25,7 +20,8 @@ module _ {A : Type 0} where
   glyphs_width columns (c ∷ cs) [] h = absurd (omega arith)
   glyphs_width columns (c ∷ cs) (t ∷ ts) h = omega (arith, glyphs_width columns cs ts (omega arith))
 
-  pub front_columns : (columns : ℕ → Option ℕ) (p w : List ℕ) (ts : List A) (n : ℕ) → length ts ≡ length p + length w → width_of_text columns (take n w) ≡ items_width columns (take n (flat p w ts).word)
+  pub front_columns : (columns : ℕ → Option ℕ) (p w : List ℕ) (ts : List A) (n : ℕ) → length ts ≡ length p + length w →
+      width_of_text columns (take n w) ≡ items_width columns (take n (flat p w ts).word)
   front_columns columns p w ts n h =
       let us = drop (length p) ts in
       rw (← glyphs-take n w us) (glyphs_width columns (take n w) us (omega (arith, h, length-drop (length p) ts, length-take n w)))

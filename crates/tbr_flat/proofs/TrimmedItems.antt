@@ -1,11 +1,9 @@
 -- Items that lose the spaces at their end, back to a marker, or the white space at their beginning, up to one.
-use Rattle.std.proofs.Common.{◌≡◌, ℕ, ◌+◌, ◌-◌, ◌<◌, ◌≤◌, ◌⊎◌, min, inl, inr, false, List, [], ◌∷◌, ◌++◌, length, take, drop, refl, ap, sym, ◌∙◌, arith, append_assoc, append-nil}
-use Rattle.std.proofs.lemmas.Bool.{cases_lt, cases_Bool}
-use Rattle.std.proofs.lemmas.List.{take-append-drop, length-append, length-take, length-drop, take_at, take_all, drop_all, drop_at, append_cancel_right, nil_from_length}
-use Rattle.tbr_model.specs.Run.{Item, marker}
-use Rattle.tbr_model.specs.Rule.{without_leading, without_trailing}
-use Rattle.tbr_model.proofs.lists.Joined.{cut_twice}
-use Rattle.tbr_flat.specs.Flat.{MarkerPlaces, marked, before_last, covered, before_first, shortened}
+use Rattle.tbr_flat.proofs.Common.{◌≡◌, ℕ, ◌+◌, ◌-◌, ◌<◌, ◌≤◌, ◌⊎◌, min, inl, inr, false, List, [], ◌∷◌, ◌++◌, length, take, drop, refl, ap, sym, ◌∙◌, arith, append_assoc, append-nil, cases_lt}
+use Rattle.tbr_flat.proofs.Common.{take-append-drop, length-append, length-take, length-drop, take_at, take_all, drop_all, drop_at, nil_from_length, Item, marker, without_leading, without_trailing}
+use Rattle.tbr_flat.proofs.Common.{cut_twice, MarkerPlaces, marked, before_last, covered, before_first, shortened}
+use Rattle.std.proofs.lemmas.Bool.{cases_Bool}
+use Rattle.std.proofs.lemmas.List.{append_cancel_right}
 use Rattle.tbr_flat.proofs.TrimmedCharacters.{trailing_none, trailing_some}
 use Rattle.tbr_flat.proofs.MarkerPlaces.{covered_shortened, first_within}
 use Rattle.tbr_flat.proofs.MarkedItems.{marked_more, same_back}
@@ -27,7 +25,8 @@ module _ {A : Type 0} where
   trailing_after (i ∷ j ∷ front) name is = trailing_some i j (j ∷ front ++ marker name ∷ is) (front ++ marker name ∷ without_trailing is) (trailing_after (j ∷ front) name is)
 
   -- a marker comes last where no character is after it
-  ends_in_marker : (is : List (Item A)) (ms : List (ℕ × List ℕ)) → length is ≡ before_last ms → (marked is ms ≡ []) ⊎ ((front : List (Item A)) × (name : List ℕ) × (marked is ms ≡ front ++ marker name ∷ []))
+  ends_in_marker : (is : List (Item A)) (ms : List (ℕ × List ℕ)) → length is ≡ before_last ms →
+      (marked is ms ≡ []) ⊎ ((front : List (Item A)) × (name : List ℕ) × (marked is ms ≡ front ++ marker name ∷ []))
   ends_in_marker is [] h = inl (nil_from_length is h)
   ends_in_marker is ((n, name) ∷ ms) h = elim (ends_in_marker (drop n is) ms (omega (arith, length-drop n is))) [
     | inl none ↦ inr (take n is, name, rw none refl)
@@ -45,7 +44,8 @@ module _ {A : Type 0} where
   trailing_kept line part is name e = rw (e, append_assoc, append_assoc, trailing_after) refl
 
   -- a part of a line that reaches over the last marker
-  trailing_over : (is before line after : List (Item A)) (ms : List (ℕ × List ℕ)) → length is ≡ before_last ms → marked is ms ≡ before ++ line → without_trailing (line ++ after) ≡ line ++ without_trailing after
+  trailing_over : (is before line after : List (Item A)) (ms : List (ℕ × List ℕ)) → length is ≡ before_last ms →
+      marked is ms ≡ before ++ line → without_trailing (line ++ after) ≡ line ++ without_trailing after
   trailing_over is before [] after ms h e = refl
   trailing_over is before (i ∷ line) after ms h e = elim (ends_in_marker is ms h) [
     | inl none ↦ absurd (omega (arith, ap length (sym none ∙ e), length-append before (i ∷ line)))
@@ -55,7 +55,9 @@ module _ {A : Type 0} where
   -- The characters after the last marker lose the spaces at their end, and so does the line.
   module _ (is new : List (Item A)) (m : MarkerPlaces) (most last n : ℕ) (covers : covered m ≡ length is) (least : last ≡ min most m.after)
       (trimmed : (front back : List (Item A)) → is ≡ front ++ back → length back ≡ last → (new ≡ front ++ without_trailing back) × (n + length (without_trailing back) ≡ length back)) where
-    parted : (length (drop (length is - last) is) ≡ last) × (new ≡ take (length is - last) is ++ without_trailing (drop (length is - last) is)) × (n + length (without_trailing (drop (length is - last) is)) ≡ last)
+    parted : (length (drop (length is - last) is) ≡ last) ×
+        (new ≡ take (length is - last) is ++ without_trailing (drop (length is - last) is)) ×
+        (n + length (without_trailing (drop (length is - last) is)) ≡ last)
     parted =
         let len : length (drop (length is - last) is) ≡ last = omega (arith, length-drop (length is - last) is) in
         let t = trimmed (take (length is - last) is) (drop (length is - last) is) (sym (take-append-drop (length is - last) is)) len in
@@ -68,7 +70,8 @@ module _ {A : Type 0} where
     trimmed_covers =
         omega (arith, ap length parted.1, parted.2, length-append (take (length is - last) is) (without_trailing (drop (length is - last) is)), length-take (length is - last) is)
 
-    pub trimmed_line : (before line : List (Item A)) → marked is m.markers ≡ before ++ line → length line ≡ most → (marked new m.markers ≡ before ++ without_trailing line) × (n + length (without_trailing line) ≡ length line)
+    pub trimmed_line : (before line : List (Item A)) → marked is m.markers ≡ before ++ line → length line ≡ most →
+        (marked new m.markers ≡ before ++ without_trailing line) × (n + length (without_trailing line) ≡ length line)
     trimmed_line before line e len =
         let back = drop (length is - last) is in
         let front = take (length is - last) is in
@@ -97,7 +100,9 @@ module _ {A : Type 0} where
   -- The characters before the first marker lose the white space at their beginning, and so does the word.
   module _ (is new : List (Item A)) (m : MarkerPlaces) (n : ℕ) (covers : covered m ≡ length is)
       (trimmed : (front back : List (Item A)) → is ≡ front ++ back → length front ≡ before_first m → (new ≡ without_leading front ++ back) × (n + length (without_leading front) ≡ length front)) where
-    opened : (length (take (before_first m) is) ≡ before_first m) × (new ≡ without_leading (take (before_first m) is) ++ drop (before_first m) is) × (n + length (without_leading (take (before_first m) is)) ≡ before_first m)
+    opened : (length (take (before_first m) is) ≡ before_first m) ×
+        (new ≡ without_leading (take (before_first m) is) ++ drop (before_first m) is) ×
+        (n + length (without_leading (take (before_first m) is)) ≡ before_first m)
     opened =
         let len : length (take (before_first m) is) ≡ before_first m = omega (arith, length-take (before_first m) is, first_within m) in
         let t = trimmed (take (before_first m) is) (drop (before_first m) is) (sym (take-append-drop (before_first m) is)) len in
@@ -108,7 +113,8 @@ module _ {A : Type 0} where
 
     pub led_covers : covered (shortened n m) ≡ length new
     led_covers =
-        omega (arith, covered_shortened m n led_within, opened.2, ap length opened.1, length-append (without_leading (take (before_first m) is)) (drop (before_first m) is), length-drop (before_first m) is, first_within m)
+        omega
+        (arith, covered_shortened m n led_within, opened.2, ap length opened.1, length-append (without_leading (take (before_first m) is)) (drop (before_first m) is), length-drop (before_first m) is, first_within m)
 
     pub led_word : marked new (shortened n m).markers ≡ without_leading (marked is m.markers)
     led_word = go m.markers m.after covers opened.1 opened.2

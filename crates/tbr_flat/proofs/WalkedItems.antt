@@ -1,26 +1,16 @@
 -- What a walk over items gives.
-use Rattle.std.proofs.Common.{◌≡◌, ℕ, suc, zero, ◌+◌, ◌-◌, ◌≤◌, true, Option, None, Some, unwrap_or, min, List, [], ◌∷◌, ◌++◌, map, length, take, drop, chars, refl, ap, sym, ◌∙◌, subst, arith}
-use Rattle.std.specs.Str.Iter.{chars_rest, chars_steps}
+use Rattle.tbr_flat.proofs.Common.{◌≡◌, ℕ, suc, zero, ◌+◌, ◌-◌, ◌≤◌, true, Option, None, Some, unwrap_or, min, List, [], ◌∷◌, ◌++◌, map, length, take, drop, chars, refl, ap, sym, ◌∙◌, subst, arith}
+use Rattle.tbr_flat.proofs.Common.{chars_rest, take-append_seam, drop-append_seam, string_bytes, slice_get, Each, IsUtf8, is_utf8, false≢true, length-drop, length-map, length-take-le}
+use Rattle.tbr_flat.proofs.Common.{take-append-drop, IsUtf8-past_char, is_utf8-from_IsUtf8, IsUtf8-from_is_utf8, chars_past_char, is_glyph, each_back, Item, glyph, marker, items_width, width_of_text}
+use Rattle.tbr_flat.proofs.Common.{item_characters, chars_none, marked, before_last, given, given_width, places_of, places_left, Marker}
+use Rattle.std.specs.Str.Iter.{chars_steps}
 use Rattle.std.specs.declared.str.Chars.{Chars}
-use Rattle.std.proofs.Math.Seq.{take-nil, drop-nil, take-append_seam, drop-append_seam}
-use Rattle.std.specs.String.{string_bytes}
-use Rattle.std.specs.List.{slice_get, AllByRecursion as Each}
+use Rattle.std.proofs.Math.Seq.{take-nil, drop-nil}
 use Rattle.std.specs.Option.{option_map}
-use Rattle.std.specs.Str.{IsUtf8, is_utf8}
-use Rattle.std.proofs.lemmas.Bool.{false≢true}
-use Rattle.std.proofs.lemmas.List.{length-drop, length-map, length-take-le, map-append, take-append-drop}
-use Rattle.std.proofs.lemmas.Str.{IsUtf8-past_char, is_utf8-from_IsUtf8, IsUtf8-from_is_utf8, chars_past_char}
-use Rattle.tbr_model.specs.Entry.{is_glyph}
-use Rattle.tbr_model.proofs.lists.Each.{each_back}
-use Rattle.tbr_model.specs.Run.{Item, glyph, marker, items_width}
-use Rattle.tbr_model.specs.Width.{width_of_text}
+use Rattle.std.proofs.lemmas.List.{map-append}
 use Rattle.tbr_tagged.specs.Narrow.{AreNarrow}
-use Rattle.tbr_tagged.specs.Walks.{item_characters}
 use Rattle.tbr_tagged.proofs.NarrowText.{narrow_characters, narrow_width}
-use Rattle.tbr_tagged.proofs.TextAfter.{chars_none}
-use Rattle.tbr_flat.specs.Flat.{marked, before_last}
-use Rattle.tbr_flat.specs.Walk.{character_in, first_given, first_characters, given, given_width, places_of, places_left}
-use Rattle.tbr_flat.specs.declared.markers.Marker.{Marker}
+use Rattle.tbr_flat.specs.Walk.{character_in, first_given, first_characters}
 
 -- ---- one step
 
@@ -93,7 +83,8 @@ module _ {A : Type 0} where
   letters_alone (glyph c a ∷ is) h = ap (λ os. Some c ∷ os) (letters_alone is h.1)
   letters_alone (marker name ∷ is) h = absurd (false≢true h.0)
 
-  pub marked_given : (is : List (Item A)) (ms : List (ℕ × List ℕ)) → Each (λ i. is_glyph i ≡ true) is → before_last ms ≤ length is → map character_in (marked is ms) ≡ given (item_characters is) (map (λ m. m.0) ms)
+  pub marked_given : (is : List (Item A)) (ms : List (ℕ × List ℕ)) → Each (λ i. is_glyph i ≡ true) is →
+      before_last ms ≤ length is → map character_in (marked is ms) ≡ given (item_characters is) (map (λ m. m.0) ms)
   marked_given is [] h within = letters_alone is h
   marked_given is ((n, name) ∷ ms) h within =
       let parts : Each (λ i. is_glyph i ≡ true) (take n is ++ drop n is) = rw take-append-drop h in
@@ -155,7 +146,9 @@ module _ (columns : ℕ → Option ℕ) where
 
     split : given (chars text) (places_left before ms) ≡ front ++ after
     split = ap (λ cs. given cs (places_left before ms)) (narrow_characters columns text k utf8 within are)
-        ∙ subst (λ m. m ≤ unwrap_or before m → given (take k text ++ chars (drop k text)) (places_left before ms) ≡ front ++ given (chars (drop k text)) (places_left (option_map (λ n. n - m) before) ms)) long
+        ∙ subst
+        (λ m. m ≤ unwrap_or before m → given (take k text ++ chars (drop k text)) (places_left before ms) ≡ front ++
+        given (chars (drop k text)) (places_left (option_map (λ n. n - m) before) ms)) long
         (text_first (take k text) (chars (drop k text)) before ms) first
 
     all : length front ≡ k
@@ -166,4 +159,7 @@ module _ (columns : ℕ → Option ℕ) where
     narrow_rest = sym (ap (drop k) split ∙ subst (λ m. drop m (front ++ after) ≡ after) all (drop-append_seam front after))
 
     pub narrow_columns : given_width columns (take k (given (chars text) (places_left before ms))) ≡ k
-    narrow_columns = ap (given_width columns) (ap (take k) split ∙ subst (λ m. take m (front ++ after) ≡ front) all (take-append_seam front after)) ∙ width_text (take k text) ∙ narrow_width columns (take k text) are ∙ long
+    narrow_columns =
+        ap (given_width columns)
+        (ap (take k) split ∙ subst (λ m. take m (front ++ after) ≡ front) all (take-append_seam front after))
+        ∙ width_text (take k text) ∙ narrow_width columns (take k text) are ∙ long

@@ -1,5 +1,6 @@
 -- Footnotes that are cut into lines.
-use Rattle.std.proofs.Common.{◌≡◌, ◌≢◌, ◌↔◌, IsTrue, ℕ, ◌+◌, ◌<◌, ◌≤◌, Bool, true, false, if◌then◌else◌, Option, Some, None, List, [], ◌∷◌, ◌++◌, map, length, get_or, encode_utf8, encode_utf8_all, refl, subst, ap, sym, ◌∙◌, append_assoc, append-nil, arith, rules}
+use Rattle.std.proofs.Common.{◌≡◌, ◌≢◌, ◌↔◌, IsTrue, ℕ, ◌+◌, ◌<◌, ◌≤◌, Bool, true, false, if◌then◌else◌, Option, Some, None, List, [], ◌∷◌, ◌++◌, map, length, get_or, encode_utf8, encode_utf8_all}
+use Rattle.std.proofs.Common.{refl, subst, ap, sym, ◌∙◌, append_assoc, append-nil, arith, rules}
 use Rattle.std.proofs.lemmas.Bool.{leb-true, le-leb, ne_eqb}
 use Rattle.std.proofs.lemmas.List.{map-append, length-append, get_or-append-add}
 use lib.Utf8.{encode}
@@ -35,7 +36,10 @@ pub unbroken_text : (cs : List ℕ) → ((i : ℕ) → i < length (encode_utf8_a
 unfolding encode
 unbroken_text [] other = refl
 unbroken_text (c ∷ cs) other =
-    let is_other : c ≢ newline_character = λ is. subst (λ d. (i : ℕ) → i < length (encode_utf8_all (d ∷ cs)) → get_or (encode_utf8_all (d ∷ cs)) i 0 ≢ newline_character) is other 0 (omega arith) refl in
+    let is_other : c ≢ newline_character =
+    λ is. subst
+    (λ d. (i : ℕ) → i < length (encode_utf8_all (d ∷ cs)) → get_or (encode_utf8_all (d ∷ cs)) i 0 ≢
+    newline_character) is other 0 (omega arith) refl in
     let first = encode_utf8 c in
     let bytes = encode_utf8_all cs in
     let more = unbroken_text cs (λ i l is. other (length first + i) (omega (arith, length-append first bytes, l)) (get_or-append-add first bytes i 0 ∙ is)) in
@@ -62,7 +66,9 @@ module _ {T : Type 0} (columns : ℕ → Option ℕ) where
   fits_at_most None held more most h fits = refl
   fits_at_most (Some width) held more most h fits = le-leb _ _ (omega (arith, h, leb-true _ _ fits))
 
-  fits_less : (width : Option ℕ) (held : List (Item T)) (i : Item T) (more : ℕ) → fits_after columns width held (item_width columns i + more) ≡ true → fits_after columns width (held ++ i ∷ []) more ≡ true
+  fits_less : (width : Option ℕ) (held : List (Item T)) (i : Item T) (more : ℕ) →
+      fits_after columns width held (item_width columns i + more) ≡ true →
+      fits_after columns width (held ++ i ∷ []) more ≡ true
   fits_less None held i more fits = refl
   fits_less (Some width) held i more fits = le-leb _ _ (omega (arith, items_width-append columns held (i ∷ []), leb-true _ _ fits))
 
@@ -73,9 +79,12 @@ module _ {T : Type 0} (columns : ℕ → Option ℕ) where
       let i = glyph x tag in
       let here = fits_at_most c.width c.held (item_width columns i) (width_of_text columns (x ∷ cs)) (omega arith) fits in
       ap (λ (b : Bool). with_items columns (appended (if b then c else line_ended c) i) (text_items cs tag)) here
-      ∙ with_text (appended c i) tag cs (fits_less c.width c.held i (width_of_text columns cs) fits) ∙ ap (λ (is : List (Item T)). record c { held = is }) (append_assoc c.held (i ∷ []) (text_items cs tag))
+      ∙ with_text (appended c i) tag cs (fits_less c.width c.held i (width_of_text columns cs) fits)
+      ∙ ap (λ (is : List (Item T)). record c { held = is }) (append_assoc c.held (i ∷ []) (text_items cs tag))
 
-  pub whole_text : (c d : Cutting T) (tag : T) (cs : List ℕ) → map unbroken cs ≡ cs → fits_after columns c.width c.held (width_of_text columns cs) ≡ true → d ≡ extended c (text_items cs tag) → d ≡ with_items columns c (text_items (map unbroken cs) tag)
+  pub whole_text : (c d : Cutting T) (tag : T) (cs : List ℕ) → map unbroken cs ≡ cs →
+      fits_after columns c.width c.held (width_of_text columns cs) ≡ true → d ≡ extended c (text_items cs tag) →
+      d ≡ with_items columns c (text_items (map unbroken cs) tag)
   whole_text c d tag cs unbroken fits is = is ∙ sym (with_text c tag cs fits) ∙ ap (λ ds. with_items columns c (text_items ds tag)) (sym unbroken)
 
   -- one character, whether it fits or not
@@ -109,7 +118,8 @@ module _ {A M : Type 0} (f : A → M) (columns : ℕ → Option ℕ) where
   elements_go_on c d e es x so_far next = search (rules, then_items, map-append, footnote_items-append)
 
   -- the whole line
-  pub elements_end : (c d : Cutting (List M)) (es : List (TaggedLineElement A)) (line : List (Element A)) → d ≡ with_items columns c (footnote_items (map (element_meant f) (map element_of es))) → map element_of es ≡ line →
+  pub elements_end : (c d : Cutting (List M)) (es : List (TaggedLineElement A)) (line : List (Element A)) →
+      d ≡ with_items columns c (footnote_items (map (element_meant f) (map element_of es))) → map element_of es ≡ line →
       d ≡ with_items columns c (footnote_items (map (element_meant f) line))
   elements_end c d es line so_far all = so_far ∙ ap (λ xs. with_items columns c (footnote_items (map (element_meant f) xs))) all
 
@@ -123,7 +133,8 @@ module _ {A M : Type 0} (f : A → M) (columns : ℕ → Option ℕ) where
 -- ---- what is in the fields
 
 -- a text more in the open line
-module _ {M : Type 0} (widths : ℕ → Option ℕ) (same : M → M → Bool) (tells : (a b : M) → IsTrue (same a b) ↔ (a ≡ b)) {D W A : Type 0} (c : Inside D W A M) (new : List (Element (List M))) (cs : List ℕ) (tag : List M)
+module _ {M : Type 0} (widths : ℕ → Option ℕ) (same : M → M → Bool) (tells : (a b : M) → IsTrue (same a b) ↔ (a ≡ b))
+    {D W A : Type 0} (c : Inside D W A M) (new : List (Element (List M))) (cs : List ℕ) (tag : List M)
     (is : SameItems (same_annotations same) (items_of new) (items_of c.held ++ text_items cs tag)) where
   held_more : items_of new ≡ items_of c.held ++ text_items cs tag
   held_more = items_told same tells (items_of new) (items_of c.held ++ text_items cs tag) is
@@ -131,5 +142,6 @@ module _ {M : Type 0} (widths : ℕ → Option ℕ) (same : M → M → Bool) (t
   pub line_extended : (p : Cutting (List M)) → cutting_of c ≡ p → record (cutting_of c) { held = items_of new } ≡ extended p (text_items cs tag)
   line_extended p are = ap (λ (held : List (Item (List M))). record (cutting_of c) { held = held }) held_more ∙ ap (λ (q : Cutting (List M)). extended q (text_items cs tag)) are
 
-  pub holds_extended : (columns : ℕ) → HoldsCutting widths same c → columns ≡ c.columns + width_of_text widths cs → IsMerged (same_annotations same) new → HoldsCutting widths same (record c { held = new; columns = columns })
+  pub holds_extended : (columns : ℕ) → HoldsCutting widths same c → columns ≡ c.columns + width_of_text widths cs →
+      IsMerged (same_annotations same) new → HoldsCutting widths same (record c { held = new; columns = columns })
   holds_extended columns h sum merged = search (rules, items_width-append, items_width-text, held_more)

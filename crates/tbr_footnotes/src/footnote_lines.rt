@@ -17,8 +17,8 @@ use std::marker::{Model, PhantomData};
 use std::mem;
 use tbr_annotations::Annotations;
 use tbr_decor::TextDecorator;
-use tbr_lines::{CharWidth, OutOfMemory, TaggedLine, TaggedLineElement, TaggedString};
-use tbr_tagged::text_width;
+use tbr_model::CharWidth;
+use tbr_tagged::{OutOfMemory, TaggedLine, TaggedLineElement, TaggedString, text_width};
 
 /// The lines of a footnote, to which its characters are added in order. Each character is under the list of its one
 /// annotation.

@@ -7,7 +7,7 @@ ghost use Rattle.tbr_decor.specs.Prefix.{header};
 ghost use Rattle.tbr_headings.specs.Headings.{marks};
 
 use tbr_decor::{PlainDecorator, RichDecorator, TextDecorator, TrivialDecorator};
-use tbr_lines::CharWidth;
+use tbr_model::CharWidth;
 
 /// A decorator whose prefix of a heading depends on the level only: that many number signs and a space, or nothing.
 pub trait Headings: TextDecorator {

@@ -1,27 +1,14 @@
 -- Lines that are kept by themselves or in texts of blocks.
-use Rattle.std.proofs.Common.{◌≡◌, ℕ, zero, suc, ◌+◌, ◌-◌, ◌≤◌, ◌<◌, arith, take, get_or, not, None, if◌then◌else◌, Bool, true, false, ◌||◌, List, [], ◌∷◌, ◌++◌, map, length, refl, ap, sym, ◌∙◌, subst, append_assoc, append-nil, length-append, lt-ltb}
+use Rattle.tbr_kept_lines.proofs.Common.{◌≡◌, ℕ, zero, suc, ◌+◌, ◌-◌, ◌≤◌, ◌<◌, arith, take, get_or, not, None, if◌then◌else◌, Bool, true, false, ◌||◌, List, [], ◌∷◌, ◌++◌, map, length, refl, ap, sym}
+use Rattle.tbr_kept_lines.proofs.Common.{◌∙◌, subst, append_assoc, append-nil, lt-ltb, filter, nat_lt, ◌==◌, AllZip, Each, list_any, eqb-true, map-append, take_more, flat_map-append, Item}
+use Rattle.tbr_kept_lines.proofs.Common.{has_character, Border, all_zip_append, same_items, IsEquivalence, line_characters, lines_characters, IsMergedText, is_some_list, merged_piece_has, RenderLine}
+use Rattle.tbr_kept_lines.proofs.Common.{Text, Rule, Line, text, border, line_seen, line_has_content, text_lines, SameSeen, part_seen, parts_seen, HoldsPart, last_border, lines_text, Part}
+use Rattle.std.proofs.Common.{length-append}
 use mir.Val.{bool_byte}
-use Rattle.std.specs.Prelude.{filter, nat_lt, ◌==◌}
-use Rattle.std.specs.List.{AllZip, AllByRecursion as Each, list_any}
-use Rattle.std.proofs.lemmas.Bool.{eqb-true}
-use Rattle.std.proofs.lemmas.List.{map-append, take_more}
 use Rattle.std.proofs.lemmas.List.Elements.{filter-append}
-use Rattle.std.proofs.lemmas.List.Concat.{flat_map-append}
-use Rattle.tbr_model.specs.Run.{Item, has_character}
-use Rattle.tbr_border.specs.Border.{Border, has_holes}
-use Rattle.tbr_tagged.proofs.SameItems.{all_zip_append, same_items}
-use Rattle.std.specs.Cmp.{IsEquivalence}
-use Rattle.tbr_wrap.specs.EndedLines.{line_characters, lines_characters}
-use Rattle.tbr_border.specs.RenderLine.{IsMergedText, line_items, has_content as line_holds}
-use Rattle.tbr_wrap.specs.Runs.{is_some_list}
-use Rattle.tbr_tagged.proofs.MappedTags.{merged_piece_has}
-use Rattle.tbr_border.specs.declared.RenderLine.{RenderLine}
-use Rattle.tbr_border.specs.declared.RenderLine.TheVariants.{Text, Line as Rule}
-use Rattle.tbr_kept_lines.specs.Line.{Line, text, border, line_seen, line_has_content, text_lines, SameSeen}
-use Rattle.tbr_kept_lines.specs.KeptLines.{part_seen, parts_seen, HoldsPart}
-use Rattle.tbr_kept_lines.specs.LastBorder.{last_border}
-use Rattle.tbr_kept_lines.specs.Text.{items_shown, lines_text}
-use Rattle.tbr_kept_lines.specs.declared.kept_lines.Part.{Part}
+use Rattle.tbr_border.specs.Border.{has_holes}
+use Rattle.tbr_border.specs.RenderLine.{line_items, has_content as line_holds}
+use Rattle.tbr_kept_lines.specs.Text.{items_shown}
 
 -- ---- whether there is a line
 
@@ -54,7 +41,9 @@ none_there (x ∷ xs) n is = go (n == 0) refl
     go false h = h
 
 -- where a part is there, so is a line
-pub some_in_parts : {T : Type 0} (eq : T → T → Bool) (ps : List (Part T)) (last : List (RenderLine T)) → Each (HoldsPart eq) ps → false ≡ not (is_some_list ps) → false ≡ not (is_some_list (parts_seen ps ++ map line_seen last))
+pub some_in_parts : {T : Type 0} (eq : T → T → Bool) (ps : List (Part T)) (last : List (RenderLine T)) →
+    Each (HoldsPart eq) ps → false ≡ not (is_some_list ps) →
+    false ≡ not (is_some_list (parts_seen ps ++ map line_seen last))
 some_in_parts eq [] last h some = cc
 some_in_parts eq (p ∷ ps) last h some = ap not (sym (some_in_front (parts_seen (p ∷ ps)) (map line_seen last) (parts_some eq (p ∷ ps) h)))
 
@@ -77,7 +66,9 @@ pub part_after : {T : Type 0} (ps : List (Part T)) (p : Part T) → parts_seen (
 part_after ps p =
     flat_map-append part_seen ps (p ∷ []) ∙ ap (λ ls. parts_seen ps ++ ls) (append-nil (part_seen p)) ∙ sym (append_assoc (parts_seen ps) (map line_seen p.before.items) (text_lines p.ended))
 
-pub content_after : {T : Type 0} (ps : List (Part T)) (p : Part T) (above last : Bool) → above ≡ list_any line_has_content (parts_seen ps ++ map line_seen p.before.items) → last ≡ list_any has_character p.ended →
+pub content_after : {T : Type 0} (ps : List (Part T)) (p : Part T) (above last : Bool) →
+    above ≡ list_any line_has_content (parts_seen ps ++ map line_seen p.before.items) →
+    last ≡ list_any has_character p.ended →
     above || last ≡ list_any line_has_content (parts_seen (ps ++ p ∷ []))
 content_after ps p above last h k = grind (arith, text_content, any_append, part_after)
 
@@ -134,7 +125,8 @@ any_counted test (x ∷ xs) = go (test x) (any_counted test xs)
     go false h = h
 
 -- content above, or below
-pub content_of_both : {T : Type 0} (ps : List (Part T)) (last : List (RenderLine T)) (above : Bool) (n : ℕ) → above ≡ list_any line_has_content (parts_seen ps) → n ≡ length (filter line_has_content (map line_seen last)) →
+pub content_of_both : {T : Type 0} (ps : List (Part T)) (last : List (RenderLine T)) (above : Bool) (n : ℕ) →
+    above ≡ list_any line_has_content (parts_seen ps) → n ≡ length (filter line_has_content (map line_seen last)) →
     above || nat_lt 0 n ≡ list_any line_has_content (parts_seen ps ++ map line_seen last)
 content_of_both ps last above n h k = grind (arith, any_counted, any_append)
 
@@ -181,7 +173,9 @@ content_next eq lines i n byte line merged below is count one =
     ∙ ap (λ ls. length (filter line_has_content (map line_seen ls))) (ap (λ l. take i lines ++ l ∷ []) is ∙ sym (take_more lines i line below))
 
 -- the count of lines, and of more after them
-pub content_appended : {T : Type 0} (lines more : List (RenderLine T)) → length (filter line_has_content (map line_seen (lines ++ more))) ≡ length (filter line_has_content (map line_seen lines)) + length (filter line_has_content (map line_seen more))
+pub content_appended : {T : Type 0} (lines more : List (RenderLine T)) →
+    length (filter line_has_content (map line_seen (lines ++ more))) ≡ length
+    (filter line_has_content (map line_seen lines)) + length (filter line_has_content (map line_seen more))
 content_appended lines more = grind (arith, map-append, filter-append, length-append)
 
 -- ---- a block's lines, one by one
@@ -219,11 +213,15 @@ module _ {T : Type 0} (eq : T → T → Bool) (laws : IsEquivalence eq) where
   same_lines (l ∷ ls) = (same_line l, same_lines ls)
 
   -- lines, and last ones after them
-  pub lines_after : (lines last : List (RenderLine T)) (seen : List (Line T)) → AllZip (SameSeen eq) (map line_seen lines) seen → AllZip (SameSeen eq) (map line_seen (lines ++ last)) (seen ++ map line_seen last)
+  pub lines_after : (lines last : List (RenderLine T)) (seen : List (Line T)) →
+      AllZip (SameSeen eq) (map line_seen lines) seen →
+      AllZip (SameSeen eq) (map line_seen (lines ++ last)) (seen ++ map line_seen last)
   lines_after lines last seen h = grind (arith, map-append, all_zip_append, same_lines)
 
   -- the lines of one part more
-  pub part_listed : (ps : List (Part T)) (p : Part T) (lines more all : List (RenderLine T)) → AllZip (SameSeen eq) (map line_seen lines) (parts_seen ps) → AllZip (SameSeen eq) (map line_seen more) (text_lines p.ended) →
+  pub part_listed : (ps : List (Part T)) (p : Part T) (lines more all : List (RenderLine T)) →
+      AllZip (SameSeen eq) (map line_seen lines) (parts_seen ps) →
+      AllZip (SameSeen eq) (map line_seen more) (text_lines p.ended) →
       all ≡ (lines ++ p.before.items) ++ more → AllZip (SameSeen eq) (map line_seen all) (parts_seen (ps ++ p ∷ []))
   part_listed ps p lines more all h k is = grind (arith, all_zip_append, lines_after, part_after, map-append)
 
@@ -231,7 +229,9 @@ pub each_append : {X : Type 0} (P : X → Type 0) (xs ys : List X) → Each P xs
 each_append P [] ys h k = k
 each_append P (x ∷ xs) ys h k = (h.0, each_append P xs ys h.1 k)
 
-pub all_merged : {T : Type 0} (eq : T → T → Bool) (lines before more all : List (RenderLine T)) → Each (IsMergedText eq) lines → Each (IsMergedText eq) before → Each (IsMergedText eq) more → all ≡ (lines ++ before) ++ more → Each (IsMergedText eq) all
+pub all_merged : {T : Type 0} (eq : T → T → Bool) (lines before more all : List (RenderLine T)) →
+    Each (IsMergedText eq) lines → Each (IsMergedText eq) before → Each (IsMergedText eq) more →
+    all ≡ (lines ++ before) ++ more → Each (IsMergedText eq) all
 all_merged eq lines before more all h k m is =
     subst (λ ls. Each (IsMergedText eq) ls) (sym is) (each_append (IsMergedText eq) (lines ++ before) more (each_append (IsMergedText eq) lines before h k) m)
 
@@ -240,7 +240,8 @@ each_at P [] x ys h = h.0
 each_at P (z ∷ xs) x ys h = each_at P xs x ys h.1
 
 -- one part, and no line after it
-pub part_alone : {T : Type 0} (ps rest : List (Part T)) (last : List (RenderLine T)) (p : Part T) → ps ≡ rest ++ p ∷ [] → length ps ≡ 1 → length last ≡ 0 → part_seen p ≡ parts_seen ps ++ map line_seen last
+pub part_alone : {T : Type 0} (ps rest : List (Part T)) (last : List (RenderLine T)) (p : Part T) →
+    ps ≡ rest ++ p ∷ [] → length ps ≡ 1 → length last ≡ 0 → part_seen p ≡ parts_seen ps ++ map line_seen last
 part_alone ps [] [] p is one none = rw is (sym (append-nil (part_seen p ++ []) ∙ append-nil (part_seen p)))
 part_alone ps (q ∷ rest) last p is one none = absurd (omega (arith, one, ap length is, length-append rest (p ∷ [])))
 part_alone ps rest (l ∷ last) p is one none = absurd (omega (arith, none))

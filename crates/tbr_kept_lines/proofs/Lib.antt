@@ -1,3 +1,4 @@
+pub mod Common
 pub mod ItemsLeft
 pub mod LastBorder
 pub mod KeptParts

@@ -1,30 +1,20 @@
 -- Lines after prefixes.
-use Rattle.std.proofs.Common.{◌≡◌, ℕ, zero, suc, ◌+◌, drop_of_length-le, take_all, ◌<◌, lt-ltb, take, drop, get_or, set, Bool, true, false, ◌||◌, ◌&&◌, if◌then◌else◌, Option, None, Some, List, [], ◌∷◌, ◌++◌, map, length, refl, ap, sym, ◌∙◌, subst, arith, append_assoc, append-nil}
-use Rattle.std.specs.Prelude.{chars, nat_lt, ◌==◌}
+use Rattle.tbr_kept_lines.proofs.Common.{◌≡◌, ℕ, zero, suc, ◌+◌, ◌<◌, lt-ltb, take, drop, get_or, Bool, true, false, ◌||◌, if◌then◌else◌, Option, None, Some, List, [], ◌∷◌, ◌++◌, map, length, refl}
+use Rattle.tbr_kept_lines.proofs.Common.{ap, sym, ◌∙◌, subst, arith, append_assoc, append-nil, chars, nat_lt, ◌==◌, IsEquivalence, AllZip, Each, list_any, eqb-true, map-append, length-append}
+use Rattle.tbr_kept_lines.proofs.Common.{take_more, flat_map-append, chars-nil, Item, has_character, is_some_list, RenderLine, Text, Rule, items_under, IsMergedText, items_of, SameItems, IsMerged}
+use Rattle.tbr_kept_lines.proofs.Common.{text_items, merged_piece_has, line_characters, lines_characters, prefixed_characters, all_zip_append, same_items, same_items_trans, same_items_append}
+use Rattle.tbr_kept_lines.proofs.Common.{part_seen, parts_seen, HoldsPart, Part, Line, text, line_seen, text_lines, SameSeen, as_text, after_prefixes, prefixed_lines, Appends, Pushes}
+use Rattle.std.proofs.Common.{drop_of_length-le, take_all, set, ◌&&◌}
 use Rattle.std.specs.Option.{unwrap_or}
-use Rattle.std.specs.Cmp.{IsEquivalence}
-use Rattle.std.specs.List.{AllZip, AllByRecursion as Each, list_any}
-use Rattle.std.proofs.lemmas.Bool.{eqb-true}
-use Rattle.std.proofs.lemmas.List.{map-append, length-append, length-map, length-drop, get_or-drop, drop-set-lt, drop-drop, take_more, take_more_set}
-use Rattle.std.proofs.lemmas.List.Concat.{flat_map-append}
-use Rattle.std.proofs.lemmas.Str.{chars-nil}
-use Rattle.tbr_model.specs.Run.{Item, glyph, marker, has_character}
-use Rattle.tbr_wrap.specs.Runs.{is_some_list}
-use Rattle.tbr_border.specs.declared.RenderLine.{RenderLine}
-use Rattle.tbr_border.specs.declared.RenderLine.TheVariants.{Text, Line as Rule}
-use Rattle.tbr_border.specs.RenderLine.{items_under, IsMergedText}
+use Rattle.std.proofs.lemmas.List.{length-map, length-drop, get_or-drop, drop-set-lt, drop-drop, take_more_set}
+use Rattle.tbr_model.specs.Run.{glyph, marker}
 use Rattle.tbr_model.specs.Codes.{newline_character}
-use Rattle.tbr_tagged.specs.Elements.{Element, items_of, characters, has_piece, SameItems, SameElements, IsMerged, text_items}
+use Rattle.tbr_tagged.specs.Elements.{Element, characters, has_piece, SameElements}
 use Rattle.tbr_tagged.specs.Walks.{item_character, item_characters}
 use Rattle.tbr_tagged.proofs.LineWalks.{items_have_characters}
-use Rattle.tbr_tagged.proofs.MappedTags.{merged_piece_has}
 use Rattle.tbr_tagged.proofs.TextAfter.{same_merged}
-use Rattle.tbr_wrap.specs.EndedLines.{line_characters, lines_characters, prefixed_characters}
-use Rattle.tbr_tagged.proofs.SameItems.{all_zip_append, same_items, same_items_trans, same_items_append, same_items_of, same_texts}
-use Rattle.tbr_kept_lines.specs.KeptLines.{part_seen, parts_seen, HoldsPart}
-use Rattle.tbr_kept_lines.specs.declared.kept_lines.Part.{Part}
-use Rattle.tbr_kept_lines.specs.Line.{Line, text, line_seen, text_lines, SameSeen}
-use Rattle.tbr_kept_lines.specs.Prefixed.{as_text, after_prefixes, prefixed_lines, texts_after, AreMerged, Appends, Pushes}
+use Rattle.tbr_tagged.proofs.SameItems.{same_items_of, same_texts}
+use Rattle.tbr_kept_lines.specs.Prefixed.{texts_after, AreMerged}
 use Rattle.tbr_kept_lines.specs.declared.prefixed_lines.Prefixes.{Prefixes}
 use Rattle.tbr_kept_lines.proofs.KeptParts.{none_there, each_after, each_append, some_after, part_some, text_lines_append}
 
@@ -116,7 +106,9 @@ module _ {T : Type 0} where
   texts_with (Some q) none p nothing is texts = ap (λ (r : Prefixes T). after_prefixes (items_of r.first) (items_of r.others) texts) is
 
   -- their pieces
-  pub merged_with : (eq : T → T → Bool) (o : Option (Prefixes T)) (none p : Prefixes T) → none ≡ record { first = []; others = [] } → p ≡ unwrap_or o none → AreMerged eq o → IsMerged eq p.first × IsMerged eq p.others
+  pub merged_with : (eq : T → T → Bool) (o : Option (Prefixes T)) (none p : Prefixes T) →
+      none ≡ record { first = []; others = [] } → p ≡ unwrap_or o none → AreMerged eq o →
+      IsMerged eq p.first × IsMerged eq p.others
   merged_with eq None none p nothing is merged = subst (λ (q : Prefixes T). IsMerged eq q.first × IsMerged eq q.others) (sym (is ∙ nothing)) (tt, tt)
   merged_with eq (Some q) none p nothing is merged = subst (λ (r : Prefixes T). IsMerged eq r.first × IsMerged eq r.others) (sym is) merged
 
@@ -126,7 +118,8 @@ module _ {T : Type 0} where
   shown_with o none p nothing is texts = shown_after p.first p.others texts ∙ ap lines_characters (texts_with o none p nothing is texts)
 
   -- whether texts after prefixes have a character, by their pieces
-  pub any_shown : (eq : T → T → Bool) (o : Option (Prefixes T)) (p : Prefixes T) → o ≡ Some p → AreMerged eq o → (n : ℕ) (texts lines : List (List (Item T))) → texts_after o texts ≡ lines → n ≡ length texts →
+  pub any_shown : (eq : T → T → Bool) (o : Option (Prefixes T)) (p : Prefixes T) → o ≡ Some p → AreMerged eq o →
+      (n : ℕ) (texts lines : List (List (Item T))) → texts_after o texts ≡ lines → n ≡ length texts →
       ((nat_lt 0 n && has_piece p.first) || (nat_lt 1 n && has_piece p.others)) || list_any has_character texts ≡ list_any has_character lines
   any_shown eq o p is merged n texts lines seen count = grind (arith, merged_piece_has, any_after)
 
@@ -156,7 +149,9 @@ module _ {T : Type 0} (tag : T) (f o : List ℕ) where
 
   -- texts as lines
   pub prefixed_texts : (texts : List (List (Item T))) → prefixed_lines tag f o (text_lines texts) ≡ text_lines (after_prefixes (text_items f tag) (text_items o tag) texts)
-  prefixed_texts texts = ap (λ ts. map text (after_prefixes (text_items f tag) (text_items o tag) ts)) (texts_as_text texts) ∙ sym (lines_are (after_prefixes (text_items f tag) (text_items o tag) texts))
+  prefixed_texts texts =
+      ap (λ ts. map text (after_prefixes (text_items f tag) (text_items o tag) ts)) (texts_as_text texts)
+      ∙ sym (lines_are (after_prefixes (text_items f tag) (text_items o tag) texts))
     where
       lines_are : (ts : List (List (Item T))) → text_lines ts ≡ map text ts
       lines_are [] = refl
@@ -217,7 +212,8 @@ module _ {T : Type 0} (eq : T → T → Bool) (laws : IsEquivalence eq) where
   pub after_copy : (prefix copy whole : List (Element T)) (is : List (Item T)) → IsMerged eq prefix → SameElements eq copy prefix → SameItems eq (items_of whole) (items_of copy ++ is) →
       (IsMerged eq copy → IsMerged eq whole) → SameItems eq (items_of whole) (items_of prefix ++ is) × IsMerged eq whole
   after_copy prefix copy whole is merged same joined keeps = (
-    same_items_trans eq laws (items_of whole) (items_of copy ++ is) (items_of prefix ++ is) joined (same_items_append eq laws (items_of copy) (items_of prefix) is is (same_items_of eq laws copy prefix same) (same_items eq laws is)),
+    same_items_trans eq laws (items_of whole) (items_of copy ++ is) (items_of prefix ++ is) joined
+        (same_items_append eq laws (items_of copy) (items_of prefix) is is (same_items_of eq laws copy prefix same) (same_items eq laws is)),
     keeps (same_merged eq laws copy prefix same merged),
   )
 
@@ -227,7 +223,9 @@ module _ {T : Type 0} (eq : T → T → Bool) where
   pushes_none a = ([], sym (append-nil a), tt, tt)
 
   -- one text is pushed after its prefix, and then the others
-  pub pushes_first : (a b all : List (RenderLine T)) (line : List (Element T)) (prefix others is : List (Item T)) (rest : List (List (Item T))) → b ≡ a ++ Text line ∷ [] → SameItems eq (items_of line) (prefix ++ is) × IsMerged eq line →
+  pub pushes_first : (a b all : List (RenderLine T)) (line : List (Element T)) (prefix others is : List (Item T))
+      (rest : List (List (Item T))) → b ≡ a ++ Text line ∷ [] →
+      SameItems eq (items_of line) (prefix ++ is) × IsMerged eq line →
       Pushes eq b (after_prefixes others others rest) all → Pushes eq a (after_prefixes prefix others (is ∷ rest)) all
   pushes_first a b all line prefix others is rest pushed (same, merged) h =
       pushes_more eq a b all ((prefix ++ is) ∷ []) (map (λ js. others ++ js) rest) (Text line ∷ [], pushed, (same, tt), (merged, tt)) (subst (λ ls. Pushes eq b ls all) (same_prefix others rest) h)
@@ -262,7 +260,8 @@ module _ {T : Type 0} (eq : T → T → Bool) (tag : T) (first others : List ℕ
       (appends_more eq old mid new (prefixed xs) (prefixed_lines tag (next_prefix xs) others ys) h (subst (λ p. Appends eq mid (prefixed_lines tag p others ys) new) is k))
 
   -- the lines of one part more
-  pub part_more : (ps : List (Part T)) (p : Part T) (old mid new : List (Line T)) (next : List ℕ) → HoldsPart eq p → next ≡ next_prefix (parts_seen ps) → Appends eq old (prefixed (parts_seen ps)) mid →
+  pub part_more : (ps : List (Part T)) (p : Part T) (old mid new : List (Line T)) (next : List ℕ) → HoldsPart eq p →
+      next ≡ next_prefix (parts_seen ps) → Appends eq old (prefixed (parts_seen ps)) mid →
       Appends eq mid (prefixed_lines tag next others (part_seen p)) new → Appends eq old (prefixed (parts_seen (ps ++ p ∷ []))) new × (others ≡ next_prefix (parts_seen (ps ++ p ∷ [])))
   part_more ps p old mid new next holds is h k =
       let whole : parts_seen (ps ++ p ∷ []) ≡ parts_seen ps ++ part_seen p = flat_map-append part_seen ps (p ∷ []) ∙ ap (λ ls. parts_seen ps ++ ls) (append-nil (part_seen p)) in (
@@ -290,7 +289,11 @@ module _ {T : Type 0} (eq : T → T → Bool) (tag : T) (first others : List ℕ
       let here : count < length now = omega (arith, below, length-drop count now, length-drop count lines, ap length h.rest) in
       let old = get_or now count d in
       let seen = map line_seen (take count lines) in
-      let whole : map line_seen (take (count + 1) lines) ≡ seen ++ line_seen old ∷ [] = ap (map line_seen) (take_more lines count d below ∙ ap (λ l. take count lines ++ l ∷ []) (still_there lines now count d h.rest)) ∙ map-append line_seen (take count lines) (old ∷ []) in
+      let whole : map line_seen (take (count + 1) lines) ≡ seen ++ line_seen old ∷ [] =
+      ap (map line_seen)
+      (take_more lines count d below
+      ∙ ap (λ l. take count lines ++ l ∷ []) (still_there lines now count d h.rest))
+      ∙ map-append line_seen (take count lines) (old ∷ []) in
       let put_whole : take (count + 1) (set now count line) ≡ take count now ++ line ∷ [] = take_more_set now count line here in
       let all = all_zip_append (SameSeen eq) (map line_seen (take count now)) (line_seen line ∷ []) (prefixed seen) (prefixed_lines tag (next_prefix seen) others (line_seen old ∷ [])) h.put
       (subst (λ p. SameSeen eq (line_seen line) (text (text_items p tag ++ as_text tag (line_seen old)))) h.prefix same, tt) in record {
@@ -313,7 +316,8 @@ some_prefixed f o [] = refl
 some_prefixed f o (is ∷ texts) = refl
 
 -- as many texts are there after prefixes
-pub some_shown : {T : Type 0} (eq : T → T → Bool) (f o : List (Item T)) (texts shown : List (List (Item T))) → AllZip (SameItems eq) shown (after_prefixes f o texts) → is_some_list texts ≡ true → is_some_list shown ≡ true
+pub some_shown : {T : Type 0} (eq : T → T → Bool) (f o : List (Item T)) (texts shown : List (List (Item T))) →
+    AllZip (SameItems eq) shown (after_prefixes f o texts) → is_some_list texts ≡ true → is_some_list shown ≡ true
 some_shown eq f o texts shown h some = some_zip (SameItems eq) shown (after_prefixes f o texts) h ∙ some_prefixed f o texts ∙ some
 
 length_lines : {T : Type 0} (texts : List (List (Item T))) → length (text_lines texts) ≡ length texts
@@ -321,11 +325,17 @@ length_lines [] = refl
 length_lines (is ∷ texts) = ap suc (length_lines texts)
 
 -- the lines of one part more, counted
-pub lines_counted : {T : Type 0} (ps : List (Part T)) (i : ℕ) (p : Part T) (n m k before ended : ℕ) → i < length ps → p ≡ get_or ps i p → n ≡ length (parts_seen (take i ps)) → before ≡ length p.before.items → m ≡ n + before → ended ≡ length p.ended → k ≡ m + ended →
+pub lines_counted : {T : Type 0} (ps : List (Part T)) (i : ℕ) (p : Part T) (n m k before ended : ℕ) → i < length ps →
+    p ≡ get_or ps i p → n ≡ length (parts_seen (take i ps)) → before ≡ length p.before.items → m ≡ n + before →
+    ended ≡ length p.ended → k ≡ m + ended →
     k ≡ length (parts_seen (take (i + 1) ps))
 lines_counted ps i p n m k before ended below is count front more tail sum =
-    let whole : parts_seen (take (i + 1) ps) ≡ parts_seen (take i ps) ++ part_seen p = ap parts_seen (take_more ps i p below ∙ ap (λ q. take i ps ++ q ∷ []) (sym is)) ∙ flat_map-append part_seen (take i ps) (p ∷ []) ∙ ap (λ ls. parts_seen (take i ps) ++ ls) (append-nil (part_seen p)) in
-    omega (arith, count, front, more, tail, sum, ap length whole, length-append (parts_seen (take i ps)) (part_seen p), length-append (map line_seen p.before.items) (text_lines p.ended), length-map p.before.items line_seen, length_lines p.ended)
+    let whole : parts_seen (take (i + 1) ps) ≡ parts_seen (take i ps) ++ part_seen p =
+    ap parts_seen (take_more ps i p below ∙ ap (λ q. take i ps ++ q ∷ []) (sym is))
+    ∙ flat_map-append part_seen (take i ps) (p ∷ [])
+    ∙ ap (λ ls. parts_seen (take i ps) ++ ls) (append-nil (part_seen p)) in
+    omega
+    (arith, count, front, more, tail, sum, ap length whole, length-append (parts_seen (take i ps)) (part_seen p), length-append (map line_seen p.before.items) (text_lines p.ended), length-map p.before.items line_seen, length_lines p.ended)
 
 -- what is written over all of a vector is what it holds
 pub written_over : {X : Type 0} (items new : List X) (len : ℕ) → len ≡ length items → length new ≡ length items → take len (new ++ drop (length new) items) ≡ new

@@ -16,8 +16,10 @@ use crate::prefixed_lines::{PrefixedLines, put_in_front};
 use std::alloc::Global;
 use std::marker::Model;
 use std::{fmt, mem};
-use tbr_lines::{BorderHoriz, EndedLines, OutOfMemory, RenderLine, TaggedLine};
+use tbr_border::{BorderHoriz, RenderLine};
+use tbr_tagged::{OutOfMemory, TaggedLine};
 use tbr_tags::Tag;
+use tbr_wrap::EndedLines;
 
 /// Lines, each kept by itself or, where a block has ended many, in the block's one text. A contract sees their list.
 #[derive(Drop)]

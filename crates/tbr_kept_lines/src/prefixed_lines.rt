@@ -10,8 +10,10 @@ ghost use Rattle.tbr_kept_lines.specs.Prefixed.{after_prefixes, Pushes};
 use std::alloc::Global;
 use std::fmt;
 use std::marker::Model;
-use tbr_lines::{EndedLines, OutOfMemory, RenderLine, TaggedLine};
+use tbr_border::RenderLine;
+use tbr_tagged::{OutOfMemory, TaggedLine};
 use tbr_tags::Tag;
+use tbr_wrap::EndedLines;
 
 /// Lines that a block has ended, in its one text. They may have prefixes: one for the first line, and another for each
 /// other line. These take no memory per line. A contract sees the lines, each as its items.

@@ -17,13 +17,13 @@ pub use Rattle.tbr_renderer.specs.Outcomes.{and_then, changed, gathered, taking}
 pub use Rattle.tbr_stack.specs.Links.{after_end_with, after_link_end, after_link_start, link_number, open_in_first, open_links, opened, shown_number, with_link, without_open_link}
 pub use Rattle.tbr_stack.specs.Stack.{Level, Stack, below, first_renderer, in_first, pushed, top_of, with_top}
 pub use Rattle.tbr_stack.specs.Top.{in_top}
-pub use Rattle.text_block_renderer.specs.Appended.{GivesFirst, handed_out, texts_of}
-pub use Rattle.text_block_renderer.specs.Calls.{Call, Does, IsTooNarrow, add_image, add_inline_text, after, append_subrender, append_vert_row, end_strikeout, finish, new_line, pop_colour, push_colour, start_block, start_strikeout}
-pub use Rattle.text_block_renderer.specs.Decorated.{coloured, sub_renderer, uncoloured}
-pub use Rattle.text_block_renderer.specs.Line.{Line, line_seen}
-pub use Rattle.text_block_renderer.specs.Renderer.{Open, Renderer, Settings, settings_of, with_line}
-pub use Rattle.text_block_renderer.specs.Rows.{GivenCell, after_row, cells_given, cells_handed_out, looks, spots_of}
-pub use Rattle.text_block_renderer.specs.Text.{lines_text}
+pub use Rattle.tbr_renderer.specs.Appended.{GivesFirst, handed_out, texts_of}
+pub use Rattle.tbr_renderer.specs.Calls.{Call, Does, IsTooNarrow, add_image, add_inline_text, after, append_subrender, append_vert_row, end_strikeout, finish, new_line, pop_colour, push_colour, start_block, start_strikeout}
+pub use Rattle.tbr_renderer.specs.Decorated.{coloured, sub_renderer, uncoloured}
+pub use Rattle.tbr_kept_lines.specs.Line.{Line, line_seen}
+pub use Rattle.tbr_renderer.specs.Renderer.{Open, Renderer, Settings, settings_of, with_line}
+pub use Rattle.tbr_renderer.specs.Rows.{GivenCell, after_row, cells_given, cells_handed_out, looks, spots_of}
+pub use Rattle.tbr_kept_lines.specs.Text.{lines_text}
 pub use Rattle.tbr_script.specs.declared.error.RunError.{RunError}
 pub use Rattle.tbr_script.specs.declared.error.RunError.TheVariants.{NotACommand, NothingToEnd, OutOfMemory, RowDoesNotFit}
 pub use Rattle.tbr_commands.specs.Begun.{counted, ends_nothing}

@@ -2,7 +2,7 @@
 use Rattle.tbr_program.proofs.Common.{◌≡◌, ◌+◌, ℕ, Option, None, Some, List, [], ◌∷◌, length, refl, sym, subst, Decoration, Renderer, finish, add_inline_text, after, Outcome, done, Stack, Level, in_first, in_top, opened, with_link, open_links, link_number, shown_number, without_open_link, after_link_start, after_end_with, after_link_end, Begun, IsLive}
 use Rattle.tbr_decor.specs.Start as start
 use Rattle.tbr_decor.specs.End as end_text
-use Rattle.text_block_renderer.specs.Calls.{begin}
+use Rattle.tbr_renderer.specs.Calls.{begin}
 use Rattle.tbr_renderer.proofs.OutcomeParts.{done_first, done_before}
 use Rattle.tbr_stack.specs.Links.{closed}
 use Rattle.tbr_stack.proofs.Tops.{top_changed}

@@ -4,11 +4,11 @@ use Rattle.tbr_renderer.proofs.OutcomeParts.{taken}
 use Rattle.tbr_decor.specs.Ground as ground
 use Rattle.tbr_decor.specs.Ground.{Ground}
 use Rattle.tbr_decor.specs.declared.colour.Colour.{Colour}
-use Rattle.text_block_renderer.specs.declared.RenderOptions.{RenderOptions}
-use Rattle.text_block_renderer.specs.Image.{shown_title}
-use Rattle.text_block_renderer.specs.Settings.{settled, settled_by_image}
-use Rattle.text_block_renderer.proofs.Settings.{preformats_after, call_beside, call_changes}
-use Rattle.text_block_renderer.proofs.RowsOfCells.{row_laid, settings_stay, failure_stays}
+use Rattle.tbr_renderer.specs.declared.RenderOptions.{RenderOptions}
+use Rattle.tbr_renderer.specs.Image.{shown_title}
+use Rattle.tbr_renderer.specs.Settings.{settled, settled_by_image}
+use Rattle.tbr_renderer.proofs.Settings.{preformats_after, call_beside, call_changes}
+use Rattle.tbr_renderer.proofs.RowsOfCells.{row_laid, settings_stay, failure_stays}
 use Rattle.tbr_commands.specs.declared.request.layout.Layout.TheVariants.{StartBlock}
 use Rattle.tbr_commands.specs.declared.request.beginning.Beginning.{Beginning}
 use Rattle.tbr_commands.specs.declared.request.beginning.Beginning.TheVariants as beginning

@@ -5,14 +5,14 @@ use Rattle.tbr_model.specs.Run.{Item}
 use Rattle.tbr_tagged.specs.Elements.{Element}
 use Rattle.tbr_decor.specs.Meant.{lines_meant}
 use Rattle.tbr_renderer.specs.Footnotes.{footnote_lines, with_footnotes}
-use Rattle.text_block_renderer.specs.Steps.{block_started, after_block_start}
+use Rattle.tbr_renderer.specs.Steps.{block_started, after_block_start}
 use Rattle.tbr_tagged.specs.declared.Error.TheVariants as E
 use Rattle.tbr_tagged.proofs.Outcomes.{live_done, live_goes, live_refused}
 use Rattle.tbr_renderer.proofs.OutcomeParts.{one_done, done_before, refused_before}
 use Rattle.tbr_renderer.proofs.FlushedBlocks.{flushes}
 use Rattle.tbr_renderer.proofs.SettingsStay.{Steady, started_alike}
-use Rattle.text_block_renderer.specs.Flush.{after_block, after_flush}
-use Rattle.text_block_renderer.proofs.Moves.{flushed_none}
+use Rattle.tbr_renderer.specs.Flush.{after_block, after_flush}
+use Rattle.tbr_renderer.proofs.FlushedBlocks.{flushed_none}
 use Rattle.tbr_program.specs.Closing.{closed}
 
 -- ---- footnotes open no block

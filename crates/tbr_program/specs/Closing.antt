@@ -6,11 +6,11 @@ use Rattle.tbr_decor.specs.Decoration.{Decoration}
 use Rattle.tbr_tagged.specs.Outcome.{Outcome}
 use Rattle.tbr_renderer.specs.Outcomes.{changed}
 use Rattle.tbr_renderer.specs.Footnotes.{listed, with_footnotes}
-use Rattle.text_block_renderer.specs.Renderer.{Renderer}
-use Rattle.text_block_renderer.specs.Line.{Line}
-use Rattle.text_block_renderer.specs.Steps.{block_started}
-use Rattle.text_block_renderer.specs.Text.{lines_text}
-use Rattle.text_block_renderer.specs.Flush.{after_flush}
+use Rattle.tbr_renderer.specs.Renderer.{Renderer}
+use Rattle.tbr_kept_lines.specs.Line.{Line}
+use Rattle.tbr_renderer.specs.Steps.{block_started}
+use Rattle.tbr_kept_lines.specs.Text.{lines_text}
+use Rattle.tbr_renderer.specs.Flush.{after_flush}
 
 -- footnotes come after the lines as a block of their own, if there are any
 abbrev pub with_notes :

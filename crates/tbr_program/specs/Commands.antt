@@ -5,11 +5,11 @@ use Rattle.tbr_tagged.specs.Outcome.{Outcome, done, refused}
 use Rattle.tbr_rows.specs.Cells.{row_fits}
 use Rattle.tbr_decor.specs.Decoration.{Decoration}
 use Rattle.tbr_renderer.specs.Outcomes.{changed, taking, gathered}
-use Rattle.text_block_renderer.specs.Renderer.{Renderer, new_renderer}
-use Rattle.text_block_renderer.specs.Decorated.{sub_renderer}
-use Rattle.text_block_renderer.specs.Appended.{handed_out}
-use Rattle.text_block_renderer.specs.Calls.{new_line, append_subrender, append_vert_row, after}
-use Rattle.text_block_renderer.specs.Rows.{spots_of, GivenCell, cells_given, after_row}
+use Rattle.tbr_renderer.specs.Renderer.{Renderer, new_renderer}
+use Rattle.tbr_renderer.specs.Decorated.{sub_renderer}
+use Rattle.tbr_renderer.specs.Appended.{handed_out}
+use Rattle.tbr_renderer.specs.Calls.{new_line, append_subrender, append_vert_row, after}
+use Rattle.tbr_renderer.specs.Rows.{spots_of, GivenCell, cells_given, after_row}
 use Rattle.tbr_script.specs.Refusal.{refusal_of}
 use Rattle.tbr_script.specs.declared.error.RunError.{RunError}
 use Rattle.tbr_script.specs.declared.error.RunError.TheVariants.{TooNarrow, OutOfMemory, NotACommand, NothingToEnd, RowDoesNotFit}

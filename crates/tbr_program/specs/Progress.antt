@@ -2,7 +2,7 @@
 use Rattle.std.specs.Prelude.{◌≡◌, ◌<◌, ℕ, true, Option, None, Some, List, [], ◌∷◌, ◌++◌, map}
 use Rattle.std.specs.List.{AllZip}
 use Rattle.tbr_tagged.specs.declared.CellAlign.{CellAlign}
-use Rattle.text_block_renderer.specs.Renderer.{Renderer}
+use Rattle.tbr_renderer.specs.Renderer.{Renderer}
 use Rattle.tbr_stack.specs.Stack.{Stack, top_of, below}
 use Rattle.tbr_commands.specs.Begun.{nothing_begun}
 use Rattle.tbr_commands.specs.declared.begun.Begun.{Begun}

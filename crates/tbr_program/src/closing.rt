@@ -3,16 +3,19 @@ ghost use Rattle.std.specs.Prelude.{◌≡◌, None, Err, map, IfOk, string_byte
 ghost use Rattle.tbr_tagged.specs.View.{chars_of};
 ghost use Rattle.tbr_tagged.specs.declared.Error.TheVariants as E;
 ghost use Rattle.tbr_decor.specs.Decoration.{decoration_of};
-ghost use Rattle.text_block_renderer.specs.Line.{line_seen};
+ghost use Rattle.tbr_kept_lines.specs.Line.{line_seen};
 ghost use Rattle.tbr_tagged.specs.Outcome.{done, refused};
-ghost use Rattle.text_block_renderer.specs.Appended.{handed_out};
+ghost use Rattle.tbr_renderer.specs.Appended.{handed_out};
 ghost use Rattle.tbr_program.specs.Closing.{closed, closed_text};
 ghost use Rattle.tbr_program.specs.Safe as model;
 
+use tbr_annotations::Annotations;
+use tbr_border::RenderLine;
 use tbr_decor::TextDecorator;
-use tbr_lines::{CharWidth, Error, OutOfMemory, RenderLine};
+use tbr_model::CharWidth;
+use tbr_renderer::{Renderer, SubRenderer};
 use tbr_safe::escape_all;
-use text_block_renderer::{Annotations, Renderer, SubRenderer};
+use tbr_tagged::{Error, OutOfMemory};
 
 /// The text of a renderer whose links have these targets: its lines, and after them the footnotes as a block of their
 /// own, if there are any. The renderer must not have failed. It refuses as the renderer does, and then drops it and the

@@ -8,7 +8,8 @@ use crate::pending::Pending;
 use std::alloc::{AllocError, Global};
 use std::marker::Model;
 use tbr_decor::TextDecorator;
-use tbr_lines::{CellAlign, CharWidth};
+use tbr_model::CharWidth;
+use tbr_tagged::CellAlign;
 
 /// The command that opened a level.
 #[derive(Clone, Copy, Debug, PartialEq, Eq)]

@@ -10,8 +10,9 @@ use std::marker::Model;
 use std::mem;
 use tbr_commands::{Begun, Request};
 use tbr_decor::TextDecorator;
-use tbr_lines::{CellAlign, CharWidth, OutOfMemory};
-use text_block_renderer::SubRenderer;
+use tbr_model::CharWidth;
+use tbr_renderer::SubRenderer;
+use tbr_tagged::{CellAlign, OutOfMemory};
 
 /// What has begun on a renderer and not ended, and the cells that wait there for their row.
 #[derive(Drop)]

@@ -8,9 +8,10 @@ ghost use Rattle.tbr_renderer.specs.Outcomes.{Tries};
 ghost use Rattle.tbr_program.specs.Commands.{block_made};
 
 use tbr_decor::{DecoratorPrefix, TextDecorator};
-use tbr_lines::{CharWidth, Error};
+use tbr_model::CharWidth;
+use tbr_renderer::{Renderer, SubRenderer};
 use tbr_script::TextPair;
-use text_block_renderer::{Renderer, SubRenderer};
+use tbr_tagged::Error;
 
 /// Adds the lines of a renderer to another one: the first line after the first text, each other after the second. The
 /// other one must not have failed.

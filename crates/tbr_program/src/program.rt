@@ -5,8 +5,8 @@ ghost use Rattle.tbr_tagged.specs.Outcome.{done, refused};
 ghost use Rattle.tbr_tagged.specs.declared.Error.TheVariants as Refusal;
 ghost use Rattle.tbr_decor.specs.Decoration.{decoration_of};
 ghost use Rattle.tbr_decor.specs.Prefix.{asked_prefix};
-ghost use Rattle.text_block_renderer.specs.Renderer.{new_renderer};
-ghost use Rattle.text_block_renderer.specs.Line.{line_seen};
+ghost use Rattle.tbr_renderer.specs.Renderer.{new_renderer};
+ghost use Rattle.tbr_kept_lines.specs.Line.{line_seen};
 ghost use Rattle.tbr_safe.specs.Escaped.{escaped_bytes};
 ghost use Rattle.tbr_script.specs.declared.error.RunError.TheVariants as E;
 ghost use Rattle.tbr_stack.specs.Stack.{new_stack, top_of};
@@ -28,13 +28,16 @@ use crate::prefixes::{append_after, prefix_of};
 use std::alloc::Global;
 use std::marker::Model;
 use std::mem;
+use tbr_annotations::Annotations;
+use tbr_border::RenderLine;
 use tbr_commands::{Command, NewCell, Request};
 use tbr_decor::{DecoratorPrefix, TextDecorator};
-use tbr_lines::{CharWidth, Error, OutOfMemory, RenderLine};
+use tbr_model::CharWidth;
+use tbr_renderer::{RenderOptions, Renderer, SubRenderer};
 use tbr_safe::escape;
 use tbr_script::{RunError, TextPair};
 use tbr_stack::TextRenderer;
-use text_block_renderer::{Annotations, RenderOptions, Renderer, SubRenderer};
+use tbr_tagged::{Error, OutOfMemory};
 
 /// A script of which the first command, and perhaps more commands, were done.
 #[derive(Drop)]

@@ -18,8 +18,9 @@ use column_widths::Room;
 use std::alloc::Global;
 use std::marker::Model;
 use tbr_commands::{Command, Request};
-use tbr_lines::{CharWidth, OutOfMemory};
+use tbr_model::CharWidth;
 use tbr_tables::{Call, Drawn, Recording, Step};
+use tbr_tagged::OutOfMemory;
 
 /// What asked for a step.
 #[derive(Debug, Drop)]

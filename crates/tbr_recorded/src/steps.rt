@@ -9,9 +9,10 @@ ghost use Rattle.tbr_recorded.specs.Steps as model;
 
 use std::alloc::Global;
 use tbr_commands::{Beginning, Command, Kind, Layout, NewCell, Request};
-use tbr_lines::{CharWidth, OutOfMemory, text_width};
+use tbr_model::CharWidth;
 use tbr_script::TextPair;
 use tbr_tables::{Call, Step};
+use tbr_tagged::{OutOfMemory, text_width};
 
 /// The step that a command is.
 pub fn step_of<W: CharWidth>(command: &Command) -> Result<Step, OutOfMemory>

@@ -14,8 +14,8 @@ ghost use Rattle.tbr_recorded.specs.Texts.{noted, opening_text, closing_text, te
 use std::alloc::Global;
 use tbr_commands::{Beginning, Command, Decorator, Kind};
 use tbr_decor::text;
-use tbr_lines::OutOfMemory;
 use tbr_renderer::{ImageRenderMode, RenderOptions};
+use tbr_tagged::OutOfMemory;
 
 /// What decides what commands write.
 #[derive(Clone, Copy, Debug, PartialEq, Eq)]

@@ -1,5 +1,5 @@
 -- Lines of other renderers, one after another.
-use Rattle.std.proofs.Common.{◌≡◌, ◌↔◌, IsTrue, ℕ, zero, suc, arith, ◌+◌, ◌-◌, ◌<◌, Bool, true, false, Option, None, Result, Ok, Err, List, [], ◌∷◌, ◌++◌, map, fold, take, get_or, replicate, length, refl, ap, sym, ◌∙◌, append-nil, append_assoc}
+use Rattle.std.proofs.Common.{◌≡◌, ◌↔◌, IsTrue, ℕ, zero, suc, arith, ◌+◌, ◌-◌, ◌<◌, Bool, false, Option, None, Result, Ok, Err, List, [], ◌∷◌, ◌++◌, map, fold, take, get_or, replicate, length, refl, ap, sym, ◌∙◌, append-nil, append_assoc}
 use Rattle.std.specs.Prelude.{chars, OnOk}
 use Rattle.std.proofs.lemmas.List.{map-append, length-append, length-map, length-replicate, replicate_more, take_more}
 use Rattle.std.proofs.lemmas.Grind.{fold-append}
@@ -9,7 +9,7 @@ use Rattle.tbr_renderer.specs.Outcomes.{gathered}
 use Rattle.tbr_renderer.proofs.OutcomeParts.{gathered_last}
 use Rattle.tbr_border.specs.declared.RenderLine.{RenderLine}
 use Rattle.tbr_tagged.specs.Elements.{text_items}
-use Rattle.tbr_kept_lines.specs.Line.{Line, text, border, line_seen}
+use Rattle.tbr_kept_lines.specs.Line.{Line, text, line_seen}
 use Rattle.tbr_kept_lines.specs.Prefixed.{as_text, prefixed_lines, Appends}
 use Rattle.tbr_renderer.proofs.JoinedLines.{lines_told, added_at_once}
 use Rattle.tbr_annotations.specs.Annotations.{same_annotations}

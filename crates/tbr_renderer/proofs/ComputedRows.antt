@@ -7,7 +7,8 @@ use Rattle.std.specs.Cmp.Lexicographic.{pointwise}
 use Rattle.tbr_tagged.specs.declared.CellAlign.{CellAlign}
 use Rattle.tbr_border.specs.declared.RenderLine.{RenderLine}
 use Rattle.tbr_border.specs.declared.RenderLine.TheVariants.{Text, Line as Rule}
-use Rattle.tbr_tagged.specs.Outcome.{Outcome, done, if_live}
+use Rattle.tbr_tagged.specs.Outcome.{Outcome, done}
+use Rattle.tbr_tagged.proofs.Outcomes.{live_done, live_goes}
 use Rattle.tbr_rows.specs.Cells.{AreSideBySide}
 use Rattle.tbr_rows.specs.Meant.{SeenRow, MeansRow}
 use Rattle.tbr_rows.specs.Computed.{TellsApart, row_of}
@@ -20,7 +21,7 @@ use Rattle.tbr_kept_lines.specs.LastBorder.{last_border}
 use Rattle.tbr_renderer.specs.Renderer.{Renderer}
 use Rattle.tbr_renderer.specs.Flush.{after_flush}
 use Rattle.tbr_renderer.specs.Outcomes.{and_then}
-use Rattle.tbr_renderer.specs.Rows.{GivenCell, FillsCell, ComesAs, style_in, with_row, PutsRow, AppendsRow, filled, cells_from, row_put, placed, after_row}
+use Rattle.tbr_renderer.specs.Rows.{GivenCell, FillsCell, ComesAs, style_in, with_row, PutsRow, AppendsRow, filled, cells_from, row_put, placed, row_made, after_row}
 use Rattle.tbr_renderer.proofs.OutcomeParts.{one_done, done_first}
 
 -- ---- lists of tags
@@ -117,8 +118,15 @@ module _ {D A : Type 0} (same : List A → List A → Bool) (tells : TellsApart 
   if_put (Some q) s is = ap (λ (x : Renderer D A (List A)). Some x) (sym (one_done q s is))
 
   pub row_computed : (r s : Renderer D A (List A)) → AppendsRow columns collapses cells r s ↔ (after_row same columns collapses cells r ≡ done s)
-  row_computed r s = (
-    λ h. ap (λ (o : Outcome (Renderer D A (List A))). and_then o (λ m. placed (row_put same columns collapses cells m))) h.1 ∙ ap placed (row_is_put h.0 s h.2),
-    λ is. let (m, flushed, put) = done_first (if_live r.failure (after_flush columns r)) (λ m. placed (row_put same columns collapses cells m)) s is in
-        (m, flushed, what_is_put m s (if_put (row_put same columns collapses cells m) s put)),
-  )
+  row_computed r s =
+      let put_in : Renderer D A (List A) → Outcome (Renderer D A (List A)) = λ m. placed (row_put same columns collapses cells m) in (
+        λ h. let (live, flushed) = live_done r.failure (after_flush columns r) h.0 h.1 in
+            live_goes r.failure (row_made same columns collapses cells r) live
+            ∙ ap (λ o. and_then o put_in) flushed ∙ ap placed (row_is_put h.0 s h.2),
+        λ is. let (live, made) = live_done r.failure (row_made same columns collapses cells r) s is in
+            let (m, flushed, put) = done_first (after_flush columns r) put_in s made in (
+              m,
+              live_goes r.failure (after_flush columns r) live ∙ flushed,
+              what_is_put m s (if_put (row_put same columns collapses cells m) s put),
+            ),
+      )

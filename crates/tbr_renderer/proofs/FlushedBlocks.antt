@@ -1,10 +1,10 @@
 -- What a flush leaves.
-use Rattle.std.proofs.Common.{◌≡◌, ℕ, true, Option, None, Some, List, ap, ◌∙◌}
+use Rattle.std.proofs.Common.{◌≡◌, ℕ, true, Option, None, Some, List, [], ◌∷◌, fold, refl, ap, ◌∙◌, arith}
 use Rattle.tbr_model.specs.Rule.{run_of}
 use Rattle.tbr_model.specs.Run.{Item}
 use Rattle.tbr_wrap.specs.Runs.{EndsRun}
 use Rattle.tbr_tagged.specs.Outcome.{done}
-use Rattle.tbr_renderer.specs.Renderer.{Open, Renderer, block_width, may_overflow, IsSound}
+use Rattle.tbr_renderer.specs.Renderer.{Open, Renderer, block_width, may_overflow, with_line, IsSound}
 use Rattle.tbr_renderer.specs.Flush.{block_lines, lines_at_end, names_at_end, fits_at_end, flushed, after_block, after_flush}
 use Rattle.tbr_renderer.proofs.OutcomeParts.{one_done, if_fits}
 use Rattle.tbr_renderer.proofs.OpenBlocks.{end_promised}
@@ -44,3 +44,20 @@ module _ {D A : Type 0} (columns : ℕ → Option ℕ) (r s : Renderer D A (List
       go : (o : Option (Open (List A))) → after_block columns r o ≡ done s → look s ≡ look r
       go None h = ap look (one_done r s h)
       go (Some b) h = ap look (block_ended b h).1 ∙ same (block_lines columns r b (lines_at_end columns r b)) (names_at_end columns r b)
+
+-- ---- what else stays
+
+-- a renderer but for its lines and the markers that wait
+abbrev pub beside : {D A : Type 0} → Renderer D A (List A) → Renderer D A (List A)
+beside r = record r { lines = []; waiting = [] }
+
+module _ {D A : Type 0} (columns : ℕ → Option ℕ) where
+  pub lines_beside : (ts : List (List (Item (List A)))) (q : Renderer D A (List A)) → beside (fold (with_line columns) q ts) ≡ beside q
+  lines_beside [] q = refl
+  lines_beside (t ∷ ts) q = lines_beside ts (with_line columns q t)
+
+  pub flush_beside : (r s : Renderer D A (List A)) (o : Option (Open (List A))) → o ≡ r.block → FlushesBlock columns r o s → beside s ≡ record (beside r) { block = None }
+  flush_beside r s o e h = grind (arith, lines_beside)
+
+  pub flushed_none : (r s : Renderer D A (List A)) → Flushes columns r s → s.block ≡ None
+  flushed_none r s h = ap (λ (q : Renderer D A (List A)). q.block) (flush_beside r s r.block refl h)

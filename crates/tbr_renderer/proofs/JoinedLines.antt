@@ -1,17 +1,14 @@
 -- Lines that join those of a renderer.
-use Rattle.std.proofs.Common.{◌≡◌, ◌↔◌, IsTrue, arith, ℕ, ◌-◌, suc, length, slice_get, Bool, true, false, not, if◌then◌else◌, Option, None, Some, List, [], ◌∷◌, ◌++◌, map, refl, ap, sym, ◌∙◌, vec_items, fold, append_assoc, append-nil}
-use Rattle.std.specs.List.{list_any, AllZip}
-use Rattle.std.specs.Option.{option_map}
-use Rattle.tbr_border.specs.Border.{Hole, has_holes, Border, MapsHole, MapsBorder, shown}
-use Rattle.std.proofs.lemmas.List.{map-append}
-use Rattle.tbr_model.specs.Run.{Item, marker, items_width, glyph}
-use Rattle.tbr_model.specs.Mapped.{map_item, map_items}
+use Rattle.std.proofs.Common.{◌≡◌, ◌↔◌, IsTrue, arith, ℕ, ◌-◌, suc, length, slice_get, Bool, true, false, if◌then◌else◌, Option, None, Some, List, [], ◌∷◌, ◌++◌, map, refl, ap, sym, ◌∙◌, fold, append_assoc, append-nil}
+use Rattle.std.specs.List.{AllZip}
+use Rattle.tbr_border.specs.Border.{Hole, Border, MapsHole, MapsBorder, shown}
+use Rattle.tbr_model.specs.Run.{Item, marker, items_width}
 use Rattle.tbr_model.specs.Markers.{marker_items}
 use Rattle.tbr_tagged.specs.Elements.{Element, marker_element, items_of, text_items, piece, SameItems}
 use Rattle.tbr_tagged.specs.Padding.{spaces}
 use Rattle.tbr_model.specs.declared.white_space.WhiteSpace.{WhiteSpace}
 use Rattle.tbr_wrap.specs.Block.{Block}
-use Rattle.tbr_kept_lines.specs.Line.{Line, text, border, line_has_content, SameSeen, line_seen, text_lines}
+use Rattle.tbr_kept_lines.specs.Line.{Line, text, border, SameSeen, line_seen, text_lines}
 use Rattle.tbr_renderer.specs.Renderer.{Renderer, has_content, line_padding, with_filled, with_line, last_mode}
 use Rattle.tbr_renderer.specs.Steps.{with_empty_line, block_started}
 use Rattle.tbr_rows.specs.Meant.{map_hole, map_border}

@@ -3,14 +3,13 @@ use Rattle.std.proofs.Common.{◌≡◌, ℕ, ◌&&◌, not, Bool, true, false, 
 use Rattle.std.specs.Prelude.{OnOk}
 use Rattle.std.proofs.lemmas.Result.{on_ok_weaker}
 use Rattle.tbr_model.specs.declared.white_space.WhiteSpace.{WhiteSpace}
-use Rattle.tbr_model.specs.Run.{Entry, character, marker_entry}
+use Rattle.tbr_model.specs.Run.{Entry, marker_entry}
 use Rattle.tbr_model.specs.Rule.{Event, entry, run_of}
 use Rattle.tbr_model.proofs.rule.HardLines.{run_of-append}
 use Rattle.tbr_wrap.proofs.runs.BlockLaws.{text_leaves, marker_leaves, sound_text, sound_marked}
 use Rattle.tbr_tagged.specs.declared.Error.{Error}
 use Rattle.tbr_tagged.specs.declared.Error.TheVariants as E
 use Rattle.tbr_wrap.specs.Block.{Block, any_line, lines, takes_no_columns, allows, text_events, grown, after_text, after_marker, IsSound}
-use Rattle.tbr_wrap.specs.Block as block
 use Rattle.tbr_tagged.specs.Outcome.{done, refused}
 use Rattle.tbr_renderer.specs.Renderer.{Open, Renderer, new_block, open_block, open_run, text_annotations, last_mode, entries_under, called, with_more, with_events, block_width, may_overflow}
 use Rattle.tbr_renderer.specs.View.{IsFresh, Writes, block_seen, open_seen}

@@ -11,7 +11,7 @@ use Rattle.tbr_renderer.specs.Flush.{after_flush}
 use Rattle.tbr_renderer.specs.Renderer.{Renderer, KeepsSettings, kept_of, block_width}
 use Rattle.tbr_renderer.specs.Outcomes.{and_then, taking}
 use Rattle.tbr_renderer.specs.Calls.{calls_by, Takes, Fails}
-use Rattle.tbr_renderer.proofs.OutcomeParts.{taking_none}
+use Rattle.tbr_renderer.proofs.OutcomeParts.{taking_none, taking_live}
 
 pub on_err : {X E P : Type 0} (r : Result X E) → P → OnErr r P
 on_err (Ok x) p = tt
@@ -36,10 +36,10 @@ module _ {D A R : Type 0} (columns : ℕ → Option ℕ) (decoration : Decoratio
   module _ {old new : Renderer D A (List A)} (mid : Renderer D A (List A)) {result tried : Result R Error} (live : old.failure ≡ None) (same : result ≡ tried)
       (is : OnOk result (new ≡ mid)) (failed : IfErr result (λ e. (new.failure ≡ Some e) × (kept_of new ≡ kept_of mid))) where
     -- and so where it takes what others give
-    pub settled_takes : {X : Type 0} {given : Outcome X} {wide : Type 0} {take : X → Renderer D A (List A) → Outcome (Renderer D A (List A))}
-        (make : X → Renderer D A (List A) → Outcome (Renderer D A (List A))) → ((x : X) → take x old ≡ make x old) →
-        OnOk tried (taking (after_flush columns) given make old ≡ done mid) →
+    pub settled_takes : {X : Type 0} (given : Outcome X) {wide : Type 0}
+        (take : X → Renderer D A (List A) → Outcome (Renderer D A (List A))) →
+        OnOk tried (taking (after_flush columns) given take old ≡ done mid) →
         (tried ≡ Err E.TooNarrow → and_then (after_flush columns old) (λ _. given) ≡ refused E.TooNarrow) →
         (2 ≤ block_width old → wide → tried ≢ Err E.TooNarrow) → KeepsSettings old mid →
         Takes (calls_by columns decoration) given wide take old result new
-    settled_takes {X} {given} {wide} {take} make alike ok narrow two settings = grind (arith, live_goes, kept_ok, on_ok_weaker, taking_none, kept_fails, on_err)
+    settled_takes {X} given {wide} take ok narrow two settings = grind (arith, live_goes, kept_ok, on_ok_weaker, taking_none, taking_live, kept_fails, on_err)

@@ -16,3 +16,5 @@ pub mod JoinedTexts
 pub mod SettingsStay
 pub mod GivenCells
 pub mod ComputedRows
+pub mod RowsOfCells
+pub mod Settings

@@ -1,18 +1,14 @@
 -- Open blocks of renderers.
-use Rattle.std.proofs.Common.{◌≡◌, ℕ, ◌<◌, ◌&&◌, ◌||◌, ◌==◌, not, nat_le, true, false, Option, None, Some, List, [], ◌∷◌, ◌++◌, map, refl, ap, sym, ◌∙◌, arith}
-use Rattle.std.specs.Option.{option_map}
-use Rattle.tbr_model.specs.Run.{Entry, Item, glyph, marker, items_width, has_character}
-use Rattle.tbr_model.specs.Rule.{Event, call, entry, run_of, Progress, waiting}
-use Rattle.tbr_model.specs.Fits.{lines_fit}
-use Rattle.tbr_model.specs.Markers.{names_in_items}
-use Rattle.tbr_wrap.specs.Block.{Block, lines, all_lines, waiting_names, allows, grown, text_events, flushed, after_text, after_flush, any_line, takes_no_columns, has_no_character, progress_of}
+use Rattle.std.proofs.Common.{◌≡◌, ℕ, ◌<◌, true, false, Option, None, Some, List, ◌++◌, refl, ap, sym, arith}
+use Rattle.tbr_model.specs.Rule.{Event, run_of}
+use Rattle.tbr_wrap.specs.Block.{Block, lines, all_lines, waiting_names, allows, grown, text_events, flushed, after_text, after_flush, any_line, takes_no_columns}
 use Rattle.tbr_tagged.specs.Outcome.{refused}
 use Rattle.tbr_tagged.proofs.Outcomes.{live_refused}
 use Rattle.tbr_wrap.proofs.runs.Blocks.{if_allowed, if_not_allowed}
 use Rattle.tbr_wrap.proofs.runs.BlockLaws.{flush_ends, flush_wide, text_wide}
 use Rattle.tbr_tagged.specs.declared.Error.TheVariants as E
 use Rattle.tbr_model.specs.declared.white_space.WhiteSpace.{WhiteSpace}
-use Rattle.tbr_wrap.specs.Runs.{is_some_list, text_entries, EndsRun, CharactersFit}
+use Rattle.tbr_wrap.specs.Runs.{text_entries, EndsRun, CharactersFit}
 use Rattle.tbr_renderer.specs.Renderer.{Open, Renderer, block_width, may_overflow}
 use Rattle.tbr_renderer.specs.View.{open_seen, IsFresh}
 use Rattle.tbr_renderer.specs.Flush.{block_in, fits_grown, lines_at_end, names_at_end, fits_at_end}

@@ -1,8 +1,8 @@
 -- What the outcome of calls one after another is made of.
-use Rattle.std.proofs.Common.{◌≡◌, ◌⊎◌, inl, inr, Result, Ok, Err, Bool, true, false, if◌then◌else◌, List, [], ◌∷◌, ◌++◌, refl, ap, sym, ◌∙◌, subst, arith}
+use Rattle.std.proofs.Common.{◌≡◌, ◌⊎◌, inl, inr, Option, None, Some, Result, Ok, Err, Bool, true, false, if◌then◌else◌, List, [], ◌∷◌, ◌++◌, refl, ap, sym, ◌∙◌, subst, arith}
 use Rattle.std.specs.Prelude.{IfErr}
 use Rattle.std.specs.Result.{IsErrAnd}
-use Rattle.tbr_tagged.specs.Outcome.{Outcome, done, refused}
+use Rattle.tbr_tagged.specs.Outcome.{Outcome, done, refused, if_live}
 use Rattle.tbr_tagged.specs.declared.Error.{Error}
 use Rattle.tbr_tagged.specs.declared.Error.TheVariants as E
 use Rattle.tbr_renderer.specs.Outcomes.{and_then, changed, run, taking, gathered, Tries}
@@ -99,6 +99,18 @@ in_order (refused e) f g = refl
 module _ {V X : Type 0} (flush : V → Outcome V) (given : Outcome X) (take : X → V → Outcome V) (v : V) where
   pub taking_done : (m : V) (x : X) → flush v ≡ done m → given ≡ done x → taking flush given take v ≡ take x v
   taking_done m x h k = rw (h, k) refl
+
+  -- one that hasn't failed does so as if it couldn't
+  pub taking_live : (failure : V → Option Error) → failure v ≡ None →
+      taking (λ w. if_live (failure w) (flush w)) given (λ x w. if_live (failure w) (take x w)) v
+      ≡ taking flush given take v
+  taking_live failure live = go (failure v) live
+    where
+      go : (o : Option Error) → o ≡ None →
+          and_then (if_live o (flush v)) (λ _. and_then given (λ x. if_live o (take x v)))
+          ≡ taking flush given take v
+      go None is = refl
+      go (Some e) is = absurd (let no : ⊥ = cc in no)
 
   pub taking_none : (e : Error) → and_then (flush v) (λ _. given) ≡ refused e → taking flush given take v ≡ refused e
   taking_none e h = sym (in_order (flush v) (λ _. given) (λ x. take x v)) ∙ ap (λ o. and_then o (λ x. take x v)) h

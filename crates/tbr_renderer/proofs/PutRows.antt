@@ -1,10 +1,9 @@
 -- Rows of cells that a renderer puts.
-use Rattle.std.proofs.Common.{◌≡◌, ℕ, ◌+◌, ◌-◌, ◌↔◌, IsTrue, Bool, true, if◌then◌else◌, is_some, is_none, ◌&&◌, Option, None, Some, unwrap_or, List, [], ◌∷◌, ◌++◌, map, fold, take, drop, length, refl, ap, sym, ◌∙◌, subst, arith}
+use Rattle.std.proofs.Common.{◌≡◌, ℕ, ◌+◌, ◌-◌, ◌↔◌, IsTrue, Bool, true, is_none, Option, None, Some, unwrap_or, List, [], ◌∷◌, ◌++◌, map, fold, drop, length, refl, ap, sym, ◌∙◌, subst, arith}
 use Rattle.std.specs.Borrow.{Bor}
-use Rattle.std.specs.Option.{MatchOption, option_copied, option_map}
+use Rattle.std.specs.Option.{MatchOption, option_copied}
 use Rattle.std.specs.List.{AllZip, AllByRecursion as Each}
-use Rattle.std.specs.Cmp.Lexicographic.{pointwise}
-use Rattle.std.proofs.lemmas.List.{map-append, length-map, take-map, length-append, drop-drop, nil_from_length}
+use Rattle.std.proofs.lemmas.List.{length-append, drop-drop, nil_from_length}
 use Rattle.std.proofs.lemmas.Slice.Zip.{AllZip-long, all_zipped_more}
 use Rattle.tbr_model.specs.Run.{Item, items_width}
 use Rattle.tbr_border.specs.Border.{Border}

@@ -23,7 +23,7 @@ use Rattle.tbr_renderer.specs.Outcomes.{and_then, run, taking, told}
 use Rattle.tbr_renderer.specs.Flush.{after_flush}
 use Rattle.tbr_renderer.specs.Steps.{after_empty_line, after_block_start, after_break, after_text}
 use Rattle.tbr_renderer.specs.Appended.{as_text, prefixed, after_border, after_lines, after_cells}
-use Rattle.tbr_renderer.specs.Rows.{GivenCell, after_row}
+use Rattle.tbr_renderer.specs.Rows.{GivenCell, row_made}
 use Rattle.tbr_renderer.specs.Image.{shown_title}
 use Rattle.tbr_renderer.specs.Decorated.{struck_until, asked_to_close, annotated, coloured, uncoloured, after_start, after_end, after_strikeout_start, after_strikeout_end, after_image}
 
@@ -62,35 +62,105 @@ laid_entry (marker name) = marker_entry name
 abbrev pub laid_entries : {T : Type 0} → List (Item T) → List (Entry T)
 laid_entries is = map laid_entry is
 
-module _ {D A : Type 0} (columns : ℕ → Option ℕ) (decoration : Decoration D A) where
-  -- what a call makes of a renderer that hasn't failed
-  abbrev pub made : Call (List A) → Renderer D A (List A) → Outcome (Renderer D A (List A))
-  made add_empty_line r = after_empty_line columns r
-  made new_line r = after_flush columns r
-  made new_line_hard r = after_break columns r
-  made start_block r = after_block_start columns r
-  made start_table r = after_block_start columns r
-  made end_block r = done (record r { block_ended = true })
-  made (add_inline_text cs) r = after_text columns decoration.preformatted cs r
-  made (push_ws mode) r = done (record r { modes = r.modes ++ mode ∷ [] })
-  made pop_ws r = done (record r { modes = without_last r.modes })
-  made push_preformat r = done (record r { preformatted = suc r.preformatted })
-  made pop_preformat r = done (record r { preformatted = r.preformatted - 1 })
-  made (record_frag_start name) r = done (with_events r (entry (marker_entry name) ∷ []))
-  made (begin opened) r = after_start columns decoration opened r
-  made (finish closed) r = after_end columns decoration closed r
-  made start_strikeout r = after_strikeout_start columns decoration r
-  made end_strikeout r = after_strikeout_end columns decoration r
-  made (add_image source title) r = after_image columns decoration source title r
-  made (push_colour g colour) r = done (coloured decoration g colour r)
-  made (pop_colour g) r = done (uncoloured decoration g r)
-  made (add_border width) r = after_border columns width r
-  made (append_subrender prefixes lines) r = after_lines columns prefixes lines r
-  made (append_vert_row cells) r = after_cells columns cells r
+-- What a contract sees of a renderer: its state, the refusal that it keeps, and what of it stays where a call refuses.
+-- The others are what each call makes of a state that hasn't failed.
+pub record CallsOf (T S V : Type 0) : Type 0 where
+  pub state : S → V
+  pub failure : V → Option Error
+  pub kept_of : V → Kept
+  pub add_empty_line : V → Outcome V
+  pub new_line : V → Outcome V
+  pub new_line_hard : V → Outcome V
+  pub start_block : V → Outcome V
+  pub end_block : V → V
+  pub add_inline_text : List ℕ → V → Outcome V
+  pub push_ws : WhiteSpace → V → Outcome V
+  pub pop_ws : V → V
+  pub push_preformat : V → Outcome V
+  pub pop_preformat : V → V
+  pub record_frag_start : List ℕ → V → Outcome V
+  pub begin : start.Start → V → Outcome V
+  pub finish : end.End → V → Outcome V
+  pub start_strikeout : V → Outcome V
+  pub end_strikeout : V → Outcome V
+  pub add_image : List ℕ → List ℕ → V → Outcome V
+  pub push_colour : Ground → Colour → V → Outcome V
+  pub pop_colour : Ground → V → V
+  pub add_border : ℕ → V → Outcome V
+  pub append_subrender : List (List ℕ) → List (Line T) → V → Outcome V
+  pub append_vert_row : List (List (Line T)) → V → Outcome V
+  pub append_row : Bool → List (GivenCell T) → V → Outcome V
 
-  -- and of any: one that has failed gives its refusal again
+-- what a call makes of a state that hasn't failed
+abbrev pub made_by : {T S V : Type 0} → CallsOf T S V → Call T → V → Outcome V
+made_by calls add_empty_line v = calls.add_empty_line v
+made_by calls new_line v = calls.new_line v
+made_by calls new_line_hard v = calls.new_line_hard v
+made_by calls start_block v = calls.start_block v
+made_by calls start_table v = calls.start_block v
+made_by calls end_block v = done (calls.end_block v)
+made_by calls (add_inline_text cs) v = calls.add_inline_text cs v
+made_by calls (push_ws mode) v = calls.push_ws mode v
+made_by calls pop_ws v = done (calls.pop_ws v)
+made_by calls push_preformat v = calls.push_preformat v
+made_by calls pop_preformat v = done (calls.pop_preformat v)
+made_by calls (record_frag_start name) v = calls.record_frag_start name v
+made_by calls (begin opened) v = calls.begin opened v
+made_by calls (finish closed) v = calls.finish closed v
+made_by calls start_strikeout v = calls.start_strikeout v
+made_by calls end_strikeout v = calls.end_strikeout v
+made_by calls (add_image source title) v = calls.add_image source title v
+made_by calls (push_colour g colour) v = calls.push_colour g colour v
+made_by calls (pop_colour g) v = done (calls.pop_colour g v)
+made_by calls (add_border width) v = calls.add_border width v
+made_by calls (append_subrender prefixes lines) v = calls.append_subrender prefixes lines v
+made_by calls (append_vert_row cells) v = calls.append_vert_row cells v
+
+-- what a step makes of any state: one that has failed gives its refusal again
+abbrev pub after_step : {T S V X : Type 0} → CallsOf T S V → (V → Outcome X) → V → Outcome X
+after_step calls step v = if_live (calls.failure v) (step v)
+
+-- and so a call
+abbrev pub after_by : {T S V : Type 0} → CallsOf T S V → Call T → V → Outcome V
+after_by calls call = after_step calls (made_by calls call)
+
+module _ {D A : Type 0} (columns : ℕ → Option ℕ) (decoration : Decoration D A) where
+  -- the calls of a renderer
+  abbrev pub calls_by : CallsOf (List A) (Renderer D A (List A)) (Renderer D A (List A))
+  calls_by = record {
+    state = λ r. r;
+    failure = λ r. r.failure;
+    kept_of = λ r. kept_of r;
+    add_empty_line = after_empty_line columns;
+    new_line = after_flush columns;
+    new_line_hard = after_break columns;
+    start_block = after_block_start columns;
+    end_block = λ r. record r { block_ended = true };
+    add_inline_text = after_text columns decoration.preformatted;
+    push_ws = λ mode r. done (record r { modes = r.modes ++ mode ∷ [] });
+    pop_ws = λ r. record r { modes = without_last r.modes };
+    push_preformat = λ r. done (record r { preformatted = suc r.preformatted });
+    pop_preformat = λ r. record r { preformatted = r.preformatted - 1 };
+    record_frag_start = λ name r. done (with_events r (entry (marker_entry name) ∷ []));
+    begin = after_start columns decoration;
+    finish = after_end columns decoration;
+    start_strikeout = after_strikeout_start columns decoration;
+    end_strikeout = after_strikeout_end columns decoration;
+    add_image = after_image columns decoration;
+    push_colour = λ g colour r. done (coloured decoration g colour r);
+    pop_colour = λ g r. uncoloured decoration g r;
+    add_border = after_border columns;
+    append_subrender = after_lines columns;
+    append_vert_row = after_cells columns;
+    append_row = row_made (pointwise decoration.same) columns;
+  }
+
+  -- what a call makes of a renderer that hasn't failed, and of any
+  abbrev pub made : Call (List A) → Renderer D A (List A) → Outcome (Renderer D A (List A))
+  made = made_by calls_by
+
   abbrev pub after : Call (List A) → Renderer D A (List A) → Outcome (Renderer D A (List A))
-  after call r = if_live r.failure (made call r)
+  after = after_by calls_by
 
   -- What a call that succeeds leaves.
   abbrev pub Does : Call (List A) → Renderer D A (List A) → Renderer D A (List A) → Type 0
@@ -159,15 +229,6 @@ pub record Shows {D A : Type 0} (columns : ℕ → Option ℕ) (r : Renderer D A
 
 -- ---- what a call answers
 
--- What a contract sees of a renderer, what calls and rows of cells make of that, and what of it stays: the kept
--- refusal, and what is kept where a call refuses.
-pub record CallsOf (T S V : Type 0) : Type 0 where
-  pub state : S → V
-  pub after : Call T → V → Outcome V
-  pub after_row : Bool → List (GivenCell T) → V → Outcome V
-  pub failure : V → Option Error
-  pub kept_of : V → Kept
-
 -- its kept refusal
 abbrev pub failure_in : {T S V : Type 0} → CallsOf T S V → S → Option Error
 failure_in calls r = calls.failure (calls.state r)
@@ -184,24 +245,13 @@ kept_in calls r = calls.kept_of (calls.state r)
 abbrev pub IsWide : {T S V : Type 0} → CallsOf T S V → S → Type 0
 IsWide calls r = IsLive calls r × (2 ≤ block_columns (kept_in calls r))
 
--- A call leads from one renderer to another.
-abbrev pub Leads : {T S V : Type 0} → CallsOf T S V → Call T → S → S → Type 0
-Leads calls call r s = calls.after call (calls.state r) ≡ done (calls.state s)
+-- A step leads from one renderer to another.
+abbrev pub Leads : {T S V : Type 0} → CallsOf T S V → (V → Outcome V) → S → S → Type 0
+Leads calls step r s = after_step calls step (calls.state r) ≡ done (calls.state s)
 
 -- It is too narrow for a flush, or others are for what they give after that.
 abbrev pub TakesNone : {T S V X : Type 0} → CallsOf T S V → Outcome X → S → Type 0
-TakesNone calls given r = and_then (calls.after new_line (calls.state r)) (λ _. given) ≡ refused E.TooNarrow
-
--- the calls of a renderer
-abbrev pub calls_by : {D M : Type 0} → (ℕ → Option ℕ) → Decoration D M →
-    CallsOf (List M) (Renderer D M (List M)) (Renderer D M (List M))
-calls_by columns decoration = record {
-  state = λ r. r;
-  after = after columns decoration;
-  after_row = after_row (pointwise decoration.same) columns;
-  failure = λ r. r.failure;
-  kept_of = λ r. kept_of r;
-}
+TakesNone calls given r = and_then (after_step calls calls.new_line (calls.state r)) (λ _. given) ≡ refused E.TooNarrow
 
 -- A call that refuses leaves a renderer failed with what it answers. One that had failed answers its refusal and stays
 -- as it is.
@@ -215,26 +265,28 @@ pub record Fails {T S V R : Type 0} (calls : CallsOf T S V) (old : S) (result : 
   pub refusal : KeepsFailure (failure_in calls) old result new
   pub kept : OnErr result (kept_in calls new ≡ kept_in calls old)
 
--- What a call answers and leaves. It is `Ok` only where it leaves what the call makes of the renderer, and `TooNarrow`
--- only where the call makes that of it, which it never does where blocks have two columns. Else it is `OutOfMemory`.
-pub record Answers {T S V R : Type 0} (calls : CallsOf T S V) (call : Call T) (old : S) (result : Result R Error)
-    (new : S) : Type 0 where
-  pub ok : OnOk result (Leads calls call old new)
-  pub too_narrow : result ≡ Err E.TooNarrow → calls.after call (calls.state old) ≡ refused E.TooNarrow
-  pub two_columns : IsWide calls old → result ≢ Err E.TooNarrow
+-- What a call answers and leaves, where this is its outcome. It is `Ok` only where it leaves what the outcome is, and
+-- `TooNarrow` only where the outcome is that, which it never is where all is wide. Else it is `OutOfMemory`.
+pub record AnswersAs {T S V R : Type 0} (calls : CallsOf T S V) (outcome : Outcome V) (all_is_wide : Type 0) (old : S)
+    (result : Result R Error) (new : S) : Type 0 where
+  pub ok : OnOk result (outcome ≡ done (calls.state new))
+  pub too_narrow : result ≡ Err E.TooNarrow → outcome ≡ refused E.TooNarrow
+  pub two_columns : all_is_wide → result ≢ Err E.TooNarrow
   pub fails : Fails calls old result new
 
--- What a call answers and leaves that takes what others give. It is `Ok` only where it leaves what taking that makes of
--- the renderer, and `TooNarrow` only where that is the outcome, which it never is where all blocks have two columns.
-pub record Takes {T S V X R : Type 0} (calls : CallsOf T S V) (given : Outcome X) (others_are_wide : Type 0)
-    (take : X → V → Outcome V) (old : S) (result : Result R Error) (new : S) : Type 0 where
-  pub ok : OnOk result (taking (calls.after new_line) given take (calls.state old) ≡ done (calls.state new))
-  pub too_narrow :
-      result ≡ Err E.TooNarrow → taking (calls.after new_line) given take (calls.state old) ≡ refused E.TooNarrow
-  pub two_columns : IsWide calls old → others_are_wide → result ≢ Err E.TooNarrow
-  pub fails : Fails calls old result new
+-- So it does where a step is its outcome.
+abbrev pub Answers : {T S V R : Type 0} → CallsOf T S V → (V → Outcome V) → S → Result R Error → S → Type 0
+Answers calls step old = AnswersAs calls (after_step calls step (calls.state old)) (IsWide calls old) old
+
+-- And so where the open line is ended, and then taken what others give.
+abbrev pub Takes : {T S V X R : Type 0} → CallsOf T S V → Outcome X → Type 0 → (X → V → Outcome V) → S
+    → Result R Error → S → Type 0
+Takes calls given others_are_wide take old =
+    AnswersAs calls
+    (taking (after_step calls calls.new_line) given (λ x. after_step calls (take x)) (calls.state old))
+    (IsWide calls old × others_are_wide) old
 
 -- What a call leaves that can't refuse: of one that had failed nothing is changed.
-pub record Leaves {T S V : Type 0} (calls : CallsOf T S V) (call : Call T) (old new : S) : Type 0 where
-  pub live : IsLive calls old → Leads calls call old new
+pub record Leaves {T S V : Type 0} (calls : CallsOf T S V) (step : V → V) (old new : S) : Type 0 where
+  pub live : IsLive calls old → calls.state new ≡ step (calls.state old)
   pub failed : (e : Error) → failure_in calls old ≡ Some e → new ≡ old

@@ -11,3 +11,5 @@ pub mod Rows
 pub mod Decorated
 pub mod Calls
 pub mod Footnotes
+pub mod Acts
+pub mod Settings

@@ -202,6 +202,10 @@ module _ {D A : Type 0} (same : List A → List A → Bool) (columns : ℕ → O
       option_map (with_row columns r)
       (row_of same columns (style_in r collapses) r.annotations r.hanging own (last_border r.lines))
 
-  -- and so after a flush of a renderer that hasn't failed
+  -- what the row makes of a renderer that hasn't failed: a flush comes first
+  abbrev pub row_made : Renderer D A (List A) → Outcome (Renderer D A (List A))
+  row_made r = and_then (after_flush columns r) (λ m. placed (row_put m))
+
+  -- and of any
   abbrev pub after_row : Renderer D A (List A) → Outcome (Renderer D A (List A))
-  after_row r = and_then (if_live r.failure (after_flush columns r)) (λ m. placed (row_put m))
+  after_row r = if_live r.failure (row_made r)

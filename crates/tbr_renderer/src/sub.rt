@@ -17,14 +17,14 @@ use std::alloc::Global;
 use std::marker::Model;
 use std::mem;
 use tbr_annotations::{Annotations, OpenAnnotations};
+use tbr_border::RenderLine;
 use tbr_decor::TextDecorator;
 use tbr_kept_lines::KeptLines;
-use tbr_lines::{
-    CharWidth, Error, OutOfMemory, RenderLine, TaggedLine, TaggedLineElement, TooNarrow,
-    UnicodeColumns, WhiteSpace, WrappedBlock,
-};
+use tbr_model::{CharWidth, WhiteSpace};
 use tbr_rows::Overhang;
+use tbr_tagged::{Error, OutOfMemory, TaggedLine, TaggedLineElement, TooNarrow, UnicodeColumns};
 use tbr_tags::Tag;
+use tbr_wrap::WrappedBlock;
 
 mod appended;
 mod blocks;

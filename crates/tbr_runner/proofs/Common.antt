@@ -1,28 +1,23 @@
 -- The names that most proofs here cite, passed on from one place. It declares nothing.
-pub use Rattle.std.proofs.Common.{Bool, Err, IfErr, List, None, Ok, Option, Result, Some, ap, append-nil, append_assoc, arith, chars, drop, false, flat_map, fold, if◌then◌else◌, inl, inr, length, map, refl, replicate, rules, string_bytes, subst, suc, sym, true, vec_len, zero, ℕ, [], ◌++◌, ◌+◌, ◌-◌, ◌<◌, ◌==◌, ◌^◌, ◌∙◌, ◌∷◌, ◌≡◌, ◌≢◌, ◌≤◌, ◌⊎◌}
-pub use Rattle.std.proofs.lemmas.Bool.{cond_both, false≢true, leb-true}
-pub use Rattle.std.proofs.lemmas.List.{length-map, length-replicate, length-take}
+pub use Rattle.std.proofs.Common.{Bool, Err, IfErr, List, None, Ok, Option, Result, Some, ap, arith, chars, drop, false, length, map, refl, rules, string_bytes, subst, sym, true, vec_len, ℕ, [], ◌++◌, ◌+◌, ◌-◌, ◌<◌, ◌==◌, ◌^◌, ◌∙◌, ◌∷◌, ◌≡◌, ◌≢◌, ◌≤◌}
+pub use Rattle.std.proofs.lemmas.Bool.{cond_both, false≢true}
+pub use Rattle.std.proofs.lemmas.List.{length-map}
 pub use Rattle.std.specs.List.{AllByRecursion as Each, AllZip}
-pub use Rattle.std.specs.Prelude.{encode_utf8_all, nat_lt}
-pub use Rattle.tbr_model.specs.Run.{Entry, Item}
-pub use Rattle.tbr_tagged.specs.Outcome.{Outcome, done, if_live, refused}
+pub use Rattle.tbr_tagged.specs.Outcome.{Outcome, done, refused}
 pub use Rattle.tbr_tagged.specs.declared.CellAlign.{CellAlign}
 pub use Rattle.tbr_decor.specs.Decoration.{Decoration, decoration_of}
 pub use Rattle.tbr_rows.specs.Cells.{row_fits}
-pub use Rattle.tbr_renderer.specs.Flush.{after_block, after_flush, block_lines, fits_at_end, flushed, lines_at_end, names_at_end}
-pub use Rattle.tbr_renderer.specs.Outcomes.{and_then, changed, gathered, run, taking}
-pub use Rattle.tbr_renderer.specs.declared.RenderOptions.{RenderOptions}
-pub use Rattle.tbr_stack.specs.Links.{after_end_with, after_link_end, link_number, open_links, shown_number, with_link, without_open_link}
-pub use Rattle.tbr_stack.specs.Stack.{Level, Stack, below, first_renderer, in_first, top_of, with_top}
+pub use Rattle.tbr_renderer.specs.Outcomes.{and_then, changed, gathered, taking}
+pub use Rattle.tbr_stack.specs.Links.{after_end_with, link_number, open_links, shown_number, with_link, without_open_link}
+pub use Rattle.tbr_stack.specs.Stack.{Level, Stack, first_renderer, in_first, top_of, with_top}
 pub use Rattle.tbr_stack.specs.Top.{in_top}
-pub use Rattle.text_block_renderer.specs.Acts.{Act, act_brought, act_comes, acts_come, after_act, call, finalise, fmt_links, row as row_of_cells}
-pub use Rattle.text_block_renderer.specs.Appended.{handed_out}
-pub use Rattle.text_block_renderer.specs.Calls.{Call, Shows, add_inline_text, after, append_subrender, append_vert_row, begin, finish, made, new_line, start_block}
-pub use Rattle.text_block_renderer.specs.Decorated.{sub_renderer}
-pub use Rattle.text_block_renderer.specs.Line.{Line}
-pub use Rattle.text_block_renderer.specs.Renderer.{IsSound, Open, Renderer, block_width, has_content, least, open_run, with_line}
-pub use Rattle.text_block_renderer.specs.Rows.{ComesAs, GivenCell, cells_given, spots_of}
-pub use Rattle.text_block_renderer.specs.Taken.{AreTakenIn, IsWrittenSoFar, NothingOverhangs, Takes, TakesIn}
+pub use Rattle.tbr_renderer.specs.Acts.{Act, after_act, call, row as row_of_cells}
+pub use Rattle.tbr_renderer.specs.Appended.{handed_out}
+pub use Rattle.tbr_renderer.specs.Calls.{Call, add_inline_text, after, append_subrender, append_vert_row, begin, finish, new_line}
+pub use Rattle.tbr_renderer.specs.Decorated.{sub_renderer}
+pub use Rattle.tbr_kept_lines.specs.Line.{Line}
+pub use Rattle.tbr_renderer.specs.Renderer.{Renderer}
+pub use Rattle.tbr_renderer.specs.Rows.{GivenCell, cells_given, spots_of}
 pub use Rattle.tbr_script.specs.Refusal.{IsOfScript}
 pub use Rattle.tbr_script.specs.Script.{lines_of}
 pub use Rattle.tbr_script.specs.declared.error.RunError.{RunError}
@@ -34,13 +29,11 @@ pub use Rattle.tbr_commands.specs.Syntax.{IsCommand}
 pub use Rattle.tbr_commands.specs.declared.opening.Decorator.{Decorator}
 pub use Rattle.tbr_commands.specs.declared.opening.Decorator.TheVariants.{Plain, Rich, Trivial}
 pub use Rattle.tbr_commands.specs.declared.opening.Opening.{Opening}
-pub use Rattle.tbr_program.specs.Closing.{closed as lines_closed, closed_text, footnotes_of, with_notes}
-pub use Rattle.tbr_program.specs.Commands.{Made, Place, after_command, after_line, after_read, answered, block_made, cells_waiting, ended, ended_as, if_some_are, joins, level_ended, level_opened, on_top, request_made, row_made, started, vertical_made, waits, with_stack}
+pub use Rattle.tbr_program.specs.Closing.{closed_text}
+pub use Rattle.tbr_program.specs.Commands.{Made, Place, after_command, after_line, after_read, answered, block_made, cells_waiting, ended, ended_as, if_some_are, joins, level_ended, level_opened, on_top, request_made, waits, with_stack}
 pub use Rattle.tbr_program.specs.Prefixes.{prefixes}
 pub use Rattle.tbr_program.specs.Progress.{GoesOn, Opened, Pending, Progress, renderers_of, without_cells}
 pub use Rattle.tbr_program.specs.declared.opened.Opener.{Opener}
 pub use Rattle.tbr_program.specs.declared.opened.Opener.TheVariants.{Sub}
-pub use Rattle.tbr_runner.specs.Kept.{EndsOne, EndsWhole, IsOfOneRow, KeepsAll, LineAsksForOneRow, OverhangsNowhere, TextKeeps}
-pub use Rattle.tbr_runner.specs.Led.{AllAre, AreLed, CellsAre, IsFresh, IsLed, IsTextOfLed, IsTextOfScript, LineAsksForTwo}
-pub use Rattle.tbr_runner.specs.Scripts.{rendered, rendered_on, unless_refused}
-pub use Rattle.tbr_runner.specs.StackCalls.{AskAfterFirst, AskFor, LinesDo, calls_of, link_targets, stack_calls}
+pub use Rattle.tbr_runner.specs.Renderers.{AllAre, CellsAre, EndsOne}
+pub use Rattle.tbr_runner.specs.Scripts.{unless_refused}

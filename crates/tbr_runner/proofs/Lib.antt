@@ -1,17 +1,5 @@
 pub mod Common
-pub mod RenderedLines
 pub mod ShownLines
 pub mod ScriptRefusals
-pub mod StackCalls
-pub mod LedRenderers
-pub mod TwoColumns
-pub mod ShownTexts
-pub mod CameToRenderers
 pub mod Walks
 pub mod ScriptLevels
-pub mod KeptTexts
-pub mod OneRowCells
-pub mod TextsOfCommands
-pub mod Controls
-pub mod BlocksOfLines
-pub mod LinesOnStack

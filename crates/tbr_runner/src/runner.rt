@@ -15,9 +15,10 @@ use std::alloc::Global;
 use std::convert::AsSlice;
 use tbr_commands::{Decorator, Opening};
 use tbr_decor::{PlainDecorator, RichDecorator, TextDecorator, TrivialDecorator};
-use tbr_lines::{CharWidth, UnicodeColumns};
+use tbr_model::CharWidth;
 use tbr_program::Program;
 use tbr_script::{RunError, Sink, Source, split_line, write_all};
+use tbr_tagged::UnicodeColumns;
 
 /// The most bytes that a read asks for.
 const CHUNK: usize = 4096;

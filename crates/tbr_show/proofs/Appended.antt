@@ -1,18 +1,16 @@
 -- What loops append, one part after another.
-use Rattle.std.proofs.Common.{◌≡◌, ℕ, Bool, true, false, not, Option, None, Some, Result, Ok, Err, List, [], ◌∷◌, ◌++◌, refl, ap, sym, ◌∙◌, map, append_assoc, append-nil, rules}
-use Rattle.std.specs.Prelude.{flat_map, OnOk, ◌&&◌, if◌then◌else◌}
+use Rattle.tbr_show.proofs.Common.{◌≡◌, ℕ, Bool, true, false, not, Result, Ok, Err, List, [], ◌∷◌, ◌++◌, refl, ap, sym, ◌∙◌, map, append_assoc, rules, flat_map, is_control, filter-append, false≢true}
+use Rattle.tbr_show.proofs.Common.{YieldsList-end, Element, characters, printable, shown}
+use Rattle.std.proofs.Common.{Option, None, Some, append-nil}
+use Rattle.std.specs.Prelude.{OnOk, ◌&&◌, if◌then◌else◌}
 use Rattle.std.specs.Borrow.{Bor}
 use Rattle.std.specs.Iterator.{Yields, YieldsFirstRef}
 use Rattle.std.specs.List.{list_all}
-use Rattle.std.specs.Char.{is_control}
 use Rattle.std.proofs.lemmas.List.{map_push}
 use Rattle.std.proofs.lemmas.List.Concat.{flat_map-append}
-use Rattle.std.proofs.lemmas.List.Elements.{filter-append}
-use Rattle.std.proofs.lemmas.Bool.{false≢true}
-use Rattle.std.proofs.lemmas.Iterator.Consumers.{YieldsList-from_first, YieldsList-end}
-use Rattle.tbr_tagged.specs.Elements.{Element, element_characters, characters}
-use Rattle.tbr_show.specs.Written.{printable}
-use Rattle.tbr_show.specs.Html.{escaped, between, is_wide_after, shown_from, shown}
+use Rattle.std.proofs.lemmas.Iterator.Consumers.{YieldsList-from_first}
+use Rattle.tbr_tagged.specs.Elements.{element_characters}
+use Rattle.tbr_show.specs.Html.{escaped, between, is_wide_after, shown_from}
 
 -- one more part after those that were appended already
 pub one_after : {X : Type 0} (start so_far more text new : List X) → text ≡ start ++ so_far → new ≡ text ++ more → new ≡ start ++ (so_far ++ more)

@@ -1,7 +1,9 @@
 -- What a terminal shows of what is written for it.
-use Rattle.std.proofs.Common.{◌≡◌, ◌≢◌, ℕ, zero, suc, ◌+◌, ◌%◌, ◌/◌, ◌<◌, ◌==◌, Bool, true, false, not, List, [], ◌∷◌, ◌++◌, refl, ap, sym, subst, ◌∙◌, append_assoc, arith, cond, lit<, rules}
+use Rattle.tbr_show.proofs.Common.{◌≡◌, ℕ, Bool, true, false, not, List, [], ◌∷◌, ◌++◌, refl, ap, sym, subst, ◌∙◌, append_assoc, rules, false≢true, flat_map, codes, is_control, filter-append}
+use Rattle.tbr_show.proofs.Common.{newline_character, Element, piece, characters, printable, ends}
+use Rattle.std.proofs.Common.{◌≢◌, zero, suc, ◌+◌, ◌%◌, ◌/◌, ◌<◌, ◌==◌, arith, cond, lit<}
 use Rattle.std.proofs.Math.Nat.{mod-lt}
-use Rattle.std.proofs.lemmas.Bool.{lt-ltb, false≢true}
+use Rattle.std.proofs.lemmas.Bool.{lt-ltb}
 use Rattle.std.proofs.lemmas.Bool.Decides.{nat_tests}
 use Rattle.std.specs.List.{range_with_len, AllByRecursion as Each}
 use Rattle.std.proofs.lemmas.List.FromFn.{get_or-range_with_len, length-range_with_len}
@@ -9,21 +11,19 @@ use Rattle.std.proofs.lemmas.List.Sums.{AllPass-from_list_all}
 use Rattle.percent_encoding.specs.AsciiSet.{contains, should_percent_encode}
 use Rattle.percent_encoding.proofs.AsciiSetLemmas.{ascii_from_kept, outside_from_kept}
 use Rattle.percent_encoding.proofs.PercentLemmas.{IsEscapeByte, All-percent_encode}
-use Rattle.std.specs.Prelude.{All, flat_map, codes, string_bytes, Vec}
-use Rattle.std.specs.Char.{is_control}
+use Rattle.std.specs.Prelude.{All, string_bytes, Vec}
 use Rattle.std.specs.Int.{is_in_range}
 use Rattle.std.specs.Fmt.{decimal, digits, digits_onto, digit_glyph}
 use Rattle.std.specs.declared.alloc.Global.{Global}
-use Rattle.std.proofs.lemmas.List.Elements.{filter-append, All-head, All-tail}
-use Rattle.tbr_model.specs.Codes.{newline_character}
-use Rattle.tbr_tagged.specs.Elements.{Element, piece, marker_element, characters}
+use Rattle.std.proofs.lemmas.List.Elements.{All-head, All-tail}
+use Rattle.tbr_tagged.specs.Elements.{marker_element}
 use Rattle.tbr_decor.specs.declared.colour.Colour.{Colour}
 use Rattle.tbr_decor.specs.declared.annotation.RichAnnotation.{RichAnnotation}
 use Rattle.tbr_decor.specs.declared.annotation.RichAnnotation.TheVariants as rich
-use Rattle.tbr_show.specs.Written.{printable, colour_parts}
+use Rattle.tbr_show.specs.Written.{colour_parts}
 use Rattle.tbr_show.specs.declared.target.TheConstants.{NOT_OF_URLS}
 use Rattle.tbr_show.specs.Target.{encoded, is_followed}
-use Rattle.tbr_show.specs.Ansi.{selects, links, begins, ends, element, line, escape_character}
+use Rattle.tbr_show.specs.Ansi.{selects, links, begins, element, line, escape_character}
 use Rattle.tbr_show.specs.Terminal.{seen, among, sequence, command}
 
 -- a digit or a semicolon, as a selection has them
@@ -229,7 +229,10 @@ seen_piece : (before cs after more rest : List ℕ) → IsMark before → IsMark
     seen among ((((before ++ printable cs) ++ after) ++ more) ++ rest) ≡ printable cs ++ seen among (more ++ rest)
 unfolding Hidden IsMark
 seen_piece before cs after more rest h k =
-    ap (seen among) (append_assoc ((before ++ printable cs) ++ after) more rest ∙ append_assoc (before ++ printable cs) after (more ++ rest) ∙ append_assoc before (printable cs) (after ++ (more ++ rest)))
+    ap (seen among)
+    (append_assoc ((before ++ printable cs) ++ after) more rest
+    ∙ append_assoc (before ++ printable cs) after (more ++ rest)
+    ∙ append_assoc before (printable cs) (after ++ (more ++ rest)))
     ∙ h.0 (printable cs ++ (after ++ (more ++ rest)))
     ∙ among_characters (printable cs) (after ++ (more ++ rest)) (each_more (printable cs) shown_is_plain (printable_is_shown cs))
     ∙ ap (λ ds. printable cs ++ ds) (k.0 (more ++ rest))

@@ -1,7 +1,7 @@
 //! The columns of characters in terminals that give East Asian ambiguous characters two.
 ghost use Rattle.tbr_show.specs.Ambiguous.{ambiguous_wide, ambiguous_wide_at_most_two, ambiguous_wide_drawn};
 
-use tbr_lines::CharWidth;
+use tbr_model::CharWidth;
 use tbr_tagged::{STROKE, takes_one_column};
 use unicode_width::UnicodeWidthChar;
 

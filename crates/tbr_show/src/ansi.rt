@@ -6,7 +6,7 @@ ghost use Rattle.tbr_show.specs.Ansi as model;
 use crate::target::{is_followed, push_target};
 use crate::text::{push_ascii, push_parts, push_printable};
 use tbr_decor::RichAnnotation;
-use tbr_lines::{OutOfMemory, TaggedLine, TaggedLineElement};
+use tbr_tagged::{OutOfMemory, TaggedLine, TaggedLineElement};
 
 /// Appends a line with its newline: each piece without its control characters, between what begins its annotations and
 /// what ends them. Markers aren't shown. A link to a target with another scheme than `http`, `https`, `mailto` or `ftp`

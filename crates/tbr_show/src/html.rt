@@ -9,7 +9,8 @@ ghost use Rattle.tbr_show.specs.Html as model;
 use crate::target::{is_followed, push_target};
 use crate::text::{push_ascii, push_char, push_parts};
 use tbr_decor::{Colour, RichAnnotation};
-use tbr_lines::{CharWidth, OutOfMemory, TaggedLine, TaggedLineElement};
+use tbr_model::CharWidth;
+use tbr_tagged::{OutOfMemory, TaggedLine, TaggedLineElement};
 
 /// What comes before the lines, to make them a document of their own.
 pub const BEGINNING: &str =

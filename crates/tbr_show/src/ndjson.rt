@@ -9,7 +9,8 @@ ghost use Rattle.tbr_show.specs.Ndjson as model;
 use crate::text::{push_ascii, push_char};
 use json::Writer;
 use tbr_decor::{Colour, RichAnnotation};
-use tbr_lines::{CharWidth, OutOfMemory, TaggedLine, TaggedLineElement, TaggedString};
+use tbr_model::CharWidth;
+use tbr_tagged::{OutOfMemory, TaggedLine, TaggedLineElement, TaggedString};
 
 /// Appends a line, which may be a border, as an object, with a newline. The object has the columns of the line, and its
 /// pieces and markers in order. For each piece it has text, columns and annotations, the outermost first.

@@ -4,7 +4,7 @@ ghost use Rattle.tbr_tagged.specs.View.{chars_of};
 ghost use Rattle.tbr_show.specs.Target.{encoded, is_followed};
 
 use percent_encoding::{AsciiSet, CONTROLS, ascii_set, utf8_percent_encode};
-use tbr_lines::OutOfMemory;
+use tbr_tagged::OutOfMemory;
 
 /// The ASCII characters that a URL may not have. Characters beyond ASCII aren't allowed either.
 pub const NOT_OF_URLS: AsciiSet = ascii_set!(

@@ -7,7 +7,7 @@ ghost use Rattle.tbr_tagged.specs.View.{chars_of};
 ghost use Rattle.tbr_show.specs.Written.{printable, colour_parts};
 
 use tbr_decor::Colour;
-use tbr_lines::OutOfMemory;
+use tbr_tagged::OutOfMemory;
 
 /// Appends a text of ASCII.
 pub fn push_ascii(text: &mut String, more: &str) -> Result<(), OutOfMemory>

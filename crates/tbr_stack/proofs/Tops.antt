@@ -50,7 +50,8 @@ module _ {D A : Type 0} where
     changes s r q top step = (r, q, top, step, refl)
 
     -- after the opening of a link
-    pub changes_linked : (target : List ℕ) (s l : Stack (Renderer D A (List A))) (r q : Renderer D A (List A)) → l ≡ with_link target s → top_of l ≡ Some r → Step r q → ChangesTop Step (with_link target s) (with_top l q)
+    pub changes_linked : (target : List ℕ) (s l : Stack (Renderer D A (List A))) (r q : Renderer D A (List A)) →
+        l ≡ with_link target s → top_of l ≡ Some r → Step r q → ChangesTop Step (with_link target s) (with_top l q)
     changes_linked target s l r q is top step = subst (λ u. ChangesTop Step u (with_top l q)) is (changes l r q top step)
 
   -- ---- what a call makes of the top
@@ -65,14 +66,18 @@ module _ {D A : Type 0} where
     pub refused_in : (s : Stack (Renderer D A (List A))) (r : Renderer D A (List A)) (e : Error) → top_of s ≡ Some r → make r ≡ refused e → in_top make s ≡ refused e
     refused_in s r e top is = made_in s r top ∙ ap (changed (with_top s)) is
 
-    pub tries_in : {X : Type 0} (s : Stack (Renderer D A (List A))) (r q : Renderer D A (List A)) (result : Result X Error) → top_of s ≡ Some r → Tries make r result q → Tries (in_top make) s result (with_top s q)
+    pub tries_in : {X : Type 0} (s : Stack (Renderer D A (List A))) (r q : Renderer D A (List A))
+        (result : Result X Error) → top_of s ≡ Some r → Tries make r result q →
+        Tries (in_top make) s result (with_top s q)
     tries_in s r q result top h = record {
       ok = on_ok_weaker result (λ is. done_in s r q top is) h.ok;
       too_narrow = λ e. refused_in s r TooNarrow top (h.too_narrow e);
     }
 
     -- after the opening of a link
-    pub tries_linked : {X : Type 0} (target : List ℕ) (s l : Stack (Renderer D A (List A))) (r q : Renderer D A (List A)) (result : Result X Error) → l ≡ with_link target s → top_of l ≡ Some r → Tries make r result q →
+    pub tries_linked : {X : Type 0} (target : List ℕ) (s l : Stack (Renderer D A (List A)))
+        (r q : Renderer D A (List A)) (result : Result X Error) → l ≡ with_link target s → top_of l ≡ Some r →
+        Tries make r result q →
         Tries (λ t. in_top make (with_link target t)) s result (with_top l q)
     tries_linked target s l r q result is top h =
         tries_as (in_top make) (λ t. in_top make (with_link target t)) l s (with_top l q) result (ap (in_top make) (sym is)) (tries_in l r q result top h)

@@ -7,7 +7,7 @@ ghost use Rattle.tbr_stack.specs.Links.{opened, closed, first_open};
 
 use std::alloc::Global;
 use std::marker::Model;
-use tbr_lines::OutOfMemory;
+use tbr_tagged::OutOfMemory;
 
 /// A renderer of a stack, and the links that are open in it.
 #[derive(Debug, Drop)]

@@ -7,15 +7,15 @@ ghost use Rattle.tbr_decor.specs.Start as start;
 ghost use Rattle.tbr_renderer.specs.Renderer.{block_width, kept_of};
 ghost use Rattle.tbr_renderer.specs.Outcomes.{Tries};
 ghost use Rattle.tbr_renderer.specs.Calls.{KeepsFailure, Fails, Answers, IsWide, calls_by};
-ghost use Rattle.tbr_renderer.specs.Calls as call;
 ghost use Rattle.tbr_stack.specs.Top.{failure_of, ChangesTop, OfTop};
 ghost use Rattle.tbr_stack.specs.Links.{link_number, open_links, shown_number, after_link_start, after_end_with, after_link_end, StopsToStart, StopsToEnd};
 
 use crate::stack::TextRenderer;
 use std::alloc::Global;
 use tbr_decor::{TextDecorator, text};
-use tbr_lines::{CharWidth, Error, OutOfMemory};
+use tbr_model::CharWidth;
 use tbr_renderer::{Renderer, SubRenderer};
+use tbr_tagged::{Error, OutOfMemory};
 
 impl<D: TextDecorator, W: CharWidth> TextRenderer<D, W> {
     /// Starts a link in the top, and adds its target to the others. It asks for a depth of at least 1.
@@ -130,7 +130,7 @@ fn add_number<D: TextDecorator, W: CharWidth>(
 ) -> Result<(), Error>
     requires { renderer.old.failure ≡ None }
     ensures answers { let calls = calls_by W.columns (decoration_of D.TextDecorator D.Annotation.tells) in
-        Answers calls (call.add_inline_text (link_number k)) renderer.old result renderer.new }
+        Answers calls (calls.add_inline_text (link_number k)) renderer.old result renderer.new }
 {
     match text::bracketed_number(alloc, k, 0) {
         Ok(number) => renderer.add_inline_text(number.as_str()),

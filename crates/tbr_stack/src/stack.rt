@@ -11,8 +11,8 @@ use crate::level::Level;
 use std::alloc::Global;
 use std::fmt;
 use std::marker::Model;
-use tbr_lines::{Error, OutOfMemory, UnicodeColumns};
 use tbr_renderer::SubRenderer;
+use tbr_tagged::{Error, OutOfMemory, UnicodeColumns};
 
 /// Renderers on a stack, and the targets of the links that were started in them.
 pub type TextRenderer<D, W = UnicodeColumns> = Stack<SubRenderer<D, W>>;

@@ -1,2 +1,3 @@
+mod AutoCells
 mod NearWords
 pub mod FirstWords

@@ -31,12 +31,15 @@ readers =
 abbrev pub argument_read : List ℕ → Option Statement
 argument_read line = option_and_then (λ parts. read_by readers parts.0 parts.1) (split_at_space line)
 
--- what a line asks for that is no command of `blockrender`
+-- what a line asks for that is no command of `blockrender` and is UTF-8
 abbrev pub block_read : List ℕ → Option Statement
 block_read line = first_of (looked_up names line) (argument_read line)
+
+-- the same of any line
+abbrev pub other_read : List ℕ → Option Statement
+other_read line = if is_utf8 line then block_read line else None
 
 -- What a line asks for, if it asks for something: a command of `blockrender`, or something of a block with a prefix or
 -- of a table that finds its widths. A line that isn't UTF-8 asks for nothing.
 abbrev pub statement_read : List ℕ → Option Statement
-statement_read line =
-    first_of (option_map command (command_read line)) (if is_utf8 line then block_read line else None)
+statement_read line = first_of (option_map command (command_read line)) (other_read line)

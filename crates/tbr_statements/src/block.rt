@@ -6,8 +6,9 @@ ghost use Rattle.tbr_statements.specs.Block as model;
 
 use std::alloc::Global;
 use tbr_decor::DecoratorPrefix;
-use tbr_lines::{CharWidth, OutOfMemory, spaces, text_width};
+use tbr_model::CharWidth;
 use tbr_script::TextPair;
+use tbr_tagged::{OutOfMemory, spaces, text_width};
 
 /// A block that comes after a prefix of the decorator.
 #[derive(Clone, Copy, Debug, PartialEq, Eq)]

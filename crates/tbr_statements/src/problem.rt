@@ -3,7 +3,7 @@ ghost use Rattle.std.specs.Prelude.{◌≡◌, ◌==◌};
 ghost use Rattle.tbr_statements.specs.Problem as model;
 
 use std::alloc::{AllocError, AllocFailed};
-use tbr_lines::{Error, OutOfMemory};
+use tbr_tagged::{Error, OutOfMemory};
 
 /// The kinds of problems.
 #[derive(Clone, Copy, Debug, PartialEq, Eq)]

@@ -3,7 +3,7 @@ ghost use Rattle.std.specs.Prelude.{◌≡◌, IfOk, IfSome};
 ghost use Rattle.std.specs.Option.{option_map};
 ghost use Rattle.tbr_statements.specs.Statement as model;
 ghost use Rattle.tbr_statements.specs.Statement.{IsSized, statement_of};
-ghost use Rattle.tbr_statements.specs.Read.{item_number_read, argument_read, block_read, statement_read};
+ghost use Rattle.tbr_statements.specs.Read.{item_number_read, argument_read, block_read, other_read, statement_read};
 
 use crate::block::Block;
 use crate::table_cell::table_cell;
@@ -36,13 +36,14 @@ impl Statement {
         ensures read { IfOk result (λ found. option_map statement_of found ≡ statement_read line.now) }
         ensures sized { IfOk result (λ found. IfSome found IsSized) }
     {
-        if let Some(command) = Command::parse(alloc, line)? {
-            return Ok(Some(Statement::Command(command)));
+        // No command begins so, and such lines come often.
+        if line.starts_with(b"cell auto") {
+            return Ok(of_line(line));
         }
-        let Ok(line) = str::from_utf8(line) else {
-            return Ok(None);
-        };
-        Ok(of_blocks(line))
+        match Command::parse(alloc, line)? {
+            Some(command) => Ok(Some(Statement::Command(command))),
+            None => Ok(of_line(line)),
+        }
     }
 }
 
@@ -53,7 +54,18 @@ pub fn is_skipped(line: &[u8]) -> bool
     line.is_empty() || line.starts_with(b"#")
 }
 
-/// What a line asks for that is no command of `blockrender`.
+/// What a line asks for that is no command of `blockrender`. `None` also if it isn't UTF-8.
+fn of_line(line: &[u8]) -> Option<Statement>
+    ensures read { option_map statement_of result ≡ other_read line.now }
+    ensures sized { IfSome result IsSized }
+{
+    let Ok(line) = str::from_utf8(line) else {
+        return None;
+    };
+    of_blocks(line)
+}
+
+/// The same of a line that is UTF-8.
 fn of_blocks(line: &str) -> Option<Statement>
     ensures { option_map statement_of result ≡ block_read line.now }
 {

@@ -2,9 +2,9 @@
 ghost use Rattle.std.specs.Prelude.{◌≡◌};
 ghost use Rattle.tbr_statements.specs.TableCell as model;
 
-use tbr_lines::CellAlign;
 use tbr_script::{Words, parse_size};
 use tbr_tables::TableCell;
+use tbr_tagged::CellAlign;
 
 /// The cell that `auto` is, with the rows and the columns that it spans and its alignment, as far as they follow in this
 /// order. There is exactly one space between two of them.

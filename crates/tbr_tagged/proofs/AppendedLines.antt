@@ -1,7 +1,5 @@
 -- A line after another.
-use Rattle.std.proofs.Common.{Bool, List, [], ◌∷◌, ◌++◌, fold, sym, subst, append_assoc, append-nil}
-use Rattle.std.specs.Cmp.{IsEquivalence}
-use Rattle.tbr_tagged.specs.Elements.{Element, element_items, items_of, SameItems, push_element, IsMerged}
+use Rattle.tbr_tagged.proofs.Common.{Bool, List, [], ◌∷◌, ◌++◌, fold, sym, subst, append_assoc, append-nil, IsEquivalence, Element, element_items, items_of, SameItems, push_element, IsMerged}
 use Rattle.tbr_tagged.proofs.SameItems.{same_items, same_from_path, same_items_trans, same_items_append, element_pushed}
 use Rattle.tbr_tagged.proofs.TextAfter.{merged_element}
 

@@ -1,11 +1,7 @@
 -- One more element of a line, as a loop over them takes it.
-use Rattle.std.proofs.Common.{◌≡◌, ℕ, suc, ◌+◌, ◌<◌, true, false, Option, List, [], ◌∷◌, ◌++◌, map, length, get_or, take, drop, refl, ap, sym, ◌∙◌, arith, drop-cons}
-use Rattle.std.proofs.lemmas.List.{take_more, map_push, map-append, take-append-drop}
-use Rattle.std.proofs.lemmas.List.Concat.{flat_map-append}
-use Rattle.tbr_model.specs.Run.{marker, items_width}
-use Rattle.tbr_model.specs.Width.{width_of_text}
-use Rattle.tbr_model.proofs.words.Items.{items_width-append}
-use Rattle.tbr_tagged.specs.Elements.{Element, piece, marker_element, element_items, items_of, has_piece}
+use Rattle.tbr_tagged.proofs.Common.{◌≡◌, ℕ, suc, ◌+◌, ◌<◌, true, false, Option, List, [], ◌∷◌, ◌++◌, map, length, get_or, take, drop, refl, ap, sym, ◌∙◌, arith, drop-cons, map_push, map-append}
+use Rattle.tbr_tagged.proofs.Common.{take-append-drop, flat_map-append, marker, items_width, width_of_text, items_width-append, Element, piece, marker_element, element_items, items_of, has_piece}
+use Rattle.std.proofs.lemmas.List.{take_more}
 use Rattle.tbr_tagged.proofs.TextColumns.{items_width-text}
 
 module _ {X : Type 0} {A : Type 0} (f : X → A) (xs : List X) (i : ℕ) (x : X) (below : i < length xs) (is : x ≡ get_or xs i x) where
@@ -24,7 +20,8 @@ pub items_width-piece : {A : Type 0} (columns : ℕ → Option ℕ) (es fs : Lis
 items_width-piece columns es fs cs a =
     rw (flat_map-append, items_width-append, items_width-append, items_width-text columns cs a) refl
 
-pub items_width-marker : {A : Type 0} (columns : ℕ → Option ℕ) (es : List (Element A)) (name : List ℕ) → items_width columns (items_of (es ++ marker_element name ∷ [])) ≡ items_width columns (items_of es)
+pub items_width-marker : {A : Type 0} (columns : ℕ → Option ℕ) (es : List (Element A)) (name : List ℕ) →
+    items_width columns (items_of (es ++ marker_element name ∷ [])) ≡ items_width columns (items_of es)
 items_width-marker columns es name = omega (arith, ap (items_width columns) (flat_map-append element_items es (marker_element name ∷ [])), items_width-append columns (items_of es) (marker name ∷ []))
 
 pub has_piece-push : {A : Type 0} (es : List (Element A)) (name : List ℕ) → has_piece es ≡ false → has_piece (es ++ marker_element name ∷ []) ≡ false

@@ -1,20 +1,16 @@
 -- Equality of lines, element by element.
-use Rattle.std.proofs.Common.{◌≡◌, ℕ, ◌&&◌, Bool, true, false, List, [], ◌∷◌, map, length, get_or, refl, ap, sym, ◌∙◌, arith}
+use Rattle.tbr_tagged.proofs.Common.{◌≡◌, ℕ, Bool, true, false, List, [], ◌∷◌, map, length, get_or, refl, ap, sym, ◌∙◌, arith, IsUtf8, chars-encodes, IsUtf8-string_bytes, string_bytes}
+use Rattle.tbr_tagged.proofs.Common.{TaggedLineElement, Str, FragmentStart, Element, piece, marker_element, SameElement, SameElements, element_of}
+use Rattle.std.proofs.Common.{◌&&◌}
 use Rattle.std.specs.Cmp.{both_ways}
 use Rattle.std.specs.Cmp.Lexicographic.{pointwise, nat_list_eq_equiv}
 use Rattle.std.specs.Cmp.Lexicographic as lists
-use Rattle.std.specs.Str.{IsUtf8, chars}
-use Rattle.std.proofs.lemmas.Str.{chars-encodes, IsUtf8-string_bytes}
-use Rattle.std.specs.String.{string_bytes}
+use Rattle.std.specs.Str.{chars}
 use Rattle.std.specs.declared.string.String.{String}
 use Rattle.std.specs.declared.alloc.Global.{Global}
 use Rattle.tbr_tagged.specs.declared.element.TaggedString.{TaggedString}
-use Rattle.tbr_tagged.specs.declared.element.TaggedLineElement.{TaggedLineElement}
-use Rattle.tbr_tagged.specs.declared.element.TaggedLineElement.TheVariants.{Str, FragmentStart}
-use Rattle.tbr_tagged.specs.Elements.{Element, piece, marker_element, SameElement, SameElements}
 use Rattle.tbr_tags.specs.Lists.{list_copies_equal}
 use Rattle.tbr_tagged.specs.Equal.{same_text, equal_elements, equal_lines}
-use Rattle.tbr_tagged.specs.View.{element_of}
 
 path_same : (cs ds : List ℕ) → cs ≡ ds → same_text cs ds ≡ true
 path_same cs ds e = ap (same_text cs) (sym e) ∙ nat_list_eq_equiv.refl cs

@@ -1,14 +1,14 @@
 -- Lines that grow at their end, and that are cut back.
-use Rattle.std.proofs.Common.{◌≡◌, ℕ, zero, suc, ◌-◌, ◌<◌, Bool, true, Some, List, [], ◌∷◌, ◌++◌, fold, map, length, length-append, take, get_or, set, refl, ap, sym, subst, ◌∙◌, arith, append-nil, append_assoc}
-use Rattle.std.proofs.lemmas.Bool.{cond_both, and_parts}
-use Rattle.std.proofs.lemmas.List.{length-map}
-use Rattle.std.proofs.lemmas.Str.{IsUtf8-string_bytes, encodes-chars, encodes-append, scalars-chars, chars_from_encodes, IsCharBoundary-at_seam}
+use Rattle.tbr_tagged.proofs.Common.{◌≡◌, ℕ, zero, suc, ◌-◌, ◌<◌, Bool, true, Some, List, [], ◌∷◌, ◌++◌, fold, map, length, take, get_or, set, refl, ap, sym, subst, ◌∙◌, arith, append-nil}
+use Rattle.tbr_tagged.proofs.Common.{append_assoc, cond_both, length-map, IsUtf8-string_bytes, IsUtf8, IsCharBoundary, string_bytes, string_len, Element, piece, marker_element, with_text, extend_last}
+use Rattle.tbr_tagged.proofs.Common.{last_of, is_piece_under, push_text, push_element, element_items, text_items, items_of}
+use Rattle.std.proofs.Common.{length-append}
+use Rattle.std.proofs.lemmas.Bool.{and_parts}
+use Rattle.std.proofs.lemmas.Str.{encodes-chars, encodes-append, scalars-chars, chars_from_encodes, IsCharBoundary-at_seam}
 use Rattle.std.proofs.Math.Seq.{take-append_seam}
-use Rattle.std.specs.Str.{IsUtf8, IsCharBoundary, chars}
+use Rattle.std.specs.Str.{chars}
 use Rattle.std.specs.Prelude.{String}
-use Rattle.std.specs.String.{string_bytes, string_len}
 use lib.Utf8.{encodes, scalar, scalars}
-use Rattle.tbr_tagged.specs.Elements.{Element, piece, marker_element, with_text, extend_last, last_of, is_piece_under, push_text, push_element, element_items, text_items, items_of}
 use Rattle.tbr_tagged.specs.Grown.{HasGrown, text_bytes, last_bytes}
 use Rattle.tbr_tagged.proofs.TextAfter.{chars_some}
 
@@ -117,7 +117,8 @@ cut_last f (x ∷ xs) (e ∷ g ∷ es) cs d y some h k =
     rw n (cc)
 
 -- the last of the first elements is cut at its text's end
-pub cut_at : {X : Type 0} {A : Type 0} (f : X → Element A) (xs : List X) (es : List (Element A)) (cs : List ℕ) (n k : ℕ) (d y : X) → length es ≡ n → 0 < n → last_bytes (last_of es) ≡ k → map f xs ≡ extend_last es cs →
+pub cut_at : {X : Type 0} {A : Type 0} (f : X → Element A) (xs : List X) (es : List (Element A)) (cs : List ℕ) (n k : ℕ)
+    (d y : X) → length es ≡ n → 0 < n → last_bytes (last_of es) ≡ k → map f xs ≡ extend_last es cs →
     d ≡ get_or xs (n - 1) d → ((e : Element A) (ds : List ℕ) → text_bytes e ≡ k → f d ≡ with_text e ds → f y ≡ e) → map f (set xs (n - 1) y) ≡ es
 cut_at f xs es cs n k d y is some bytes h there cut =
     rw (← is) (cut_last f xs es cs d y (omega (arith, some)) h (λ e last p. cut e cs (ap last_bytes (sym last) ∙ bytes) (rw (there, ← is) p)))
@@ -134,7 +135,8 @@ pub text_has_items : {A : Type 0} {Z : Type 0} (s : String Z) (a : A) → 0 < st
 text_has_items s a some = simp length-map (chars_some (string_bytes s) (IsUtf8-string_bytes s) (omega (arith, some)))
 
 -- and so does a line with it
-pub line_has_items : {X : Type 0} {A : Type 0} (f : X → Element A) (xs : List X) (n : ℕ) (x : X) → n < length xs → x ≡ get_or xs n x → 0 < length (element_items (f x)) → 0 < length (items_of (map f xs))
+pub line_has_items : {X : Type 0} {A : Type 0} (f : X → Element A) (xs : List X) (n : ℕ) (x : X) → n < length xs →
+    x ≡ get_or xs n x → 0 < length (element_items (f x)) → 0 < length (items_of (map f xs))
 line_has_items f [] n x within there some = absurd (omega arith)
 line_has_items f (y ∷ ys) zero x within there some = omega (arith, length-append (element_items (f y)) (items_of (map f ys)), ap (λ z. length (element_items (f z))) there, some)
 line_has_items f (y ∷ ys) (suc n) x within there some =

@@ -1,3 +1,4 @@
+pub mod Common
 pub mod AppendedLines
 pub mod Outcomes
 pub mod ElementLoops

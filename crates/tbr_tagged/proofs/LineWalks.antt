@@ -1,18 +1,12 @@
 -- What walks over a line give.
-use Rattle.std.proofs.Common.{◌≡◌, ℕ, ◌<◌, ◌≤◌, ◌^◌, arith, length, List, [], ◌∷◌, ◌++◌, map, refl, ap, ◌∙◌, append-nil, encode_utf8}
-use Rattle.std.specs.Str.{IsUtf8, chars}
-use Rattle.std.specs.Char.{IsScalar}
-use Rattle.std.proofs.lemmas.Str.{chars-append}
-use Rattle.std.proofs.lemmas.List.Concat.{flat_map-append}
-use Rattle.tbr_model.specs.Run.{glyph}
-use Rattle.tbr_tagged.specs.declared.element.TaggedLineElement.{TaggedLineElement}
-use Rattle.tbr_tagged.specs.declared.element.TaggedLineElement.TheVariants.{Str, FragmentStart}
+use Rattle.tbr_tagged.proofs.Common.{◌≡◌, ℕ, ◌<◌, ◌≤◌, arith, length, List, [], ◌∷◌, ◌++◌, map, refl, ap, ◌∙◌, append-nil, encode_utf8, IsUtf8, IsScalar, chars-append, flat_map-append, glyph}
+use Rattle.tbr_tagged.proofs.Common.{TaggedLineElement, Str, FragmentStart, Element, piece, marker_element, element_items, element_characters, items_of, characters, stored, element_of, strings_of}
+use Rattle.tbr_tagged.proofs.Common.{piece_of}
+use Rattle.std.proofs.Common.{◌^◌}
+use Rattle.std.specs.Str.{chars}
 use Rattle.tbr_tagged.specs.declared.element_list.ElementList.{ElementList}
 use Rattle.tbr_tagged.specs.declared.element_list.ElementList.TheVariants.{Alone, Listed}
-use Rattle.tbr_tagged.specs.Elements.{Element, piece, marker_element, element_items, element_characters, items_of, characters}
-use Rattle.tbr_tagged.specs.Stored.{stored}
-use Rattle.tbr_tagged.specs.View.{element_of}
-use Rattle.tbr_tagged.specs.Walks.{strings_of, piece_of, pieces_of, item_character, item_characters}
+use Rattle.tbr_tagged.specs.Walks.{pieces_of, item_character, item_characters}
 use Rattle.tbr_tagged.proofs.TextAfter.{chars_one}
 
 -- a line has no more elements than `usize` counts

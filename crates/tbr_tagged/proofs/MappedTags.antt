@@ -1,14 +1,10 @@
 -- Mapping tags keeps texts and columns, and makes equal tags the same where they mean the same.
 use Rattle.tbr_tagged.proofs.SameItems.{zip_same}
-use Rattle.std.proofs.Common.{◌≡◌, ℕ, Bool, Option, List, [], ◌∷◌, ◌++◌, refl, ap, sym, ◌∙◌, arith}
-use Rattle.std.specs.List.{AllZip}
-use Rattle.tbr_model.specs.Run.{Item, glyph, marker, items_width, has_character}
+use Rattle.tbr_tagged.proofs.Common.{◌≡◌, ℕ, Bool, Option, List, [], ◌∷◌, ◌++◌, refl, ap, sym, ◌∙◌, arith, AllZip, Item, glyph, marker, items_width, has_character, width_of_text, Element, piece}
+use Rattle.tbr_tagged.proofs.Common.{marker_element, element_items, element_characters, items_of, characters, has_piece, SameItem, SameItems, IsMerged, MapsElements, items_width-append}
 use Rattle.tbr_model.specs.Mapped.{map_item, map_items, map_lines}
-use Rattle.tbr_model.specs.Width.{width_of_text}
-use Rattle.tbr_tagged.specs.Elements.{Element, piece, marker_element, element_items, element_characters, items_of, characters, has_piece, SameItem, SameItems, IsMerged}
-use Rattle.tbr_tagged.specs.Mapped.{MapsElement, MapsElements, MeansEqual}
+use Rattle.tbr_tagged.specs.Mapped.{MapsElement, MeansEqual}
 use Rattle.tbr_tagged.proofs.TextColumns.{items_width-text}
-use Rattle.tbr_model.proofs.words.Items.{items_width-append}
 
 module _ {A B : Type 0} (gives : A → B → Type 0) where
   mapped_text : (e : Element A) (f : Element B) → MapsElement gives e f → element_characters f ≡ element_characters e

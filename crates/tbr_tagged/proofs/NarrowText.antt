@@ -1,11 +1,9 @@
 -- Texts that begin with characters of one byte and one column each.
-use Rattle.std.proofs.Common.{◌≡◌, ℕ, ◌+◌, ◌≤◌, Option, List, [], ◌∷◌, ◌++◌, length, take, drop, chars, refl, ap, sym, ◌∙◌, arith}
-use Rattle.std.specs.Str.{IsUtf8, IsAscii, IsCharBoundary}
-use Rattle.std.proofs.lemmas.List.{take-append-drop, length-take-le}
-use Rattle.std.proofs.lemmas.Str.{chars-append, chars-IsAscii, IsUtf8-from_ascii, IsCharBoundary-from_take}
+use Rattle.tbr_tagged.proofs.Common.{◌≡◌, ℕ, ◌+◌, ◌≤◌, Option, List, [], ◌∷◌, ◌++◌, length, take, drop, chars, refl, ap, sym, ◌∙◌, arith, IsUtf8, IsAscii, IsCharBoundary, take-append-drop}
+use Rattle.tbr_tagged.proofs.Common.{chars-append, chars-IsAscii, width_of_text, AreNarrow}
+use Rattle.std.proofs.lemmas.List.{length-take-le}
+use Rattle.std.proofs.lemmas.Str.{IsUtf8-from_ascii, IsCharBoundary-from_take}
 use Rattle.std.proofs.lemmas.Str.Ascii.{IsAscii-nil, IsAscii-cons}
-use Rattle.tbr_model.specs.Width.{width_of_text}
-use Rattle.tbr_tagged.specs.Narrow.{AreNarrow}
 use Rattle.tbr_tagged.proofs.TextColumns.{width_of_text-append}
 
 module _ (columns : ℕ → Option ℕ) where
@@ -26,8 +24,13 @@ module _ (columns : ℕ → Option ℕ) where
 
     -- they are characters as they are bytes
     pub narrow_characters : chars text ≡ take n text ++ chars (drop n text)
-    narrow_characters = ap chars (sym (take-append-drop n text)) ∙ chars-append (take n text) (drop n text) (IsUtf8-from_ascii (take n text) ascii) ∙ ap (λ cs. cs ++ chars (drop n text)) (chars-IsAscii (take n text) ascii)
+    narrow_characters =
+        ap chars (sym (take-append-drop n text))
+        ∙ chars-append (take n text) (drop n text) (IsUtf8-from_ascii (take n text) ascii)
+        ∙ ap (λ cs. cs ++ chars (drop n text)) (chars-IsAscii (take n text) ascii)
 
     -- the columns of the whole text
     pub narrow_columns : width_of_text columns (chars text) ≡ n + width_of_text columns (chars (drop n text))
-    narrow_columns = omega (arith, ap (width_of_text columns) narrow_characters, width_of_text-append columns (take n text) (chars (drop n text)), narrow_width (take n text) are, length-take-le n text within)
+    narrow_columns =
+        omega
+        (arith, ap (width_of_text columns) narrow_characters, width_of_text-append columns (take n text) (chars (drop n text)), narrow_width (take n text) are, length-take-le n text within)

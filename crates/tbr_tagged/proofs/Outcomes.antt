@@ -1,5 +1,6 @@
 -- What calls answer, by their outcomes.
-use Rattle.std.proofs.Common.{◌≡◌, Option, None, Some, Result, Ok, Err, refl, ap, sym, ◌∙◌, arith}
+use Rattle.tbr_tagged.proofs.Common.{◌≡◌, Option, Some, Result, refl, ap, sym, ◌∙◌, arith}
+use Rattle.std.proofs.Common.{None, Ok, Err}
 use Rattle.tbr_tagged.specs.declared.error.Error.{Error}
 use Rattle.tbr_tagged.specs.declared.error.Error.TheVariants as E
 use Rattle.tbr_tagged.specs.Outcome.{Outcome, done, refused, if_live, Answers}
@@ -20,6 +21,7 @@ module _ {S K R : Type 0} (failure : S → Option Error) (settings : S → K) (o
   pub answers_ok : (x : R) (new : S) → failure old ≡ None → outcome ≡ done new → settings new ≡ settings old → Answers failure settings (if_live (failure old) outcome) old (Ok x) new
   answers_ok x new live is stay = grind (arith, live_goes)
 
-  pub answers_err : (e : Error) (result : Result R Error) (new : S) → result ≡ Err e → failure old ≡ None → (e ≡ E.TooNarrow → outcome ≡ refused E.TooNarrow) → failure new ≡ Some e → settings new ≡ settings old →
+  pub answers_err : (e : Error) (result : Result R Error) (new : S) → result ≡ Err e → failure old ≡ None →
+      (e ≡ E.TooNarrow → outcome ≡ refused E.TooNarrow) → failure new ≡ Some e → settings new ≡ settings old →
       Answers failure settings (if_live (failure old) outcome) old result new
   answers_err e result new is live narrow left stay = grind (arith, live_goes)

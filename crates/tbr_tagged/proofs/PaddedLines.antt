@@ -1,15 +1,14 @@
 -- Lines with spaces in front and after.
-use Rattle.std.proofs.Common.{◌≡◌, ℕ, zero, suc, ◌+◌, ◌<◌, ◌≤◌, Bool, true, false, Option, Some, unwrap_or, List, [], ◌∷◌, ◌++◌, refl, ap, ◌∙◌, arith, cond}
-use Rattle.std.specs.Cmp.{IsEquivalence}
-use Rattle.tbr_model.specs.Run.{Item, items_width}
-use Rattle.tbr_tagged.specs.Elements.{Element, piece, marker_element, text_items, items_of, SameItems, SameElement, SameElements, is_piece_under, with_text, last_of, extend_last, push_text, text_before, insert_text, IsMerged}
+use Rattle.tbr_tagged.proofs.Common.{◌≡◌, ℕ, zero, suc, ◌+◌, ◌<◌, ◌≤◌, Bool, true, false, Option, Some, unwrap_or, List, [], ◌∷◌, ◌++◌, refl, ap, ◌∙◌, arith, IsEquivalence, Item, items_width, Element}
+use Rattle.tbr_tagged.proofs.Common.{piece, marker_element, text_items, items_of, SameItems, SameElement, SameElements, is_piece_under, with_text, last_of, extend_last, push_text, text_before}
+use Rattle.tbr_tagged.proofs.Common.{insert_text, IsMerged, spaces, columns_in_front, items_width-append}
+use Rattle.std.proofs.Common.{cond}
 use Rattle.tbr_tagged.specs.declared.padding.CellAlign.{CellAlign}
 use Rattle.tbr_tagged.specs.declared.padding.CellAlign.TheVariants.{Left, Right, Centre}
-use Rattle.tbr_tagged.specs.Padding.{spaces, columns_in_front, spaces_before, padded}
+use Rattle.tbr_tagged.specs.Padding.{spaces_before, padded}
 use Rattle.tbr_tagged.proofs.SameItems.{all_zip_append, same_items, same_items_append, same_items_trans, items_push, same_width, zip_trans}
 use Rattle.tbr_tagged.proofs.TextAfter.{same_elements, pushed_merged}
 use Rattle.tbr_tagged.proofs.TextInFront.{items_inserted, merged_inserted}
-use Rattle.tbr_model.proofs.words.Items.{items_width-append}
 
 -- spaces in front, where there are any
 pub spaces_before_some : {A : Type 0} (eq : A → A → Bool) (es : List (Element A)) (n : ℕ) (a : A) → 0 < n → spaces_before eq es n a ≡ insert_text eq es (spaces n) a
@@ -87,9 +86,13 @@ module _ {A : Type 0} (eq : A → A → Bool) (laws : IsEquivalence eq) where
   before_items es zero a = same_items eq laws (items_of es)
   before_items es (suc n) a = items_inserted eq laws es (spaces (suc n)) a
 
-  pub padded_items : (es : List (Element A)) (front after : ℕ) (a : A) → SameItems eq (items_of (padded eq es front after a)) (text_items (spaces front) a ++ items_of es ++ text_items (spaces after) a)
+  pub padded_items : (es : List (Element A)) (front after : ℕ) (a : A) →
+      SameItems eq (items_of (padded eq es front after a))
+      (text_items (spaces front) a ++ items_of es ++ text_items (spaces after) a)
   padded_items es front after a =
-      same_items_trans eq laws (items_of (padded eq es front after a)) (items_of (spaces_before eq es front a) ++ text_items (spaces after) a) (text_items (spaces front) a ++ items_of es ++ text_items (spaces after) a)
+      same_items_trans eq laws (items_of (padded eq es front after a))
+      (items_of (spaces_before eq es front a) ++ text_items (spaces after) a)
+      (text_items (spaces front) a ++ items_of es ++ text_items (spaces after) a)
       (items_push eq laws (spaces_before eq es front a) (spaces after) a)
       (same_items_append eq laws (items_of (spaces_before eq es front a)) (text_items (spaces front) a ++ items_of es) (text_items (spaces after) a) (text_items (spaces after) a)
       (before_items es front a) (same_items eq laws (text_items (spaces after) a)))
@@ -109,5 +112,6 @@ module _ {A : Type 0} (eq : A → A → Bool) (laws : IsEquivalence eq) where
   pub padded_columns : (columns : ℕ → Option ℕ) (is js : List (Item A)) (front after : ℕ) (a : A) → columns 32 ≡ Some 1 →
       SameItems eq is (text_items (spaces front) a ++ js ++ text_items (spaces after) a) → items_width columns is ≡ front + items_width columns js + after
   padded_columns columns is js front after a h same =
-      rw (same_width columns eq is (text_items (spaces front) a ++ js ++ text_items (spaces after) a) same, items_width-append, items_width-append, spaces_columns columns front a h, spaces_columns columns after a h)
+      rw
+      (same_width columns eq is (text_items (spaces front) a ++ js ++ text_items (spaces after) a) same, items_width-append, items_width-append, spaces_columns columns front a h, spaces_columns columns after a h)
       refl

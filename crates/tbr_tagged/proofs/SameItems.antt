@@ -1,12 +1,8 @@
 -- Items that are the same up to equal tags.
-use Rattle.std.proofs.lemmas.List.{map-append}
-use Rattle.std.proofs.Common.{◌≡◌, ℕ, Option, Bool, true, List, [], ◌∷◌, ◌++◌, map, refl, ap, sym, ◌∙◌, subst, arith, append_assoc, append-nil}
-use Rattle.std.specs.Cmp.{IsEquivalence}
-use Rattle.std.specs.List.{AllZip}
-use Rattle.std.proofs.lemmas.Bool.{cond_both}
-use Rattle.std.proofs.lemmas.List.Concat.{flat_map-append}
-use Rattle.tbr_model.specs.Run.{Item, glyph, marker, item_width, items_width, has_character}
-use Rattle.tbr_tagged.specs.Elements.{Element, piece, marker_element, element_items, items_of, SameItem, SameItems, SameElement, SameElements, extend_last, last_of, is_piece_under, push_text, push_element}
+use Rattle.tbr_tagged.proofs.Common.{map-append, ◌≡◌, ℕ, Option, Bool, true, List, [], ◌∷◌, ◌++◌, map, refl, ap, sym, ◌∙◌, subst, arith, append_assoc, append-nil, IsEquivalence, AllZip, cond_both}
+use Rattle.tbr_tagged.proofs.Common.{flat_map-append, Item, glyph, marker, items_width, has_character, Element, piece, marker_element, element_items, items_of, SameItem, SameItems, SameElement}
+use Rattle.tbr_tagged.proofs.Common.{SameElements, extend_last, last_of, is_piece_under, push_text, push_element}
+use Rattle.tbr_model.specs.Run.{item_width}
 
 pub all_zip_append : {A B : Type 0} (R : A → B → Type 0) (xs zs : List A) (ys ws : List B) → AllZip R xs ys → AllZip R zs ws → AllZip R (xs ++ zs) (ys ++ ws)
 all_zip_append R [] zs [] ws h k = k

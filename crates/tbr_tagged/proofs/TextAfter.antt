@@ -1,15 +1,11 @@
 -- Text after a line of pieces.
-use Rattle.std.proofs.lemmas.Result.{on_ok_weaker}
+use Rattle.tbr_tagged.proofs.Common.{on_ok_weaker, ◌≡◌, ℕ, suc, ◌-◌, ◌<◌, Bool, true, false, Some, List, [], ◌∷◌, ◌++◌, map, length, get_or, set, replicate, encode_utf8, refl, ap, sym, ◌∙◌, arith}
+use Rattle.tbr_tagged.proofs.Common.{append-nil, Result, slice_get, cond_both, IsAscii, IsUtf8, IsScalar, IsEquivalence, chars-append, chars-encodes, chars-IsAscii, Element, piece, marker_element}
+use Rattle.tbr_tagged.proofs.Common.{SameElement, SameElements, with_text, extend_last, last_of, is_piece_under, push_text, push_element, HasText, AreParted, IsPartedFrom, IsMerged}
 use Rattle.std.specs.Result.{OnOk}
-use Rattle.std.proofs.Common.{◌≡◌, ℕ, suc, ◌-◌, ◌<◌, Bool, true, false, Some, option_map, List, [], ◌∷◌, ◌++◌, map, length, get_or, set, replicate, encode_utf8, refl, ap, sym, ◌∙◌, arith, append-nil, Result}
-use Rattle.std.specs.List.{slice_get}
-use Rattle.std.proofs.lemmas.Bool.{cond_both}
-use Rattle.std.specs.Str.{IsAscii, IsUtf8, chars}
+use Rattle.std.proofs.Common.{option_map}
+use Rattle.std.specs.Str.{chars}
 use lib.Utf8.{encodes}
-use Rattle.std.specs.Char.{IsScalar}
-use Rattle.std.specs.Cmp.{IsEquivalence}
-use Rattle.std.proofs.lemmas.Str.{chars-append, chars-encodes, chars-IsAscii}
-use Rattle.tbr_tagged.specs.Elements.{Element, piece, marker_element, SameElement, SameElements, with_text, extend_last, last_of, is_piece_under, push_text, push_element, HasText, AreParted, IsPartedFrom, IsMerged}
 
 -- one more character at the end of a text
 pub chars_one : (c : ℕ) → IsScalar c → chars (encode_utf8 c) ≡ c ∷ []
@@ -74,7 +70,8 @@ push_extends eq es [] a text under = absurd (omega arith)
 push_extends eq es (c ∷ cs) a text under = rw under refl
 
 -- and where it doesn't
-pub push_after : {A : Type 0} (eq : A → A → Bool) (es : List (Element A)) (cs : List ℕ) (a : A) → 0 < length cs → is_piece_under eq (last_of es) a ≡ false → push_text eq es cs a ≡ es ++ piece cs a ∷ []
+pub push_after : {A : Type 0} (eq : A → A → Bool) (es : List (Element A)) (cs : List ℕ) (a : A) → 0 < length cs →
+    is_piece_under eq (last_of es) a ≡ false → push_text eq es cs a ≡ es ++ piece cs a ∷ []
 push_after eq es [] a text under = absurd (omega arith)
 push_after eq es (c ∷ cs) a text under = rw under refl
 
@@ -107,7 +104,8 @@ parted_last : {A : Type 0} (eq : A → A → Bool) (e : Element A) (cs : List �
 parted_last eq (piece bs b) cs a h = h
 parted_last eq (marker_element m) cs a h = tt
 
-merged_new : {A : Type 0} (eq : A → A → Bool) (es : List (Element A)) (c : ℕ) (cs : List ℕ) (a : A) → is_piece_under eq (last_of es) a ≡ false → IsMerged eq es → IsMerged eq (es ++ piece (c ∷ cs) a ∷ [])
+merged_new : {A : Type 0} (eq : A → A → Bool) (es : List (Element A)) (c : ℕ) (cs : List ℕ) (a : A) →
+    is_piece_under eq (last_of es) a ≡ false → IsMerged eq es → IsMerged eq (es ++ piece (c ∷ cs) a ∷ [])
 merged_new eq [] c cs a test h = (tt, tt, tt)
 merged_new eq (e ∷ []) c cs a test h = (h.0, parted_last eq e (c ∷ cs) a test, (tt, tt, tt))
 merged_new eq (e ∷ f ∷ es) c cs a test h = (h.0, h.1, merged_new eq (f ∷ es) c cs a test h.2)

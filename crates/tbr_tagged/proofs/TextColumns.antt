@@ -1,15 +1,11 @@
 -- Columns of texts, and loops over characters.
-use Rattle.std.proofs.Common.{◌≡◌, ℕ, suc, ◌+◌, ◌<◌, ◌≤◌, true, Option, Some, unwrap_or, List, [], ◌∷◌, ◌++◌, map, length, get_or, take, drop, refl, ap, sym, ◌∙◌, arith, drop-cons, map-id}
+use Rattle.tbr_tagged.proofs.Common.{◌≡◌, ℕ, suc, ◌+◌, ◌<◌, ◌≤◌, true, Option, Some, unwrap_or, List, [], ◌∷◌, ◌++◌, map, length, get_or, take, drop, refl, ap, sym, ◌∙◌, arith, drop-cons, map-id}
+use Rattle.unicode_width.specs.Width.{char_width}
+use Rattle.tbr_tagged.proofs.Common.{nat_tests, YieldsList-turn, take-append-drop, glyph, items_width, width_of_text, unicode_columns}
 use Rattle.std.specs.Int.{is_in_range}
 use Rattle.std.specs.Iterator.{Yields}
-use Rattle.std.proofs.lemmas.Bool.Decides.{nat_tests}
 use Rattle.std.proofs.lemmas.Iterator.{YieldsList}
-use Rattle.std.proofs.lemmas.Iterator.Consumers.{YieldsList-so_far, YieldsList-turn}
-use Rattle.std.proofs.lemmas.List.{take-append-drop}
-use Rattle.tbr_model.specs.Run.{glyph, items_width}
-use Rattle.tbr_model.specs.Width.{width_of_text}
-use Rattle.tbr_tagged.specs.UnicodeColumns.{unicode_columns}
-use Rattle.unicode_width.specs.Width.{char_width}
+use Rattle.std.proofs.lemmas.Iterator.Consumers.{YieldsList-so_far}
 
 -- printable ASCII takes one column
 pub ascii_in_one : (c : ℕ) → is_in_range 0x20 0x7E c ≡ true → unicode_columns c ≡ Some 1

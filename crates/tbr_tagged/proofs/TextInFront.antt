@@ -1,10 +1,6 @@
 -- Text in front of a line of pieces.
-use Rattle.std.proofs.lemmas.List.{map-append}
-use Rattle.std.proofs.Common.{◌≡◌, ℕ, ◌<◌, Bool, true, false, Some, List, [], ◌∷◌, ◌++◌, length, refl, ap, ◌∙◌, arith, append_assoc}
-use Rattle.std.specs.Cmp.{IsEquivalence}
-use Rattle.std.specs.List.{slice_get}
-use Rattle.std.proofs.lemmas.Bool.{cond_both}
-use Rattle.tbr_tagged.specs.Elements.{Element, piece, marker_element, element_items, text_items, items_of, SameItems, is_piece_under, text_before, insert_text, HasText, AreParted, IsPartedFrom, IsMerged}
+use Rattle.tbr_tagged.proofs.Common.{map-append, ◌≡◌, ℕ, ◌<◌, Bool, true, false, Some, List, [], ◌∷◌, ◌++◌, length, refl, ap, ◌∙◌, arith, append_assoc, IsEquivalence, slice_get, cond_both, Element}
+use Rattle.tbr_tagged.proofs.Common.{piece, marker_element, element_items, text_items, items_of, SameItems, is_piece_under, text_before, insert_text, HasText, AreParted, IsPartedFrom, IsMerged}
 use Rattle.tbr_tagged.proofs.SameItems.{same_items, same_items_append, same_from_path, same_items_trans, same_texts}
 use Rattle.tbr_tagged.proofs.TextAfter.{more_text}
 

@@ -1,7 +1,6 @@
 -- What is equal up to tags whose equality tells meanings apart is the same.
-use Rattle.std.proofs.Common.{◌≡◌, ◌↔◌, Bool, IsTrue, List, [], ◌∷◌, refl, ap}
-use Rattle.tbr_model.specs.Run.{Item, glyph, marker}
-use Rattle.tbr_tagged.specs.Elements.{Element, piece, marker_element, SameItem, SameItems, SameElement, SameElements}
+use Rattle.tbr_tagged.proofs.Common.{◌≡◌, Bool, IsTrue, List, [], ◌∷◌, refl, ap, Item, glyph, marker, Element, piece, marker_element, SameItem, SameItems, SameElement, SameElements}
+use Rattle.std.proofs.Common.{◌↔◌}
 
 module _ {M : Type 0} (same : M → M → Bool) (tells : (a b : M) → IsTrue (same a b) ↔ (a ≡ b)) where
   told_item : (i j : Item M) → SameItem same i j → i ≡ j

@@ -1,16 +1,16 @@
 -- Blocks whose characters all take two columns.
-use Rattle.std.proofs.Common.{◌≡◌, ℕ, ◌<◌, ◌≤◌, Bool, true, false, not, ◌||◌, ◌==◌, List, [], ◌∷◌, Some, refl, sym, ap, arith}
-use Rattle.std.proofs.lemmas.Bool.{eqb-true}
-use Rattle.std.proofs.lemmas.Bool.Decides.{nat_tests}
+use Rattle.tbr_tagged.proofs.Common.{◌≡◌, ℕ, ◌<◌, ◌≤◌, Bool, true, false, List, [], ◌∷◌, Some, refl, sym, ap, arith, eqb-true, nat_tests, unicode_columns}
+use Rattle.unicode_width.specs.Width.{char_width}
+use Rattle.std.proofs.Common.{not, ◌||◌, ◌==◌}
 use Rattle.ucd_table.specs.Rows.{Range, in_ranges}
 use Rattle.ucd_table.proofs.Computing.{tables}
 use Rattle.ucd_table.proofs.Stepped.{of_ranges, zip_stepped}
 use Rattle.ucd_table.proofs.Facts.{Stepped-always}
 use Rattle.unicode_width.specs.Kind.{kind_number}
-use Rattle.unicode_width.specs.Width.{alone, char_width}
+use Rattle.unicode_width.specs.Width.{alone}
 use Rattle.unicode_width.proofs.KindLemmas.{kind_number_stepped}
 use Rattle.unicode_width.proofs.WidthLemmas.{alone-small}
-use Rattle.tbr_tagged.specs.UnicodeColumns.{is_in_wide_block, unicode_columns}
+use Rattle.tbr_tagged.specs.UnicodeColumns.{is_in_wide_block}
 
 abbrev wide_ranges : List Range
 wide_ranges = (0x3001, 0x3029) ∷ (0x3041, 0x3096) ∷ (0x309B, 0x30FF) ∷ (0x3400, 0xA48C) ∷ (0xAC00, 0xD7A3) ∷ (0xFF01, 0xFF60) ∷ []

@@ -2,8 +2,8 @@
 use Rattle.std.specs.Prelude.{◌≡◌, ◌⊎◌, ℕ, true, false, Option, None, Some, List, [], ◌∷◌}
 use Rattle.tbr_decor.specs.Decoration.{Decoration}
 use Rattle.tbr_tagged.specs.Outcome.{done}
-use Rattle.text_block_renderer.specs.Line.{Line}
-use Rattle.text_block_renderer.specs.Top.{OfTop}
+use Rattle.tbr_kept_lines.specs.Line.{Line}
+use Rattle.tbr_stack.specs.Top.{OfTop}
 use Rattle.tbr_commands.specs.declared.opening.Opening.{Opening}
 use Rattle.tbr_program.specs.Closing.{closed}
 use Rattle.tbr_program.specs.Commands.{started}

@@ -15,7 +15,7 @@ use Rattle.tbr_decor.specs.contracts.annotation.RichAnnotationPartialEq.TheImpl 
 use Rattle.tbr_annotations.specs.Written.{IsWrittenOut}
 use Rattle.tbr_decor.specs.Decoration.{Decoration}
 use Rattle.tbr_decor.specs.Style.{style_of}
-use Rattle.text_block_renderer.specs.Line.{line_seen}
+use Rattle.tbr_kept_lines.specs.Line.{line_seen}
 use Rattle.tbr_script.specs.Script.{lines_of}
 use Rattle.tbr_program.specs.Decorations.{plain_decoration, trivial_decoration, rich_decoration}
 use Rattle.tbr_commands.specs.declared.opening.Decorator.{Decorator}

@@ -3,9 +3,9 @@ use Rattle.std.specs.Prelude.{◌≡◌, ◌⊎◌, ℕ, Bool, true, false, Opti
 use Rattle.tbr_model.specs.Width.{width_of_text}
 use Rattle.tbr_tagged.specs.View.{chars_of}
 use Rattle.tbr_decor.specs.Decoration.{Decoration}
-use Rattle.text_block_renderer.specs.Renderer.{Renderer}
+use Rattle.tbr_renderer.specs.Renderer.{Renderer}
 use Rattle.tbr_renderer.specs.declared.options.RenderOptions.{RenderOptions}
-use Rattle.text_block_renderer.specs.Stack.{top_of}
+use Rattle.tbr_stack.specs.Stack.{top_of}
 use Rattle.tbr_script.specs.declared.error.RunError.{RunError}
 use Rattle.tbr_script.specs.declared.text_pair.TextPair.{TextPair}
 use Rattle.tbr_commands.specs.declared.command.Command as declared

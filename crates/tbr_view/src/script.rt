@@ -3,7 +3,7 @@ ghost use Rattle.std.specs.Prelude.{◌≡◌, ◌≢◌, ◌<◌, Some, map, If
 ghost use Rattle.tbr_tagged.specs.View.{chars_of};
 ghost use Rattle.tbr_decor.specs.Decoration.{decoration_of};
 ghost use Rattle.tbr_script.specs.Script.{lines_of};
-ghost use Rattle.text_block_renderer.specs.Line.{line_seen};
+ghost use Rattle.tbr_kept_lines.specs.Line.{line_seen};
 ghost use Rattle.tbr_view.specs.Script.{Begins, BeginsNot};
 ghost use Rattle.tbr_view.specs.Lines.{LinesGive, begun};
 ghost use Rattle.tbr_view.specs.Shown.{IsShown, opening_in};
@@ -11,13 +11,14 @@ ghost use Rattle.tbr_view.specs.Shown.{IsShown, opening_in};
 use crate::session::Session;
 use crate::show::show;
 use std::alloc::Global;
+use tbr_annotations::Annotations;
+use tbr_border::RenderLine;
 use tbr_commands::{Decorator, Opening};
 use tbr_decor::{PlainDecorator, RichDecorator, TrivialDecorator};
 use tbr_headings::Headings;
-use tbr_lines::{CharWidth, RenderLine};
+use tbr_model::CharWidth;
 use tbr_script::split_line;
 use tbr_statements::{Problem, Refusal, advice, is_skipped};
-use text_block_renderer::Annotations;
 
 /// What is written.
 #[derive(Clone, Copy, Debug, PartialEq, Eq)]

@@ -5,7 +5,7 @@ ghost use Rattle.tbr_commands.specs.Command.{command_of, ask};
 ghost use Rattle.tbr_commands.specs.Command as asked;
 ghost use Rattle.tbr_commands.specs.Request.{layout as laid};
 ghost use Rattle.tbr_program.specs.Progress.{GoesOn};
-ghost use Rattle.text_block_renderer.specs.Line.{line_seen};
+ghost use Rattle.tbr_kept_lines.specs.Line.{line_seen};
 ghost use Rattle.tbr_statements.specs.Level.{innermost, opener_of, may_not_append, known_in, noted, takes_two};
 ghost use Rattle.tbr_view.specs.Session as model;
 ghost use Rattle.tbr_view.specs.Tables.{no_tables, place_of, counted};
@@ -13,18 +13,20 @@ ghost use Rattle.tbr_view.specs.Lines.{begun, Does, DoesOutside, LineDoes, EndsI
 ghost use Rattle.tbr_statements.specs.Statement.{IsSized};
 
 use std::alloc::{AllocError, Global};
+use tbr_annotations::Annotations;
+use tbr_border::RenderLine;
 use tbr_commands::{Command, Decorator, Layout, Opening, Request};
 use tbr_headings::{Headings, heading_columns};
-use tbr_lines::{CharWidth, RenderLine, text_width};
+use tbr_model::CharWidth;
 use tbr_program::Program;
 use tbr_recorded::{TableScript, Texts};
-use tbr_renderer::RenderOptions;
+use tbr_renderer::{RenderOptions, Renderer};
 use tbr_script::{RunError, TextPair};
 use tbr_statements::{
     Block, Levels, Opener, Problem, Refusal, Statement, Stretch, Stretches, TooWide, advice,
     is_skipped,
 };
-use text_block_renderer::{Annotations, Renderer};
+use tbr_tagged::text_width;
 
 mod recording;
 
@@ -547,10 +549,10 @@ impl<D: Headings, W: CharWidth> Session<D, W> {
         }
         match program.finish_lines(true) {
             Ok(lines) => Ok((lines, lost, warnings)),
-            Err(tbr_lines::Error::TooNarrow) => {
+            Err(tbr_tagged::Error::TooNarrow) => {
                 Err(advice::too_narrow(alloc, number, levels.notes.too_wide))
             }
-            Err(tbr_lines::Error::OutOfMemory) => Err(Refusal::OutOfMemory),
+            Err(tbr_tagged::Error::OutOfMemory) => Err(Refusal::OutOfMemory),
         }
     }
 

@@ -8,11 +8,13 @@ ghost use Rattle.tbr_view.specs.Shown as model;
 
 use crate::script::Format;
 use std::alloc::Global;
+use tbr_annotations::{Annotations, written_out};
+use tbr_border::RenderLine;
 use tbr_decor::RichAnnotation;
-use tbr_lines::{CharWidth, OutOfMemory, RenderLine, TaggedLine};
+use tbr_model::CharWidth;
 use tbr_show::{ansi, html, ndjson};
+use tbr_tagged::{OutOfMemory, TaggedLine};
 use tbr_tags::Tag;
-use text_block_renderer::{Annotations, written_out};
 
 /// Annotations whose lines can be shown.
 pub trait Annotation: Tag {

@@ -1,3 +1,4 @@
+pub mod Common
 pub mod lines
 pub mod runs
 pub mod words

@@ -1,5 +1,10 @@
 -- What calls, rows and footnotes add to the lines, piece by piece.
-use Rattle.text_block_renderer.proofs.Common.{◌≡◌, ℕ, Bool, Option, None, List, [], ◌∷◌, ◌++◌, map, flat_map, fold, refl, ap, sym, ◌∙◌, subst, append_assoc, append-nil, arith, rules, AllZip, Each, map-append, map-map, flat_map-append, Outcome, Entry, Item, Border, BorderCell, SeenRow, Decoration, Open, Renderer, with_line, open_run, IsSound, listed, footnote_lines, Line, GivenCell, border_lines, with_next, with_row, PutsRow, before_border, Call, Does, entries_brought, Brings, laid_entries, text_of_lines, done, told_by, after_flush, Added, part_added, row_added, note_added, notes_add, flush_ends, Part, lines_laid, IsPart, lines_of_part, Act, call, row, fmt_links, finalise, rows_of, after_act, act_enters, acts_enter, Piece, part, put, noted, cells_in, rows_in, border_lines_of, lines_of_piece, entries_of_piece, added_of_piece, act_adds, acts_add, IsPiece, StaysLine, ComesInPieces}
+use Rattle.text_block_renderer.proofs.Common.{◌≡◌, ℕ, Bool, Option, None, List, [], ◌∷◌, ◌++◌, map, flat_map, fold, refl, ap, sym, ◌∙◌, subst, append_assoc, append-nil, arith, rules, AllZip, Each}
+use Rattle.text_block_renderer.proofs.Common.{map-append, map-map, flat_map-append, Outcome, Entry, Item, Border, BorderCell, SeenRow, Decoration, Open, Renderer, with_line, open_run, IsSound, listed}
+use Rattle.text_block_renderer.proofs.Common.{footnote_lines, Line, GivenCell, border_lines, with_next, with_row, PutsRow, before_border, Call, Does, entries_brought, Brings, laid_entries}
+use Rattle.text_block_renderer.proofs.Common.{text_of_lines, done, told_by, after_flush, Added, part_added, row_added, note_added, notes_add, flush_ends, Part, lines_laid, IsPart, lines_of_part, Act}
+use Rattle.text_block_renderer.proofs.Common.{call, row, fmt_links, finalise, rows_of, after_act, act_enters, acts_enter, Piece, part, put, noted, cells_in, rows_in, border_lines_of, lines_of_piece}
+use Rattle.text_block_renderer.proofs.Common.{entries_of_piece, added_of_piece, act_adds, acts_add, IsPiece, StaysLine, ComesInPieces}
 use Rattle.std.proofs.lemmas.List.Folds.{flat_map-map}
 use Rattle.tbr_model.specs.Layout.{joined}
 use Rattle.tbr_model.proofs.lists.Each.{each_append, each_map}
@@ -8,13 +13,14 @@ use Rattle.tbr_decor.specs.Change as change
 use Rattle.tbr_tagged.proofs.Outcomes.{live_done}
 use Rattle.tbr_renderer.proofs.OutcomeParts.{one_done, done_first}
 use Rattle.text_block_renderer.specs.LastBorders.{BecomeBy}
-use Rattle.text_block_renderer.proofs.Moves.{any, flush, beside, lines_beside, sound_alike, flushed_none, Frame, Course, one, path_frame}
+use Rattle.tbr_renderer.proofs.FlushedBlocks.{beside, lines_beside, flushed_none}
+use Rattle.text_block_renderer.proofs.Moves.{any, flush, sound_alike, Frame, Course, one, path_frame}
 use Rattle.text_block_renderer.proofs.CallMoves.{call_moves}
 use Rattle.text_block_renderer.proofs.LineParts.{part_of_other, course_parts}
 use Rattle.text_block_renderer.proofs.AddedLines.{moves_grow, laid_lines}
 use Rattle.text_block_renderer.proofs.LineContents.{text_of_lines-append}
 use Rattle.text_block_renderer.proofs.ActSteps.{ActStep, after_acts, act_step}
-use Rattle.text_block_renderer.proofs.RowsOfCells.{row_flushes, under_row, row_beside, row_closed}
+use Rattle.tbr_renderer.proofs.RowsOfCells.{row_flushes, under_row, row_beside, row_closed}
 use Rattle.text_block_renderer.proofs.LastingLines.{all_stay, stay_on, stay_texts, top_put_back}
 use Rattle.tbr_rows.proofs.Among.{each_gives}
 use Rattle.tbr_tagged.proofs.SameItems.{all_zip_append}
@@ -44,8 +50,11 @@ module _ {D A : Type 0} (columns : ℕ → Option ℕ) where
   row_lines m seen = search (rules, next_lines, lines_beside, laid_lines, append_assoc)
 
   -- lines stay where the border above a row is put in
-  pub top_stays : (collapses : Bool) (cells : List (GivenCell (List A))) (m s : Renderer D A (List A)) (puts : PutsRow columns collapses cells m s) → AllZip StaysLine m.lines (under_row m puts.row).lines
-  top_stays collapses cells m s puts = subst (λ (o : Option (Border (List A))). AllZip StaysLine m.lines (before_border m.lines ++ border_lines o)) (sym puts.means.upper) (top_put_back collapses puts.means.cells m.lines)
+  pub top_stays : (collapses : Bool) (cells : List (GivenCell (List A))) (m s : Renderer D A (List A))
+      (puts : PutsRow columns collapses cells m s) → AllZip StaysLine m.lines (under_row m puts.row).lines
+  top_stays collapses cells m s puts =
+      subst (λ (o : Option (Border (List A))). AllZip StaysLine m.lines (before_border m.lines ++ border_lines o))
+      (sym puts.means.upper) (top_put_back collapses puts.means.cells m.lines)
 
   -- ---- what pieces make of lines
 
@@ -69,7 +78,9 @@ module _ {D A : Type 0} (columns : ℕ → Option ℕ) where
     pub become : BecomeBy columns came.pieces r.lines s.lines
     pub chain : Chain columns r.options.draw_borders r.hanging (rows_in came.pieces) s.hanging
 
-  along_on : (xs ys : List (List (GivenCell (List A)))) (rs ss : List (Added D A)) (r q s : Renderer D A (List A)) (es fs : List (Entry (List A))) → Along xs rs r es q → Along ys ss q fs s → Along (xs ++ ys) (rs ++ ss) r (es ++ fs) s
+  along_on : (xs ys : List (List (GivenCell (List A)))) (rs ss : List (Added D A)) (r q s : Renderer D A (List A))
+      (es fs : List (Entry (List A))) → Along xs rs r es q → Along ys ss q fs s →
+      Along (xs ++ ys) (rs ++ ss) r (es ++ fs) s
   along_on xs ys rs ss r q s es fs h k =
       let front = h.came.pieces in
       let back = k.came.pieces in
@@ -86,7 +97,9 @@ module _ {D A : Type 0} (columns : ℕ → Option ℕ) where
           lines = subst (λ ls. AllZip StaysLine ls s.lines) (append_assoc r.lines first after_them ∙ ap (λ ls. r.lines ++ ls) (sym (flat_map-append (lines_of_piece columns) front back)))
               (stay_on ((r.lines ++ first) ++ after_them) (q.lines ++ after_them) s.lines (all_zip_append StaysLine (r.lines ++ first) after_them q.lines after_them h.came.lines (all_stay after_them)) k.came.lines);
           entries = grind (arith, append_assoc, flat_map-append);
-          put_rows = ap (map cells_in) (rows_append front back) ∙ map-append cells_in (rows_in front) (rows_in back) ∙ ap (λ zs. zs ++ map cells_in (rows_in back)) h.came.put_rows ∙ ap (λ zs. xs ++ zs) k.came.put_rows;
+          put_rows =
+              ap (map cells_in) (rows_append front back) ∙ map-append cells_in (rows_in front) (rows_in back)
+              ∙ ap (λ zs. zs ++ map cells_in (rows_in back)) h.came.put_rows ∙ ap (λ zs. xs ++ zs) k.came.put_rows;
         };
         added = map-append added_of_piece front back ∙ ap (λ ts. ts ++ map added_of_piece back) h.added ∙ ap (λ ts. rs ++ ts) k.added;
         become = become_on front back r.lines q.lines s.lines h.become k.become;
@@ -101,7 +114,9 @@ module _ {D A : Type 0} (columns : ℕ → Option ℕ) where
       record { width = width; options = options; came = record { pieces = ps; are = are; lines = lines; entries = entries; put_rows = refl }; added = refl; become = become; chain = chain }
 
   -- parts of calls
-  course_along : (r s : Renderer D A (List A)) (es : List (Entry (List A))) (bs : List (List BorderCell)) (xs : List (Part D A)) → Course columns any r s es bs xs → IsSound columns r → Along [] (map part_added xs) r es s
+  course_along : (r s : Renderer D A (List A)) (es : List (Entry (List A))) (bs : List (List BorderCell))
+      (xs : List (Part D A)) → Course columns any r s es bs xs → IsSound columns r →
+      Along [] (map part_added xs) r es s
   course_along r s es bs xs path sound =
       let came = (let in_parts = course_parts columns any r s es bs path sound in in_parts.came) in
       let same = path_frame columns any r s es bs path in
@@ -120,7 +135,9 @@ module _ {D A : Type 0} (columns : ℕ → Option ℕ) where
         chain = subst (λ rows. Chain columns r.options.draw_borders r.hanging rows s.hanging) (sym (no_rows xs)) (ap (λ (f : Frame A). f.hanging) same);
       }
 
-  row_along : (collapses : Bool) (cells : List (GivenCell (List A))) (m s : Renderer D A (List A)) → m.block ≡ None → s.block ≡ None → (puts : PutsRow columns collapses cells m s) → Along (cells ∷ []) (row_added m collapses cells ∷ []) m (laid_entries (joined puts.row.lines)) s
+  row_along : (collapses : Bool) (cells : List (GivenCell (List A))) (m s : Renderer D A (List A)) → m.block ≡ None →
+      s.block ≡ None → (puts : PutsRow columns collapses cells m s) →
+      Along (cells ∷ []) (row_added m collapses cells ∷ []) m (laid_entries (joined puts.row.lines)) s
   row_along collapses cells m s none closed puts =
       let seen = puts.row in
       let same = ap (λ (q : Renderer D A (List A)). beside q) puts.is ∙ row_beside columns m seen in
@@ -138,7 +155,10 @@ module _ {D A : Type 0} (columns : ℕ → Option ℕ) where
 
   -- one that adds nothing, whatever it makes of the decorator
   asked_along : (d : D) (r : Renderer D A (List A)) → Along [] [] r [] (record r { decorator = d })
-  asked_along d r = these r (record r { decorator = d }) [] [] refl refl tt (subst (λ ls. AllZip StaysLine ls r.lines) (sym (append-nil r.lines)) (all_stay r.lines)) (append-nil (open_run r.block)) refl refl
+  asked_along d r =
+      these r (record r { decorator = d }) [] [] refl refl tt
+      (subst (λ ls. AllZip StaysLine ls r.lines) (sym (append-nil r.lines)) (all_stay r.lines))
+      (append-nil (open_run r.block)) refl refl
 
   -- footnotes' lines
   noted_along : (ts : List (List (Item (List A)))) (r : Renderer D A (List A)) → Along [] (notes_add columns ts r) r [] (fold (with_line columns) r ts)
@@ -156,23 +176,33 @@ module _ {D A : Type 0} (columns : ℕ → Option ℕ) where
     alone c r s does = grind (arith, append-nil)
 
     -- a row takes no text back
-    pub texts_only_come : (collapses : Bool) (cells : List (GivenCell (List A))) (r s : Renderer D A (List A)) → after_act columns decoration (row collapses cells) r ≡ done s → (more : List (Item (List A))) × (text_of_lines s.lines ≡ text_of_lines r.lines ++ more)
+    pub texts_only_come : (collapses : Bool) (cells : List (GivenCell (List A))) (r s : Renderer D A (List A)) →
+        after_act columns decoration (row collapses cells) r ≡ done s →
+        (more : List (Item (List A))) × (text_of_lines s.lines ≡ text_of_lines r.lines ++ more)
     texts_only_come collapses cells r s h =
         let (m, flushed, puts, is, computed) = act_step columns decoration (row collapses cells) r s h in
         let first = moves_grow columns (flush r ∷ []) r m (m, (refl, row_flushes columns r m flushed), refl) in
         let new = lines_laid columns m puts.row.lines ++ border_lines_of columns m puts.row.next in (
           text_of_lines first.0 ++ text_of_lines new,
           ap (λ (q : Renderer D A (List A)). text_of_lines q.lines) puts.is ∙ ap text_of_lines (row_lines m puts.row) ∙ text_of_lines-append (under_row m puts.row).lines new
-              ∙ ap (λ js. js ++ text_of_lines new) (stay_texts m.lines (under_row m puts.row).lines (top_stays collapses cells m s puts) ∙ ap text_of_lines first.1 ∙ text_of_lines-append r.lines first.0) ∙ append_assoc (text_of_lines r.lines) (text_of_lines first.0) (text_of_lines new),
+              ∙ ap (λ js. js ++ text_of_lines new)
+              (stay_texts m.lines (under_row m puts.row).lines (top_stays collapses cells m s puts)
+              ∙ ap text_of_lines first.1 ∙ text_of_lines-append r.lines first.0)
+              ∙ append_assoc (text_of_lines r.lines) (text_of_lines first.0) (text_of_lines new),
         )
 
     pub rows_one : (act : Act A) (acts : List (Act A)) → rows_of (act ∷ acts) ≡ rows_of (act ∷ []) ++ rows_of acts
     rows_one act acts = grind arith
 
-    act_along : (act : Act A) (r s : Renderer D A (List A)) → IsSound columns r → ActStep columns decoration act r s → Along (rows_of (act ∷ [])) (act_adds columns decoration act r) r (act_enters columns decoration act r) s
+    act_along : (act : Act A) (r s : Renderer D A (List A)) → IsSound columns r → ActStep columns decoration act r s →
+        Along (rows_of (act ∷ [])) (act_adds columns decoration act r) r (act_enters columns decoration act r) s
     act_along (call c) r s sound h = course_along r s _ _ _ (call_moves columns any decoration c r s (λ appends. tt) h) sound
-    act_along (fmt_links links) r s sound h = subst (λ (q : Renderer D A (List A)). Along [] (act_adds columns decoration (fmt_links links) r) r [] q) (sym h) (noted_along (flat_map (footnote_lines columns r) links) r)
-    act_along (finalise targets) r s sound h = subst (λ (q : Renderer D A (List A)). Along [] [] r [] q) (sym h) (asked_along (decoration.after r.decorator (change.finalise (listed r.options targets))) r)
+    act_along (fmt_links links) r s sound h =
+        subst (λ (q : Renderer D A (List A)). Along [] (act_adds columns decoration (fmt_links links) r) r [] q) (sym h)
+        (noted_along (flat_map (footnote_lines columns r) links) r)
+    act_along (finalise targets) r s sound h =
+        subst (λ (q : Renderer D A (List A)). Along [] [] r [] q) (sym h)
+        (asked_along (decoration.after r.decorator (change.finalise (listed r.options targets))) r)
     act_along (row collapses cells) r s sound h =
         let (m, flushed, puts, is, computed) = h in
         let first = course_along r m [] [] (flush_ends r) (one columns any (flush r) r m (refl, row_flushes columns r m flushed)) sound in
@@ -181,9 +211,13 @@ module _ {D A : Type 0} (columns : ℕ → Option ℕ) where
         let ends = map part_added (flush_ends r) in
         let put_it = λ (o : Outcome (Renderer D A (List A))). told_by (λ q. row_added q collapses cells ∷ []) o in
         subst (λ xs. Along (cells ∷ []) (ends ++ xs) r (act_enters columns decoration (row collapses cells) r) s) (sym (ap put_it (live_done r.failure (after_flush columns r) m flushed).1))
-        (subst (λ fs. Along (cells ∷ []) (ends ++ row_added m collapses cells ∷ []) r fs s) (sym is) (along_on [] (cells ∷ []) ends (row_added m collapses cells ∷ []) r m s [] (laid_entries (joined puts.row.lines)) first second))
+        (subst (λ fs. Along (cells ∷ []) (ends ++ row_added m collapses cells ∷ []) r fs s) (sym is)
+        (along_on [] (cells ∷ []) ends (row_added m collapses cells ∷ []) r m s []
+        (laid_entries (joined puts.row.lines)) first second))
 
-    pub acts_along : (acts : List (Act A)) (r s : Renderer D A (List A)) → IsSound columns r → after_acts columns decoration acts r ≡ done s → Along (rows_of acts) (acts_add columns decoration acts r) r (acts_enter columns decoration acts r) s
+    pub acts_along : (acts : List (Act A)) (r s : Renderer D A (List A)) → IsSound columns r →
+        after_acts columns decoration acts r ≡ done s →
+        Along (rows_of acts) (acts_add columns decoration acts r) r (acts_enter columns decoration acts r) s
     acts_along [] r s sound h = subst (λ (q : Renderer D A (List A)). Along [] [] r [] q) (sym (one_done r s h)) (asked_along r.decorator r)
     acts_along (act ∷ acts) r s sound h =
         let (m, does, others) = done_first (after_act columns decoration act r) (after_acts columns decoration acts) s h in

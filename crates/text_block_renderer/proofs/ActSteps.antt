@@ -1,5 +1,8 @@
 -- Calls and rows one by one: each is a call, or a row that is put after a flush.
-use Rattle.text_block_renderer.proofs.Common.{◌≡◌, ℕ, Option, Some, List, [], ◌∷◌, ◌++◌, map, append-nil, append_assoc, subst, ap, sym, ◌∙◌, arith, pointwise, Entry, MeansRow, TellsApart, Decoration, Outcome, done, if_live, last_border, Renderer, after_flush, listed, with_footnotes, and_then, run, told_by, style_in, PutsRow, cells_from, Call, Does, Steps, after, entries_brought, brought, laid_entries, Act, call, row, fmt_links, finalise, after_act, row_seen, texts_of_row, act_brought, act_comes, acts_come}
+use Rattle.text_block_renderer.proofs.Common.{◌≡◌, ℕ, Option, Some, List, [], ◌∷◌, ◌++◌, map, append-nil, append_assoc, subst, ap, sym, ◌∙◌, arith, pointwise, Entry, MeansRow, TellsApart, Decoration}
+use Rattle.text_block_renderer.proofs.Common.{Outcome, done, if_live, last_border, Renderer, after_flush, listed, with_footnotes, and_then, run, told_by, style_in, PutsRow, cells_from, Call, Does}
+use Rattle.text_block_renderer.proofs.Common.{Steps, after, entries_brought, brought, laid_entries, Act, call, row, fmt_links, finalise, after_act, row_seen, texts_of_row, act_brought, act_comes}
+use Rattle.text_block_renderer.proofs.Common.{acts_come}
 use Rattle.tbr_model.specs.Layout.{joined}
 use Rattle.tbr_rows.proofs.ComputedRow.{computed}
 use Rattle.tbr_decor.specs.Change as change
@@ -31,8 +34,15 @@ module _ {D A : Type 0} (columns : ℕ → Option ℕ) (decoration : Decoration 
       let come = cells_come same tells columns m.annotations 0 cells in
       let there = one_own columns m.annotations 0 cells puts.own own puts.come come puts.side_by_side (cells_side_by_side same tells columns m.annotations 0 cells) in
       let means = subst (λ cs. MeansRow columns (style_in m collapses) m.annotations m.hanging cs (last_border m.lines) puts.row) there puts.means in
-      let seen = (computed same tells columns (style_in m collapses) m.annotations m.hanging own (last_border m.lines) puts.row).0 means in
-      (m, flushed, puts, ap (told_by (λ q. texts_of_row columns decoration (row_seen columns decoration collapses cells q))) (live_done r.failure (after_flush columns r) m flushed).1 ∙ ap (texts_of_row columns decoration) seen, seen)
+      let seen = (computed same tells columns (style_in m collapses) m.annotations m.hanging own (last_border m.lines) puts.row).0 means in (
+        m,
+        flushed,
+        puts,
+        ap
+            (told_by (λ q. texts_of_row columns decoration (row_seen columns decoration collapses cells q)))
+            (live_done r.failure (after_flush columns r) m flushed).1 ∙ ap (texts_of_row columns decoration) seen,
+        seen,
+      )
   act_step (fmt_links links) r s h = one_done (with_footnotes columns r links) s (live_done r.failure (done (with_footnotes columns r links)) s h).1
   act_step (finalise targets) r s h = grind (arith, one_done, live_done)
 

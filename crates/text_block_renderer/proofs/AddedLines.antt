@@ -1,5 +1,6 @@
 -- Lines only come.
-use Rattle.text_block_renderer.proofs.Common.{◌≡◌, ℕ, Option, List, [], ◌∷◌, ◌++◌, map, fold, refl, ap, sym, ◌∙◌, append_assoc, append-nil, arith, Item, Line, Open, Renderer, with_line, Decoration, marker_items, padded_line, lines_laid, Call, Steps, brought}
+use Rattle.text_block_renderer.proofs.Common.{◌≡◌, ℕ, Option, List, [], ◌∷◌, ◌++◌, map, fold, refl, ap, sym, ◌∙◌, append_assoc, append-nil, arith, Item, Line, Open, Renderer, with_line, Decoration}
+use Rattle.text_block_renderer.proofs.Common.{marker_items, padded_line, lines_laid, Call, Steps, brought}
 use Rattle.tbr_renderer.proofs.FlushedBlocks.{FlushesBlock}
 use Rattle.text_block_renderer.proofs.Moves.{Move, Makes, MakesAll, through, any}
 use Rattle.text_block_renderer.proofs.CallMoves.{calls_move}

@@ -1,10 +1,14 @@
 -- Lines of other renderers, and borders, as moves.
-use Rattle.text_block_renderer.proofs.Common.{◌≡◌, ℕ, Bool, true, false, if◌then◌else◌, Option, None, List, [], ◌∷◌, ◌++◌, map, flat_map, fold, length, replicate, refl, ap, sym, ◌∙◌, subst, arith, append-nil, cond_both, map-append, Entry, Item, without_holes, horizontal, slash, row_borders, Line, Renderer, with_line, with_border, border_of_cells, as_text, prefixed, with_divider, with_cell, with_cell_below, with_cells, laid_entry, laid_entries, Part, ruled, flush_adds, divider_adds, cell_adds, below_add, cells_add, texts_add, vert_row_adds}
+use Rattle.text_block_renderer.proofs.Common.{◌≡◌, ℕ, Bool, true, false, if◌then◌else◌, Option, None, List, [], ◌∷◌, ◌++◌, map, flat_map, fold, length, replicate, refl, ap, sym, ◌∙◌, subst, arith}
+use Rattle.text_block_renderer.proofs.Common.{append-nil, cond_both, map-append, Entry, Item, without_holes, horizontal, slash, row_borders, Line, Renderer, with_line, with_border, border_of_cells}
+use Rattle.text_block_renderer.proofs.Common.{as_text, prefixed, with_divider, with_cell, with_cell_below, with_cells, laid_entry, laid_entries, Part, ruled, flush_adds, divider_adds, cell_adds}
+use Rattle.text_block_renderer.proofs.Common.{below_add, cells_add, texts_add, vert_row_adds}
 use Rattle.tbr_model.specs.Layout.{joined}
 use Rattle.tbr_model.proofs.lists.Joined.{joined-append}
 use Rattle.tbr_border.specs.Cell.{Cell}
 use Rattle.tbr_renderer.proofs.CallParts.{FlushesThen}
-use Rattle.text_block_renderer.proofs.Moves.{line, rule, Kind, MayLay, MayRule, Course, onward, one, same_course, flushed_first, stays, beside, lines_beside, flush_beside, flushed_none}
+use Rattle.tbr_renderer.proofs.FlushedBlocks.{beside, lines_beside, flush_beside, flushed_none}
+use Rattle.text_block_renderer.proofs.Moves.{line, rule, Kind, MayLay, MayRule, Course, onward, one, same_course, flushed_first, stays}
 
 -- ---- borders of rows
 
@@ -33,14 +37,18 @@ cells_bring tag cells = laid_entries (joined (flat_map (map (as_text tag)) cells
 -- ---- paths
 
 module _ {D A : Type 0} (columns : ℕ → Option ℕ) (kind : Kind) where
-  lines_put : (ts : List (List (Item (List A)))) (q : Renderer D A (List A)) → ((is : List (Item (List A))) → MayLay kind is) → q.block ≡ None → Course columns kind q (fold (with_line columns) q ts) (laid_entries (joined ts)) [] (texts_add columns ts q)
+  lines_put : (ts : List (List (Item (List A)))) (q : Renderer D A (List A)) →
+      ((is : List (Item (List A))) → MayLay kind is) → q.block ≡ None →
+      Course columns kind q (fold (with_line columns) q ts) (laid_entries (joined ts)) [] (texts_add columns ts q)
   lines_put [] q may none = stays columns kind q q refl
   lines_put (t ∷ ts) q may none =
       let r : Renderer D A (List A) = with_line columns q t in
       same_course columns kind q (fold (with_line columns) r ts) (sym (map-append laid_entry t (joined ts))) refl refl
       (onward columns kind q r (fold (with_line columns) r ts) (laid_entries t) (laid_entries (joined ts)) (one columns kind (line q t) q r (may t, none, refl, refl)) (lines_put ts r may none))
 
-  pub lines_appended : (prefixes : List (List ℕ)) (lines : List (Line (List A))) (r s : Renderer D A (List A)) → ((is : List (Item (List A))) → MayLay kind is) → FlushesThen columns (λ m. fold (with_line columns) m (prefixed r.annotations prefixes lines)) r s →
+  pub lines_appended : (prefixes : List (List ℕ)) (lines : List (Line (List A))) (r s : Renderer D A (List A)) →
+      ((is : List (Item (List A))) → MayLay kind is) →
+      FlushesThen columns (λ m. fold (with_line columns) m (prefixed r.annotations prefixes lines)) r s →
       Course columns kind r s (laid_entries (joined (prefixed r.annotations prefixes lines))) [] (flush_adds columns (texts_add columns (prefixed r.annotations prefixes lines)) r)
   lines_appended prefixes lines r s may h =
       let texts = prefixed r.annotations prefixes lines in
@@ -85,7 +93,10 @@ module _ {D A : Type 0} (columns : ℕ → Option ℕ) (kind : Kind) where
 
   module _ (may : (is : List (Item (List A))) → MayLay kind is) where
     below_put : (lines : List (Line (List A))) (q : Renderer D A (List A)) → Ready q →
-        Course columns kind q (with_cell_below columns q lines) (laid_entries (joined (map (as_text q.annotations) lines))) (one_border q.options.draw_borders q.width slash) (divider_adds slash q ++ cell_adds columns lines (with_divider columns slash q))
+        Course columns kind q (with_cell_below columns q lines)
+        (laid_entries (joined (map (as_text q.annotations) lines)))
+        (one_border q.options.draw_borders q.width slash)
+        (divider_adds slash q ++ cell_adds columns lines (with_divider columns slash q))
     below_put lines q ready =
         let p : Renderer D A (List A) = with_divider columns slash q in
         let same = divider_beside slash q in
@@ -101,7 +112,8 @@ module _ {D A : Type 0} (columns : ℕ → Option ℕ) (kind : Kind) where
     -- a cell, and then those below it
     then_below : (lines : List (Line (List A))) (cells : List (List (Line (List A)))) (q n : Renderer D A (List A)) {bs : List (List Cell)} {xs : List (Part D A)} → beside n ≡ beside q →
         Course columns kind q n (laid_entries (joined (map (as_text q.annotations) lines))) bs xs → Below n cells n →
-        Course columns kind q (fold (with_cell_below columns) n cells) (cells_bring q.annotations (lines ∷ cells)) (bs ++ slashes q.options.draw_borders q.width cells) (xs ++ below_add columns cells n)
+        Course columns kind q (fold (with_cell_below columns) n cells) (cells_bring q.annotations (lines ∷ cells))
+        (bs ++ slashes q.options.draw_borders q.width cells) (xs ++ below_add columns cells n)
     then_below lines cells q n {bs} {xs} same first others =
         let s : Renderer D A (List A) = fold (with_cell_below columns) n cells in
         let texts = map (as_text q.annotations) lines in
@@ -114,7 +126,9 @@ module _ {D A : Type 0} (columns : ℕ → Option ℕ) (kind : Kind) where
     cells_below (lines ∷ cells) q ready =
         let n : Renderer D A (List A) = with_cell_below columns q lines in
         let same = below_beside lines q in
-        same_course columns kind q (fold (with_cell_below columns) n cells) refl (if_both q.options.draw_borders (replicate q.width slash ∷ []) (replicate (length cells) (replicate q.width slash))) refl
+        same_course columns kind q (fold (with_cell_below columns) n cells) refl
+        (if_both q.options.draw_borders (replicate q.width slash ∷ [])
+        (replicate (length cells) (replicate q.width slash))) refl
         (then_below lines cells q n same (below_put lines q ready) (cells_below cells n (subst Ready (sym same) ready)))
 
     cells_put : (cells : List (List (Line (List A)))) (r q : Renderer D A (List A)) → beside q ≡ record (beside r) { block = None } → Ready q →
@@ -124,10 +138,15 @@ module _ {D A : Type 0} (columns : ℕ → Option ℕ) (kind : Kind) where
         let texts = map (as_text q.annotations) lines in
         let n : Renderer D A (List A) = with_cell columns q lines in
         let same = lines_beside columns texts q in
-        subst (λ (t : Renderer D A (List A)). Course columns kind q (fold (with_cell_below columns) n cells) (cells_bring t.annotations (lines ∷ cells)) (slashes t.options.draw_borders t.width cells) (cells_add columns (lines ∷ cells) q)) joins
+        subst
+        (λ (t : Renderer D A (List A)). Course columns kind q (fold (with_cell_below columns) n cells)
+        (cells_bring t.annotations (lines ∷ cells)) (slashes t.options.draw_borders t.width cells)
+        (cells_add columns (lines ∷ cells) q)) joins
         (then_below lines cells q n same (lines_put texts q may ready.1) (cells_below cells n (subst Ready (sym same) ready)))
 
-  pub cells_appended : ((is : List (Item (List A))) → MayLay kind is) → (cells : List (List (Line (List A)))) (r s : Renderer D A (List A)) → MayRule kind → FlushesThen columns (λ m. with_divider columns horizontal (with_cells columns m cells)) r s →
+  pub cells_appended : ((is : List (Item (List A))) → MayLay kind is) →
+      (cells : List (List (Line (List A)))) (r s : Renderer D A (List A)) → MayRule kind →
+      FlushesThen columns (λ m. with_divider columns horizontal (with_cells columns m cells)) r s →
       Course columns kind r s (cells_bring r.annotations cells) (if r.options.draw_borders then row_borders r.width (length cells) else []) (flush_adds columns (vert_row_adds columns cells) r)
   cells_appended may cells r s may_rule h =
       let es = cells_bring r.annotations cells in

@@ -1,5 +1,10 @@
 -- What was brought is in the lines of text, or waits.
-use Rattle.text_block_renderer.proofs.Common.{◌≡◌, ℕ, zero, suc, Bool, true, false, not, if◌then◌else◌, Option, List, [], ◌∷◌, ◌++◌, filter, fold, refl, ap, sym, ◌∙◌, subst, append_assoc, append-nil, arith, rules, AllZip, filter-append, flat_map-append, map-map, fold-append, Entry, character, marker_entry, Item, glyph, marker, is_kept, kept_items, names_in_items, names_in_run, marker_items, marker_run, marked_after, names_after, HasMode, is_visible, without_spaces, is_visible_or_marker, is_entry_to_show, ShowsEntry, is_space_item, run_of, text_items, spaces, IsNormal, AreLastOf, EndsRun, Decoration, Open, Renderer, new_renderer, with_line, block_width, may_overflow, IsSound, RenderOptions, block_lines, flushed, lines_at_end, names_at_end, open_run, border, run, done, laid_entry, laid_entries, text_of_lines, items_so_far, Stands, WithoutDrawnBorders, borders_drawn, DrawNone, Act, after_act, acts_come}
+use Rattle.text_block_renderer.proofs.Common.{◌≡◌, ℕ, zero, suc, Bool, true, false, not, if◌then◌else◌, Option, List, [], ◌∷◌, ◌++◌, filter, fold, refl, ap, sym, ◌∙◌, subst, append_assoc, append-nil}
+use Rattle.text_block_renderer.proofs.Common.{arith, rules, AllZip, filter-append, flat_map-append, map-map, fold-append, Entry, character, marker_entry, Item, glyph, marker, is_kept, kept_items}
+use Rattle.text_block_renderer.proofs.Common.{names_in_items, names_in_run, marker_items, marker_run, marked_after, names_after, HasMode, is_visible, without_spaces, is_visible_or_marker}
+use Rattle.text_block_renderer.proofs.Common.{is_entry_to_show, ShowsEntry, is_space_item, run_of, text_items, spaces, IsNormal, AreLastOf, EndsRun, Decoration, Open, Renderer, new_renderer}
+use Rattle.text_block_renderer.proofs.Common.{with_line, block_width, may_overflow, IsSound, RenderOptions, block_lines, flushed, lines_at_end, names_at_end, open_run, border, run, done, laid_entry}
+use Rattle.text_block_renderer.proofs.Common.{laid_entries, text_of_lines, items_so_far, Stands, WithoutDrawnBorders, borders_drawn, DrawNone, Act, after_act, acts_come}
 use Rattle.tbr_model.specs.Run.{items_of}
 use Rattle.tbr_model.specs.Layout.{joined}
 use Rattle.tbr_model.specs.declared.white_space.WhiteSpace.TheVariants.{Normal}
@@ -100,7 +105,9 @@ module _ {T : Type 0} (columns : ℕ → Option ℕ) where
   markers_stand names = subst (StandFor columns (marker_items names)) (map-map laid_entry marker names) (laid_stand (marker_items names))
 
   -- the lines of a run, and the markers that are on none of them
-  pub run_stands : (width : ℕ) (may_overflow : Bool) (run : List (Entry T)) (texts : List (List (Item T))) (names : List (List ℕ)) → EndsRun columns width may_overflow run texts names → StandFor columns (joined texts ++ marker_items names) run
+  pub run_stands : (width : ℕ) (may_overflow : Bool) (run : List (Entry T)) (texts : List (List (Item T)))
+      (names : List (List ℕ)) → EndsRun columns width may_overflow run texts names →
+      StandFor columns (joined texts ++ marker_items names) run
   run_stands width may_overflow run texts names ends = grind (arith, shown_before, names_before, unspaced_before)
 
 -- ---- which markers wait
@@ -128,7 +135,9 @@ module _ {T : Type 0} (test : ℕ → Bool) where
 
 module _ {T : Type 0} (columns : ℕ → Option ℕ) where
   -- what isn't shown doesn't count
-  after_shown : (names : List (List ℕ)) (es : List (Entry T)) → fold (marked_after (is_visible columns)) names (filter (is_entry_to_show columns) es) ≡ fold (marked_after (is_visible columns)) names es
+  after_shown : (names : List (List ℕ)) (es : List (Entry T)) →
+      fold (marked_after (is_visible columns)) names (filter (is_entry_to_show columns) es) ≡ fold
+      (marked_after (is_visible columns)) names es
   after_shown names [] = refl
   after_shown names (marker_entry name ∷ es) = after_shown (names ++ name ∷ []) es
   after_shown names (character c a b m ∷ es) = grind (arith, after_shown (if is_visible columns c then [] else names) es, after_shown names es)
@@ -139,15 +148,22 @@ module _ {T : Type 0} (columns : ℕ → Option ℕ) where
   after_kept names (character c a b m ∷ es) = grind (arith, after_kept (if is_kept columns c then [] else names) es, after_kept names es)
 
   -- The markers at the end of items come after the last visible character that these show, and the last kept one.
-  pub last_shown : (shown : List (Item T)) (names : List (List ℕ)) (es : List (Entry T)) → AllZip (ShowsEntry (λ a b. a ≡ b)) (shown ++ marker_items names) (filter (is_entry_to_show columns) es) → AreLastOf names (names_after (is_visible columns) es)
+  pub last_shown : (shown : List (Item T)) (names : List (List ℕ)) (es : List (Entry T)) →
+      AllZip (ShowsEntry (λ a b. a ≡ b)) (shown ++ marker_items names) (filter (is_entry_to_show columns) es) →
+      AreLastOf names (names_after (is_visible columns) es)
   last_shown shown names es h =
-      last_after (is_visible columns) shown names (names_after (is_visible columns) es) (after_alike (is_visible columns) [] (shown ++ marker_items names) (filter (is_entry_to_show columns) es) h ∙ after_shown [] es)
+      last_after (is_visible columns) shown names (names_after (is_visible columns) es)
+      (after_alike (is_visible columns) [] (shown ++ marker_items names) (filter (is_entry_to_show columns) es) h
+      ∙ after_shown [] es)
 
   pub waits_after : (is : List (Item T)) (names : List (List ℕ)) (es : List (Entry T)) → StandFor columns (is ++ marker_items names) es → AreLastOf names (names_after (is_visible columns) es)
   waits_after is names es h =
-      last_shown (filter (is_visible_or_marker columns) is) names es (subst (λ js. AllZip (ShowsEntry (λ a b. a ≡ b)) js (filter (is_entry_to_show columns) es)) (shown_before columns is names) h.order)
+      last_shown (filter (is_visible_or_marker columns) is) names es
+      (subst (λ js. AllZip (ShowsEntry (λ a b. a ≡ b)) js (filter (is_entry_to_show columns) es))
+      (shown_before columns is names) h.order)
 
-  pub waits_after_kept : (is : List (Item T)) (names : List (List ℕ)) (es : List (Entry T)) → StandFor columns (is ++ marker_items names) es → IsNormal es → AreLastOf names (names_after (is_kept columns) es)
+  pub waits_after_kept : (is : List (Item T)) (names : List (List ℕ)) (es : List (Entry T)) →
+      StandFor columns (is ++ marker_items names) es → IsNormal es → AreLastOf names (names_after (is_kept columns) es)
   waits_after_kept is names es h normal =
       last_after (is_kept columns) (without_spaces is) names (names_after (is_kept columns) es)
       (ap (fold (item_after (is_kept columns)) []) (sym (unspaced_before columns is names) ∙ h.kept normal) ∙ after_kept [] es)
@@ -196,19 +212,31 @@ module _ {D A : Type 0} (columns : ℕ → Option ℕ) where
     stays = λ r s es stay waiting k. same_stand r s es (stay_texts r.lines s.lines stay) waiting k;
   }
 
-  pub acts_stand : (decoration : Decoration D A) (acts : List (Act A)) (r s : Renderer D A (List A)) (borders : Texts A) (before : List (Entry (List A))) → IsSound columns r → run (after_act columns decoration) acts r ≡ done s →
-      WithoutDrawnBorders borders (λ q. Stands columns q before) r → WithoutDrawnBorders (borders ++ borders_drawn columns decoration acts r) (λ q. Stands columns q (acts_come columns decoration acts r before)) s
+  pub acts_stand : (decoration : Decoration D A) (acts : List (Act A)) (r s : Renderer D A (List A)) (borders : Texts A)
+      (before : List (Entry (List A))) → IsSound columns r → run (after_act columns decoration) acts r ≡ done s →
+      WithoutDrawnBorders borders (λ q. Stands columns q before) r → WithoutDrawnBorders
+      (borders ++ borders_drawn columns decoration acts r)
+      (λ q. Stands columns q (acts_come columns decoration acts r before)) s
   acts_stand decoration acts r s borders before sound h (rest, among, k) =
       let start : InLines (record r { lines = rest }) k.ended = in_lines (record r { lines = rest }) before k in
-      let (last, whole, (still, (left, there, all))) = acts_on columns (SoundLess columns InLines stands_on) (less_goes_on columns InLines stands_on) decoration acts r s before borders h (k.ended, k.whole, (sound, (rest, among, start))) in
+      let (last, whole, (still, (left, there, all))) =
+      acts_on columns (SoundLess columns InLines stands_on) (less_goes_on columns InLines stands_on) decoration acts
+      r s before borders h (k.ended, k.whole, (sound, (rest, among, start))) in
       (left, there, stands (record s { lines = left }) last (acts_come columns decoration acts r before) whole all)
 
-  pub new_acts_stand : (decoration : Decoration D A) (width : ℕ) (options : RenderOptions) (decorator : D) (acts : List (Act A)) (s : Renderer D A (List A)) → (let r : Renderer D A (List A) = new_renderer width options decorator in
-      IsSound columns r → run (after_act columns decoration) acts r ≡ done s → WithoutDrawnBorders (borders_drawn columns decoration acts r) (λ q. Stands columns q (acts_come columns decoration acts r [])) s)
+  pub new_acts_stand : (decoration : Decoration D A) (width : ℕ) (options : RenderOptions) (decorator : D)
+      (acts : List (Act A)) (s : Renderer D A (List A)) →
+      (let r : Renderer D A (List A) = new_renderer width options decorator in
+      IsSound columns r → run (after_act columns decoration) acts r ≡ done s →
+      WithoutDrawnBorders (borders_drawn columns decoration acts r)
+      (λ q. Stands columns q (acts_come columns decoration acts r [])) s)
   new_acts_stand decoration width options decorator acts s sound h =
       acts_stand decoration acts (new_renderer width options decorator) s [] [] sound h ([], none_among [], new_stands width options decorator)
 
-  pub acts_stand_all : (decoration : Decoration D A) (acts : List (Act A)) (r s : Renderer D A (List A)) (before : List (Entry (List A))) → IsSound columns r → DrawNone columns decoration acts r → run (after_act columns decoration) acts r ≡ done s →
+  pub acts_stand_all : (decoration : Decoration D A) (acts : List (Act A)) (r s : Renderer D A (List A))
+      (before : List (Entry (List A))) → IsSound columns r → DrawNone columns decoration acts r →
+      run (after_act columns decoration) acts r ≡ done s →
       Stands columns r before → Stands columns s (acts_come columns decoration acts r before)
   acts_stand_all decoration acts r s before sound none h k =
-      holds_of_all columns decoration (λ q. Stands columns q (acts_come columns decoration acts r before)) acts r s h none (acts_stand decoration acts r s [] before sound h (r.lines, none_among r.lines, k))
+      holds_of_all columns decoration (λ q. Stands columns q (acts_come columns decoration acts r before)) acts r s h
+      none (acts_stand decoration acts r s [] before sound h (r.lines, none_among r.lines, k))

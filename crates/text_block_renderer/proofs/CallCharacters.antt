@@ -1,5 +1,7 @@
 -- Calls put no character without columns into lines.
-use Rattle.text_block_renderer.proofs.Common.{◌≡◌, ℕ, Option, List, [], ◌∷◌, map, fold, replicate, subst, sym, ap, refl, Each, ◌<◌, Item, horizontal, DrawsInOne, Line, Decoration, RenderOptions, Renderer, new_renderer, with_line, sub_renderer, handed_out, done, Call, Does, Steps, after, add_border, append_subrender, append_vert_row, with_border, border_of_cells, prefixed, with_cells, with_divider, run, AppendsNothing}
+use Rattle.text_block_renderer.proofs.Common.{◌≡◌, ℕ, Option, List, [], ◌∷◌, map, fold, replicate, subst, sym, ap, refl, Each, ◌<◌, Item, horizontal, DrawsInOne, Line, Decoration, RenderOptions}
+use Rattle.text_block_renderer.proofs.Common.{Renderer, new_renderer, with_line, sub_renderer, handed_out, done, Call, Does, Steps, after, add_border, append_subrender, append_vert_row, with_border}
+use Rattle.text_block_renderer.proofs.Common.{border_of_cells, prefixed, with_cells, with_divider, run, AppendsNothing}
 use Rattle.tbr_tagged.proofs.Outcomes.{live_done}
 use Rattle.tbr_renderer.proofs.OutcomeParts.{one_done, done_first}
 use Rattle.tbr_renderer.proofs.CallParts.{flushed_then, handed_then}

@@ -1,5 +1,11 @@
 -- Calls as the moves of which they consist.
-use Rattle.text_block_renderer.proofs.Common.{◌≡◌, ℕ, suc, Bool, true, false, if◌then◌else◌, Option, Some, None, List, [], ◌∷◌, ◌++◌, flat_map, fold, refl, ap, sym, append-nil, arith, Each, cond_both, entry, Entry, marker_entry, Item, Decoration, Renderer, with_line, without_annotation, entries_of, ignores, with_events, done, run, told_by, with_empty_line, block_started, text_brings, at_line_start, with_border, border_of_cells, prefixed, with_divider, with_cells, horizontal, shown_title, struck_from, struck_until, asked_to_close, annotated, Call, add_empty_line, new_line, new_line_hard, start_block, start_table, add_inline_text, record_frag_start, begin, finish, start_strikeout, end_strikeout, add_image, push_colour, pop_colour, add_border, append_subrender, append_vert_row, after, Does, Steps, text_brought, image_brought, entries_brought, brought, Brings, borders_added, laid, flush_ends, empty_adds, start_lays, start_adds, text_adds, image_adds, call_adds, calls_add, AppendsNothing}
+use Rattle.text_block_renderer.proofs.Common.{◌≡◌, ℕ, suc, Bool, true, false, if◌then◌else◌, Option, Some, None, List, [], ◌∷◌, ◌++◌, flat_map, fold, refl, ap, sym, append-nil, arith, Each, cond_both}
+use Rattle.text_block_renderer.proofs.Common.{entry, Entry, marker_entry, Item, Decoration, Renderer, with_line, without_annotation, entries_of, ignores, with_events, done, run, told_by}
+use Rattle.text_block_renderer.proofs.Common.{with_empty_line, block_started, text_brings, at_line_start, with_border, border_of_cells, prefixed, with_divider, with_cells, horizontal, shown_title}
+use Rattle.text_block_renderer.proofs.Common.{struck_from, struck_until, asked_to_close, annotated, Call, add_empty_line, new_line, new_line_hard, start_block, start_table, add_inline_text}
+use Rattle.text_block_renderer.proofs.Common.{record_frag_start, begin, finish, start_strikeout, end_strikeout, add_image, push_colour, pop_colour, add_border, append_subrender, append_vert_row}
+use Rattle.text_block_renderer.proofs.Common.{after, Does, Steps, text_brought, image_brought, entries_brought, brought, Brings, borders_added, laid, flush_ends, empty_adds, start_lays, start_adds}
+use Rattle.text_block_renderer.proofs.Common.{text_adds, image_adds, call_adds, calls_add, AppendsNothing}
 use Rattle.tbr_wrap.proofs.runs.BlockLaws.{entries_run}
 use Rattle.tbr_decor.specs.Start as start
 use Rattle.tbr_decor.specs.End as end
@@ -8,7 +14,9 @@ use Rattle.tbr_renderer.proofs.OutcomeParts.{one_done, done_first}
 use Rattle.tbr_renderer.proofs.FlushedBlocks.{flushes}
 use Rattle.tbr_renderer.proofs.CallParts.{FlushesThen, flushed_then, BreaksLine, break_parts, AddsTextBy, AddsText, text_parts, close_parts, open_parts, AddsImage, image_parts}
 use Rattle.tbr_renderer.specs.Calls.{made}
-use Rattle.text_block_renderer.proofs.Moves.{flush_beside, flush, line, join, SameText, alike, Kind, any, own, Fits, MayLay, MayRule, Frame, Course, onward, one, same_course, flushed_first, stays, turned, path_frame, flushed_none}
+use Rattle.tbr_renderer.proofs.FlushedBlocks.{flush_beside, flushed_none}
+use Rattle.text_block_renderer.proofs.Moves.{flush, line, join, SameText, alike, Kind, any, own, Fits, MayLay, MayRule, Frame, Course, onward, one, same_course, flushed_first, stays, turned}
+use Rattle.text_block_renderer.proofs.Moves.{path_frame}
 use Rattle.text_block_renderer.proofs.AppendedMoves.{lines_appended, border_added, cells_appended}
 
 -- ---- kinds
@@ -86,13 +94,19 @@ module _ {D A : Type 0} (columns : ℕ → Option ℕ) (kind : Kind) where
         let come = onward columns kind r q m [] es (turned columns kind r q q before refl) (added cs q m adds) in
         same_course columns kind r s (append-nil es) refl (append-nil (text_adds columns cs q)) (onward columns kind r m s es [] come (turned columns kind m (change m) s (after m) is))
 
-    image_added : (source : List ℕ) (title : Option (List ℕ)) (r s : Renderer D A (List A)) → AddsImage columns decoration source title r s → Course columns kind r s (image_brought columns decoration source title r) [] (image_adds columns decoration source title r)
+    image_added : (source : List ℕ) (title : Option (List ℕ)) (r s : Renderer D A (List A)) →
+        AddsImage columns decoration source title r s →
+        Course columns kind r s (image_brought columns decoration source title r) []
+        (image_adds columns decoration source title r)
     image_added source None r s h = stays columns kind r s h
     image_added source (Some title) r s h =
         let image = start.image source title in
         text_between (decoration.start_text r.decorator image) (λ m. without_annotation m) r (annotated decoration image r) s (alike r) (λ m. alike m) h
 
-    made_moves : (c : Call (List A)) (r s : Renderer D A (List A)) → Suits kind c → made columns decoration c r ≡ done s → Course columns kind r s (entries_brought columns decoration c r) (borders_added r.width r.options c) (call_adds columns decoration c r)
+    made_moves : (c : Call (List A)) (r s : Renderer D A (List A)) → Suits kind c →
+        made columns decoration c r ≡ done s →
+        Course columns kind r s (entries_brought columns decoration c r) (borders_added r.width r.options c)
+        (call_adds columns decoration c r)
     made_moves add_empty_line r s suits h = empty_added r s (flushed_then columns (with_empty_line columns) r s h)
     made_moves new_line r s suits h = one columns kind (flush r) r s (refl, flushes columns r s h)
     made_moves new_line_hard r s suits h = broken r s (at_line_start columns r r.block) (break_parts columns (at_line_start columns r r.block) r s h)
@@ -114,15 +128,23 @@ module _ {D A : Type 0} (columns : ℕ → Option ℕ) (kind : Kind) where
         let q = struck_until r in
         text_between (decoration.end_text q.decorator end.strikeout) (λ m. without_annotation m) r (asked_to_close decoration end.strikeout q) s (struck_until_same r) (λ m. alike m)
         (close_parts columns decoration end.strikeout q s h)
-    made_moves (add_image source title) r s suits h = image_added source (shown_title r.options.img_mode source title) r s (image_parts columns decoration source (shown_title r.options.img_mode source title) r s h)
+    made_moves (add_image source title) r s suits h =
+        image_added source (shown_title r.options.img_mode source title) r s
+        (image_parts columns decoration source (shown_title r.options.img_mode source title) r s h)
     made_moves (push_colour g colour) r s suits h = grind (arith, turned, alike, one_done)
     made_moves (pop_colour g) r s suits h = grind (arith, turned, alike, one_done)
     made_moves (add_border width) r s suits h = border_added columns kind width r s (suits (λ no. no)) (flushed_then columns (λ m. with_border columns m (border_of_cells horizontal width r)) r s h)
-    made_moves (append_subrender prefixes lines) r s suits h = lines_appended columns kind prefixes lines r s (may_lay kind (suits (λ no. no))) (flushed_then columns (λ m. fold (with_line columns) m (prefixed r.annotations prefixes lines)) r s h)
-    made_moves (append_vert_row cells) r s suits h = cells_appended columns kind (may_lay kind (suits (λ no. no))) cells r s (suits (λ no. no)) (flushed_then columns (λ m. with_divider columns horizontal (with_cells columns m cells)) r s h)
+    made_moves (append_subrender prefixes lines) r s suits h =
+        lines_appended columns kind prefixes lines r s (may_lay kind (suits (λ no. no)))
+        (flushed_then columns (λ m. fold (with_line columns) m (prefixed r.annotations prefixes lines)) r s h)
+    made_moves (append_vert_row cells) r s suits h =
+        cells_appended columns kind (may_lay kind (suits (λ no. no))) cells r s (suits (λ no. no))
+        (flushed_then columns (λ m. with_divider columns horizontal (with_cells columns m cells)) r s h)
     made_moves call r s suits h = turned columns kind r _ s (alike r) (one_done _ s h)
 
-    pub call_moves : (c : Call (List A)) (r s : Renderer D A (List A)) → Suits kind c → Does columns decoration c r s → Course columns kind r s (entries_brought columns decoration c r) (borders_added r.width r.options c) (call_adds columns decoration c r)
+    pub call_moves : (c : Call (List A)) (r s : Renderer D A (List A)) → Suits kind c → Does columns decoration c r s →
+        Course columns kind r s (entries_brought columns decoration c r) (borders_added r.width r.options c)
+        (call_adds columns decoration c r)
     call_moves c r s suits h = made_moves c r s suits (live_done r.failure (made columns decoration c r) s h).1
 
     steps_move : (calls : List (Call (List A))) (r s : Renderer D A (List A)) → Each (Suits kind) calls → Steps columns decoration calls r s →

@@ -1,5 +1,10 @@
 -- The visible characters and the markers of a cell are in the lines of the rows that it spans, and in the borders between them, whatever its width.
-use Rattle.text_block_renderer.proofs.Common.{◌≡◌, ℕ, zero, suc, ◌+◌, ◌-◌, ◌<◌, ◌≤◌, ◌⊎◌, inl, inr, is_none, Bool, true, false, if◌then◌else◌, Option, Some, None, List, [], ◌∷◌, ◌++◌, map, flat_map, take, drop, length, refl, ap, sym, ◌∙◌, subst, arith, append_assoc, append-nil, rules, nat_lt, AllZip, cond_both, ltb-true, map-append, flat_map-append, Item, items_width, glyph, Border, shown, RenderLine, CellAlign, Element, text_items, spaces, columns_in_front, cell_height, first_line, StandsAmong, IsGapOf, HasGapIf, HasGaps, SeenRow, MeansRow, part_of, later_of, Meeting, met, meeting, as_lines, merged_first, merged_last, first_mergeable, without_first_border, separator_in, cells_left, before_border, Line, text, border, Renderer, line_padding, GivenCell, FillsCell, ComesAs, PutsRow, border_lines, border_lines_of, lines_laid, StandWithin, text_before, written, to_show}
+use Rattle.text_block_renderer.proofs.Common.{◌≡◌, ℕ, zero, suc, ◌+◌, ◌-◌, ◌<◌, ◌≤◌, ◌⊎◌, inl, inr, is_none, Bool, true, false, if◌then◌else◌, Option, Some, None, List, [], ◌∷◌, ◌++◌, map, flat_map}
+use Rattle.text_block_renderer.proofs.Common.{take, drop, length, refl, ap, sym, ◌∙◌, subst, arith, append_assoc, append-nil, rules, nat_lt, AllZip, cond_both, ltb-true, map-append, flat_map-append}
+use Rattle.text_block_renderer.proofs.Common.{Item, items_width, glyph, Border, shown, RenderLine, CellAlign, Element, text_items, spaces, columns_in_front, cell_height, first_line, StandsAmong}
+use Rattle.text_block_renderer.proofs.Common.{IsGapOf, HasGapIf, HasGaps, SeenRow, MeansRow, part_of, later_of, Meeting, met, meeting, as_lines, merged_first, merged_last, first_mergeable}
+use Rattle.text_block_renderer.proofs.Common.{without_first_border, separator_in, cells_left, before_border, Line, text, border, Renderer, line_padding, GivenCell, FillsCell, ComesAs, PutsRow}
+use Rattle.text_block_renderer.proofs.Common.{border_lines, border_lines_of, lines_laid, StandWithin, text_before, written, to_show}
 use Rattle.tbr_model.specs.Layout.{joined}
 use Rattle.tbr_model.proofs.lists.Joined.{joined-append}
 use Rattle.tbr_border.specs.declared.RenderLine.TheVariants.{Text, Line as Rule}
@@ -15,7 +20,7 @@ use Rattle.tbr_rows.proofs.ColumnsOfRows.{column_of, columns_are, cell_is, span_
 use Rattle.tbr_rows.proofs.CellsSeated.{among_own}
 use Rattle.text_block_renderer.proofs.Within.{within_on, two_within, itself_within, middle_within, after_within, before_within}
 use Rattle.text_block_renderer.proofs.Written.{written-append, stays_written, border_shown, laid_within}
-use Rattle.text_block_renderer.proofs.RowsOfCells.{row_beside}
+use Rattle.tbr_renderer.proofs.RowsOfCells.{row_beside}
 use Rattle.text_block_renderer.proofs.ActParts.{row_lines, top_stays}
 
 -- what is among the items of a list has something among those of the other
@@ -81,7 +86,9 @@ module _ {T : Type 0} (columns : ℕ → Option ℕ) (a : T) where
   line_within (Text es) = subst (λ is. StandWithin (seen is) (seen (items_of es))) (sym (append-nil (items_of es))) (itself_within columns (items_of es))
   line_within (Rule b) = subst (λ is. StandWithin (seen is) (seen (shown a b))) (sym (append-nil (text_before b))) (border_shown columns a b)
 
-  one_within : (shows : List (RenderLine T) → List (Item T)) → ((l : RenderLine T) (ls : List (RenderLine T)) → shows (l ∷ ls) ≡ items_under a l) → (ls : List (RenderLine T)) → StandWithin (seen (items_in (take 1 ls))) (seen (shows ls))
+  one_within : (shows : List (RenderLine T) → List (Item T)) →
+      ((l : RenderLine T) (ls : List (RenderLine T)) → shows (l ∷ ls) ≡ items_under a l) → (ls : List (RenderLine T)) →
+      StandWithin (seen (items_in (take 1 ls))) (seen (shows ls))
   one_within shows each [] = tt
   one_within shows each (l ∷ ls) = subst (λ is. StandWithin (seen (items_in (l ∷ []))) (seen is)) (sym (each l ls)) (line_within l)
 
@@ -161,13 +168,16 @@ module _ {T : Type 0} (columns : ℕ → Option ℕ) (a : T) where
           inr (next, (before, after, hangs), sym (append-nil next.lines), omega (arith, more), omega (arith, more))
 
   -- a row's lines and the text in front of the border below it have what a cell shows, but for what is left
-  cell_shown : (style : RowStyle) (hanging own : List (Cell T)) (top : Option (Border T)) (row : SeenRow T) (means : MeansRow columns style a hanging own top row) (c : Cell T) → StandsAmong c means.cells →
+  cell_shown : (style : RowStyle) (hanging own : List (Cell T)) (top : Option (Border T)) (row : SeenRow T)
+      (means : MeansRow columns style a hanging own top row) (c : Cell T) → StandsAmong c means.cells →
       (rest : List (RenderLine T)) × IsLeft c.span rest row.overhang × StandWithin (seen (items_in c.lines)) (seen ((joined row.lines ++ below row.next) ++ items_in rest))
   cell_shown style hanging own top row means c among =
       let height = row_height means.shown in
       let draws = style.draws_borders in
       let k = column_of style.collapses top c in
-      let shown : StandsAmong k means.shown = subst (StandsAmong k) (sym (means.shown_is ∙ columns_are style.collapses top means.cells)) (among_map (column_of style.collapses top) c means.cells among) in
+      let shown : StandsAmong k means.shown =
+      subst (StandsAmong k) (sym (means.shown_is ∙ columns_are style.collapses top means.cells))
+      (among_map (column_of style.collapses top) c means.cells among) in
       let high : cell_height k.cell ≤ height = each_among _ k means.shown shown (row_is_high_enough means.shown) in
       let d : Cell T = cell_in (dropped height k) in
       let stands = among_map cell_in (dropped height k) (map (dropped height) means.shown) (among_map (dropped height) k means.shown shown) in
@@ -182,7 +192,9 @@ module _ {T : Type 0} (columns : ℕ → Option ℕ) (a : T) where
       let in_border : StandWithin (seen gap) (seen (below row.next)) =
       subst (λ o. StandWithin (seen gap) (seen (below o))) (sym means.lower) (below_within draws d (cells_left height means.shown) _ means.full stands means.gaps) in
       let all : (first ++ gap) ++ items_in rest ≡ items_in c.lines =
-      ap (λ is. is ++ items_in rest) (sym (flat_map-append said (take height k.cell.lines) (if has_gap draws d then take 1 d.lines else []))) ∙ sym (flat_map-append said (part_of draws height k.cell) rest)
+      ap (λ is. is ++ items_in rest)
+      (sym (flat_map-append said (take height k.cell.lines) (if has_gap draws d then take 1 d.lines else [])))
+      ∙ sym (flat_map-append said (part_of draws height k.cell) rest)
       ∙ ap items_in (part_and_later draws height k.cell high) ∙ ap (λ (x : Cell T). items_in x.lines) (cell_is style.collapses top height c) ∙ met_written (meeting style.collapses top height) c in (
         rest,
         subst (λ n. IsLeft n rest row.overhang) (span_stays style.collapses top height c) (subst (IsLeft d.span rest) (sym means.rest) (later_left draws d (cells_left height means.shown) stands)),
@@ -192,7 +204,9 @@ module _ {T : Type 0} (columns : ℕ → Option ℕ) (a : T) where
 
   -- ---- what comes into the cell
 
-  filled_within : (align : CellAlign) (width : ℕ) (lines : List (Line T)) (filled : List (RenderLine T)) → AllZip (FillsCell columns align width a) lines filled → StandWithin (seen (written lines)) (seen (items_in filled))
+  filled_within : (align : CellAlign) (width : ℕ) (lines : List (Line T)) (filled : List (RenderLine T)) →
+      AllZip (FillsCell columns align width a) lines filled →
+      StandWithin (seen (written lines)) (seen (items_in filled))
   filled_within align width [] [] h = tt
   filled_within align width (text is ∷ ls) (Text es ∷ fs) h =
       let missing = width - items_width columns is in
@@ -204,7 +218,9 @@ module _ {T : Type 0} (columns : ℕ → Option ℕ) (a : T) where
       (filled_within align width ls fs h.1)
   filled_within align width (border b ∷ ls) (Rule c ∷ fs) h =
       let same : text_before c ≡ text_before b = ap (λ (d : Border T). text_before d) h.0 in
-      two_within columns (text_before b) (written ls) (text_before c) (items_in fs) (subst (λ is. StandWithin (seen (text_before b)) (seen is)) (sym same) (itself_within columns (text_before b))) (filled_within align width ls fs h.1)
+      two_within columns (text_before b) (written ls) (text_before c) (items_in fs)
+      (subst (λ is. StandWithin (seen (text_before b)) (seen is)) (sym same) (itself_within columns (text_before b)))
+      (filled_within align width ls fs h.1)
   filled_within align width (l ∷ ls) (f ∷ fs) h = absurd h.0
   filled_within align width ls fs h = absurd h
 
@@ -220,7 +236,9 @@ module _ {D A : Type 0} (columns : ℕ → Option ℕ) where
 
   module _ (collapses : Bool) (cells : List (GivenCell (List A))) (m s : Renderer D A (List A)) (puts : PutsRow columns collapses cells m s) where
     -- a row writes its lines after what there was, and then what is in front of the border below
-    pub row_adds : (more : List (Item (List A))) × (written s.lines ≡ written m.lines ++ more) × StandWithin (to_show columns (joined puts.row.lines ++ below columns m.annotations puts.row.next)) (to_show columns more)
+    pub row_adds : (more : List (Item (List A))) × (written s.lines ≡ written m.lines ++ more) × StandWithin
+        (to_show columns (joined puts.row.lines ++ below columns m.annotations puts.row.next))
+        (to_show columns more)
     row_adds =
         let row = puts.row in
         let top : List (Line (List A)) = before_border m.lines ++ border_lines row.above in
@@ -228,7 +246,10 @@ module _ {D A : Type 0} (columns : ℕ → Option ℕ) where
         let last = border_lines_of columns m row.next in
         let texts = laid_within columns m row.lines in (
           written laid ++ written last,
-          ap (λ (q : Renderer D A (List A)). written q.lines) puts.is ∙ ap written (row_lines columns m row) ∙ written-append top (laid ++ last) ∙ ap (λ is. is ++ written (laid ++ last)) (stays_written m.lines top (top_stays columns collapses cells m s puts))
+          ap (λ (q : Renderer D A (List A)). written q.lines) puts.is ∙ ap written (row_lines columns m row)
+              ∙ written-append top (laid ++ last)
+              ∙ ap (λ is. is ++ written (laid ++ last))
+              (stays_written m.lines top (top_stays columns collapses cells m s puts))
               ∙ ap (λ is. written m.lines ++ is) (written-append laid last),
           two_within columns (joined row.lines) (below columns m.annotations row.next) (written laid) (written last) texts (border_within m row.next),
         )
@@ -236,7 +257,9 @@ module _ {D A : Type 0} (columns : ℕ → Option ℕ) where
   -- Items stand in what is written, or what is left of them is in a cell that overhangs for some rows yet.
   abbrev pub Follows : List (Item (List A)) → ℕ → Renderer D A (List A) → Type 0
   Follows us rows r =
-      StandWithin us (to_show columns (written r.lines)) ⊎ ((c : Cell (List A)) × StandsAmong c r.hanging × (1 ≤ c.span) × (c.span ≤ rows) × StandWithin us (to_show columns (written r.lines ++ items_in c.lines)))
+      StandWithin us (to_show columns (written r.lines)) ⊎
+      ((c : Cell (List A)) × StandsAmong c r.hanging × (1 ≤ c.span) × (c.span ≤ rows) × StandWithin us
+      (to_show columns (written r.lines ++ items_in c.lines)))
 
   module _ (collapses : Bool) (cells : List (GivenCell (List A))) (m s : Renderer D A (List A)) (puts : PutsRow columns collapses cells m s) (us : List (Item (List A))) (rows : ℕ) where
     -- through a row
@@ -258,7 +281,9 @@ module _ {D A : Type 0} (columns : ℕ → Option ℕ) where
         ]
 
   -- and from where a row takes a cell
-  pub cell_follows : (collapses : Bool) (cells : List (GivenCell (List A))) (m s : Renderer D A (List A)) → PutsRow columns collapses cells m s → (rows : ℕ) (cell : GivenCell (List A)) → StandsAmong cell cells → cell.span ≤ suc rows → Follows (to_show columns (written cell.lines)) rows s
+  pub cell_follows : (collapses : Bool) (cells : List (GivenCell (List A))) (m s : Renderer D A (List A)) →
+      PutsRow columns collapses cells m s → (rows : ℕ) (cell : GivenCell (List A)) → StandsAmong cell cells →
+      cell.span ≤ suc rows → Follows (to_show columns (written cell.lines)) rows s
   cell_follows collapses cells m s puts rows cell among few =
       let (c, own, comes) = among_zip (ComesAs columns m.annotations) cell cells puts.own puts.come among in
       let inside = to_show columns (written cell.lines) in
@@ -268,5 +293,8 @@ module _ {D A : Type 0} (columns : ℕ → Option ℕ) where
         | l ∷ ls ↦ λ e.
             let seated = among_own 0 c m.hanging puts.own puts.means.cells (ap (λ ks. is_none (first_line ks)) e) own puts.means.seated in
             row_follows collapses cells m s puts inside rows c seated (omega (arith, comes.1, few))
-            (within_on inside (to_show columns (items_in c.lines)) (to_show columns (written m.lines ++ items_in c.lines)) filled (after_within columns (written m.lines) (items_in c.lines) (items_in c.lines) (itself_within columns (items_in c.lines))))
+            (within_on inside (to_show columns (items_in c.lines))
+            (to_show columns (written m.lines ++ items_in c.lines)) filled
+            (after_within columns (written m.lines) (items_in c.lines) (items_in c.lines)
+            (itself_within columns (items_in c.lines))))
       ]) refl

@@ -1,5 +1,8 @@
 -- Borders that were drawn as text, and what holds of a renderer with its lines less these.
-use Rattle.text_block_renderer.proofs.Common.{◌≡◌, ℕ, inl, inr, Bool, true, false, if◌then◌else◌, Option, None, List, [], ◌∷◌, ◌++◌, map, flat_map, fold, refl, ap, sym, ◌∙◌, subst, append_assoc, append-nil, arith, AllZip, map-append, flat_map-append, run_of, Entry, Item, Border, shown, Decoration, Line, text, border, Open, Renderer, RenderOptions, line_padding, with_line, IsSound, marker_items, block_lines, flushed, lines_at_end, names_at_end, with_border, laid_entries, run, done, open_run, Act, after_act, StaysLine, as_it_is, drawn, line_put, not_drawn, text_drawn, AreDrawnAmong, WithoutDrawnBorders, border_drawn, borders_drawn, DrawNone}
+use Rattle.text_block_renderer.proofs.Common.{◌≡◌, ℕ, inl, inr, Bool, true, false, if◌then◌else◌, Option, None, List, [], ◌∷◌, ◌++◌, map, flat_map, fold, refl, ap, sym, ◌∙◌, subst, append_assoc}
+use Rattle.text_block_renderer.proofs.Common.{append-nil, arith, AllZip, map-append, flat_map-append, run_of, Entry, Item, Border, shown, Decoration, Line, text, border, Open, Renderer, RenderOptions}
+use Rattle.text_block_renderer.proofs.Common.{line_padding, with_line, IsSound, marker_items, block_lines, flushed, lines_at_end, names_at_end, with_border, laid_entries, run, done, open_run, Act}
+use Rattle.text_block_renderer.proofs.Common.{after_act, StaysLine, as_it_is, drawn, line_put, not_drawn, text_drawn, AreDrawnAmong, WithoutDrawnBorders, border_drawn, borders_drawn, DrawNone}
 use Rattle.text_block_renderer.specs.Drawn.{Put}
 use Rattle.tbr_renderer.proofs.FlushedBlocks.{EndsBlock}
 use Rattle.text_block_renderer.proofs.Moves.{Frame, sound_alike, frame_ended, sound_ended}
@@ -69,7 +72,9 @@ module _ {D A : Type 0} (columns : ℕ → Option ℕ) where
       (put_line ∷ more, lines ∙ append_assoc r.lines (put_line ∷ []) more, others ∙ ap (on (fold (with_line columns) (with_line columns r t) ts)) (append_assoc ls (put_line ∷ []) more))
 
   -- a run ends alike too
-  pub end_alike : (r s : Renderer D A (List A)) (ls : List (Line (List A))) (b : Open (List A)) → EndsBlock columns r b s → (more : List (Line (List A))) × (s.lines ≡ r.lines ++ more) × EndsBlock columns (on r ls) b (on s (ls ++ more))
+  pub end_alike : (r s : Renderer D A (List A)) (ls : List (Line (List A))) (b : Open (List A)) →
+      EndsBlock columns r b s →
+      (more : List (Line (List A))) × (s.lines ≡ r.lines ++ more) × EndsBlock columns (on r ls) b (on s (ls ++ more))
   end_alike r s ls b h =
       let (more, lines, others) = come_alike (block_lines columns r b (lines_at_end columns r b)) (record r { block = None }) ls in
       let same : on s (ls ++ more) ≡ flushed columns (on r ls) (block_lines columns r b (lines_at_end columns r b)) (names_at_end columns r b) = grind arith in
@@ -88,7 +93,8 @@ module _ {D A : Type 0} (columns : ℕ → Option ℕ) where
     abbrev Less : Renderer D A (List A) → List (Entry (List A)) → Texts A → Type 0
     Less r es bs = WithoutDrawnBorders bs (λ q. Q q es) r
 
-    flushed_less : (r s : Renderer D A (List A)) (b : Open (List A)) (es : List (Entry (List A))) (bs : Texts A) → EndsBlock columns r b s → IsSound columns r → Less r es bs → Less s (es ++ run_of b.events) bs
+    flushed_less : (r s : Renderer D A (List A)) (b : Open (List A)) (es : List (Entry (List A))) (bs : Texts A) →
+        EndsBlock columns r b s → IsSound columns r → Less r es bs → Less s (es ++ run_of b.events) bs
     flushed_less r s b es bs h sound (rest, among, k) =
         let (more, lines, ends) = end_alike r s rest b h in
         let sound_on : IsSound columns (on r rest) = record { space = sound.space; wide = sound.wide } in
@@ -144,12 +150,15 @@ module _ {D A : Type 0} (columns : ℕ → Option ℕ) where
       stays = λ r s es bs stay waiting width options k. (ap (λ (o : RenderOptions). o.pad_block_width) options ∙ k.0, k.1);
     }
 
-    pub none_drawn : (acts : List (Act A)) (r s : Renderer D A (List A)) → run (after_act columns decoration) acts r ≡ done s → DrawNone columns decoration acts r → borders_drawn columns decoration acts r ≡ []
+    pub none_drawn : (acts : List (Act A)) (r s : Renderer D A (List A)) →
+        run (after_act columns decoration) acts r ≡ done s → DrawNone columns decoration acts r →
+        borders_drawn columns decoration acts r ≡ []
     none_drawn acts r s h (inr none) = none
     none_drawn acts r s h (inl unpadded) = (acts_on columns NoneYet none_yet decoration acts r s (open_run r.block) [] h ([], refl, (unpadded, refl))).2.1
 
     -- what holds of the lines less those that are drawn then holds of all lines
-    pub holds_of_all : (P : Renderer D A (List A) → Type 0) (acts : List (Act A)) (r s : Renderer D A (List A)) → run (after_act columns decoration) acts r ≡ done s → DrawNone columns decoration acts r →
+    pub holds_of_all : (P : Renderer D A (List A) → Type 0) (acts : List (Act A)) (r s : Renderer D A (List A)) →
+        run (after_act columns decoration) acts r ≡ done s → DrawNone columns decoration acts r →
         WithoutDrawnBorders (borders_drawn columns decoration acts r) P s → P s
     holds_of_all P acts r s h none k =
         let (rest, among, holds) = subst (λ bs. WithoutDrawnBorders bs P s) (none_drawn acts r s h none) k in

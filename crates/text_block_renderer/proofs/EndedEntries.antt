@@ -1,5 +1,9 @@
 -- Entries that came, less those of the open run, and what moves and acts keep of a renderer, of these, and of the borders that were drawn as text.
-use Rattle.text_block_renderer.proofs.Common.{◌≡◌, ℕ, ◌-◌, Option, None, Some, List, [], ◌∷◌, ◌++◌, map, length, flat_map, fold, refl, ap, sym, ◌∙◌, subst, arith, append_assoc, append-nil, AllZip, map-append, flat_map-append, length-append, run_of, Entry, Item, Border, without_holes, Decoration, Outcome, done, after_flush, Open, Renderer, with_line, open_run, with_border, footnote_lines, run, told_by, with_next, laid_entry, laid_entries, entries_brought, StaysLine, Act, call, row, fmt_links, finalise, after_act, before_run, act_comes, acts_come, act_adds, acts_add, part_added, row_added, notes_add, run_of_block, flush_ends, call_adds, border_drawn, drawn_of_part, drawn_below, drawn_of_row, drawn_of_added, borders_drawn}
+use Rattle.text_block_renderer.proofs.Common.{◌≡◌, ℕ, ◌-◌, Option, None, Some, List, [], ◌∷◌, ◌++◌, map, length, flat_map, fold, refl, ap, sym, ◌∙◌, subst, arith, append_assoc, append-nil, AllZip}
+use Rattle.text_block_renderer.proofs.Common.{map-append, flat_map-append, length-append, run_of, Entry, Item, Border, without_holes, Decoration, Outcome, done, after_flush, Open, Renderer, with_line}
+use Rattle.text_block_renderer.proofs.Common.{open_run, with_border, footnote_lines, run, told_by, with_next, laid_entry, laid_entries, entries_brought, StaysLine, Act, call, row, fmt_links, finalise}
+use Rattle.text_block_renderer.proofs.Common.{after_act, before_run, act_comes, acts_come, act_adds, acts_add, part_added, row_added, notes_add, run_of_block, flush_ends, call_adds, border_drawn}
+use Rattle.text_block_renderer.proofs.Common.{drawn_of_part, drawn_below, drawn_of_row, drawn_of_added, borders_drawn}
 use Rattle.std.proofs.lemmas.List.Folds.{flat_map-map}
 use Rattle.std.proofs.Math.Seq.{take-append_seam, drop-append_seam}
 use Rattle.tbr_model.specs.Layout.{joined}
@@ -9,9 +13,10 @@ use Rattle.tbr_renderer.proofs.JoinedTexts.{run_joined}
 use Rattle.tbr_renderer.proofs.OutcomeParts.{one_done, done_first}
 use Rattle.text_block_renderer.proofs.ActSteps.{ActStep, act_step}
 use Rattle.text_block_renderer.proofs.ActParts.{top_stays}
-use Rattle.text_block_renderer.proofs.Moves.{any, Move, flush, line, rule, join, turn, brought_by, brought, added_by, added, Makes, MakesAll, flushed_none, lines_beside}
+use Rattle.tbr_renderer.proofs.FlushedBlocks.{flushed_none, lines_beside}
+use Rattle.text_block_renderer.proofs.Moves.{any, Move, flush, line, rule, join, turn, brought_by, brought, added_by, added, Makes, MakesAll}
 use Rattle.text_block_renderer.proofs.CallMoves.{call_moves}
-use Rattle.text_block_renderer.proofs.RowsOfCells.{row_flushes, row_closed, under_row}
+use Rattle.tbr_renderer.proofs.RowsOfCells.{row_flushes, row_closed, under_row}
 use Rattle.text_block_renderer.proofs.LastingLines.{all_stay}
 
 -- borders as text
@@ -27,7 +32,9 @@ pub record GoesOn {D A : Type 0} (columns : ℕ → Option ℕ) (Q : Renderer D 
   pub flushed : (r s : Renderer D A (List A)) (b : Open (List A)) (es : List (Entry (List A))) (bs : Texts A) → EndsBlock columns r b s → Q r es bs → Q s (es ++ run_of b.events) bs
   pub laid : (r : Renderer D A (List A)) (t : List (Item (List A))) (es : List (Entry (List A))) (bs : Texts A) → Q r es bs → Q (with_line columns r t) (es ++ laid_entries t) bs
   pub ruled : (r : Renderer D A (List A)) (b : Border (List A)) (es : List (Entry (List A))) (bs : Texts A) → Q r es bs → Q (with_border columns r b) es (bs ++ border_drawn columns r b)
-  pub stays : (r s : Renderer D A (List A)) (es : List (Entry (List A))) (bs : Texts A) → AllZip StaysLine r.lines s.lines → s.waiting ≡ r.waiting → s.width ≡ r.width → s.options ≡ r.options → Q r es bs → Q s es bs
+  pub stays : (r s : Renderer D A (List A)) (es : List (Entry (List A))) (bs : Texts A) →
+      AllZip StaysLine r.lines s.lines → s.waiting ≡ r.waiting → s.width ≡ r.width → s.options ≡ r.options → Q r es bs →
+      Q s es bs
 
 -- ---- what draws no border
 
@@ -57,7 +64,9 @@ module _ {D A : Type 0} (columns : ℕ → Option ℕ) (Q : Renderer D A (List A
       (all, ap (λ (o : Option (Open (List A))). all ++ open_run o) (flushed_none columns r s h) ∙ append-nil all ∙ whole, flush_on r s r.block ended bs h k)
 
   -- the same lines and markers, with more in the open run
-  joined_on : (r s : Top) (more es : Came) (bs : Texts A) → s.lines ≡ r.lines → s.waiting ≡ r.waiting → s.width ≡ r.width → s.options ≡ r.options → open_run s.block ≡ open_run r.block ++ more → Ended Q r es bs → Ended Q s (es ++ more) bs
+  joined_on : (r s : Top) (more es : Came) (bs : Texts A) → s.lines ≡ r.lines → s.waiting ≡ r.waiting →
+      s.width ≡ r.width → s.options ≡ r.options → open_run s.block ≡ open_run r.block ++ more → Ended Q r es bs →
+      Ended Q s (es ++ more) bs
   joined_on r s more es bs lines waiting width options run (ended, whole, k) = (
     ended,
     ap (λ fs. ended ++ fs) run ∙ sym (append_assoc ended (open_run r.block) more) ∙ ap (λ fs. fs ++ more) whole,
@@ -86,14 +95,21 @@ module _ {D A : Type 0} (columns : ℕ → Option ℕ) (Q : Renderer D A (List A
       let b = without_holes cells r.annotations in
       let drawn = border_drawn columns r b in
       let all = subst (λ (t : Top). Ended Q t (es ++ []) (bs ++ drawn)) (sym h.2)
-      (put_on r (with_border columns r b) [] es bs (bs ++ drawn) h.1 h.1 (λ ended j. subst (λ fs. Q (with_border columns r b) fs (bs ++ drawn)) (sym (append-nil ended)) (on.ruled r b ended bs j)) k) in
-      subst (λ (t : Top). Ended Q s (es ++ []) (bs ++ (border_drawn columns t (without_holes cells t.annotations) ++ []))) (sym h.3) (subst (λ cs. Ended Q s (es ++ []) (bs ++ cs)) (sym (append-nil drawn)) all)
+      (put_on r (with_border columns r b) [] es bs (bs ++ drawn) h.1 h.1
+      (λ ended j. subst (λ fs. Q (with_border columns r b) fs (bs ++ drawn)) (sym (append-nil ended))
+      (on.ruled r b ended bs j)) k) in
+      subst
+      (λ (t : Top). Ended Q s (es ++ []) (bs ++ (border_drawn columns t (without_holes cells t.annotations) ++ [])))
+      (sym h.3) (subst (λ cs. Ended Q s (es ++ []) (bs ++ cs)) (sym (append-nil drawn)) all)
   move_on (join more) r s es bs h k =
       no_more s (es ++ run_of more) bs [] refl
-      (joined_on r s (run_of more) es bs (ap (λ (q : Top). q.lines) h) (ap (λ (q : Top). q.waiting) h) (ap (λ (q : Top). q.width) h) (ap (λ (q : Top). q.options) h) (ap (λ (q : Top). open_run q.block) h ∙ run_joined r more) k)
+      (joined_on r s (run_of more) es bs (ap (λ (q : Top). q.lines) h) (ap (λ (q : Top). q.waiting) h)
+      (ap (λ (q : Top). q.width) h) (ap (λ (q : Top). q.options) h)
+      (ap (λ (q : Top). open_run q.block) h ∙ run_joined r more) k)
   move_on turn r s es bs h k = no_more s (es ++ []) bs [] refl (joined_on r s [] es bs h.lines h.waiting h.width h.options (ap open_run h.block ∙ sym (append-nil (open_run r.block))) k)
 
-  moves_on : (ms : List (Move D A)) (r s : Top) (es : Came) (bs : Texts A) → MakesAll columns any ms r s → Ended Q r es bs → Ended Q s (es ++ brought ms) (bs ++ flat_map (drawn_of_part columns) (added ms))
+  moves_on : (ms : List (Move D A)) (r s : Top) (es : Came) (bs : Texts A) → MakesAll columns any ms r s →
+      Ended Q r es bs → Ended Q s (es ++ brought ms) (bs ++ flat_map (drawn_of_part columns) (added ms))
   moves_on [] r s es bs h k = no_more s (es ++ []) bs [] refl (subst (λ (q : Top). Ended Q q (es ++ []) bs) (sym h) (subst (λ fs. Ended Q r fs bs) (sym (append-nil es)) k))
   moves_on (m ∷ ms) r s es bs h k =
       let here = flat_map (drawn_of_part columns) (added_by m) in
@@ -108,7 +124,10 @@ module _ {D A : Type 0} (columns : ℕ → Option ℕ) (Q : Renderer D A (List A
   laid_on [] r es bs k = subst (λ fs. Q r fs bs) (sym (append-nil es)) k
   laid_on (t ∷ ts) r es bs k =
       let q = with_line columns r t in
-      subst (λ fs. Q (fold (with_line columns) q ts) fs bs) (append_assoc es (laid_entries t) (laid_entries (joined ts)) ∙ ap (λ fs. es ++ fs) (sym (map-append laid_entry t (joined ts)))) (laid_on ts q (es ++ laid_entries t) bs (on.laid r t es bs k))
+      subst (λ fs. Q (fold (with_line columns) q ts) fs bs)
+      (append_assoc es (laid_entries t) (laid_entries (joined ts))
+      ∙ ap (λ fs. es ++ fs) (sym (map-append laid_entry t (joined ts))))
+      (laid_on ts q (es ++ laid_entries t) bs (on.laid r t es bs k))
 
   below_on : (r : Top) (o : Option (Border (List A))) (es : Came) (bs : Texts A) → Q r es bs → Q (with_next columns r o) es (bs ++ drawn_below columns r o)
   below_on r None es bs k = subst (Q r es) (sym (append-nil bs)) k
@@ -134,13 +153,20 @@ module _ {D A : Type 0} (columns : ℕ → Option ℕ) (Q : Renderer D A (List A
         (subst (λ fs. Ended Q s (es ++ fs) (bs ++ flat_map (drawn_of_part columns) (added path.moves))) path.brings (moves_on path.moves r s es bs path.makes k)))
     act_on (finalise targets) r s es bs h k =
         no_more s (es ++ []) bs [] refl
-        (joined_on r s [] es bs (ap (λ (q : Top). q.lines) h) (ap (λ (q : Top). q.waiting) h) (ap (λ (q : Top). q.width) h) (ap (λ (q : Top). q.options) h) (ap (λ (q : Top). open_run q.block) h ∙ sym (append-nil (open_run r.block))) k)
+        (joined_on r s [] es bs (ap (λ (q : Top). q.lines) h) (ap (λ (q : Top). q.waiting) h)
+        (ap (λ (q : Top). q.width) h) (ap (λ (q : Top). q.options) h)
+        (ap (λ (q : Top). open_run q.block) h ∙ sym (append-nil (open_run r.block))) k)
     act_on (fmt_links links) r s es bs h (ended, whole, k) =
         let ts = flat_map (footnote_lines columns r) links in
         let more = laid_entries (joined ts) in
         no_more s (before_run r more es) bs _ (notes_draw_none columns decoration ts r)
-        (subst (λ (q : Top). Ended Q q (before_run r more es) bs) (sym h)
-        (ended ++ more, ap (λ (o : Option (Open (List A))). (ended ++ more) ++ open_run o) (ap (λ (q : Top). q.block) (lines_beside columns ts r)) ∙ placed r ended more ∙ ap (before_run r more) whole, laid_on ts r ended bs k))
+        (subst (λ (q : Top). Ended Q q (before_run r more es) bs) (sym h) (
+          ended ++ more,
+          ap (λ (o : Option (Open (List A))). (ended ++ more) ++ open_run o)
+              (ap (λ (q : Top). q.block) (lines_beside columns ts r)) ∙ placed r ended more
+              ∙ ap (before_run r more) whole,
+          laid_on ts r ended bs k,
+        ))
     act_on (row collapses cells) r s es bs h k =
         let (m, flushed, puts, is, seen) = h in
         let flushes = row_flushes columns r m flushed in
@@ -158,7 +184,10 @@ module _ {D A : Type 0} (columns : ℕ → Option ℕ) (Q : Renderer D A (List A
         subst (λ cs. Ended Q s (act_comes columns decoration (row collapses cells) r es) (bs ++ cs)) (sym draws)
         (subst (λ fs. Ended Q s (es ++ fs) (bs ++ next)) (sym is)
         (put_on m s more es bs (bs ++ next) (flushed_none columns r m flushes) (row_closed columns r s (m, flushed, puts.row, puts.is))
-        (λ ended j. subst (λ (q : Top). Q q (ended ++ more) (bs ++ next)) (sym puts.is) (below_on full puts.row.next (ended ++ more) bs (laid_on puts.row.lines top ended bs (on.stays m top ended bs (top_stays columns collapses cells m s puts) refl refl refl j))))
+        (λ ended j. subst (λ (q : Top). Q q (ended ++ more) (bs ++ next)) (sym puts.is)
+        (below_on full puts.row.next (ended ++ more) bs
+        (laid_on puts.row.lines top ended bs
+        (on.stays m top ended bs (top_stays columns collapses cells m s puts) refl refl refl j))))
         (flushed_on r m es bs flushes k)))
 
     pub acts_on : (acts : List (Act A)) (r s : Top) (es : Came) (bs : Texts A) → run (after_act columns decoration) acts r ≡ done s → Ended Q r es bs →
@@ -172,4 +201,6 @@ module _ {D A : Type 0} (columns : ℕ → Option ℕ) (Q : Renderer D A (List A
         let draw = drawn_of_added columns decoration in
         let all = acts_on acts m s came (bs ++ here) others (act_on act r m es bs (act_step columns decoration act r m does) k) in
         subst (λ o. Ended Q s (told_by (λ q. acts_come columns decoration acts q came) o) (bs ++ flat_map draw (adds ++ told_by (acts_add columns decoration acts) o))) (sym does)
-        (subst (Ended Q s (acts_come columns decoration acts m came)) (append_assoc bs here (borders_drawn columns decoration acts m) ∙ ap (λ cs. bs ++ cs) (sym (flat_map-append draw adds (acts_add columns decoration acts m)))) all)
+        (subst (Ended Q s (acts_come columns decoration acts m came))
+        (append_assoc bs here (borders_drawn columns decoration acts m)
+        ∙ ap (λ cs. bs ++ cs) (sym (flat_map-append draw adds (acts_add columns decoration acts m)))) all)

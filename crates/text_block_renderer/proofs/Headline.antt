@@ -1,5 +1,6 @@
 -- The headline.
-use Rattle.text_block_renderer.proofs.Common.{◌≡◌, ℕ, Option, ◌≤◌, List, ap, sym, ◌∙◌, subst, arith, Each, AreApart, IsFilled, HasFilledCells, done, Decoration, run, RenderOptions, Renderer, least, block_width, IsSound, Act, after_act, Piece, cells_in, rows_in, IsPiece, NoLayoutIsAhead, StandsOnce, CellsFit, Headline}
+use Rattle.text_block_renderer.proofs.Common.{◌≡◌, ℕ, Option, ◌≤◌, List, ap, sym, ◌∙◌, subst, arith, Each, AreApart, IsFilled, HasFilledCells, done, Decoration, run, RenderOptions, Renderer, least}
+use Rattle.text_block_renderer.proofs.Common.{block_width, IsSound, Act, after_act, Piece, cells_in, rows_in, IsPiece, NoLayoutIsAhead, StandsOnce, CellsFit, Headline}
 use Rattle.tbr_model.proofs.lists.Each.{each_unmap}
 use Rattle.text_block_renderer.specs.Headline.{made}
 use Rattle.text_block_renderer.proofs.RunStretches.{none_ahead}
@@ -29,7 +30,9 @@ module _ {D A : Type 0} (columns : ℕ → Option ℕ) where
           each_cell_shows_its_texts_once = λ one none fit before rows after cell are is_cell span.
               cells_shown columns one r.options.draw_borders before rows after cell r.hanging s.hanging span is_cell
               (each_gives (λ p. CellsFit columns (cells_in p)) (λ p. HasFilledCells columns (made p)) (cells_filled columns one) _
-              (subst (Each (λ p. CellsFit columns (cells_in p))) are (each_unmap cells_in (λ p. CellsFit columns (cells_in p)) (CellsFit columns) (λ p k. k) (rows_in along.came.pieces) (subst (Each (CellsFit columns)) (sym along.came.put_rows) fit))))
+              (subst (Each (λ p. CellsFit columns (cells_in p))) are
+              (each_unmap cells_in (λ p. CellsFit columns (cells_in p)) (CellsFit columns) (λ p k. k)
+              (rows_in along.came.pieces) (subst (Each (CellsFit columns)) (sym along.came.put_rows) fit))))
               (subst (λ cells. AreApart 0 cells × Each (IsFilled columns) cells) (sym none) (tt, tt))
               (subst (λ ps. Chain columns r.options.draw_borders r.hanging ps s.hanging) are along.chain);
           two_columns_are_enough = λ two wide act narrow. act_fits columns sound.space two decoration act s (subst (λ n. 2 ≤ n) (sym same) wide) narrow;

@@ -1,5 +1,8 @@
 -- A border that is the last line, and lines that come after it.
-use Rattle.text_block_renderer.proofs.Common.{◌≡◌, ℕ, suc, ◌-◌, ◌⊎◌, inl, inr, Bool, Option, Some, None, List, [], ◌∷◌, ◌++◌, map, flat_map, take, length, refl, ap, sym, ◌∙◌, subst, arith, append_assoc, append-nil, Border, Decoration, Renderer, after, footnote_lines, Line, border, without_last, last_border, before_border, border_above, border_lines, done, GivenCell, PutsRow, after_flush, Act, call, row, fmt_links, finalise, rows_of, after_act, run, PutRow, put, lines_of_piece, lines_laid, border_lines_of}
+use Rattle.text_block_renderer.proofs.Common.{◌≡◌, ℕ, suc, ◌-◌, ◌⊎◌, inl, inr, Bool, Option, Some, None, List, [], ◌∷◌, ◌++◌, map, flat_map, take, length, refl, ap, sym, ◌∙◌, subst, arith}
+use Rattle.text_block_renderer.proofs.Common.{append_assoc, append-nil, Border, Decoration, Renderer, after, footnote_lines, Line, border, without_last, last_border, before_border, border_above}
+use Rattle.text_block_renderer.proofs.Common.{border_lines, done, GivenCell, PutsRow, after_flush, Act, call, row, fmt_links, finalise, rows_of, after_act, run, PutRow, put, lines_of_piece}
+use Rattle.text_block_renderer.proofs.Common.{lines_laid, border_lines_of}
 use Rattle.tbr_rows.specs.declared.LineSet.{LineSet as Cell}
 use Rattle.tbr_renderer.proofs.OutcomeParts.{one_done, done_first, run_last}
 use Rattle.tbr_tagged.proofs.Outcomes.{live_done}
@@ -8,7 +11,7 @@ use Rattle.text_block_renderer.proofs.Moves.{flush}
 use Rattle.text_block_renderer.proofs.AddedLines.{moves_grow, laid_lines, steps_grow}
 use Rattle.text_block_renderer.proofs.ActSteps.{act_step}
 use Rattle.text_block_renderer.proofs.ActParts.{row_lines}
-use Rattle.text_block_renderer.proofs.RowsOfCells.{row_flushes}
+use Rattle.tbr_renderer.proofs.RowsOfCells.{row_flushes}
 
 -- ---- lists without their last item
 
@@ -60,7 +63,13 @@ module _ {T : Type 0} where
       under b c is (inl (same, none)) = absurd (let no : ⊥ = cc in no)
       under b c is (inr (l, more, same)) =
           let (z, zs, are) = one_at_least (without_last (l ∷ more)) (border c) in
-          inr (z, zs, ap (λ ks. without_last ks ++ border c ∷ []) same ∙ ap (λ ks. ks ++ border c ∷ []) (last_left kept l more) ∙ append_assoc kept (without_last (l ∷ more)) (border c ∷ []) ∙ ap (λ ks. kept ++ ks) are)
+          inr (
+            z,
+            zs,
+            ap (λ ks. without_last ks ++ border c ∷ []) same
+                ∙ ap (λ ks. ks ++ border c ∷ []) (last_left kept l more)
+                ∙ append_assoc kept (without_last (l ∷ more)) (border c ∷ []) ∙ ap (λ ks. kept ++ ks) are,
+          )
 
       go : (o : Option (Border T)) → last_border ls ≡ o → Stay kept (before_border ls ++ border_lines (border_above collapses cells (last_border ls)))
       go None is = rw is (subst (Stay kept) (sym (append-nil ls)) k)
@@ -74,7 +83,8 @@ module _ {T : Type 0} where
 
 module _ {D A : Type 0} (columns : ℕ → Option ℕ) (decoration : Decoration D A) where
   row_is : (collapses : Bool) (cells : List (GivenCell (List A))) (m s : Renderer D A (List A)) (puts : PutsRow columns collapses cells m s) →
-      s.lines ≡ (before_border m.lines ++ border_lines (border_above collapses puts.means.cells (last_border m.lines))) ++ (lines_laid columns m puts.row.lines ++ border_lines_of columns m puts.row.next)
+      s.lines ≡ (before_border m.lines ++ border_lines (border_above collapses puts.means.cells (last_border m.lines)))
+      ++ (lines_laid columns m puts.row.lines ++ border_lines_of columns m puts.row.next)
   row_is collapses cells m s puts =
       let new = lines_laid columns m puts.row.lines ++ border_lines_of columns m puts.row.next in
       ap (λ (q : Renderer D A (List A)). q.lines) puts.is ∙ row_lines columns m puts.row ∙ ap (λ (o : Option (Border (List A))). (before_border m.lines ++ border_lines o) ++ new) puts.means.upper
@@ -105,7 +115,8 @@ module _ {D A : Type 0} (columns : ℕ → Option ℕ) (decoration : Decoration 
 
   -- a row, and what is above it
   pub row_becomes : (collapses : Bool) (cells : List (GivenCell (List A))) (r s : Renderer D A (List A)) → after_act columns decoration (row collapses cells) r ≡ done s →
-      (p : PutRow D A columns) × (after_flush columns r ≡ done p.before) × (p.collapses ≡ collapses) × (p.cells ≡ cells) × (s.lines ≡ lines_above columns p p.before.lines ++ lines_of_piece columns (put p))
+      (p : PutRow D A columns) × (after_flush columns r ≡ done p.before) × (p.collapses ≡ collapses) × (p.cells ≡ cells)
+      × (s.lines ≡ lines_above columns p p.before.lines ++ lines_of_piece columns (put p))
   row_becomes collapses cells r s h =
       let (m, flushed, puts, brings, computed) = act_step columns decoration (row collapses cells) r s h in (
         record { before = m; after = s; collapses = collapses; cells = cells; puts = puts },
@@ -127,7 +138,8 @@ module _ {D A : Type 0} (columns : ℕ → Option ℕ) (decoration : Decoration 
   none_first : (act : Act A) (acts : List (Act A)) → rows_of (act ∷ acts) ≡ [] → (rows_of (act ∷ []) ≡ []) × (rows_of acts ≡ [])
   none_first act acts none = grind arith
 
-  pub lines_grow_by : (acts : List (Act A)) (r s : Renderer D A (List A)) → rows_of acts ≡ [] → run (after_act columns decoration) acts r ≡ done s → (more : List (Line (List A))) × (s.lines ≡ r.lines ++ more)
+  pub lines_grow_by : (acts : List (Act A)) (r s : Renderer D A (List A)) → rows_of acts ≡ [] →
+      run (after_act columns decoration) acts r ≡ done s → (more : List (Line (List A))) × (s.lines ≡ r.lines ++ more)
   lines_grow_by [] r s none h = ([], ap (λ (q : Renderer D A (List A)). q.lines) (one_done r s h) ∙ sym (append-nil r.lines))
   lines_grow_by (act ∷ acts) r s none h =
       let (m, does, others) = done_first (after_act columns decoration act r) (run (after_act columns decoration) acts) s h in

@@ -1,5 +1,7 @@
 -- Lines that stay where rows come: texts as they are, and borders with the text in front of them.
-use Rattle.text_block_renderer.proofs.Common.{◌≡◌, ℕ, ◌-◌, Bool, fold, if◌then◌else◌, Option, Some, List, [], ◌∷◌, ◌++◌, take, length, suc, refl, ap, sym, ◌∙◌, subst, arith, append-nil, AllZip, Border, Side, joined_at_each, above_row, merged_with, merged_below, border_above, Line, text, border, without_last, last_border, before_border, border_lines, text_of_lines, KeepsText, StaysLine}
+use Rattle.text_block_renderer.proofs.Common.{◌≡◌, ℕ, ◌-◌, Bool, fold, if◌then◌else◌, Option, Some, List, [], ◌∷◌, ◌++◌, take, length, suc, refl, ap, sym, ◌∙◌, subst, arith, append-nil, AllZip}
+use Rattle.text_block_renderer.proofs.Common.{Border, Side, joined_at_each, above_row, merged_with, merged_below, border_above, Line, text, border, without_last, last_border, before_border}
+use Rattle.text_block_renderer.proofs.Common.{border_lines, text_of_lines, KeepsText, StaysLine}
 use Rattle.tbr_rows.specs.declared.LineSet.{LineSet as Cell}
 use Rattle.tbr_rows.specs.Borders.{joined}
 use Rattle.text_block_renderer.proofs.LineContents.{text_of_lines-append}

@@ -5,7 +5,6 @@ pub mod AppendedMoves
 pub mod CallMoves
 pub mod DrawnBorders
 pub mod AddedLines
-pub mod Settings
 pub mod VisibleCharacters
 pub mod LineContents
 pub mod BroughtEntries
@@ -15,7 +14,6 @@ pub mod LineParts
 pub mod LaidTexts
 pub mod NestedLines
 pub mod VerticalRows
-pub mod RowsOfCells
 pub mod Within
 pub mod Written
 pub mod WrittenEntries

@@ -1,5 +1,9 @@
 -- The characters of lines have columns.
-use Rattle.text_block_renderer.proofs.Common.{◌≡◌, ◌≢◌, ◌+◌, ℕ, inl, inr, not, Bool, Option, None, Some, List, [], ◌∷◌, ◌++◌, map, flat_map, fold, replicate, drop, refl, subst, sym, arith, cond_both, Each, Event, run_of, Entry, character, marker_entry, Item, glyph, marker, is_kept, marker_items, text_items, spaces, padding_of, Hole, Border, shown, shown_from, without_holes, horizontal, slash, DrawsInOne, Line, text, border, Decoration, Open, Renderer, with_line, block_width, line_padding, block_lines, lines_at_end, with_border, border_line, border_of_cells, as_text, prefixed, with_cell, with_cell_below, with_cells, with_divider, done, element_items, text_before}
+use Rattle.text_block_renderer.proofs.Common.{◌≡◌, ◌≢◌, ◌+◌, ℕ, inl, inr, not, Bool, Option, None, Some, List, [], ◌∷◌, ◌++◌, map, flat_map, fold, replicate, drop, refl, subst, sym, arith, cond_both}
+use Rattle.text_block_renderer.proofs.Common.{Each, Event, run_of, Entry, character, marker_entry, Item, glyph, marker, is_kept, marker_items, text_items, spaces, padding_of, Hole, Border, shown}
+use Rattle.text_block_renderer.proofs.Common.{shown_from, without_holes, horizontal, slash, DrawsInOne, Line, text, border, Decoration, Open, Renderer, with_line, block_width, line_padding}
+use Rattle.text_block_renderer.proofs.Common.{block_lines, lines_at_end, with_border, border_line, border_of_cells, as_text, prefixed, with_cell, with_cell_below, with_cells, with_divider, done}
+use Rattle.text_block_renderer.proofs.Common.{element_items, text_before}
 use Rattle.std.specs.Prelude.{IsTrue, is_some, slice_range}
 use Rattle.std.proofs.lemmas.Bool.{and_parts}
 use Rattle.tbr_model.specs.Width.{takes_one_column}

@@ -1,5 +1,6 @@
 -- What whoever looks at items, but not at spaces, sees of lines of text and of the markers that wait.
-use Rattle.text_block_renderer.proofs.Common.{◌≡◌, ℕ, Option, None, List, [], ◌∷◌, ◌++◌, map, fold, refl, ap, sym, ◌∙◌, append_assoc, append-nil, rules, map-append, Item, marker, marker_items, Border, text_items, spaces, padding_of, Line, text, border, Open, Renderer, with_line, block_width, block_lines, flushed, text_of_lines, items_so_far}
+use Rattle.text_block_renderer.proofs.Common.{◌≡◌, ℕ, Option, None, List, [], ◌∷◌, ◌++◌, map, fold, refl, ap, sym, ◌∙◌, append_assoc, append-nil, rules, map-append, Item, marker, marker_items, Border}
+use Rattle.text_block_renderer.proofs.Common.{text_items, spaces, padding_of, Line, text, border, Open, Renderer, with_line, block_width, block_lines, flushed, text_of_lines, items_so_far}
 use Rattle.tbr_model.specs.Layout.{joined}
 
 pub text_of_lines-append : {T : Type 0} (ls ms : List (Line T)) → text_of_lines (ls ++ ms) ≡ text_of_lines ls ++ text_of_lines ms
@@ -44,4 +45,5 @@ module _ {D A Y : Type 0} (look : List (Item (List A)) → List Y) (looks : Look
       let came : look (items_so_far s) ≡ look (items_so_far r) ++ look (joined texts) =
       seen_texts (block_lines columns r b texts) (record r { block = None }) ∙ ap (λ ys. look (items_so_far r) ++ ys) (unpadded look looks columns b.padding (block_width r) texts) in
       ap look (ap (λ is. text_of_lines s.lines ++ is) (marker_items-append s.waiting names) ∙ sym (append_assoc (text_of_lines s.lines) (marker_items s.waiting) (marker_items names)))
-      ∙ rw (looks.append (items_so_far s) (marker_items names), came, looks.append (joined texts) (marker_items names)) (append_assoc (look (items_so_far r)) (look (joined texts)) (look (marker_items names)))
+      ∙ rw (looks.append (items_so_far s) (marker_items names), came, looks.append (joined texts) (marker_items names))
+      (append_assoc (look (items_so_far r)) (look (joined texts)) (look (marker_items names)))

@@ -1,10 +1,15 @@
 -- All lines that come are parts: stretches of runs, laid texts, and borders.
-use Rattle.text_block_renderer.proofs.Common.{◌≡◌, ℕ, Option, Some, None, List, [], ◌∷◌, ◌++◌, flat_map, refl, ap, sym, ◌∙◌, subst, append_assoc, append-nil, arith, flat_map-append, run_of, Entry, without_holes, Decoration, Open, Renderer, with_line, open_run, IsSound, lines_at_end, with_border, Call, laid_entries, Brings, Steps, brought as all_brought, borders_added, Part, ended, laid, ruled, run_of_block, flush_ends, calls_add, stretch, entries_of_part, borders_of_part, lines_of_part, IsPart, ComesInParts, AppendsNothing, IsOwnPart, ⊤, Each}
+use Rattle.text_block_renderer.proofs.Common.{◌≡◌, ℕ, Option, Some, None, List, [], ◌∷◌, ◌++◌, flat_map, refl, ap, sym, ◌∙◌, subst, append_assoc, append-nil, arith, flat_map-append, run_of, Entry}
+use Rattle.text_block_renderer.proofs.Common.{without_holes, Decoration, Open, Renderer, with_line, open_run, IsSound, lines_at_end, with_border, Call, laid_entries, Brings, Steps}
+use Rattle.text_block_renderer.proofs.Common.{brought as all_brought, borders_added, Part, ended, laid, ruled, run_of_block, flush_ends, calls_add, stretch, entries_of_part, borders_of_part}
+use Rattle.text_block_renderer.proofs.Common.{lines_of_part, IsPart, ComesInParts, AppendsNothing, IsOwnPart, ⊤, Each}
 use Rattle.tbr_model.proofs.lists.Each.{each_append}
 use Rattle.tbr_border.specs.Cell.{Cell}
 use Rattle.tbr_renderer.proofs.FlushedBlocks.{FlushesBlock}
 use Rattle.text_block_renderer.proofs.Moves as moves
-use Rattle.text_block_renderer.proofs.Moves.{Move, flush, line, rule, join, turn, brought_by, brought, ruled_by, added_by, Kind, any, own, MayLay, MayRule, Makes, MakesAll, Course, Frame, frame, flush_beside, move_frame, sound_moved}
+use Rattle.tbr_renderer.proofs.FlushedBlocks.{flush_beside}
+use Rattle.text_block_renderer.proofs.Moves.{Move, flush, line, rule, join, turn, brought_by, brought, ruled_by, added_by, Kind, any, own, MayLay, MayRule, Makes, MakesAll, Course, Frame, frame}
+use Rattle.text_block_renderer.proofs.Moves.{move_frame, sound_moved}
 use Rattle.text_block_renderer.proofs.CallMoves.{calls_move}
 use Rattle.tbr_renderer.proofs.JoinedTexts.{run_joined}
 use Rattle.tbr_rows.proofs.Among.{each_gives}
@@ -31,7 +36,9 @@ module _ {D A : Type 0} (columns : ℕ → Option ℕ) (kind : Kind) where
     pub borders : flat_map borders_of_part xs ≡ bs
 
   -- and then others, to a renderer of which width and options are the same
-  parts_on : (r q s : Renderer D A (List A)) (es fs : List (Entry (List A))) (bs cs : List (List Cell)) (xs ys : List (Part D A)) → frame q ≡ frame r → CameInParts r q es bs xs → CameInParts q s fs cs ys → CameInParts r s (es ++ fs) (bs ++ cs) (xs ++ ys)
+  parts_on : (r q s : Renderer D A (List A)) (es fs : List (Entry (List A))) (bs cs : List (List Cell))
+      (xs ys : List (Part D A)) → frame q ≡ frame r → CameInParts r q es bs xs → CameInParts q s fs cs ys →
+      CameInParts r s (es ++ fs) (bs ++ cs) (xs ++ ys)
   parts_on r q s es fs bs cs xs ys same h k =
       let others = each_gives (IsPart columns q) (IsPart columns r) (part_of_other columns r q (ap (λ (f : Frame A). f.width) same) (ap (λ (f : Frame A). f.options) same)) ys k.came.are in record {
         came = record {
@@ -44,7 +51,8 @@ module _ {D A : Type 0} (columns : ℕ → Option ℕ) (kind : Kind) where
       }
 
   -- these parts
-  these : (r s : Renderer D A (List A)) (es : List (Entry (List A))) (ps : List (Part D A)) → Each (IsPart columns r) ps → Each (IsOfKind kind) ps → s.lines ≡ r.lines ++ flat_map (lines_of_part columns) ps →
+  these : (r s : Renderer D A (List A)) (es : List (Entry (List A))) (ps : List (Part D A)) →
+      Each (IsPart columns r) ps → Each (IsOfKind kind) ps → s.lines ≡ r.lines ++ flat_map (lines_of_part columns) ps →
       open_run r.block ++ es ≡ flat_map entries_of_part ps ++ open_run s.block → CameInParts r s es (flat_map borders_of_part ps) ps
   these r s es ps are kinds lines entries = record { came = record { are = are; lines = lines; entries = entries }; kinds = kinds; borders = refl }
 
@@ -85,18 +93,22 @@ module _ {D A : Type 0} (columns : ℕ → Option ℕ) (kind : Kind) where
       parts_on r h.0 s (brought_by m) (brought ms) (ruled_by m) (moves.borders ms) (added_by m) (moves.added ms) (move_frame columns kind m r h.0 h.1)
       (move_parts m r h.0 h.1 sound) (moves_parts ms h.0 s h.2 (sound_moved columns kind m r h.0 h.1 sound))
 
-  pub course_parts : (r s : Renderer D A (List A)) (es : List (Entry (List A))) (bs : List (List Cell)) {xs : List (Part D A)} → Course columns kind r s es bs xs → IsSound columns r → CameInParts r s es bs xs
+  pub course_parts : (r s : Renderer D A (List A)) (es : List (Entry (List A))) (bs : List (List Cell))
+      {xs : List (Part D A)} → Course columns kind r s es bs xs → IsSound columns r → CameInParts r s es bs xs
   course_parts r s es bs {xs} path sound =
       subst (λ zs. CameInParts r s es bs zs) path.adds
       (subst (λ ds. CameInParts r s es ds (moves.added path.moves)) path.rules
       (subst (λ fs. CameInParts r s fs (moves.borders path.moves) (moves.added path.moves)) path.brings (moves_parts path.moves r s path.makes sound)))
 
 module _ {D A : Type 0} (columns : ℕ → Option ℕ) (decoration : Decoration D A) where
-  pub brings_parts : (calls : List (Call (List A))) (r s : Renderer D A (List A)) (es : List (Entry (List A))) → IsSound columns r → Brings columns decoration calls r es s → (let parts = calls_add columns decoration calls r in
+  pub brings_parts : (calls : List (Call (List A))) (r s : Renderer D A (List A)) (es : List (Entry (List A))) →
+      IsSound columns r → Brings columns decoration calls r es s → (let parts = calls_add columns decoration calls r in
       ComesInParts columns parts r es s × (flat_map borders_of_part parts ≡ flat_map (borders_added r.width r.options) calls))
   brings_parts calls r s es sound h = let came = course_parts columns any r s es _ (calls_move columns any decoration calls r s es tt h) sound in (came.came, came.borders)
 
-  pub adds_own_parts : (calls : List (Call (List A))) (r s : Renderer D A (List A)) → IsSound columns r → Each AppendsNothing calls → Steps columns decoration calls r s → Each IsOwnPart (calls_add columns decoration calls r)
+  pub adds_own_parts : (calls : List (Call (List A))) (r s : Renderer D A (List A)) → IsSound columns r →
+      Each AppendsNothing calls → Steps columns decoration calls r s →
+      Each IsOwnPart (calls_add columns decoration calls r)
   adds_own_parts calls r s sound own_calls h =
       let es = all_brought columns decoration calls r in
       let came = course_parts columns own r s es _ (calls_move columns own decoration calls r s es own_calls (h, refl)) sound in

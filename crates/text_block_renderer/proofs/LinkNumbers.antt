@@ -1,5 +1,6 @@
 -- Links that end with their own numbers, and where their targets are.
-use Rattle.text_block_renderer.proofs.Common.{◌≡◌, ℕ, zero, suc, ◌+◌, ◌⊎◌, inl, inr, Option, Some, None, List, [], ◌∷◌, ◌++◌, map, fold, drop, length, refl, ap, sym, ◌∙◌, subst, arith, append_assoc, append-nil, if◌then◌else◌, slice_get, option_map, drop-map, Decoration, Outcome, done, Renderer, begin, after}
+use Rattle.text_block_renderer.proofs.Common.{◌≡◌, ℕ, zero, suc, ◌+◌, ◌⊎◌, inl, inr, Option, Some, None, List, [], ◌∷◌, ◌++◌, map, fold, drop, length, refl, ap, sym, ◌∙◌, subst, arith, append_assoc}
+use Rattle.text_block_renderer.proofs.Common.{append-nil, if◌then◌else◌, slice_get, option_map, drop-map, Decoration, Outcome, done, Renderer, begin, after}
 use Rattle.tbr_decor.specs.Usual.{footnote, footnotes_from, footnotes}
 use Rattle.tbr_decor.specs.Start as start
 use Rattle.tbr_renderer.proofs.OutcomeParts.{done_before}
@@ -73,7 +74,10 @@ comes_first calls numbers opens targets k next h = absurd h
 abbrev StoodOrCame : List StackCall → View → ℕ → Type 0
 StoodOrCame calls v k =
     ((numbers : List ℕ) × IsNextToEnd numbers calls × Stands numbers v.0 k)
-    ⊎ ((before : List StackCall) × (target : List ℕ) × (since : List StackCall) × (calls ≡ before ++ start_link target ∷ since) × (k ≡ length (v.1 ++ targets_of before) + 1) × IsNextToEnd (0 ∷ []) since)
+    ⊎
+    ((before : List StackCall) × (target : List ℕ) × (since : List StackCall) ×
+    (calls ≡ before ++ start_link target ∷ since) × (k ≡ length (v.1 ++ targets_of before) + 1) × IsNextToEnd
+    (0 ∷ []) since)
 
 came_from : (call : StackCall) (calls : List StackCall) (numbers : List ℕ) (opens targets : List (List ℕ)) (k : ℕ) → IsNextToEnd numbers calls → Stands numbers (on_call (opens, targets) call).0 k →
     StoodOrCame (call ∷ calls) (opens, targets) k
@@ -158,7 +162,9 @@ module _ {D A : Type 0} (columns : ℕ → Option ℕ) (decoration : Decoration 
   ends_so : (t : Tops) (k : ℕ) → first_open (open_links t) ≡ Some k → after_link_end columns decoration t ≡ after_end_as columns decoration k t
   ends_so t k first = ap (λ (o : Option ℕ). after_end_showing columns decoration (λ r. if r.options.include_link_footnotes then o else None) t) first
 
-  pub own_number : (target : List ℕ) (calls : List StackCall) (s m t : Tops) → after_link_start columns decoration target s ≡ done m → StackSteps columns decoration calls m t → IsNextToEnd (0 ∷ []) calls →
+  pub own_number : (target : List ℕ) (calls : List StackCall) (s m t : Tops) →
+      after_link_start columns decoration target s ≡ done m → StackSteps columns decoration calls m t →
+      IsNextToEnd (0 ∷ []) calls →
       after_link_end columns decoration t ≡ after_end_as columns decoration (length s.links + 1) t
   own_number target calls s m t starts steps next =
       let k = length s.links + 1 in
@@ -167,7 +173,8 @@ module _ {D A : Type 0} (columns : ℕ → Option ℕ) (decoration : Decoration 
       let first = comes_first calls (0 ∷ []) started.0 started.1 k next (opened_stands k s.levels changes.0 changes.2) in
       ends_so t k (open_first t.levels k (subst (λ (v : View). Stands (0 ∷ []) v.0 k) (sym (steps_do (start_link target ∷ calls) s t (m, starts, steps))) first))
 
-  pub number_of_one : (calls : List StackCall) (r : Renderer D A (List A)) (t : Tops) (k : ℕ) → StackSteps columns decoration calls (new_stack r) t → first_open (open_links t) ≡ Some k → IsNextNumber calls k
+  pub number_of_one : (calls : List StackCall) (r : Renderer D A (List A)) (t : Tops) (k : ℕ) →
+      StackSteps columns decoration calls (new_stack r) t → first_open (open_links t) ≡ Some k → IsNextNumber calls k
   number_of_one calls r t k steps h =
       came_to_new calls k (came calls ([] ∷ [], []) k (subst (λ (v : View). Stands (0 ∷ []) v.0 k) (steps_do calls (new_stack r) t steps) (first_stands t.levels k h)))
 
@@ -176,7 +183,9 @@ module _ {D A : Type 0} (columns : ℕ → Option ℕ) (decoration : Decoration 
   pub targets_come : (calls : List StackCall) (s t : Tops) → StackSteps columns decoration calls s t → t.links ≡ s.links ++ targets_of calls
   targets_come calls s t steps = ap (λ (v : View). v.1) (steps_do calls s t steps) ∙ all_targets calls (view s)
 
-  pub own_place : (target : List ℕ) (calls : List StackCall) (s m t : Tops) → after_link_start columns decoration target s ≡ done m → StackSteps columns decoration calls m t → slice_get t.links (length s.links) ≡ Some target
+  pub own_place : (target : List ℕ) (calls : List StackCall) (s m t : Tops) →
+      after_link_start columns decoration target s ≡ done m → StackSteps columns decoration calls m t →
+      slice_get t.links (length s.links) ≡ Some target
   own_place target calls s m t starts steps = grind (arith, targets_come (start_link target ∷ calls) s t (m, starts, steps), get_seam)
 
 -- ---- footnotes

@@ -1,8 +1,10 @@
 -- The moves of which calls consist. What holds of lists of calls is shown move by move.
-use Rattle.text_block_renderer.proofs.Common.{◌≡◌, ◌<◌, ℕ, done, told_by, after_block, flush_adds, Bool, Option, None, List, [], ◌∷◌, ◌++◌, flat_map, fold, refl, ap, sym, ◌∙◌, subst, append-nil, arith, ⊤, flat_map-append, Each, Event, run_of, Entry, Item, without_holes, Overhanging, RenderOptions, block_lines, lines_at_end, Open, Renderer, with_line, with_events, block_width, IsSound, with_border, Call, laid_entries, Part, laid, ruled, flush_ends, AppendsNothing}
+use Rattle.text_block_renderer.proofs.Common.{◌≡◌, ◌<◌, ℕ, done, told_by, after_block, flush_adds, Bool, Option, None, List, [], ◌∷◌, ◌++◌, flat_map, fold, refl, ap, sym, ◌∙◌, subst, append-nil}
+use Rattle.text_block_renderer.proofs.Common.{arith, ⊤, flat_map-append, Each, Event, run_of, Entry, Item, without_holes, Overhanging, RenderOptions, block_lines, lines_at_end, Open, Renderer}
+use Rattle.text_block_renderer.proofs.Common.{with_line, with_events, block_width, IsSound, with_border, Call, laid_entries, Part, laid, ruled, flush_ends, AppendsNothing}
 use Rattle.tbr_model.specs.declared.white_space.WhiteSpace.{WhiteSpace}
 use Rattle.tbr_border.specs.Cell.{Cell}
-use Rattle.tbr_renderer.proofs.FlushedBlocks.{EndsBlock, FlushesBlock, Flushes}
+use Rattle.tbr_renderer.proofs.FlushedBlocks.{EndsBlock, FlushesBlock, Flushes, beside, lines_beside, flush_beside}
 use Rattle.tbr_renderer.proofs.CallParts.{FlushesThen}
 
 -- Each with the renderer that it comes to: the end of the open run; a line of text or a border, where no block is open. Or what comes to the open
@@ -90,21 +92,13 @@ pub record Frame (A : Type 0) : Type 0 where
 abbrev pub frame : {D A : Type 0} → Renderer D A (List A) → Frame A
 frame r = record { width = r.width; options = r.options; hanging = r.hanging }
 
--- a renderer but for its lines and the markers that wait
-abbrev pub beside : {D A : Type 0} → Renderer D A (List A) → Renderer D A (List A)
-beside r = record r { lines = []; waiting = [] }
-
 module _ {D A : Type 0} (columns : ℕ → Option ℕ) where
-  pub lines_beside : (ts : List (List (Item (List A)))) (q : Renderer D A (List A)) → beside (fold (with_line columns) q ts) ≡ beside q
-  lines_beside [] q = refl
-  lines_beside (t ∷ ts) q = lines_beside ts (with_line columns q t)
-
-  pub flush_beside : (r s : Renderer D A (List A)) (o : Option (Open (List A))) → o ≡ r.block → FlushesBlock columns r o s → beside s ≡ record (beside r) { block = None }
-  flush_beside r s o e h = grind (arith, lines_beside)
-
   -- the end of a run changes no width and no option
   pub frame_ended : (r s : Renderer D A (List A)) (b : Open (List A)) → EndsBlock columns r b s → frame s ≡ frame r
-  frame_ended r s b h = ap (λ (q : Renderer D A (List A)). frame q) h.is ∙ ap (λ (q : Renderer D A (List A)). frame q) (lines_beside (block_lines columns r b (lines_at_end columns r b)) (record r { block = None }))
+  frame_ended r s b h =
+      ap (λ (q : Renderer D A (List A)). frame q) h.is
+      ∙ ap (λ (q : Renderer D A (List A)). frame q)
+      (lines_beside columns (block_lines columns r b (lines_at_end columns r b)) (record r { block = None }))
 
   pub sound_ended : (r s : Renderer D A (List A)) (b : Open (List A)) → EndsBlock columns r b s → IsSound columns r → IsSound columns s
   sound_ended r s b h sound =
@@ -112,9 +106,6 @@ module _ {D A : Type 0} (columns : ℕ → Option ℕ) where
 
   pub flush_done : (r s : Renderer D A (List A)) (o : Option (Open (List A))) → FlushesBlock columns r o s → after_block columns r o ≡ done s
   flush_done r s o h = grind arith
-
-  pub flushed_none : (r s : Renderer D A (List A)) → Flushes columns r s → s.block ≡ None
-  flushed_none r s h = ap (λ (q : Renderer D A (List A)). q.block) (flush_beside r s r.block refl h)
 
 module _ {D A : Type 0} (columns : ℕ → Option ℕ) (kind : Kind) where
   abbrev pub Makes : Move D A → Renderer D A (List A) → Renderer D A (List A) → Type 0
@@ -140,18 +131,23 @@ module _ {D A : Type 0} (columns : ℕ → Option ℕ) (kind : Kind) where
   makes-append [] ns r q s h k = subst (λ (p : Renderer D A (List A)). MakesAll ns p s) h k
   makes-append (m ∷ ms) ns r q s h k = (h.0, h.1, makes-append ms ns h.0 q s h.2 k)
 
-  pub onward : (r q s : Renderer D A (List A)) (es fs : List (Entry (List A))) {bs cs : List (List Cell)} {xs ys : List (Part D A)} → Course r q es bs xs → Course q s fs cs ys → Course r s (es ++ fs) (bs ++ cs) (xs ++ ys)
+  pub onward : (r q s : Renderer D A (List A)) (es fs : List (Entry (List A))) {bs cs : List (List Cell)}
+      {xs ys : List (Part D A)} → Course r q es bs xs → Course q s fs cs ys →
+      Course r s (es ++ fs) (bs ++ cs) (xs ++ ys)
   onward r q s es fs {bs} {cs} {xs} {ys} p k = grind (arith, makes-append, flat_map-append)
 
   pub one : (m : Move D A) (r s : Renderer D A (List A)) → Makes m r s → Course r s (brought_by m) (ruled_by m) (added_by m)
   one m r s h = record { moves = m ∷ []; makes = (s, h, refl); brings = append-nil (brought_by m); rules = append-nil (ruled_by m); adds = append-nil (added_by m) }
 
   -- the same by other words
-  pub same_course : (r s : Renderer D A (List A)) {es fs : List (Entry (List A))} {bs cs : List (List Cell)} {xs ys : List (Part D A)} → es ≡ fs → bs ≡ cs → xs ≡ ys → Course r s es bs xs → Course r s fs cs ys
+  pub same_course : (r s : Renderer D A (List A)) {es fs : List (Entry (List A))} {bs cs : List (List Cell)}
+      {xs ys : List (Part D A)} → es ≡ fs → bs ≡ cs → xs ≡ ys → Course r s es bs xs → Course r s fs cs ys
   same_course r s brings rules adds p = record { moves = p.moves; makes = p.makes; brings = p.brings ∙ brings; rules = p.rules ∙ rules; adds = p.adds ∙ adds }
 
   -- the end of the open run, and then a change
-  pub flushed_first : (change : Renderer D A (List A) → Renderer D A (List A)) (adds : Renderer D A (List A) → List (Part D A)) (r s : Renderer D A (List A)) (es : List (Entry (List A))) {bs : List (List Cell)}
+  pub flushed_first : (change : Renderer D A (List A) → Renderer D A (List A))
+      (adds : Renderer D A (List A) → List (Part D A)) (r s : Renderer D A (List A)) (es : List (Entry (List A)))
+      {bs : List (List Cell)}
       (h : FlushesThen columns change r s) → Course h.0 (change h.0) es bs (adds h.0) → Course r s es bs (flush_adds columns adds r)
   flushed_first change adds r s es {bs} h course =
       subst (λ o. Course r s es bs (flush_ends r ++ told_by adds o)) (sym (flush_done columns r h.0 r.block h.1))

@@ -1,11 +1,13 @@
 -- Lines after the prefixes of blocks inside blocks.
-use Rattle.text_block_renderer.proofs.Common.{◌≡◌, ℕ, zero, suc, ◌+◌, Option, Some, None, List, [], ◌∷◌, ◌++◌, map, length, refl, ap, sym, ◌∙◌, subst, arith, slice_get, zip, length-append, length-map, Item, text_items, Decoration, Line, Open, Renderer, as_text, prefixed, padded_line, lines_laid, nested, Level, markers_before, BecomesLine, lines_left, HandsOn, HandOn}
+use Rattle.text_block_renderer.proofs.Common.{◌≡◌, ℕ, zero, suc, ◌+◌, Option, Some, None, List, [], ◌∷◌, ◌++◌, map, length, refl, ap, sym, ◌∙◌, subst, arith, slice_get, zip, length-append, length-map}
+use Rattle.text_block_renderer.proofs.Common.{Item, text_items, Decoration, Line, Open, Renderer, as_text, prefixed, padded_line, lines_laid, nested, Level, markers_before, BecomesLine, lines_left}
+use Rattle.text_block_renderer.proofs.Common.{HandsOn, HandOn}
 use Rattle.std.proofs.lemmas.Option.{slice_get-map}
 use Rattle.std.proofs.lemmas.Slice.Zip.{length-zip}
 use Rattle.tbr_renderer.proofs.OutcomeParts.{one_done}
 use Rattle.tbr_renderer.proofs.FlushedBlocks.{FlushesBlock, flushes}
 use Rattle.tbr_renderer.proofs.CallParts.{handed_then}
-use Rattle.text_block_renderer.proofs.Moves.{lines_beside, flush_beside, flushed_none}
+use Rattle.tbr_renderer.proofs.FlushedBlocks.{lines_beside, flush_beside, flushed_none}
 use Rattle.text_block_renderer.proofs.AddedLines.{laid_lines}
 use Rattle.text_block_renderer.proofs.LaidTexts.{lines_after}
 
@@ -28,12 +30,16 @@ module _ {T : Type 0} where
   prefixed_zip tag (p ∷ ps) (l ∷ ls) = ap (λ ts. (text_items p tag ++ as_text tag l) ∷ ts) (prefixed_zip tag ps ls)
 
 module _ {D A : Type 0} (columns : ℕ → Option ℕ) where
-  laid_get : (ts : List (List (Item (List A)))) (r : Renderer D A (List A)) (i : ℕ) (t : List (Item (List A))) → slice_get ts i ≡ Some t → slice_get (lines_laid columns r ts) i ≡ Some (padded_line columns r (markers_before columns r i ++ t))
+  laid_get : (ts : List (List (Item (List A)))) (r : Renderer D A (List A)) (i : ℕ) (t : List (Item (List A))) →
+      slice_get ts i ≡ Some t →
+      slice_get (lines_laid columns r ts) i ≡ Some (padded_line columns r (markers_before columns r i ++ t))
   laid_get [] r i t h = cc
   laid_get (u ∷ ts) r zero t h = grind arith
   laid_get (u ∷ ts) r (suc i) t h = grind (arith, slice_get-map)
 
-  pub nested_line : (levels : List (Level D A)) (lines : List (Line (List A))) (i j : ℕ) (line last : Line (List A)) → slice_get lines i ≡ Some line → BecomesLine columns levels i line j last → slice_get (nested columns levels lines) j ≡ Some last
+  pub nested_line : (levels : List (Level D A)) (lines : List (Line (List A))) (i j : ℕ) (line last : Line (List A)) →
+      slice_get lines i ≡ Some line → BecomesLine columns levels i line j last →
+      slice_get (nested columns levels lines) j ≡ Some last
   nested_line [] lines i j line last h (place, is) = ap (slice_get lines) place ∙ h ∙ ap Some (sym is)
   nested_line (level ∷ levels) lines i j line last h (k, inside, prefix, becomes, there, place, is) =
       let r = level.taker in
@@ -56,7 +62,10 @@ module _ {D A : Type 0} (columns : ℕ → Option ℕ) where
         let (m, flushed, is) = lines_after columns decoration level.prefixes inside h.first h.last h.takes in
         let texts = prefixed h.first.annotations level.prefixes inside in
         let flush = flushes columns h.first m flushed in
-        let closed : h.last.block ≡ None = ap (λ (q : Renderer D A (List A)). q.block) is ∙ ap (λ (q : Renderer D A (List A)). q.block) (lines_beside columns texts m) ∙ flushed_none columns h.first m flush in
+        let closed : h.last.block ≡ None =
+        ap (λ (q : Renderer D A (List A)). q.block) is
+        ∙ ap (λ (q : Renderer D A (List A)). q.block) (lines_beside columns texts m)
+        ∙ flushed_none columns h.first m flush in
         let (q, ends, out) = handed_then columns h.last lines h.gives in
         let still : q ≡ h.last = subst (λ (o : Option (Open (List A))). FlushesBlock columns h.last o q) closed ends in
         let tags = sym (ap (λ (p : Renderer D A (List A)). p.annotations) (flush_beside columns h.first m h.first.block refl flush)) in

@@ -1,5 +1,7 @@
 -- Rows that follow one another among calls, and what they show of their cells.
-use Rattle.text_block_renderer.proofs.Common.{◌≡◌, ℕ, Bool, Option, List, [], ◌∷◌, ◌++◌, map, length, sym, ◌∙◌, subst, arith, AllZip, Each, length-append, length-map, length-replicate, CellAlign, RenderLine, AreApart, DrawsInOne, Fills, IsFilled, FollowOneAnother, HasFilledCells, ShowsTexts, Line, GivenCell, FillsCell, ComesAs, PutRow, FitsCell, LinesFit, CellsFit, IsCellOf}
+use Rattle.text_block_renderer.proofs.Common.{◌≡◌, ℕ, Bool, Option, List, [], ◌∷◌, ◌++◌, map, length, sym, ◌∙◌, subst, arith, AllZip, Each, length-append, length-map, length-replicate, CellAlign}
+use Rattle.text_block_renderer.proofs.Common.{RenderLine, AreApart, DrawsInOne, Fills, IsFilled, FollowOneAnother, HasFilledCells, ShowsTexts, Line, GivenCell, FillsCell, ComesAs, PutRow, FitsCell}
+use Rattle.text_block_renderer.proofs.Common.{LinesFit, CellsFit, IsCellOf}
 use Rattle.tbr_model.proofs.lists.Each.{each_front, each_map}
 use Rattle.tbr_rows.specs.declared.LineSet.{LineSet as Cell}
 use Rattle.tbr_rows.proofs.FilledCells.{fill_later}
@@ -29,12 +31,15 @@ module _ {D A : Type 0} (columns : ℕ → Option ℕ) where
   Chain draws hanging [] left = left ≡ hanging
   Chain draws hanging (p ∷ rows) left = (p.before.hanging ≡ hanging) × (p.before.options.draw_borders ≡ draws) × Chain draws p.puts.row.overhang rows left
 
-  pub chain_append : (draws : Bool) (hanging : List (Cell (List A))) (rows : List (PutRow D A columns)) (between : List (Cell (List A))) (others : List (PutRow D A columns)) (left : List (Cell (List A))) →
+  pub chain_append : (draws : Bool) (hanging : List (Cell (List A))) (rows : List (PutRow D A columns))
+      (between : List (Cell (List A))) (others : List (PutRow D A columns)) (left : List (Cell (List A))) →
       Chain draws hanging rows between → Chain draws between others left → Chain draws hanging (rows ++ others) left
   chain_append draws hanging [] between others left h k = subst (λ cells. Chain draws cells others left) h k
   chain_append draws hanging (p ∷ rows) between others left h k = (h.0, h.1, chain_append draws p.puts.row.overhang rows between others left h.2 k)
 
-  follow : (draws : Bool) (hanging : List (Cell (List A))) (rows after : List (PutRow D A columns)) (left : List (Cell (List A))) → Chain draws hanging (rows ++ after) left → FollowOneAnother columns draws (map made rows)
+  follow : (draws : Bool) (hanging : List (Cell (List A))) (rows after : List (PutRow D A columns))
+      (left : List (Cell (List A))) → Chain draws hanging (rows ++ after) left →
+      FollowOneAnother columns draws (map made rows)
   follow draws hanging [] after left h = tt
   follow draws hanging (p ∷ []) after left h = h.1
   follow draws hanging (p ∷ q ∷ rows) after left h = (h.1, h.2.0, follow draws p.puts.row.overhang (q ∷ rows) after left h.2)

@@ -1,5 +1,9 @@
 -- Rows and footnotes put no character without columns into lines.
-use Rattle.text_block_renderer.proofs.Common.{◌≡◌, ℕ, zero, suc, ◌-◌, Bool, true, false, if◌then◌else◌, Option, None, Some, List, [], ◌∷◌, ◌++◌, map, flat_map, fold, replicate, drop, nat_lt, subst, sym, ap, refl, ◌∙◌, arith, cond_both, Each, AllZip, Item, items_width, text_items, spaces, columns_in_front, element_items, Hole, Border, shown, without_holes, horizontal, CellAlign, DrawsInOne, SeenRow, MeansRow, HasGapIf, HasGaps, IsGapOf, cells_left, first_line, Overhanging, Line, text, border, text_before, border_lines, last_border, Decoration, Element, Renderer, with_line, with_border, with_next, with_row, GivenCell, ComesAs, FillsCell, PutsRow, style_in, footnote_lines, done, run, Act, call, row, fmt_links, finalise, after_act, StaysLine}
+use Rattle.text_block_renderer.proofs.Common.{◌≡◌, ℕ, zero, suc, ◌-◌, Bool, true, false, if◌then◌else◌, Option, None, Some, List, [], ◌∷◌, ◌++◌, map, flat_map, fold, replicate, drop, nat_lt, subst}
+use Rattle.text_block_renderer.proofs.Common.{sym, ap, refl, ◌∙◌, arith, cond_both, Each, AllZip, Item, items_width, text_items, spaces, columns_in_front, element_items, Hole, Border, shown}
+use Rattle.text_block_renderer.proofs.Common.{without_holes, horizontal, CellAlign, DrawsInOne, SeenRow, MeansRow, HasGapIf, HasGaps, IsGapOf, cells_left, first_line, Overhanging, Line, text, border}
+use Rattle.text_block_renderer.proofs.Common.{text_before, border_lines, last_border, Decoration, Element, Renderer, with_line, with_border, with_next, with_row, GivenCell, ComesAs, FillsCell}
+use Rattle.text_block_renderer.proofs.Common.{PutsRow, style_in, footnote_lines, done, run, Act, call, row, fmt_links, finalise, after_act, StaysLine}
 use Rattle.tbr_model.specs.Run.{glyph, item_width}
 use Rattle.tbr_model.proofs.lists.Each.{each_append}
 use Rattle.tbr_border.specs.Border.{with_cells as recelled, stretched}
@@ -25,7 +29,7 @@ use Rattle.tbr_renderer.specs.Footnotes.{link_width}
 use Rattle.text_block_renderer.specs.Columns.{ItemHasColumns, LineHasColumns, LinesHaveColumns, CellHasColumns, GivenHasColumns, ActHasColumns}
 use Rattle.text_block_renderer.proofs.ActSteps.{ActStep, after_acts, act_step}
 use Rattle.text_block_renderer.proofs.ActParts.{top_stays}
-use Rattle.text_block_renderer.proofs.RowsOfCells.{row_flushes, under_row}
+use Rattle.tbr_renderer.proofs.RowsOfCells.{row_flushes, under_row}
 use Rattle.text_block_renderer.proofs.CellsInRows.{put_written}
 use Rattle.text_block_renderer.proofs.LineCharacters.{Have, spaces_have, narrow_has, border_has, front_has, Has, lines_put, border_put, flush_keeps}
 use Rattle.text_block_renderer.proofs.CallCharacters.{call_keeps}
@@ -219,7 +223,9 @@ module _ {D A : Type 0} (columns : ℕ → Option ℕ) (draws : DrawsInOne colum
   module _ (decoration : Decoration D A) where
     act_keeps : (act : Act A) (r s : Renderer D A (List A)) → ActHasColumns columns act → ActStep columns decoration act r s → Has columns draws r → Has columns draws s
     act_keeps (call c) r s good h k = call_keeps columns draws decoration c r s good h k
-    act_keeps (row collapses cells) r s good (m, flushed, puts, brings, computed) k = row_keeps collapses cells m s puts good (flush_keeps columns draws r m r.block (row_flushes columns r m flushed) k)
+    act_keeps (row collapses cells) r s good (m, flushed, puts, brings, computed) k =
+        row_keeps collapses cells m s puts good
+        (flush_keeps columns draws r m r.block (row_flushes columns r m flushed) k)
     act_keeps (fmt_links links) r s good h k = subst (λ (q : Renderer D A (List A)). Has columns draws q) (sym h)
         (lines_put columns draws (flat_map (footnote_lines columns r) links) r (footnotes_have r links good) k)
     act_keeps (finalise targets) r s good h k = subst (λ (q : Renderer D A (List A)). Has columns draws q) (sym h) k

@@ -1,5 +1,9 @@
 -- The lines of a run are together, and no legal layout is ahead of them.
-use Rattle.text_block_renderer.proofs.Common.{◌≡◌, ℕ, ◌⊎◌, inr, Bool, false, not, Option, Some, None, List, [], ◌∷◌, ◌++◌, map, flat_map, take, drop, refl, ap, sym, ◌∙◌, subst, arith, append_assoc, append-nil, rules, Each, map-map, eqb-true, both_ways, false_from_ne_true, length-map, map-append, take-map, take-append-drop, filter-append, Entry, character, marker_entry, Item, kept_items, Word, words_of, trailing, Slot, slot_of, slots_within, word_slots, slots_of, rest_text, is_space_item, run_of, Event, without_spaces, HasBestLines, Decoration, Line, Open, Renderer, with_events, with_more, block_width, IsSound, done, lines_at_end, after_flush, Call, Steps, Brings, stretch, items_on, NoneIsAhead, StandsAsStretch, StaysOpen, EndsAsStretch}
+use Rattle.text_block_renderer.proofs.Common.{◌≡◌, ℕ, ◌⊎◌, inr, Bool, false, not, Option, Some, None, List, [], ◌∷◌, ◌++◌, map, flat_map, take, drop, refl, ap, sym, ◌∙◌, subst, arith, append_assoc}
+use Rattle.text_block_renderer.proofs.Common.{append-nil, rules, Each, map-map, eqb-true, both_ways, false_from_ne_true, length-map, map-append, take-map, take-append-drop, filter-append, Entry}
+use Rattle.text_block_renderer.proofs.Common.{character, marker_entry, Item, kept_items, Word, words_of, trailing, Slot, slot_of, slots_within, word_slots, slots_of, rest_text, is_space_item, run_of}
+use Rattle.text_block_renderer.proofs.Common.{Event, without_spaces, HasBestLines, Decoration, Line, Open, Renderer, with_events, with_more, block_width, IsSound, done, lines_at_end, after_flush}
+use Rattle.text_block_renderer.proofs.Common.{Call, Steps, Brings, stretch, items_on, NoneIsAhead, StandsAsStretch, StaysOpen, EndsAsStretch}
 use Rattle.tbr_model.proofs.rule.HardLines.{run_of-append}
 use Rattle.tbr_model.specs.Layout.{line_text, joined, placed}
 use Rattle.tbr_model.proofs.lists.Each.{each_front, each_back, each_append, each_map}
@@ -64,7 +68,9 @@ module _ {D A : Type 0} (columns : ℕ → Option ℕ) where
   pub flush_adds : (r q : Renderer D A (List A)) (b : Open (List A)) → (h : EndsBlock columns r b q) → q.lines ≡ r.lines ++ stretch columns r b (lines_at_end columns r b)
   flush_adds r q b h = grind (arith, laid_lines, map-map)
 
-  flush_stands : (r q s : Renderer D A (List A)) (b : Open (List A)) → r.block ≡ Some b → Flushes columns r q → IsSound columns r → (more : List (Line (List A))) × (s.lines ≡ q.lines ++ more) → StandsAsStretch columns r b s.lines
+  flush_stands : (r q s : Renderer D A (List A)) (b : Open (List A)) → r.block ≡ Some b → Flushes columns r q →
+      IsSound columns r → (more : List (Line (List A))) × (s.lines ≡ q.lines ++ more) →
+      StandsAsStretch columns r b s.lines
   flush_stands r q s b open_block_is flushes sound grows =
       let h : EndsBlock columns r b q = subst (λ (o : Option (Open (List A))). FlushesBlock columns r o q) open_block_is flushes in record {
         ends = h.ends sound;
@@ -73,7 +79,9 @@ module _ {D A : Type 0} (columns : ℕ → Option ℕ) where
         is = grows.1 ∙ ap (λ ls. ls ++ grows.0) (flush_adds r q b h);
       }
 
-  pub stands_for_good : (decoration : Decoration D A) (calls : List (Call (List A))) (r q s : Renderer D A (List A)) (b : Open (List A)) → IsSound columns r → r.block ≡ Some b → after_flush columns r ≡ done q → Steps columns decoration calls q s → StandsAsStretch columns r b s.lines
+  pub stands_for_good : (decoration : Decoration D A) (calls : List (Call (List A))) (r q s : Renderer D A (List A))
+      (b : Open (List A)) → IsSound columns r → r.block ≡ Some b → after_flush columns r ≡ done q →
+      Steps columns decoration calls q s → StandsAsStretch columns r b s.lines
   stands_for_good decoration calls r q s b sound open_block_is h steps = flush_stands r q s b open_block_is (flushes columns r q h) sound (steps_grow columns decoration calls q s steps)
 
   -- ---- an open run
@@ -108,7 +116,9 @@ module _ {D A : Type 0} (columns : ℕ → Option ℕ) where
   run_ends (turn ∷ ms) r q s b es since sound h = run_ends ms r h.0 s b es (cc) sound h.2
   run_ends (other ∷ ms) r q s b es since sound h = absurd (let no : Some (with_more b es) ≡ None = sym (ap (λ (p : Renderer D A (List A)). p.block) since) ∙ h.1.1 in cc)
 
-  pub brings_end : (decoration : Decoration D A) (calls : List (Call (List A))) (r s : Renderer D A (List A)) (b : Open (List A)) (es : List (Entry (List A))) → IsSound columns r → r.block ≡ Some b → Brings columns decoration calls r es s → StaysOpen r b es s ⊎ EndsAsStretch columns r b es s
+  pub brings_end : (decoration : Decoration D A) (calls : List (Call (List A))) (r s : Renderer D A (List A))
+      (b : Open (List A)) (es : List (Entry (List A))) → IsSound columns r → r.block ≡ Some b →
+      Brings columns decoration calls r es s → StaysOpen r b es s ⊎ EndsAsStretch columns r b es s
   brings_end decoration calls r s b es sound open_block_is h =
       let path = calls_move columns any decoration calls r s es tt h in
       let none_yet : Since r b [] r = grind (arith, append-nil) in

@@ -1,5 +1,6 @@
 -- Renderers stay sound.
-use Rattle.text_block_renderer.proofs.Common.{◌≡◌, ◌≢◌, ◌<◌, ℕ, Option, Some, List, ap, refl, arith, leb-true, done, Decoration, RenderOptions, Renderer, new_renderer, least, IsSound, Call, Steps, brought, sub_renderer, run, Act, after_act}
+use Rattle.text_block_renderer.proofs.Common.{◌≡◌, ◌≢◌, ◌<◌, ℕ, Option, Some, List, ap, refl, arith, leb-true, done, Decoration, RenderOptions, Renderer, new_renderer, least, IsSound, Call, Steps}
+use Rattle.text_block_renderer.proofs.Common.{brought, sub_renderer, run, Act, after_act}
 use Rattle.text_block_renderer.proofs.Moves.{any, Frame, sound_alike, path_frame}
 use Rattle.text_block_renderer.proofs.CallMoves.{calls_move}
 use Rattle.text_block_renderer.proofs.ActParts.{acts_along}
@@ -8,7 +9,8 @@ not_zero : (width : ℕ) (wrap : Option ℕ) → 0 < least width wrap → wrap �
 not_zero width wrap h is = grind (arith, leb-true)
 
 module _ {D A : Type 0} (columns : ℕ → Option ℕ) where
-  pub new_sound : columns 32 ≡ Some 1 → (width : ℕ) (options : RenderOptions) (decorator : D) → 0 < width → options.wrap_width ≢ Some 0 → IsSound columns (new_renderer {D = D} {A = A} {T = List A} width options decorator)
+  pub new_sound : columns 32 ≡ Some 1 → (width : ℕ) (options : RenderOptions) (decorator : D) → 0 < width →
+      options.wrap_width ≢ Some 0 → IsSound columns (new_renderer {D = D} {A = A} {T = List A} width options decorator)
   new_sound space width options decorator wide some = grind arith
 
   pub inside_sound : (decoration : Decoration D A) (width : ℕ) (r : Renderer D A (List A)) → 0 < width → IsSound columns r → IsSound columns (sub_renderer decoration width r)

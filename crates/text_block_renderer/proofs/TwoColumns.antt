@@ -1,10 +1,17 @@
 -- Two columns are enough for characters that take two at most.
-use Rattle.text_block_renderer.proofs.Common.{unwrap_or, IfSome, ◌≡◌, ℕ, ◌≤◌, inl, inr, Bool, true, false, Option, Some, None, List, [], ◌∷◌, fold, ap, sym, subst, arith, rules, cond_both, run_of, Entry, character, marker_entry, CharactersFit, Decoration, shown_title, struck_from, struck_until, annotated, after_start, after_end, after_titled, Open, Renderer, least, block_width, with_line, open_block, with_events, struck, text_annotations, last_mode, refused, horizontal, changed, block_lines, lines_at_end, names_at_end, fits_at_end, fits_grown, flushed, after_block, after_flush, with_empty_line, block_started, after_block_start, text_brings, after_joining, after_first_text, after_text, with_border, border_of_cells, prefixed, with_divider, with_cells, Call, add_empty_line, new_line, new_line_hard, start_block, start_table, add_inline_text, begin, finish, start_strikeout, end_strikeout, add_image, add_border, append_subrender, append_vert_row, Act, ActIsTooNarrow, TakeTwoAtMost}
+use Rattle.text_block_renderer.proofs.Common.{unwrap_or, IfSome, ◌≡◌, ℕ, ◌≤◌, inl, inr, Bool, true, false, Option, Some, None, List, [], ◌∷◌, fold, ap, sym, subst, arith, rules, cond_both, run_of}
+use Rattle.text_block_renderer.proofs.Common.{Entry, character, marker_entry, CharactersFit, Decoration, shown_title, struck_from, struck_until, annotated, after_start, after_end, after_titled, Open}
+use Rattle.text_block_renderer.proofs.Common.{Renderer, least, block_width, with_line, open_block, with_events, struck, text_annotations, last_mode, refused, horizontal, changed, block_lines}
+use Rattle.text_block_renderer.proofs.Common.{lines_at_end, names_at_end, fits_at_end, fits_grown, flushed, after_block, after_flush, with_empty_line, block_started, after_block_start, text_brings}
+use Rattle.text_block_renderer.proofs.Common.{after_joining, after_first_text, after_text, with_border, border_of_cells, prefixed, with_divider, with_cells, Call, add_empty_line, new_line}
+use Rattle.text_block_renderer.proofs.Common.{new_line_hard, start_block, start_table, add_inline_text, begin, finish, start_strikeout, end_strikeout, add_image, add_border, append_subrender}
+use Rattle.text_block_renderer.proofs.Common.{append_vert_row, Act, ActIsTooNarrow, TakeTwoAtMost}
 use Rattle.tbr_decor.specs.Start as start
 use Rattle.tbr_decor.specs.End as end
 use Rattle.tbr_tagged.specs.declared.Error.TheVariants.{TooNarrow}
 use Rattle.tbr_renderer.proofs.OutcomeParts.{refused_before, refused_first, refused_if_not}
 use Rattle.tbr_renderer.proofs.OpenBlocks.{end_wide, join_wide}
+use Rattle.tbr_renderer.specs.Acts.{call, row, fmt_links, finalise}
 use Rattle.tbr_renderer.specs.Calls.{made}
 use Rattle.tbr_renderer.proofs.SettingsStay.{Steady, started_alike}
 
@@ -23,7 +30,9 @@ module _ {D A : Type 0} (columns : ℕ → Option ℕ) (one : columns 32 ≡ Som
       go : (o : Option (Open (List A))) → after_block columns r o ≡ refused TooNarrow → ⊥
       go None e = cc
       go (Some b) e =
-          end_wide columns one r b (omega (arith, wide)) (refused_if_not (fits_at_end columns r b) (flushed columns r (block_lines columns r b (lines_at_end columns r b)) (names_at_end columns r b)) e)
+          end_wide columns one r b (omega (arith, wide))
+          (refused_if_not (fits_at_end columns r b)
+          (flushed columns r (block_lines columns r b (lines_at_end columns r b)) (names_at_end columns r b)) e)
           (characters_fit columns two (block_width r) (run_of b.events) wide)
 
   flushed_fits : {X : Type 0} (change : Renderer D A (List A) → X) (r : Renderer D A (List A)) → 2 ≤ block_width r → changed change (after_flush columns r) ≡ refused TooNarrow → ⊥
@@ -65,7 +74,10 @@ module _ {D A : Type 0} (columns : ℕ → Option ℕ) (one : columns 32 ≡ Som
     call_fits (add_inline_text cs) r wide h = text_fits decoration.preformatted cs r wide h
     call_fits (begin opened) r wide h = start_fits opened r wide h
     call_fits (finish closed) r wide h = end_fits closed r wide h
-    call_fits start_strikeout r wide h = start_fits start.strikeout r wide (refused_before (λ (s : Renderer D A (List A)). struck_from s) (after_start columns decoration start.strikeout r) TooNarrow h)
+    call_fits start_strikeout r wide h =
+        start_fits start.strikeout r wide
+        (refused_before (λ (s : Renderer D A (List A)). struck_from s)
+        (after_start columns decoration start.strikeout r) TooNarrow h)
     call_fits end_strikeout r wide h =
         end_fits end.strikeout (struck_until r) (cond_both r.options.use_unicode_strikeout _ r (λ (q : Renderer D A (List A)). 2 ≤ block_width q) (λ e. wide) (λ e. wide)) h
     call_fits (add_image source title) r wide h = image_fits source (shown_title r.options.img_mode source title) r wide h
@@ -75,4 +87,7 @@ module _ {D A : Type 0} (columns : ℕ → Option ℕ) (one : columns 32 ≡ Som
     call_fits other r wide h = cc
 
     pub act_fits : (act : Act A) (r : Renderer D A (List A)) → 2 ≤ block_width r → ActIsTooNarrow columns decoration act r → ⊥
-    act_fits act r wide h = grind (arith, call_fits, flush_fits)
+    act_fits (call c) r wide h = call_fits c r wide h
+    act_fits (row collapses cells) r wide h = flush_fits r wide h
+    act_fits (fmt_links links) r wide h = h
+    act_fits (finalise targets) r wide h = h

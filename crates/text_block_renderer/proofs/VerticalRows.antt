@@ -1,5 +1,7 @@
 -- Rows of cells, as lines.
-use Rattle.text_block_renderer.proofs.Common.{◌≡◌, ℕ, Bool, true, false, if◌then◌else◌, Option, List, [], ◌∷◌, ◌++◌, map, flat_map, fold, refl, ap, sym, ◌∙◌, append_assoc, append-nil, arith, join_by, fold-append, Item, marker_items, horizontal, slash, Decoration, Line, Renderer, Settings, settings_of, with_line, done, changed, after_flush, with_border, border_line, border_of_cells, as_text, with_divider, with_cell, with_cell_below, with_cells, append_vert_row, Does, padded_line, lines_laid}
+use Rattle.text_block_renderer.proofs.Common.{◌≡◌, ℕ, Bool, true, false, if◌then◌else◌, Option, List, [], ◌∷◌, ◌++◌, map, flat_map, fold, refl, ap, sym, ◌∙◌, append_assoc, append-nil, arith, join_by}
+use Rattle.text_block_renderer.proofs.Common.{fold-append, Item, marker_items, horizontal, slash, Decoration, Line, Renderer, Settings, settings_of, with_line, done, changed, after_flush, with_border}
+use Rattle.text_block_renderer.proofs.Common.{border_line, border_of_cells, as_text, with_divider, with_cell, with_cell_below, with_cells, append_vert_row, Does, padded_line, lines_laid}
 use Rattle.tbr_border.specs.Cell.{Cell}
 use Rattle.tbr_tagged.proofs.Outcomes.{live_done}
 use Rattle.tbr_renderer.proofs.OutcomeParts.{done_before}
@@ -34,14 +36,17 @@ module _ {D A : Type 0} (columns : ℕ → Option ℕ) where
     none_left : (ts : List (List (Item (List A)))) → left [] ts ≡ []
     none_left ts = grind arith
 
-    texts_put : (ts : List (List (Item (List A)))) (ls : List (Line (List A))) (names : List (List ℕ)) → fold (with_line columns) (on ls names) ts ≡ on (ls ++ lines_laid columns (on ls names) ts) (left names ts)
+    texts_put : (ts : List (List (Item (List A)))) (ls : List (Line (List A))) (names : List (List ℕ)) →
+        fold (with_line columns) (on ls names) ts ≡ on (ls ++ lines_laid columns (on ls names) ts) (left names ts)
     texts_put [] ls names = ap (λ ks. on ks names) (sym (append-nil ls))
     texts_put (t ∷ ts) ls names =
         let first = padded_line columns m (marker_items names ++ t) in
         texts_put ts (ls ++ first ∷ []) [] ∙ ap (λ ks. on ((ls ++ first ∷ []) ++ ks) (left [] ts)) (unmarked columns (on ls []) ts refl)
         ∙ ap (λ ks. on ks (left [] ts)) (append_assoc ls (first ∷ []) (map (padded_line columns m) ts)) ∙ ap (on (ls ++ first ∷ map (padded_line columns m) ts)) (none_left ts)
 
-    divider_put : (cell : Cell) (ls : List (Line (List A))) (names : List (List ℕ)) → with_divider columns cell (on ls names) ≡ on (ls ++ border_line columns m (border_of_cells cell m.width m) ∷ []) names
+    divider_put : (cell : Cell) (ls : List (Line (List A))) (names : List (List ℕ)) →
+        with_divider columns cell (on ls names) ≡ on (ls ++ border_line columns m (border_of_cells cell m.width m) ∷ [])
+        names
     divider_put cell ls names = ap (λ (draws : Bool). if draws then with_border columns (on ls names) (border_of_cells cell m.width m) else on ls names) drawn
 
     abbrev slashed : List (Line (List A))
@@ -56,14 +61,18 @@ module _ {D A : Type 0} (columns : ℕ → Option ℕ) where
     left_by names [] = names
     left_by names (lines ∷ cells) = left_by (left names (texts_in lines)) cells
 
-    below_put : (cells : List (List (Line (List A)))) (ls : List (Line (List A))) (names : List (List ℕ)) → fold (with_cell_below columns) (on ls names) cells ≡ on (ls ++ below names cells) (left_by names cells)
+    below_put : (cells : List (List (Line (List A)))) (ls : List (Line (List A))) (names : List (List ℕ)) →
+        fold (with_cell_below columns) (on ls names) cells ≡ on (ls ++ below names cells) (left_by names cells)
     below_put [] ls names = ap (λ ks. on ks names) (sym (append-nil ls))
     below_put (lines ∷ cells) ls names =
         let laid = lines_laid columns (on [] names) (texts_in lines) in
         let rest = left names (texts_in lines) in
-        ap (λ q. fold (with_cell_below columns) (with_cell columns q lines) cells) (divider_put slash ls names) ∙ ap (λ q. fold (with_cell_below columns) q cells) (texts_put (texts_in lines) (ls ++ slashed) names)
+        ap (λ q. fold (with_cell_below columns) (with_cell columns q lines) cells) (divider_put slash ls names)
+        ∙ ap (λ q. fold (with_cell_below columns) q cells) (texts_put (texts_in lines) (ls ++ slashed) names)
         ∙ below_put cells ((ls ++ slashed) ++ laid) rest
-        ∙ ap (λ ks. on ks (left_by rest cells)) (append_assoc (ls ++ slashed) laid (below rest cells) ∙ append_assoc ls slashed (laid ++ below rest cells) ∙ ap (λ ks. ls ++ ks) (sym (append_assoc slashed laid (below rest cells))))
+        ∙ ap (λ ks. on ks (left_by rest cells))
+        (append_assoc (ls ++ slashed) laid (below rest cells) ∙ append_assoc ls slashed (laid ++ below rest cells)
+        ∙ ap (λ ks. ls ++ ks) (sym (append_assoc slashed laid (below rest cells))))
 
     abbrev pad : List (List (Item (List A))) → List (Line (List A))
     pad texts = map (padded_line columns m) texts
@@ -80,12 +89,15 @@ module _ {D A : Type 0} (columns : ℕ → Option ℕ) where
         let first = slashed ++ pad ((marker_items names ++ as_text m.annotations line) ∷ texts_in lines) in
         ap (λ ks. first ++ ks) (below_is cells [] ∙ ap (flat_map (λ texts. slashed ++ pad texts)) (none_marked (map texts_in cells)))
 
-    cells_put : (cells : List (List (Line (List A)))) (ls : List (Line (List A))) (names : List (List ℕ)) → (with_cells columns (on ls names) cells).lines ≡ ls ++ join_by pad slashed (marked names (map texts_in cells))
+    cells_put : (cells : List (List (Line (List A)))) (ls : List (Line (List A))) (names : List (List ℕ)) →
+        (with_cells columns (on ls names) cells).lines ≡ ls ++ join_by pad slashed (marked names (map texts_in cells))
     cells_put [] ls names = sym (append-nil ls)
     cells_put ([] ∷ cells) ls names = ap (λ (q : Renderer D A (List A)). q.lines) (below_put cells ls names) ∙ ap (λ ks. ls ++ ks) (below_is cells names)
     cells_put ((line ∷ lines) ∷ cells) ls names =
         let first = pad ((marker_items names ++ as_text m.annotations line) ∷ texts_in lines) in
-        ap (λ q. (fold (with_cell_below columns) q cells).lines) (texts_put (texts_in (line ∷ lines)) ls names) ∙ ap (λ (q : Renderer D A (List A)). q.lines) (below_put cells (ls ++ first) []) ∙ append_assoc ls first (below [] cells)
+        ap (λ q. (fold (with_cell_below columns) q cells).lines) (texts_put (texts_in (line ∷ lines)) ls names)
+        ∙ ap (λ (q : Renderer D A (List A)). q.lines) (below_put cells (ls ++ first) [])
+        ∙ append_assoc ls first (below [] cells)
         ∙ ap (λ ks. ls ++ (first ++ ks)) (below_is cells [] ∙ ap (flat_map (λ texts. slashed ++ pad texts)) (none_marked (map texts_in cells)))
 
     row_put : (cells : List (List (Line (List A)))) → (with_divider columns horizontal (with_cells columns m cells)).lines ≡ m.lines ++ row_lines columns m cells
@@ -106,7 +118,8 @@ module _ {D A : Type 0} (columns : ℕ → Option ℕ) where
       let change : Renderer D A (List A) → Renderer D A (List A) = λ m. with_divider columns horizontal (with_cells columns m cells) in
       done_before change (after_flush columns r) s (live_done r.failure (changed change (after_flush columns r)) s h).1
 
-  pub row_drawn : (decoration : Decoration D A) (cells : List (List (Line (List A)))) (r s : Renderer D A (List A)) → Does columns decoration (append_vert_row cells) r s → r.options.draw_borders ≡ true →
+  pub row_drawn : (decoration : Decoration D A) (cells : List (List (Line (List A)))) (r s : Renderer D A (List A)) →
+      Does columns decoration (append_vert_row cells) r s → r.options.draw_borders ≡ true →
       (m : Renderer D A (List A)) × (after_flush columns r ≡ done m) × (s.lines ≡ m.lines ++ row_lines columns m cells)
   row_drawn decoration cells r s h drawn =
       let (m, flushed, is) = cells_after decoration cells r s h in
@@ -115,20 +128,25 @@ module _ {D A : Type 0} (columns : ℕ → Option ℕ) where
 
   -- ---- without borders
 
-  below_alone : (cells : List (List (Line (List A)))) (q : Renderer D A (List A)) → q.options.draw_borders ≡ false → fold (with_cell_below columns) q cells ≡ fold (with_line columns) q (flat_map (map (as_text q.annotations)) cells)
+  below_alone : (cells : List (List (Line (List A)))) (q : Renderer D A (List A)) → q.options.draw_borders ≡ false →
+      fold (with_cell_below columns) q cells ≡ fold (with_line columns) q (flat_map (map (as_text q.annotations)) cells)
   below_alone [] q undrawn = refl
   below_alone (lines ∷ cells) q undrawn =
       let texts = map (as_text q.annotations) lines in
       let after : Renderer D A (List A) = fold (with_line columns) q texts in
       let settings = settings_laid texts q in
-      ap (λ p. fold (with_cell_below columns) (with_cell columns p lines) cells) (divider_undrawn slash q undrawn) ∙ below_alone cells after (ap (λ (x : Settings D A). x.kept.options.draw_borders) settings ∙ undrawn)
-      ∙ ap (λ (x : Settings D A). fold (with_line columns) after (flat_map (map (as_text x.annotations)) cells)) settings ∙ sym (fold-append (with_line columns) q texts (flat_map (map (as_text q.annotations)) cells))
+      ap (λ p. fold (with_cell_below columns) (with_cell columns p lines) cells) (divider_undrawn slash q undrawn)
+      ∙ below_alone cells after (ap (λ (x : Settings D A). x.kept.options.draw_borders) settings ∙ undrawn)
+      ∙ ap (λ (x : Settings D A). fold (with_line columns) after (flat_map (map (as_text x.annotations)) cells))
+      settings ∙ sym (fold-append (with_line columns) q texts (flat_map (map (as_text q.annotations)) cells))
 
-  cells_alone : (cells : List (List (Line (List A)))) (q : Renderer D A (List A)) → q.options.draw_borders ≡ false → with_cells columns q cells ≡ fold (with_line columns) q (flat_map (map (as_text q.annotations)) cells)
+  cells_alone : (cells : List (List (Line (List A)))) (q : Renderer D A (List A)) → q.options.draw_borders ≡ false →
+      with_cells columns q cells ≡ fold (with_line columns) q (flat_map (map (as_text q.annotations)) cells)
   cells_alone [] q undrawn = refl
   cells_alone (lines ∷ cells) q undrawn = ap (λ p. fold (with_cell_below columns) (with_cell columns p lines) cells) (sym (divider_undrawn slash q undrawn)) ∙ below_alone (lines ∷ cells) q undrawn
 
-  pub row_undrawn : (decoration : Decoration D A) (cells : List (List (Line (List A)))) (r s : Renderer D A (List A)) → Does columns decoration (append_vert_row cells) r s → r.options.draw_borders ≡ false →
+  pub row_undrawn : (decoration : Decoration D A) (cells : List (List (Line (List A)))) (r s : Renderer D A (List A)) →
+      Does columns decoration (append_vert_row cells) r s → r.options.draw_borders ≡ false →
       (m : Renderer D A (List A)) × (after_flush columns r ≡ done m) × (s.lines ≡ m.lines ++ lines_laid columns m (flat_map (map (as_text r.annotations)) cells))
   row_undrawn decoration cells r s h undrawn =
       let (m, flushed, is) = cells_after decoration cells r s h in

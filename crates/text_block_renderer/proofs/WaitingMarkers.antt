@@ -1,5 +1,10 @@
 -- Markers that wait, where a run ends and until a line of text comes, by a call or under a row.
-use Rattle.text_block_renderer.proofs.Common.{◌≡◌, ℕ, Bool, true, false, if◌then◌else◌, Option, Some, None, List, [], ◌∷◌, ◌++◌, map, flat_map, fold, refl, ap, sym, ◌∙◌, subst, arith, append_assoc, append-nil, rules, AllZip, Each, or_parts, run_of, Entry, Item, Word, kept_items, has_character, words_of, trailing, word_slots, slots_of, HasNoEmptyLine, names_in_run, marker_items, marker_run, without_spaces, Border, shown, IsNormal, HasBestLines, Decoration, Line, text, border, Open, Renderer, with_line, block_width, may_overflow, open_run, line_padding, IsSound, done, run, block_lines, lines_at_end, names_at_end, after_flush, with_border, text_of_lines, Call, Steps, Act, call, after_act, StaysLine, AreDrawnAmong, border_drawn, borders_drawn, DrawNone, items_so_far, FlushStands, first_text, BeginsWith, WaitForText}
+use Rattle.text_block_renderer.proofs.Common.{◌≡◌, ℕ, Bool, true, false, if◌then◌else◌, Option, Some, None, List, [], ◌∷◌, ◌++◌, map, flat_map, fold, refl, ap, sym, ◌∙◌, subst, arith, append_assoc}
+use Rattle.text_block_renderer.proofs.Common.{append-nil, rules, AllZip, Each, or_parts, run_of, Entry, Item, Word, kept_items, has_character, words_of, trailing, word_slots, slots_of, HasNoEmptyLine}
+use Rattle.text_block_renderer.proofs.Common.{names_in_run, marker_items, marker_run, without_spaces, Border, shown, IsNormal, HasBestLines, Decoration, Line, text, border, Open, Renderer, with_line}
+use Rattle.text_block_renderer.proofs.Common.{block_width, may_overflow, open_run, line_padding, IsSound, done, run, block_lines, lines_at_end, names_at_end, after_flush, with_border, text_of_lines}
+use Rattle.text_block_renderer.proofs.Common.{Call, Steps, Act, call, after_act, StaysLine, AreDrawnAmong, border_drawn, borders_drawn, DrawNone, items_so_far, FlushStands, first_text, BeginsWith}
+use Rattle.text_block_renderer.proofs.Common.{WaitForText}
 use Rattle.tbr_model.specs.Layout.{line_text, joined}
 use Rattle.tbr_model.proofs.words.Items.{has_character-append}
 use Rattle.tbr_model.proofs.words.KeptItems.{words_hold}
@@ -29,7 +34,8 @@ no_lines_laid [] e full = refl
 no_lines_laid ([] ∷ ls) e full = absurd (omega (arith, full.0))
 no_lines_laid ((x ∷ l) ∷ ls) e full = cc
 
-no_lines : {T : Type 0} (columns : ℕ → Option ℕ) (width : ℕ) (run : List (Entry T)) (texts : List (List (Item T))) → HasBestLines columns width run texts → has_character (kept_items columns run) ≡ false → texts ≡ []
+no_lines : {T : Type 0} (columns : ℕ → Option ℕ) (width : ℕ) (run : List (Entry T)) (texts : List (List (Item T))) →
+    HasBestLines columns width run texts → has_character (kept_items columns run) ≡ false → texts ≡ []
 no_lines columns width run texts h none = h.shown ∙ ap (map line_text) (no_lines_laid h.lines (h.best.legal.whole ∙ no_slots columns width run none) h.best.full)
 
 -- ---- a flush
@@ -62,7 +68,9 @@ module _ {D A : Type 0} (columns : ℕ → Option ℕ) where
   kept r s None h sound normal = ap (λ (q : Renderer D A (List A)). without_spaces (items_so_far q)) h ∙ sym (append-nil (without_spaces (items_so_far r)))
   kept r s (Some b) h sound normal =
       ap (λ (q : Renderer D A (List A)). without_spaces (items_so_far q)) h.is ∙ seen_flushed without_spaces at_unspaced columns r b (lines_at_end columns r b) (names_at_end columns r b)
-      ∙ ap (λ js. without_spaces (items_so_far r) ++ js) ((run_stands columns (block_width r) (may_overflow r) (run_of b.events) (lines_at_end columns r b) (names_at_end columns r b) (h.ends sound)).kept normal)
+      ∙ ap (λ js. without_spaces (items_so_far r) ++ js)
+      ((run_stands columns (block_width r) (may_overflow r) (run_of b.events) (lines_at_end columns r b) (names_at_end columns r b) (h.ends sound)).kept
+      normal)
 
   trails : (r s : Renderer D A (List A)) (o : Option (Open (List A))) → FlushesBlock columns r o s → IsSound columns r → may_overflow r ≡ false → IsNormal (open_run o) →
       has_character (kept_items columns (open_run o)) ≡ true → marker_items s.waiting ≡ trailing columns (open_run o)
@@ -202,7 +210,8 @@ module _ {D A : Type 0} (columns : ℕ → Option ℕ) where
     stays = λ q s es bs stay waiting width options k. lines_stay r q s bs stay waiting k;
   }
 
-  pub acts_wait : (decoration : Decoration D A) (acts : List (Act A)) (r s : Renderer D A (List A)) → run (after_act columns decoration) acts r ≡ done s → WaitForText (borders_drawn columns decoration acts r) r s
+  pub acts_wait : (decoration : Decoration D A) (acts : List (Act A)) (r s : Renderer D A (List A)) →
+      run (after_act columns decoration) acts r ≡ done s → WaitForText (borders_drawn columns decoration acts r) r s
   acts_wait decoration acts r s h =
       let nothing : WaitsOn r r [] = (r.lines, [], [], sym (append-nil r.lines), all_stay r.lines, none_among [], ([], sym (append-nil r.waiting))) in
       let (kept, more, rest, lines, stay, among, k) = (acts_on columns (λ t es bs. WaitsOn r t bs) (waiting_goes_on r) decoration acts r s (open_run r.block) [] h ([], refl, nothing)).2 in
@@ -217,11 +226,13 @@ module _ {D A : Type 0} (columns : ℕ → Option ℕ) where
         wait = λ none. subst (λ o. Waiting o r.waiting s.waiting) none k;
       }
 
-  pub acts_wait_all : (decoration : Decoration D A) (acts : List (Act A)) (r s : Renderer D A (List A)) → DrawNone columns decoration acts r → run (after_act columns decoration) acts r ≡ done s → WaitForText [] r s
+  pub acts_wait_all : (decoration : Decoration D A) (acts : List (Act A)) (r s : Renderer D A (List A)) →
+      DrawNone columns decoration acts r → run (after_act columns decoration) acts r ≡ done s → WaitForText [] r s
   acts_wait_all decoration acts r s none h = subst (λ bs. WaitForText bs r s) (none_drawn columns decoration acts r s h none) (acts_wait decoration acts r s h)
 
   -- after calls alone all lines are as they were
-  calls_keep : (decoration : Decoration D A) (calls : List (Call (List A))) (r s : Renderer D A (List A)) (bs : Texts A) → Steps columns decoration calls r s → (waits : WaitForText bs r s) → waits.kept ≡ r.lines
+  calls_keep : (decoration : Decoration D A) (calls : List (Call (List A))) (r s : Renderer D A (List A)) (bs : Texts A)
+      → Steps columns decoration calls r s → (waits : WaitForText bs r s) → waits.kept ≡ r.lines
   calls_keep decoration calls r s bs h waits =
       let (more, lines) = steps_grow columns decoration calls r s h in kept_are r.lines waits.kept waits.more more waits.stay (sym waits.lines ∙ lines)
 
@@ -231,7 +242,8 @@ module _ {D A : Type 0} (columns : ℕ → Option ℕ) where
       let waits = acts_wait decoration (map call calls) r s (calls_come columns decoration calls r s [] h).0 in
       (waits, calls_keep decoration calls r s (borders_drawn columns decoration (map call calls) r) h waits)
 
-  pub calls_wait_all : (decoration : Decoration D A) (calls : List (Call (List A))) (r s : Renderer D A (List A)) → DrawNone columns decoration (map call calls) r → Steps columns decoration calls r s →
+  pub calls_wait_all : (decoration : Decoration D A) (calls : List (Call (List A))) (r s : Renderer D A (List A)) →
+      DrawNone columns decoration (map call calls) r → Steps columns decoration calls r s →
       (waits : WaitForText [] r s) × (waits.kept ≡ r.lines)
   calls_wait_all decoration calls r s none h =
       let waits = acts_wait_all decoration (map call calls) r s none (calls_come columns decoration calls r s [] h).0 in

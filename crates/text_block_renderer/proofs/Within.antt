@@ -42,7 +42,9 @@ module _ {T : Type 0} (columns : ℕ → Option ℕ) where
 
   -- items with others in front and after
   pub middle_within : (front is back : List (Item T)) → StandWithin (seen is) (seen (front ++ (is ++ back)))
-  middle_within front is back = subst (λ js. StandWithin (seen js) (seen (front ++ (is ++ back)))) (append-nil is) (two_within [] (is ++ []) front (is ++ back) tt (two_within is [] is back (itself_within is) tt))
+  middle_within front is back =
+      subst (λ js. StandWithin (seen js) (seen (front ++ (is ++ back)))) (append-nil is)
+      (two_within [] (is ++ []) front (is ++ back) tt (two_within is [] is back (itself_within is) tt))
 
   -- in front come others
   pub after_within : (front is js : List (Item T)) → StandWithin (seen is) (seen js) → StandWithin (seen is) (seen (front ++ js))

@@ -1,5 +1,8 @@
 -- What came is in the lines, with others between, whether they are padded or not.
-use Rattle.text_block_renderer.proofs.Common.{◌≡◌, ℕ, Option, None, List, [], ◌∷◌, ◌++◌, fold, refl, ap, sym, ◌∙◌, subst, append_assoc, append-nil, AllZip, filter-append, Entry, Item, run_of, marker_items, is_visible_or_marker, Border, done, Decoration, text, Open, Renderer, line_padding, with_line, block_width, IsSound, block_lines, lines_at_end, names_at_end, flushed, border_line, with_border, laid_entries, run, Act, after_act, acts_come, StaysLine, borders_drawn, StandWithin, written, to_show, IsWrittenSoFar}
+use Rattle.text_block_renderer.proofs.Common.{◌≡◌, ℕ, Option, None, List, [], ◌∷◌, ◌++◌, fold, refl, ap, sym, ◌∙◌, subst, append_assoc, append-nil, AllZip, filter-append, Entry, Item, run_of}
+use Rattle.text_block_renderer.proofs.Common.{marker_items, is_visible_or_marker, Border, done, Decoration, text, Open, Renderer, line_padding, with_line, block_width, IsSound, block_lines}
+use Rattle.text_block_renderer.proofs.Common.{lines_at_end, names_at_end, flushed, border_line, with_border, laid_entries, run, Act, after_act, acts_come, StaysLine, borders_drawn, StandWithin}
+use Rattle.text_block_renderer.proofs.Common.{written, to_show, IsWrittenSoFar}
 use Rattle.tbr_model.specs.Layout.{joined}
 use Rattle.tbr_renderer.proofs.FlushedBlocks.{EndsBlock, Flushes}
 use Rattle.text_block_renderer.proofs.Within.{within_both, within_more, itself_within, before_within}
@@ -39,7 +42,10 @@ module _ {D A : Type 0} (columns : ℕ → Option ℕ) where
   texts_in [] r all h = subst (InLines r) (sym (append-nil all)) h
   texts_in (t ∷ ts) r all h =
       let q = with_line columns r t in
-      subst (InLines (fold (with_line columns) q ts)) (append_assoc all (seen columns t) (seen columns (joined ts)) ∙ ap (λ is. all ++ is) (sym (two_seen columns t (joined ts)))) (texts_in ts q (all ++ seen columns t) (text_in r t all h))
+      subst (InLines (fold (with_line columns) q ts))
+      (append_assoc all (seen columns t) (seen columns (joined ts))
+      ∙ ap (λ is. all ++ is) (sym (two_seen columns t (joined ts))))
+      (texts_in ts q (all ++ seen columns t) (text_in r t all h))
 
   -- They show these entries.
   abbrev AreWritten : Renderer D A (List A) → List (Entry (List A)) → Type 0
@@ -56,7 +62,11 @@ module _ {D A : Type 0} (columns : ℕ → Option ℕ) where
       let after : InLines (flushed columns r padded names) (all ++ new) = record {
         shown = k.shown;
         whole = ap (λ is. k.shown ++ is) (marker_items-append laid.waiting names) ∙ sym (append_assoc k.shown (marker_items laid.waiting) (marker_items names))
-            ∙ ap (λ is. is ++ marker_items names) (k.whole ∙ ap (λ is. all ++ is) (unpadded (seen columns) (at_shown columns) columns b.padding (block_width r) texts)) ∙ append_assoc all (seen columns (joined texts)) (marker_items names);
+            ∙ ap (λ is. is ++ marker_items names)
+            (k.whole
+            ∙ ap (λ is. all ++ is)
+            (unpadded (seen columns) (at_shown columns) columns b.padding (block_width r) texts))
+            ∙ append_assoc all (seen columns (joined texts)) (marker_items names);
         stand = k.stand;
       } in
       (all ++ new, show_both columns all new es (run_of b.events) order (h.ends sound).order, subst (λ (q : Renderer D A (List A)). InLines q (all ++ new)) (sym h.is) after)
@@ -96,6 +106,10 @@ module _ {D A : Type 0} (columns : ℕ → Option ℕ) where
   pub flush_written : (r s : Renderer D A (List A)) (es : List (Entry (List A))) → Flushes columns r s → IsSound columns r → IsWrittenSoFar columns r es → IsWrittenSoFar columns s es
   flush_written r s es h sound k = so_far s es [] (flushed_on columns Written written_on r s es [] h (less_open r es sound k))
 
-  pub acts_write : (decoration : Decoration D A) (acts : List (Act A)) (r s : Renderer D A (List A)) (before : List (Entry (List A))) → IsSound columns r → run (after_act columns decoration) acts r ≡ done s → IsWrittenSoFar columns r before →
+  pub acts_write : (decoration : Decoration D A) (acts : List (Act A)) (r s : Renderer D A (List A))
+      (before : List (Entry (List A))) → IsSound columns r → run (after_act columns decoration) acts r ≡ done s →
+      IsWrittenSoFar columns r before →
       IsWrittenSoFar columns s (acts_come columns decoration acts r before)
-  acts_write decoration acts r s before sound h k = so_far s _ (borders_drawn columns decoration acts r) (acts_on columns Written written_on decoration acts r s before [] h (less_open r before sound k))
+  acts_write decoration acts r s before sound h k =
+      so_far s _ (borders_drawn columns decoration acts r)
+      (acts_on columns Written written_on decoration acts r s before [] h (less_open r before sound k))

@@ -21,16 +21,9 @@ use Rattle.tbr_renderer.specs.Appended.{border_line}
 use Rattle.tbr_renderer.specs.Footnotes.{listed, footnote_lines, with_footnotes}
 use Rattle.tbr_renderer.specs.Rows.{GivenCell, style_in, cells_from, PutsRow, after_row}
 use Rattle.tbr_renderer.specs.Calls.{Call, made, after, entries_brought, laid_entries}
+pub use Rattle.tbr_renderer.specs.Acts.{Act, call, row, fmt_links, finalise, after_act}
 use Rattle.text_block_renderer.specs.Added.{Part, flush_ends, call_adds}
 use Rattle.text_block_renderer.specs.Stretches.{entries_of_part, lines_of_part, lines_laid, IsBetweenBlocks, IsPart}
-
--- What is done to a renderer: a call, or a row of cells side by side, with whether it collapses. Or footnotes come, or
--- the decorator is asked for those of these targets.
-pub data Act (A : Type 0) : Type 0 where
-  call : Call (List A) → Act A
-  row : Bool → List (GivenCell (List A)) → Act A
-  fmt_links : List (List (Element A)) → Act A
-  finalise : List (List ℕ) → Act A
 
 -- What these add, each with the renderer right before: a part as calls have it, a row of cells, with whether it
 -- collapses, or a footnote's line.
@@ -64,16 +57,6 @@ notes_add columns [] r = []
 notes_add columns (is ∷ texts) r = note_added r is ∷ notes_add columns texts (with_line columns r is)
 
 module _ {D A : Type 0} (columns : ℕ → Option ℕ) (decoration : Decoration D A) where
-  -- what one makes of a renderer
-  abbrev pub after_act : Act A → Renderer D A (List A) → Outcome (Renderer D A (List A))
-  after_act (call c) r = after columns decoration c r
-  after_act (row collapses cells) r = after_row (pointwise decoration.same) columns collapses cells r
-  after_act (fmt_links links) r = if_live r.failure (done (with_footnotes columns r links))
-  after_act (finalise targets) r =
-      if_live r.failure (done (record r {
-        decorator = decoration.after r.decorator (change.finalise (listed r.options targets));
-      }))
-
   -- a row of these cells, and nothing where a cell that overhangs has no place
   abbrev pub row_seen : Bool → List (GivenCell (List A)) → Renderer D A (List A) → Option (SeenRow (List A))
   row_seen collapses cells r =
@@ -102,14 +85,14 @@ module _ {D A : Type 0} (columns : ℕ → Option ℕ) (decoration : Decoration 
   -- and what came after acts, one after another
   abbrev pub acts_come : List (Act A) → Renderer D A (List A) → List (Entry (List A)) → List (Entry (List A))
   acts_come [] r es = es
-  acts_come (act ∷ acts) r es = told_by (λ s. acts_come acts s (act_comes act r es)) (after_act act r)
+  acts_come (act ∷ acts) r es = told_by (λ s. acts_come acts s (act_comes act r es)) (after_act columns decoration act r)
 
   -- what calls and rows bring, and not footnotes
   abbrev pub act_enters : Act A → Renderer D A (List A) → List (Entry (List A))
   act_enters act r = beside_footnotes act (act_brought act r)
 
   abbrev pub acts_enter : List (Act A) → Renderer D A (List A) → List (Entry (List A))
-  acts_enter acts r = told act_enters after_act acts r
+  acts_enter acts r = told act_enters (after_act columns decoration) acts r
 
   -- what one adds
   abbrev pub act_adds : Act A → Renderer D A (List A) → List (Added D A)
@@ -121,7 +104,7 @@ module _ {D A : Type 0} (columns : ℕ → Option ℕ) (decoration : Decoration 
 
   -- and those of acts, one after another
   abbrev pub acts_add : List (Act A) → Renderer D A (List A) → List (Added D A)
-  acts_add acts r = told act_adds after_act acts r
+  acts_add acts r = told act_adds (after_act columns decoration) acts r
 
   -- where one answers `TooNarrow` for its own wrapping
   abbrev pub ActIsTooNarrow : Act A → Renderer D A (List A) → Type 0

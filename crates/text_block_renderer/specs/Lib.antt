@@ -11,6 +11,7 @@ pub use Rattle.tbr_renderer.specs.Mapped
 pub use Rattle.tbr_renderer.specs.Options
 pub use Rattle.tbr_renderer.specs.Outcomes
 pub use Rattle.tbr_renderer.specs.Renderer
+pub use Rattle.tbr_renderer.specs.Settings
 pub use Rattle.tbr_renderer.specs.Steps
 pub use Rattle.tbr_renderer.specs.View
 pub use Rattle.tbr_renderer.specs.Appended
@@ -27,7 +28,6 @@ pub mod Stretches
 pub mod Nested
 pub mod VerticalRows
 pub mod Taken
-pub mod Settings
 pub mod Acts
 pub mod Headline
 pub mod Columns

@@ -16,7 +16,7 @@ ghost use Rattle.tbr_renderer.specs.Flush.{after_flush};
 ghost use Rattle.tbr_renderer.specs.Decorated.{sub_renderer};
 ghost use Rattle.tbr_renderer.specs.Outcomes.{run};
 ghost use Rattle.tbr_renderer.specs.Calls.{Call, Does, Steps, Brings, Shows};
-ghost use Rattle.text_block_renderer.specs.Settings.{settled};
+ghost use Rattle.tbr_renderer.specs.Settings.{settled};
 ghost use Rattle.text_block_renderer.specs.Drawn.{WithoutDrawnBorders, borders_added, borders_drawn, DrawNone};
 ghost use Rattle.text_block_renderer.specs.MarkersStand.{Stands, FlushStands, WaitForText};
 ghost use Rattle.text_block_renderer.specs.Stretches.{StandsAsStretch, StaysOpen, EndsAsStretch, ComesInParts, borders_of_part, AppendsNothing, IsOwnPart};

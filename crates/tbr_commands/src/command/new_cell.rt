@@ -5,8 +5,8 @@ ghost use Rattle.tbr_script.specs.Script.{words_of};
 ghost use Rattle.tbr_commands.specs.Command as asked;
 ghost use Rattle.tbr_commands.specs.Read.{alignment_of, cell_of};
 
-use tbr_lines::CellAlign;
 use tbr_script::{Words, parse_size};
+use tbr_tagged::CellAlign;
 
 /// A cell to open.
 #[derive(Clone, Copy, Debug, PartialEq, Eq)]

@@ -8,8 +8,9 @@ ghost use Rattle.tbr_commands.specs.Begun.{kind_of};
 
 use crate::request::kind::Kind;
 use tbr_decor::TextDecorator;
-use tbr_lines::{CharWidth, Error, WhiteSpace};
+use tbr_model::{CharWidth, WhiteSpace};
 use tbr_renderer::{Renderer, SubRenderer};
+use tbr_tagged::Error;
 
 /// What a command begins by its name alone.
 #[derive(Clone, Copy, Debug, PartialEq, Eq)]

@@ -7,8 +7,9 @@ ghost use Rattle.tbr_commands.specs.declared.request.kind.Kind.TheVariants as ki
 ghost use Rattle.tbr_commands.specs.Request.{end_of, ends_freely};
 
 use tbr_decor::TextDecorator;
-use tbr_lines::{CharWidth, Error};
+use tbr_model::CharWidth;
 use tbr_renderer::{Renderer, SubRenderer};
+use tbr_tagged::Error;
 
 /// What one command begins and another ends.
 #[derive(Clone, Copy, Debug, PartialEq, Eq)]

@@ -6,8 +6,9 @@ ghost use Rattle.tbr_renderer.specs.Calls.{Does, IsTooNarrow};
 ghost use Rattle.tbr_commands.specs.Request.{laid_out, lays_out_freely};
 
 use tbr_decor::TextDecorator;
-use tbr_lines::{CharWidth, Error};
+use tbr_model::CharWidth;
 use tbr_renderer::{Renderer, SubRenderer};
+use tbr_tagged::Error;
 
 /// What a command does to blocks and lines.
 #[derive(Clone, Copy, Debug, PartialEq, Eq)]

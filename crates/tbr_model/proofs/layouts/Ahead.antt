@@ -1,7 +1,7 @@
 -- A greedy layout is ahead of every legal one.
-use Rattle.std.proofs.Common.{◌≡◌, ℕ, zero, suc, ◌+◌, ◌<◌, ◌≤◌, List, [], ◌∷◌, ◌++◌, length, take, refl, ap, sym, ◌∙◌, inl, inr, arith, length-append, append_assoc, subst, zero-add}
-use Rattle.std.specs.List.{AllByRecursion as Each}
-use Rattle.tbr_model.specs.Layout.{Slot, joined, placed, line_width, rest_width, MayFollow, FirstMayBegin, OthersMayFollow, IsLegalLine, IsLegal, IsLongest, IsGreedy, HasNoEmptyLine, IsAhead, IsBest}
+use Rattle.tbr_model.proofs.Common.{◌≡◌, ℕ, zero, suc, ◌+◌, ◌<◌, ◌≤◌, List, [], ◌∷◌, ◌++◌, length, take, refl, ap, sym, ◌∙◌, inl, inr, arith, length-append, append_assoc, subst, Each, Slot, joined}
+use Rattle.tbr_model.proofs.Common.{placed, line_width, rest_width, MayFollow, FirstMayBegin, OthersMayFollow, IsLegalLine, IsLegal, IsLongest, IsGreedy, HasNoEmptyLine, IsAhead, IsBest}
+use Rattle.std.proofs.Common.{zero-add}
 use Rattle.tbr_model.proofs.lists.Each.{each_back}
 use Rattle.tbr_model.proofs.lists.Joined.{cut_twice, placed_le, placed_all}
 

@@ -1,14 +1,14 @@
 -- Layouts as cuts are layouts as lines.
-use Rattle.std.proofs.Common.{◌≡◌, ℕ, zero, suc, ◌+◌, ◌-◌, ◌<◌, ◌≤◌, Option, List, [], ◌∷◌, ◌++◌, map, length, take, drop, get_or, Some, Contains, slice_get, slice_range, refl, ap, sym, ◌∙◌, inl, inr, arith, length-append, length-take, length-drop, subst, drop-drop, take_at, drop_of_length-le, add-one, ◌↔◌}
-use Rattle.std.proofs.lemmas.List.{drop_at}
+use Rattle.tbr_model.proofs.Common.{◌≡◌, ℕ, zero, suc, ◌+◌, ◌-◌, ◌<◌, ◌≤◌, Option, List, [], ◌∷◌, ◌++◌, map, length, take, drop, get_or, Some, slice_get, slice_range, refl, ap, sym, ◌∙◌, inl, inr}
+use Rattle.tbr_model.proofs.Common.{arith, length-append, length-take, length-drop, subst, drop-drop, take_at, drop_of_length-le, add-one, ◌↔◌, drop_at, Each, slice_get_within, cases_lt}
+use Rattle.tbr_model.proofs.Common.{not_from_false, false_from_ne_true, both_ways, not-true, Slot, joined, placed, line_width, line_text, MayFollow, FirstMayBegin, OthersMayFollow, IsLegalLine}
+use Rattle.tbr_model.proofs.Common.{IsLegal, HasNoEmptyLine, IsAhead, IsBest, lines_after, lines_between, cuts_of, IsLegalLayout, IsBestLayout}
+use Rattle.std.proofs.Common.{Contains}
 use Rattle.std.proofs.lemmas.List.Folds.{drop_split}
-use Rattle.std.specs.List.{AllByRecursion as Each}
 use Rattle.std.specs.List.Sorted.{IsNonDecreasing, IsStrictlyIncreasing}
-use Rattle.std.proofs.lemmas.Option.{slice_get_within}
-use Rattle.std.proofs.lemmas.Bool.{cases_lt, not_from_false, false_from_ne_true, both_ways, not-true}
 use Rattle.tbr_model.proofs.lists.Each.{each_weaker}
-use Rattle.tbr_model.specs.Layout.{Slot, joined, placed, line_width, line_text, MayBegin, MayFollow, FirstMayBegin, OthersMayFollow, IsLegalLine, IsLegal, HasNoEmptyLine, IsAhead, IsBest}
-use Rattle.tbr_model.specs.Cuts.{IsLayout, lines_after, lines_between, ends_of, cuts_of, placed_by_cuts, BeginsWider, IsLegalLayout, IsBestLayout, with_gap}
+use Rattle.tbr_model.specs.Layout.{MayBegin}
+use Rattle.tbr_model.specs.Cuts.{IsLayout, ends_of, placed_by_cuts, BeginsWider, with_gap}
 use Rattle.tbr_model.proofs.layouts.Ahead.{joined_begins}
 
 -- ---- parts of lists
@@ -282,7 +282,8 @@ others_cuts {A} width slots others other =
     subst (λ (xs : List (Slot A)). IsLayout (length xs) (cuts_of others) × (lines_between xs (cuts_of others) ≡ others)) other.whole (lines_again others) in
     ((legal_alike width slots (cuts_of others)).1 (both.0, subst (IsLegal width slots) (sym both.1) other), both.1)
 
-ahead_of_lines : {A : Type 0} (width : ℕ) (slots : List (Slot A)) (cuts : List ℕ) → IsBestLayout width slots cuts → (others : List (List (Slot A))) → IsLegal width slots others → IsAhead (lines_between slots cuts) others
+ahead_of_lines : {A : Type 0} (width : ℕ) (slots : List (Slot A)) (cuts : List ℕ) → IsBestLayout width slots cuts →
+    (others : List (List (Slot A))) → IsLegal width slots others → IsAhead (lines_between slots cuts) others
 ahead_of_lines {A} width slots cuts h others other n =
     let theirs = others_cuts width slots others other in
     let a : placed n (lines_between slots (cuts_of others)) ≡ placed n others = ap (placed n) theirs.1 in

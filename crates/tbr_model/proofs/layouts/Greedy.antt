@@ -1,9 +1,8 @@
 -- The layout that places each word where it fits, and why it is best.
-use Rattle.std.proofs.Common.{◌≡◌, ℕ, ◌<◌, ◌≤◌, true, false, not, ◌&&◌, ◌||◌, nat_le, IsTrue, IsFalse, List, [], ◌∷◌, ◌++◌, length, refl, ap, sym, ◌∙◌, inl, inr, arith, length-append, append_assoc, append-nil, subst, leb-true, leb-false}
-use Rattle.std.specs.List.{AllByRecursion as Each}
-use Rattle.std.proofs.lemmas.Bool.{or_right, cond_both, both_ways, not-true}
-use Rattle.tbr_model.specs.Layout.{Slot, joined, line_width, MayFollow, FirstMayBegin, IsLegalLine, IsLongest, IsGreedy, HasNoEmptyLine}
-use Rattle.tbr_model.specs.Greedy.{close, Lines, fill}
+use Rattle.tbr_model.proofs.Common.{◌≡◌, ℕ, ◌<◌, ◌≤◌, true, false, not, ◌&&◌, ◌||◌, nat_le, IsTrue, List, [], ◌∷◌, ◌++◌, length, refl, ap, sym, ◌∙◌, inl, inr, arith, length-append, append_assoc}
+use Rattle.tbr_model.proofs.Common.{append-nil, subst, leb-true, leb-false, Each, or_right, cond_both, both_ways, not-true, Slot, joined, line_width, MayFollow, FirstMayBegin, IsLegalLine, IsLongest}
+use Rattle.tbr_model.proofs.Common.{IsGreedy, HasNoEmptyLine, close, Lines, fill}
+use Rattle.std.proofs.Common.{IsFalse}
 use Rattle.tbr_model.proofs.lists.Joined.{cut_twice, joined-append}
 use Rattle.tbr_model.proofs.lists.Each.{each_back, each_append}
 use Rattle.tbr_model.proofs.layouts.Ahead.{rest_width-append}

@@ -1,15 +1,14 @@
 -- A layout of longest lines is the best one, and a walk over longest lines makes it.
-use Rattle.std.proofs.Common.{◌≡◌, ℕ, ◌+◌, ◌-◌, ◌<◌, ◌≤◌, ◌↔◌, Bool, true, false, IsTrue, Option, Some, None, is_some, MatchOption, List, [], ◌∷◌, ◌++◌, length, take, drop, slice_index_or, refl, ap, sym, ◌∙◌, inl, inr, arith, length-append, length-drop, subst, take-append-drop, drop-drop, take_at, drop_of_length-le, slice_range, append_assoc, append-nil}
-use Rattle.std.proofs.lemmas.List.{get_or_push, get_or_append_left, drop_at}
-use Rattle.std.specs.List.{AllByRecursion as Each}
-use Rattle.std.proofs.lemmas.Bool.{cases_lt}
-use Rattle.tbr_model.specs.Layout.{Slot, joined, line_width, FirstMayBegin, OthersMayFollow, IsLegalLine, IsLegal, IsLongest, IsGreedy, HasNoEmptyLine}
-use Rattle.tbr_model.specs.Cuts.{cuts_of, HasLegalLayout, lines_after, IsBestLayout}
-use Rattle.tbr_model.specs.Longest.{IsLongestLine, TellsRests}
+use Rattle.tbr_model.proofs.Common.{◌≡◌, ℕ, ◌+◌, ◌-◌, ◌<◌, ◌≤◌, ◌↔◌, Bool, true, false, IsTrue, Option, Some, None, is_some, MatchOption, List, [], ◌∷◌, ◌++◌, length, take, drop, refl, ap, sym, ◌∙◌}
+use Rattle.tbr_model.proofs.Common.{inl, inr, arith, length-append, length-drop, subst, take-append-drop, drop-drop, take_at, drop_of_length-le, slice_range, append_assoc, append-nil, drop_at, Each}
+use Rattle.tbr_model.proofs.Common.{cases_lt, Slot, joined, line_width, FirstMayBegin, OthersMayFollow, IsLegalLine, IsLegal, IsLongest, IsGreedy, HasNoEmptyLine, cuts_of, HasLegalLayout, lines_after}
+use Rattle.tbr_model.proofs.Common.{IsBestLayout, TellsRests, take-add}
+use Rattle.std.proofs.Common.{slice_index_or}
+use Rattle.std.proofs.lemmas.List.{get_or_push, get_or_append_left}
+use Rattle.tbr_model.specs.Longest.{IsLongestLine}
 use Rattle.tbr_model.proofs.lists.Joined.{cut_twice, joined-append}
 use Rattle.tbr_model.proofs.layouts.Ahead.{line_width_back, others_back, greedy_best}
 use Rattle.tbr_model.proofs.layouts.Cuts.{legal_alike, others_cuts, RisesTo, joined_after, length-line, layout_rises, line_and_rest, best_alike}
-use Rattle.std.proofs.Math.Seq.{take-add}
 use Rattle.tbr_model.proofs.lists.Each.{each_append}
 
 -- ---- which slots have a legal layout
@@ -174,7 +173,9 @@ next_cut {A} width slots cuts from end h line = record {
   rises = rises_more 0 from to h.later h.rises (omega arith);
   within = omega (arith, line.within, length-drop from slots, h.within);
   legal = rw more (each_append (IsLegalLine width) (lines_after slots 0 h.later) (new ∷ []) h.legal (subst (IsLegalLine width) (sym taken) line.legal, tt));
-  full = rw more (each_append (λ l. 0 < length l) (lines_after slots 0 h.later) (new ∷ []) h.full (omega (arith, line.some, length-line slots from to (omega arith) (omega (arith, line.within, length-drop from slots, h.within))), tt));
+  full =
+      rw more
+      (each_append (λ l. 0 < length l) (lines_after slots 0 h.later) (new ∷ []) h.full (omega (arith, line.some, length-line slots from to (omega arith) (omega (arith, line.within, length-drop from slots, h.within))), tt));
   greedy = rw more (greedy_more width (lines_after slots 0 h.later) new (drop to slots)
       (subst (GreedyBefore width (lines_after slots 0 h.later)) (sym (line_and_rest slots from to (omega arith))) h.greedy)
       (subst (λ (l : List (Slot A)). IsLongest width l (drop to slots)) (sym taken) (subst (IsLongest width (take end (drop from slots))) after line.longest)));
@@ -201,5 +202,8 @@ last_cut {A} width slots cuts from h all =
     let rises : RisesTo 0 h.later (length slots) = subst (RisesTo 0 h.later) (omega (arith, h.within)) h.rises in
     let none : drop from slots ≡ [] = drop_of_length-le slots all in
     let legal : IsLegal width slots (lines_after slots 0 h.later) = record { whole = joined_after slots 0 h.later rises; each = h.legal } in
-    let best = greedy_best width slots (lines_after slots 0 h.later) legal h.full (greedy_all width (lines_after slots 0 h.later) (subst (GreedyBefore width (lines_after slots 0 h.later)) none h.greedy)) in
+    let best =
+    greedy_best width slots (lines_after slots 0 h.later) legal h.full
+    (greedy_all width (lines_after slots 0 h.later)
+    (subst (GreedyBefore width (lines_after slots 0 h.later)) none h.greedy)) in
     subst (IsBestLayout width slots) (sym h.is) ((best_alike width slots (0 ∷ h.later)).1 (layout_rises (length slots) h.later rises, best))

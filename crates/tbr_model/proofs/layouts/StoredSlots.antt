@@ -1,13 +1,11 @@
 -- The columns of slots in memory.
-use Rattle.std.proofs.Common.{◌≡◌, ℕ, zero, suc, ◌+◌, ◌-◌, ◌<◌, ◌≤◌, List, [], ◌∷◌, length, take, drop, slice_range, get_or, Bool, true, not, ◌&&◌, ◌||◌, ◌↔◌, Option, Some, None, is_some, option_copied, refl, ap, sym, ◌∙◌, arith}
-use Rattle.std.proofs.lemmas.List.{take-map, drop-map, take_rest}
+use Rattle.tbr_model.proofs.Common.{◌≡◌, ℕ, zero, suc, ◌+◌, ◌-◌, ◌<◌, ◌≤◌, List, [], ◌∷◌, length, take, drop, slice_range, get_or, Bool, true, not, ◌&&◌, ◌||◌, ◌↔◌, Option, Some, None, is_some}
+use Rattle.tbr_model.proofs.Common.{option_copied, refl, ap, sym, ◌∙◌, arith, take-map, drop-map, take_rest, Each, and_parts, gap_width, rest_width, line_width, MayFollow, IsLegalLine, slot_value}
+use Rattle.tbr_model.proofs.Common.{slot_values}
 use mir.Val.{bool_byte}
 use Rattle.std.specs.Borrow.{Bor}
-use Rattle.std.specs.List.{AllByRecursion as Each, list_all}
-use Rattle.std.proofs.lemmas.Bool.{and_parts}
+use Rattle.std.specs.List.{list_all}
 use Rattle.tbr_model.specs.declared.slot.Slot.{Slot as StoredSlot}
-use Rattle.tbr_model.specs.Layout.{gap_width, rest_width, line_width, MayFollow, IsLegalLine}
-use Rattle.tbr_model.specs.Slot.{slot_value, slot_values}
 
 -- the columns of a slot that is after others
 abbrev pub width_after : {A : Type 0} → StoredSlot A → ℕ

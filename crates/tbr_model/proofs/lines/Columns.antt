@@ -1,15 +1,9 @@
 -- Where a visible character that takes columns came, a line has ended, or the open line or the word takes columns.
-use Rattle.std.proofs.Common.{◌≡◌, ℕ, ◌<◌, inl, inr, ◌||◌, nat_lt, unwrap_or, append_assoc, Bool, true, false, not, Option, List, [], ◌∷◌, ◌++◌, length, refl, ap, sym, ◌∙◌, arith}
-use Rattle.std.specs.List.{list_any, AllZip}
-use Rattle.std.specs.Char.{is_whitespace}
-use Rattle.std.proofs.lemmas.Bool.{cases_lt, cases_Bool}
-use Rattle.std.proofs.lemmas.Bool.{and_left, and_right, not_from_true, or_cases, or_from, le-ltb}
-use Rattle.std.proofs.lemmas.List.Folds.{list_any-append}
-use Rattle.tbr_model.specs.Run.{Entry, Item, glyph, marker, item_width, items_width, is_kept}
-use Rattle.tbr_model.specs.Layout.{joined}
-use Rattle.tbr_model.specs.Laid.{Laid, extended}
-use Rattle.tbr_model.specs.Rule.{Event, run_of, Progress, without_trailing, progress}
-use Rattle.tbr_model.specs.Hard.{is_visible, letters_of}
+use Rattle.tbr_model.proofs.Common.{◌≡◌, ℕ, ◌<◌, inl, inr, ◌||◌, nat_lt, append_assoc, Bool, true, false, not, Option, List, [], ◌∷◌, ◌++◌, length, refl, ap, sym, ◌∙◌, arith, list_any, AllZip}
+use Rattle.tbr_model.proofs.Common.{is_whitespace, cases_lt, cases_Bool, and_left, and_right, not_from_true, le-ltb, list_any-append, Entry, Item, glyph, marker, item_width, items_width, is_kept}
+use Rattle.tbr_model.proofs.Common.{joined, Laid, extended, Event, run_of, Progress, without_trailing, progress, is_visible, letters_of}
+use Rattle.std.proofs.Common.{unwrap_or}
+use Rattle.std.proofs.lemmas.Bool.{or_cases, or_from}
 use Rattle.tbr_model.specs.Shown.{shows_columns, run_shows_columns, HasColumns}
 use Rattle.tbr_model.proofs.words.Items.{letters_of-append}
 use Rattle.tbr_model.proofs.rule.Content.{LooksAtKept, AnyEntry, AnyMode, StandsFor, by_entry, found_under_way, passing, passing-append, looks_at_passing}
@@ -89,10 +83,13 @@ module _ {A : Type 0} (columns : ℕ → Option ℕ) where
   some_line (l ∷ ls) h = omega arith
 
   pub columns_show : (width : ℕ) (es : List (Event A)) → run_shows_columns columns (run_of es) ≡ true → HasColumns columns (progress columns width es)
-  columns_show width es h = elim (or_cases (some_shown (joined p.laid.done)) (some_shown (p.laid.line ++ p.word)) (sym (some_shown-append (joined p.laid.done) (p.laid.line ++ p.word)) ∙ shown_where width es ∙ h)) [
-    | inl done ↦ inl (some_line p.laid.done done)
-    | inr other ↦ elim (or_cases (some_shown p.laid.line) (some_shown p.word) (sym (some_shown-append p.laid.line p.word) ∙ other)) [ inl some ↦ inr (inl (on_line some)) | inr some ↦ inr (inr (in_word some)) ]
-  ]
+  columns_show width es h =
+      elim (or_cases (some_shown (joined p.laid.done)) (some_shown (p.laid.line ++ p.word)) (sym (some_shown-append (joined p.laid.done) (p.laid.line ++ p.word)) ∙ shown_where width es ∙ h)) [
+        | inl done ↦ inl (some_line p.laid.done done)
+        | inr other ↦ elim
+            (or_cases (some_shown p.laid.line) (some_shown p.word) (sym (some_shown-append p.laid.line p.word) ∙ other))
+            [ inl some ↦ inr (inl (on_line some)) | inr some ↦ inr (inr (in_word some)) ]
+      ]
     where
       p : Progress A
       p = progress columns width es

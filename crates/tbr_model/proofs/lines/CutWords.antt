@@ -1,8 +1,6 @@
 -- A word that begins a line is cut only where its next item doesn't fit.
-use Rattle.std.proofs.Common.{◌≡◌, ℕ, ◌+◌, ◌<◌, ◌≤◌, ◌==◌, nat_le, false, Option, List, [], ◌∷◌, ◌++◌, refl, ap, sym, ◌∙◌, subst, append_assoc, append-nil, arith, leb-false}
-use Rattle.std.proofs.lemmas.Bool.{cond_both, eqb-true}
-use Rattle.tbr_model.specs.Run.{Item, item_width, items_width}
-use Rattle.tbr_model.specs.Laid.{Laid, nothing_laid, extended, end_line, put_items}
+use Rattle.tbr_model.proofs.Common.{◌≡◌, ℕ, ◌+◌, ◌<◌, ◌≤◌, ◌==◌, nat_le, false, Option, List, [], ◌∷◌, ◌++◌, refl, ap, sym, ◌∙◌, subst, append_assoc, append-nil, arith, leb-false, cond_both, eqb-true}
+use Rattle.tbr_model.proofs.Common.{Item, item_width, items_width, Laid, nothing_laid, extended, end_line, put_items}
 use Rattle.tbr_model.specs.Shown.{first_columns, EndWhereFull, word_lines}
 use Rattle.tbr_model.proofs.words.Items.{items_width-append}
 

@@ -1,10 +1,6 @@
 -- What holds of each item that the rule lays holds of each item on the lines of a run.
-use Rattle.std.proofs.Common.{ℕ, inl, inr, Option, List, [], ◌∷◌, fold, sym, subst}
-use Rattle.std.specs.List.{AllByRecursion as Each}
-use Rattle.tbr_model.specs.Run.{Entry, character, marker_entry, Item, glyph, marker, item_width}
-use Rattle.tbr_model.specs.Layout.{joined}
-use Rattle.tbr_model.specs.Laid.{Laid, extended, end_line}
-use Rattle.tbr_model.specs.Rule.{Event, run_of, Progress, flush_word, newline, step, without_trailing, progress, finished, lines_of}
+use Rattle.tbr_model.proofs.Common.{ℕ, inl, inr, Option, List, [], ◌∷◌, fold, sym, subst, Each, Entry, character, marker_entry, Item, glyph, marker, item_width, joined, Laid, extended, end_line}
+use Rattle.tbr_model.proofs.Common.{Event, run_of, Progress, flush_word, newline, step, without_trailing, progress, finished, lines_of}
 use Rattle.tbr_model.proofs.lists.Each.{each_append, each_front, each_back}
 use Rattle.tbr_model.proofs.words.Items.{each_marker}
 use Rattle.tbr_model.proofs.rule.HardLineStart.{BeginsHardLine}

@@ -1,14 +1,6 @@
 -- The visible characters and the markers of a run keep their order.
-use Rattle.std.proofs.Common.{◌≡◌, ℕ, ◌⊎◌, inl, inr, Option, List, [], ◌∷◌, ◌++◌, filter, refl, ap, sym, ◌∙◌, subst, arith}
-use Rattle.std.specs.List.{AllZip}
-use Rattle.std.proofs.lemmas.Bool.{and_left, cases_Bool}
-use Rattle.std.proofs.lemmas.List.Elements.{filter-append}
-use Rattle.tbr_model.specs.declared.white_space.WhiteSpace.{WhiteSpace}
-use Rattle.tbr_model.specs.Run.{Entry, character, Item, glyph, marker}
-use Rattle.tbr_model.specs.Layout.{joined}
-use Rattle.tbr_model.specs.Rule.{Event, run_of, progress, waiting, lines_of}
-use Rattle.tbr_model.specs.Markers.{marker_items}
-use Rattle.tbr_model.specs.Hard.{is_visible}
+use Rattle.tbr_model.proofs.Common.{◌≡◌, ℕ, ◌⊎◌, inl, inr, Option, List, [], ◌∷◌, ◌++◌, filter, refl, ap, sym, ◌∙◌, subst, arith, AllZip, and_left, cases_Bool, filter-append, WhiteSpace, Entry}
+use Rattle.tbr_model.proofs.Common.{character, Item, glyph, marker, joined, Event, run_of, progress, waiting, lines_of, marker_items, is_visible}
 use Rattle.tbr_model.specs.Shown.{names_waiting, is_visible_or_marker, is_entry_to_show, ShowsEntry, ShowsInOrder}
 use Rattle.tbr_model.proofs.rule.Content.{LooksAtKept, AnyEntry, AnyMode, by_entry, found_at_end}
 use Rattle.tbr_model.proofs.rule.Walk.{any_entries}
@@ -39,4 +31,6 @@ module _ {A : Type 0} (columns : ℕ → Option ℕ) (width : ℕ) (Same : A →
       ap seen (marker_items_alone left (waiting_none columns width (progress columns width es))) ∙ markers_all columns (names_waiting columns width es) in
       let all : seen (joined (lines_of columns width es)) ++ marker_items (names_waiting columns width es) ≡ seen g.items =
       ap (λ is. seen (joined (lines_of columns width es)) ++ is) (sym wait) ∙ sym (filter-append (is_visible_or_marker columns) (joined (lines_of columns width es)) left) ∙ g.are in
-      subst (λ (is : List (Item A)). AllZip (ShowsEntry Same) is (filter (is_entry_to_show columns) (run_of es))) (sym all) (by_entry AnyMode InOrder tt one_in_order (λ name is fs rest. (refl, rest)) g.items (run_of es) g.stand)
+      subst (λ (is : List (Item A)). AllZip (ShowsEntry Same) is (filter (is_entry_to_show columns) (run_of es)))
+      (sym all)
+      (by_entry AnyMode InOrder tt one_in_order (λ name is fs rest. (refl, rest)) g.items (run_of es) g.stand)

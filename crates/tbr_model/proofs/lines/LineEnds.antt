@@ -1,11 +1,7 @@
 -- A line ends only at a newline, or where what comes next doesn't fit.
-use Rattle.std.proofs.Common.{◌≡◌, ◌≢◌, ℕ, ◌+◌, ◌≤◌, ◌⊎◌, inl, inr, ◌==◌, ◌&&◌, ◌||◌, nat_lt, false, if◌then◌else◌, is_some, Option, Some, None, List, [], ◌∷◌, ◌++◌, refl, ap, ◌∙◌, arith, le-leb, lt-ltb}
-use Rattle.std.proofs.lemmas.Bool.{cond_both, or_parts}
-use Rattle.tbr_model.specs.declared.white_space.WhiteSpace.{WhiteSpace}
-use Rattle.tbr_model.specs.declared.white_space.WhiteSpace.TheVariants.{Normal, Pre, PreWrap}
-use Rattle.tbr_model.specs.Run.{Entry, character, marker_entry, Item, items_width, has_character, is_break}
-use Rattle.tbr_model.specs.Laid.{Laid}
-use Rattle.tbr_model.specs.Rule.{Progress, pending_width, lay, flush_word, break_word, newline, tab, keep_space, is_pre, passes, tag_of, keep_character, preserve, enter, finished}
+use Rattle.tbr_model.proofs.Common.{◌≡◌, ◌≢◌, ℕ, ◌+◌, ◌≤◌, ◌⊎◌, inl, inr, ◌==◌, ◌&&◌, ◌||◌, nat_lt, false, if◌then◌else◌, is_some, Option, Some, None, List, [], ◌∷◌, ◌++◌, refl, ap, ◌∙◌, arith}
+use Rattle.tbr_model.proofs.Common.{le-leb, lt-ltb, cond_both, or_parts, WhiteSpace, Normal, Pre, PreWrap, Entry, character, marker_entry, Item, items_width, has_character, is_break, Laid, Progress}
+use Rattle.tbr_model.proofs.Common.{pending_width, lay, flush_word, break_word, newline, tab, keep_space, is_pre, passes, tag_of, keep_character, preserve, enter, finished}
 use Rattle.tbr_model.specs.Shown.{columns_so_far, next_stop, is_newline_or_tab, HasOneMore}
 use Rattle.tbr_model.proofs.normal.StaysLaid.{collapse_laid}
 use Rattle.tbr_model.proofs.words.Items.{no_character_no_width}

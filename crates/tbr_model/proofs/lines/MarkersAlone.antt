@@ -1,14 +1,11 @@
 -- A run of markers alone ends no line, and its markers wait, or are trailing.
-use Rattle.std.proofs.Common.{◌≡◌, ℕ, ◌≤◌, false, Option, None, List, [], ◌∷◌, ◌++◌, fold, length, refl, ap, sym, ◌∙◌, arith, subst, append_assoc, append-nil, lt-ltb}
-use Rattle.tbr_model.specs.declared.white_space.WhiteSpace.TheVariants.{Normal}
-use Rattle.tbr_model.specs.Run.{Entry, character, marker_entry, Item, marker, has_character, Reading, read, trailing}
-use Rattle.tbr_model.specs.Layout.{joined}
-use Rattle.tbr_model.specs.Rule.{Event, run_of, at_start, progress, waiting, lines_of}
-use Rattle.tbr_model.specs.Markers.{names_in_items, names_in_run, marker_items, marker_run, without_last_markers}
-use Rattle.tbr_model.specs.Hard.{AllHaveMode, Preserves, entry_letters, IsSpaces}
+use Rattle.tbr_model.proofs.Common.{◌≡◌, ℕ, ◌≤◌, false, Option, None, List, [], ◌∷◌, ◌++◌, fold, length, refl, ap, sym, ◌∙◌, arith, subst, append_assoc, append-nil, lt-ltb, Normal, Entry, character}
+use Rattle.tbr_model.proofs.Common.{marker_entry, Item, marker, has_character, Reading, read, trailing, joined, Event, run_of, at_start, progress, waiting, lines_of, names_in_items, names_in_run}
+use Rattle.tbr_model.proofs.Common.{marker_items, marker_run, Preserves, entry_letters, IsSpaces, Each}
+use Rattle.tbr_model.specs.Markers.{without_last_markers}
+use Rattle.tbr_model.specs.Hard.{AllHaveMode}
 use Rattle.tbr_model.proofs.rule.HardLines.{start_fresh}
 use Rattle.tbr_model.proofs.rule.BlankLines.{fold_blank, blank_line}
-use Rattle.std.specs.List.{AllByRecursion as Each}
 use Rattle.tbr_model.proofs.rule.Markers.{markers_at_end}
 
 -- markers alone are in any mode

@@ -1,13 +1,7 @@
 -- A run of `Normal` keeps its kept characters and its markers, each character under its own annotation.
-use Rattle.std.proofs.Common.{◌≡◌, ℕ, ◌⊎◌, inl, inr, ◌==◌, false, not, if◌then◌else◌, Option, List, [], ◌∷◌, ◌++◌, refl, ap, sym, ◌∙◌}
-use Rattle.std.specs.List.{AllZip, AllByRecursion as Each}
-use Rattle.std.proofs.lemmas.Bool.{eqb-true, not_from_false, cases_Bool}
-use Rattle.tbr_model.specs.declared.white_space.WhiteSpace.{WhiteSpace}
-use Rattle.tbr_model.specs.declared.white_space.WhiteSpace.TheVariants.{Normal, Pre, PreWrap}
-use Rattle.tbr_model.specs.Run.{Entry, character, marker_entry, Item, glyph, marker, is_kept, kept_items}
-use Rattle.tbr_model.specs.Layout.{joined}
-use Rattle.tbr_model.specs.Rule.{Event, run_of, is_space_item, progress, waiting, lines_of}
-use Rattle.tbr_model.specs.Hard.{HasMode}
+use Rattle.tbr_model.proofs.Common.{◌≡◌, ℕ, ◌⊎◌, inl, inr, ◌==◌, false, not, if◌then◌else◌, Option, List, [], ◌∷◌, ◌++◌, refl, ap, sym, ◌∙◌, AllZip, Each, eqb-true, not_from_false, cases_Bool}
+use Rattle.tbr_model.proofs.Common.{WhiteSpace, Normal, Pre, PreWrap, Entry, character, marker_entry, Item, glyph, marker, is_kept, kept_items, joined, Event, run_of, is_space_item, progress, waiting}
+use Rattle.tbr_model.proofs.Common.{lines_of, HasMode}
 use Rattle.tbr_model.specs.Shown.{without_spaces}
 use Rattle.tbr_model.proofs.words.Items.{break_lost}
 use Rattle.tbr_model.proofs.rule.Content.{StandsFor, by_entry, found_at_end, item_passes, passing, passing-append, markers_pass}
@@ -21,7 +15,9 @@ module _ {A : Type 0} (columns : ℕ → Option ℕ) (width : ℕ) where
   kept is = passing (is_kept columns) is
 
   -- the kept ones among items that stand for entries
-  one_kept : (c : ℕ) (x a b : A) (m : WhiteSpace) (is : List (Item A)) (es : List (Entry A)) → (x ≡ a) ⊎ ((x ≡ b) × IsNormalMode Pre) → kept is ≡ kept_items columns es → kept (glyph c x ∷ is) ≡ kept_items columns (character c a b m ∷ es)
+  one_kept : (c : ℕ) (x a b : A) (m : WhiteSpace) (is : List (Item A)) (es : List (Entry A)) →
+      (x ≡ a) ⊎ ((x ≡ b) × IsNormalMode Pre) → kept is ≡ kept_items columns es →
+      kept (glyph c x ∷ is) ≡ kept_items columns (character c a b m ∷ es)
   one_kept c x a b m is es (inr e) rest = absurd (let never : Pre ≡ Normal = e.1 in cc)
   one_kept c x a b m is es (inl e) rest = rw e (elim (cases_Bool (is_kept columns c)) [ inl v ↦ rw v (ap (λ (js : List (Item A)). glyph c a ∷ js) rest) | inr v ↦ rw v rest ])
 

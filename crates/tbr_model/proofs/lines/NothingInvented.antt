@@ -1,14 +1,7 @@
 -- What is on the lines of a run comes from it.
-use Rattle.std.proofs.Common.{ℕ, inl, inr, ◌==◌, not, Option, List, refl, arith}
-use Rattle.std.specs.List.{Contains}
-use Rattle.std.specs.Prelude.{slice_index_or}
-use Rattle.std.specs.Char.{is_whitespace}
-use Rattle.std.proofs.lemmas.Bool.{and_parts, cases_Bool}
-use Rattle.std.proofs.lemmas.List.Elements.{All-contains_itself, recursion_from_All}
-use Rattle.tbr_model.specs.declared.white_space.WhiteSpace.{WhiteSpace}
-use Rattle.tbr_model.specs.Run.{Entry, character, marker_entry, glyph}
-use Rattle.tbr_model.specs.Rule.{Event, run_of, lines_of}
-use Rattle.tbr_model.specs.Shown.{HasAnnotation, ComesFrom, InventsNothing}
+use Rattle.tbr_model.proofs.Common.{ℕ, inl, inr, ◌==◌, not, Option, List, refl, arith, Contains, slice_index_or, is_whitespace, and_parts, cases_Bool, All-contains_itself, recursion_from_All}
+use Rattle.tbr_model.proofs.Common.{WhiteSpace, Entry, character, marker_entry, glyph, Event, run_of, lines_of, HasAnnotation}
+use Rattle.tbr_model.specs.Shown.{ComesFrom, InventsNothing}
 use Rattle.tbr_model.proofs.rule.Walk.{MayJoin}
 use Rattle.tbr_model.proofs.lines.EachItem.{Brings, each_on_lines}
 
@@ -28,4 +21,5 @@ pub nothing_invented : {A : Type 0} (columns : ℕ → Option ℕ) (width : ℕ)
 nothing_invented columns width Same same es =
     let run = run_of es in
     each_on_lines columns (ComesFrom columns Same run) (HasAnnotation Same run) (λ a h. inr (refl, h)) width es
-    (recursion_from_All (Brings columns (ComesFrom columns Same run) (HasAnnotation Same run)) run (λ k d within. brings columns Same same run (slice_index_or run k d) (All-contains_itself run k d within)))
+    (recursion_from_All (Brings columns (ComesFrom columns Same run) (HasAnnotation Same run)) run
+    (λ k d within. brings columns Same same run (slice_index_or run k d) (All-contains_itself run k d within)))

@@ -1,14 +1,8 @@
 -- Each character on the lines of a run is a space or one of the run's.
-use Rattle.std.proofs.Common.{ℕ, inl, inr, Option, List, [], ◌∷◌, refl, arith, ◌≡◌, ◌<◌, zero, suc, length, get_or}
-use Rattle.std.specs.List.{Contains, AllByRecursion as Each}
-use Rattle.std.proofs.lemmas.List.Elements.{All-contains_itself, recursion_from_All, Contains-append_right}
-use Rattle.std.specs.Prelude.{slice_index_or}
-use Rattle.tbr_model.specs.declared.white_space.WhiteSpace.{WhiteSpace}
-use Rattle.tbr_model.specs.Run.{Entry, character, marker_entry}
-use Rattle.tbr_model.specs.Layout.{joined}
-use Rattle.tbr_model.specs.Rule.{Event, run_of, lines_of}
-use Rattle.tbr_model.specs.Hard.{entry_letters}
-use Rattle.tbr_model.specs.Shown.{HasAnnotation, ComesWithRun}
+use Rattle.tbr_model.proofs.Common.{ℕ, inl, inr, Option, List, [], ◌∷◌, refl, arith, ◌≡◌, ◌<◌, zero, suc, length, get_or, Contains, Each, All-contains_itself, recursion_from_All, slice_index_or}
+use Rattle.tbr_model.proofs.Common.{WhiteSpace, Entry, character, marker_entry, joined, Event, run_of, lines_of, entry_letters, HasAnnotation}
+use Rattle.std.proofs.lemmas.List.Elements.{Contains-append_right}
+use Rattle.tbr_model.specs.Shown.{ComesWithRun}
 use Rattle.tbr_model.proofs.lines.EachItem.{Brings, each_on_lines}
 
 letter_in : {A : Type 0} (es : List (Entry A)) (c : ℕ) (a b : A) (m : WhiteSpace) (k : ℕ) → k < length es → get_or es k (character c a b m) ≡ character c a b m → Contains (entry_letters es) c
@@ -29,4 +23,5 @@ pub come_with_run : {A : Type 0} (columns : ℕ → Option ℕ) (width : ℕ) (S
 come_with_run columns width Same same es =
     let run = run_of es in
     each_on_lines columns (ComesWithRun Same run) (HasAnnotation Same run) (λ a h. (h, inl refl)) width es
-    (recursion_from_All (Brings columns (ComesWithRun Same run) (HasAnnotation Same run)) run (λ k d within. brings columns Same same run (slice_index_or run k d) (All-contains_itself run k d within)))
+    (recursion_from_All (Brings columns (ComesWithRun Same run) (HasAnnotation Same run)) run
+    (λ k d within. brings columns Same same run (slice_index_or run k d) (All-contains_itself run k d within)))

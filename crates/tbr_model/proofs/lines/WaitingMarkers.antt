@@ -1,16 +1,8 @@
 -- The markers that wait where a run ends come after its last visible character.
-use Rattle.std.proofs.Common.{◌≡◌, ℕ, Bool, false, not, if◌then◌else◌, Option, List, [], ◌∷◌, ◌++◌, fold, refl, ap, sym, ◌∙◌, append_assoc, append-nil, inl, inr}
-use Rattle.std.specs.List.{AllZip, AllByRecursion as Each}
-use Rattle.std.specs.Char.{is_whitespace}
-use Rattle.std.proofs.lemmas.Bool.{and_left, cases_Bool}
-use Rattle.std.proofs.lemmas.List.Sums.{fold-append}
-use Rattle.tbr_model.specs.declared.white_space.WhiteSpace.{WhiteSpace}
-use Rattle.tbr_model.specs.declared.white_space.WhiteSpace.TheVariants.{Normal}
-use Rattle.tbr_model.specs.Run.{Entry, Item, glyph, marker, has_character, is_kept}
-use Rattle.tbr_model.specs.Layout.{joined}
-use Rattle.tbr_model.specs.Rule.{Event, run_of, progress, waiting, lines_of}
-use Rattle.tbr_model.specs.Markers.{names_in_items, marked_after, names_after}
-use Rattle.tbr_model.specs.Hard.{HasMode, is_visible}
+use Rattle.tbr_model.proofs.Common.{◌≡◌, ℕ, Bool, false, not, if◌then◌else◌, Option, List, [], ◌∷◌, ◌++◌, fold, refl, ap, sym, ◌∙◌, append_assoc, append-nil, inl, inr, AllZip, Each, is_whitespace}
+use Rattle.tbr_model.proofs.Common.{and_left, cases_Bool, fold-append, WhiteSpace, Normal, Entry, Item, glyph, marker, has_character, is_kept, joined, Event, run_of, progress, waiting, lines_of}
+use Rattle.tbr_model.proofs.Common.{names_in_items, HasMode, is_visible}
+use Rattle.tbr_model.specs.Markers.{marked_after, names_after}
 use Rattle.tbr_model.proofs.rule.Content.{LooksAtKept, AnyEntry, AnyMode, StandsFor, by_entry, found_at_end, passing, looks_at_passing}
 use Rattle.tbr_model.proofs.rule.Walk.{any_entries}
 use Rattle.tbr_model.proofs.rule.VisibleCharacters.{white_not_visible}
@@ -36,7 +28,9 @@ module _ {A : Type 0} (test : ℕ → Bool) where
   item_after names (marker name) = names ++ name ∷ []
 
   -- they are the same where items stand for entries
-  after_alike : (Modes : WhiteSpace → Type 0) (is : List (Item A)) (es : List (Entry A)) → AllZip (StandsFor Modes) is es → (names : List (List ℕ)) → fold item_after names is ≡ fold (marked_after test) names es
+  after_alike : (Modes : WhiteSpace → Type 0) (is : List (Item A)) (es : List (Entry A)) →
+      AllZip (StandsFor Modes) is es → (names : List (List ℕ)) →
+      fold item_after names is ≡ fold (marked_after test) names es
   after_alike Modes =
       by_entry Modes (λ is es. (names : List (List ℕ)) → fold item_after names is ≡ fold (marked_after test) names es) (λ names. refl)
       (λ c x a b m is es either rest names. rest (if test c then [] else names)) (λ name is es rest names. rest (names ++ name ∷ []))
@@ -45,7 +39,8 @@ module _ {A : Type 0} (test : ℕ → Bool) where
   after_passing : (names : List (List ℕ)) (is : List (Item A)) → fold item_after names (passing test is) ≡ fold item_after names is
   after_passing names [] = refl
   after_passing names (marker name ∷ is) = after_passing (names ++ name ∷ []) is
-  after_passing names (glyph c a ∷ is) = elim (cases_Bool (test c)) [ inl e ↦ rw e (ap (λ (b : Bool). fold item_after (if b then [] else names) (passing test is)) e ∙ after_passing [] is) | inr e ↦ rw e (after_passing names is) ]
+  after_passing names (glyph c a ∷ is) =
+      elim (cases_Bool (test c)) [ inl e ↦ rw e (ap (λ (b : Bool). fold item_after (if b then [] else names) (passing test is)) e ∙ after_passing [] is) | inr e ↦ rw e (after_passing names is) ]
 
   -- markers alone are all after
   after_markers : (names : List (List ℕ)) (is : List (Item A)) → has_character is ≡ false → fold item_after names is ≡ names ++ names_in_items is
@@ -53,7 +48,8 @@ module _ {A : Type 0} (test : ℕ → Bool) where
   after_markers names (glyph c a ∷ is) h = cc
   after_markers names (marker name ∷ is) h = after_markers (names ++ name ∷ []) is h ∙ append_assoc names (name ∷ []) (names_in_items is)
 
-  waits_after : (columns : ℕ → Option ℕ) (Comes : Entry A → Type 0) (Modes : WhiteSpace → Type 0) → LooksAtKept columns Comes Modes (passing test) → (width : ℕ) (es : List (Event A)) → Each Comes (run_of es) →
+  waits_after : (columns : ℕ → Option ℕ) (Comes : Entry A → Type 0) (Modes : WhiteSpace → Type 0) →
+      LooksAtKept columns Comes Modes (passing test) → (width : ℕ) (es : List (Event A)) → Each Comes (run_of es) →
       (front : List (List ℕ)) × (front ++ names_in_items (waiting columns width (progress columns width es)) ≡ names_after test (run_of es))
   waits_after columns Comes Modes looks width es comes =
       let left : List (Item A) = waiting columns width (progress columns width es) in

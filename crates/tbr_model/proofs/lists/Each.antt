@@ -1,6 +1,5 @@
 -- What holds of each item of two lists, of one after the other, and of a list under a function.
-use Rattle.std.proofs.Common.{◌≡◌, Bool, true, false, if◌then◌else◌, List, [], ◌∷◌, ◌++◌, map, filter, refl, ap, sym, subst, append_assoc, append-nil}
-use Rattle.std.specs.List.{AllZip, AllByRecursion as Each}
+use Rattle.tbr_model.proofs.Common.{◌≡◌, Bool, true, false, if◌then◌else◌, List, [], ◌∷◌, ◌++◌, map, filter, refl, ap, sym, subst, append_assoc, append-nil, AllZip, Each}
 
 pub each_front : {X : Type 0} (P : X → Type 0) (a b : List X) → Each P (a ++ b) → Each P a
 each_front P [] b h = tt
@@ -46,7 +45,9 @@ pub filter-map : {X Y : Type 0} (g : X → Y) (p : X → Bool) (q : Y → Bool) 
 filter-map g p q same [] = refl
 filter-map g p q same (x ∷ xs) = let rest = filter-map g p q same xs in rw (same x) (if_same (map g) (p x) _ _ _ _ (ap (λ ys. g x ∷ ys) rest) rest)
 
-pub zip-map : {X Y Z W : Type 0} (R : X → Y → Type 0) (S : Z → W → Type 0) (g : X → Z) (k : Y → W) → ((x : X) (y : Y) → R x y → S (g x) (k y)) → (xs : List X) (ys : List Y) → AllZip R xs ys → AllZip S (map g xs) (map k ys)
+pub zip-map : {X Y Z W : Type 0} (R : X → Y → Type 0) (S : Z → W → Type 0) (g : X → Z) (k : Y → W) →
+    ((x : X) (y : Y) → R x y → S (g x) (k y)) → (xs : List X) (ys : List Y) → AllZip R xs ys →
+    AllZip S (map g xs) (map k ys)
 zip-map R S g k each [] [] h = tt
 zip-map R S g k each [] (y ∷ ys) h = absurd h
 zip-map R S g k each (x ∷ xs) [] h = absurd h

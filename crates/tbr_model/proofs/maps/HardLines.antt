@@ -1,11 +1,9 @@
 -- The hard lines of a run under other annotations, and what is shown of them.
-use Rattle.std.proofs.Common.{◌≡◌, ◌≢◌, ℕ, inl, inr, Bool, true, false, Option, List, [], ◌∷◌, map, take, drop, refl, ap, subst, ◌∙◌, arith}
-use Rattle.std.specs.List.{AllZip}
-use Rattle.std.proofs.lemmas.List.{map-append, length-map, take-map, drop-map}
-use Rattle.tbr_model.specs.Run.{Entry, character, marker_entry, Item, glyph, marker}
-use Rattle.tbr_model.specs.Layout.{joined}
-use Rattle.tbr_model.specs.Hard.{onto_first, hard_lines, Parted, glyphs_of, letters_of, entry_letters, is_visible_entry, visible_entries, IsShown, ShowsVisible, IsPrintableLine, IsTabbedLine, IsSpaces, blank_lines, StandUnder, HasMain, HasContinuation, ShowsHardLine, ShowsPre, ShowsPreWrap, ShowsTabs}
-use Rattle.tbr_model.specs.Mapped.{map_item, map_items, map_entry, map_run, map_lines}
+use Rattle.tbr_model.proofs.Common.{◌≡◌, ◌≢◌, ℕ, inl, inr, Bool, true, false, Option, List, [], ◌∷◌, map, take, drop, refl, ap, subst, ◌∙◌, arith, AllZip, map-append, length-map, take-map, drop-map}
+use Rattle.tbr_model.proofs.Common.{Entry, character, marker_entry, Item, glyph, marker, joined, onto_first, hard_lines, Parted, glyphs_of, letters_of, entry_letters, visible_entries, IsShown}
+use Rattle.tbr_model.proofs.Common.{ShowsVisible, IsPrintableLine, IsTabbedLine, IsSpaces, blank_lines, StandUnder, HasMain, HasContinuation, ShowsHardLine, ShowsPre, ShowsPreWrap, ShowsTabs}
+use Rattle.tbr_model.proofs.Common.{map_item, map_items, map_entry, map_run, map_lines}
+use Rattle.tbr_model.specs.Hard.{is_visible_entry}
 use Rattle.tbr_model.proofs.lists.Each.{if_same, filter-map, zip-map}
 use Rattle.tbr_model.proofs.maps.Layouts.{joined-map}
 

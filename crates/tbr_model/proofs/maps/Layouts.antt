@@ -1,11 +1,8 @@
 -- The layouts of a run under other annotations.
-use Rattle.std.proofs.Common.{◌≡◌, ℕ, Bool, false, nat_lt, Option, None, Some, List, [], ◌∷◌, ◌++◌, map, flat_map, length, take, refl, ap, sym, ◌∙◌, arith, subst}
-use Rattle.std.specs.Option.{option_map}
-use Rattle.std.specs.List.{AllByRecursion as Each}
-use Rattle.std.proofs.lemmas.List.{map-append, length-map, take-map}
-use Rattle.tbr_model.specs.Run.{Entry, Item, items_width, Word, words_of}
-use Rattle.tbr_model.specs.Layout.{Slot, slot_of, slots_within, word_slots, slots_of, gap_width, rest_width, line_width, gap_text, rest_text, line_text, MayFollow, IsLegalLine, joined, placed, HasNoEmptyLine, IsBest}
-use Rattle.tbr_model.specs.Mapped.{map_item, map_items, map_run, map_word, map_slot, map_slots, map_layout}
+use Rattle.tbr_model.proofs.Common.{◌≡◌, ℕ, Bool, false, nat_lt, Option, None, Some, List, [], ◌∷◌, ◌++◌, map, flat_map, length, take, refl, ap, sym, ◌∙◌, arith, subst, option_map, Each, map-append}
+use Rattle.tbr_model.proofs.Common.{length-map, take-map, Entry, Item, items_width, Word, words_of, Slot, slot_of, slots_within, word_slots, slots_of, gap_width, rest_width, line_width, gap_text}
+use Rattle.tbr_model.proofs.Common.{rest_text, line_text, MayFollow, IsLegalLine, joined, placed, HasNoEmptyLine, IsBest, map_item, map_items, map_run, map_word}
+use Rattle.tbr_model.specs.Mapped.{map_slot, map_slots, map_layout}
 use Rattle.tbr_model.proofs.lists.Each.{each_map, each_unmap}
 use Rattle.tbr_model.proofs.maps.Words.{item_width-map, items_width-map, words_of-map}
 
@@ -19,12 +16,17 @@ module _ {A B : Type 0} (f : A → B) (columns : ℕ → Option ℕ) where
   slots_within-map wider gap (i ∷ is) = let w = item_width-map f columns i in let rest = within-map wider is in cc
 
   word_slots-map : (width : ℕ) (w : Word A) → word_slots columns width (map_word f w) ≡ map_slots f (word_slots columns width w)
-  word_slots-map width w = ap (λ n. slots_within columns (nat_lt width n) (option_map f w.gap) (map_items f w.items)) (items_width-map f columns w.items) ∙ slots_within-map (nat_lt width (items_width columns w.items)) w.gap w.items
+  word_slots-map width w =
+      ap (λ n. slots_within columns (nat_lt width n) (option_map f w.gap) (map_items f w.items))
+      (items_width-map f columns w.items)
+      ∙ slots_within-map (nat_lt width (items_width columns w.items)) w.gap w.items
 
   all_slots-map : (width : ℕ) (ws : List (Word A)) → flat_map (word_slots columns width) (map (map_word f) ws) ≡ map_slots f (flat_map (word_slots columns width) ws)
   all_slots-map width [] = refl
   all_slots-map width (w ∷ ws) =
-      ap (λ ss. ss ++ flat_map (word_slots columns width) (map (map_word f) ws)) (word_slots-map width w) ∙ ap (λ ss. map_slots f (word_slots columns width w) ++ ss) (all_slots-map width ws) ∙ sym (map-append (map_slot f) (word_slots columns width w) (flat_map (word_slots columns width) ws))
+      ap (λ ss. ss ++ flat_map (word_slots columns width) (map (map_word f) ws)) (word_slots-map width w)
+      ∙ ap (λ ss. map_slots f (word_slots columns width w) ++ ss) (all_slots-map width ws)
+      ∙ sym (map-append (map_slot f) (word_slots columns width w) (flat_map (word_slots columns width) ws))
 
   pub slots_of-map : (width : ℕ) (run : List (Entry A)) → slots_of columns width (map_run f run) ≡ map_slots f (slots_of columns width run)
   slots_of-map width run = ap (flat_map (word_slots columns width)) (words_of-map f columns run) ∙ all_slots-map width (words_of columns run)
@@ -49,7 +51,8 @@ module _ {A B : Type 0} (f : A → B) where
   rest_text-map : (l : List (Slot A)) → rest_text (map_slots f l) ≡ map_items f (rest_text l)
   rest_text-map [] = refl
   rest_text-map (s ∷ l) =
-      ap (λ is. (is ++ map_item f s.item ∷ []) ++ rest_text (map_slots f l)) (gap_text-map s.gap) ∙ ap (λ is. (map_items f (gap_text s.gap) ++ map_item f s.item ∷ []) ++ is) (rest_text-map l) ∙ simp map-append
+      ap (λ is. (is ++ map_item f s.item ∷ []) ++ rest_text (map_slots f l)) (gap_text-map s.gap)
+      ∙ ap (λ is. (map_items f (gap_text s.gap) ++ map_item f s.item ∷ []) ++ is) (rest_text-map l) ∙ simp map-append
 
   pub line_text-map : (l : List (Slot A)) → line_text (map_slots f l) ≡ map_items f (line_text l)
   line_text-map [] = refl
@@ -98,7 +101,8 @@ lines_from_map {X} {Y} g xs (l ∷ ls) e =
 -- the best layout stays the best
 pub best-map : {A B : Type 0} (f : A → B) (width : ℕ) (slots : List (Slot A)) (lines : List (List (Slot A))) → IsBest width slots lines → IsBest width (map_slots f slots) (map_layout f lines)
 best-map {A} {B} f width slots lines best = record {
-  legal = record { whole = joined-map (map_slot f) lines ∙ ap (map_slots f) best.legal.whole; each = each_map (map_slots f) (IsLegalLine width) (IsLegalLine width) (legal_line-map f width) lines best.legal.each };
+  legal =
+      record { whole = joined-map (map_slot f) lines ∙ ap (map_slots f) best.legal.whole; each = each_map (map_slots f) (IsLegalLine width) (IsLegalLine width) (legal_line-map f width) lines best.legal.each };
   full = full-map f lines best.full;
   ahead = λ others other n.
       let w = lines_from_map (map_slot f) slots others other.whole in

@@ -1,13 +1,11 @@
 -- The rule under other annotations, and after lines that are done, which have no influence on it.
-use Rattle.std.proofs.Common.{◌≡◌, ℕ, zero, suc, ◌+◌, ◌-◌, ◌%◌, ◌==◌, ◌&&◌, nat_le, nat_lt, false, if◌then◌else◌, is_some, is_none, Option, Some, None, List, [], ◌∷◌, ◌++◌, fold, refl, ap, sym, ◌∙◌, append_assoc, arith}
-use Rattle.std.specs.Option.{option_map}
-use Rattle.std.proofs.lemmas.List.{map-append}
-use Rattle.tbr_model.specs.declared.white_space.WhiteSpace.{WhiteSpace}
-use Rattle.tbr_model.specs.declared.white_space.WhiteSpace.TheVariants.{Normal, Pre, PreWrap}
-use Rattle.tbr_model.specs.Run.{Entry, character, marker_entry, Item, glyph, marker, item_width, items_width, has_character, is_blank, is_break}
-use Rattle.tbr_model.specs.Laid.{Laid, extended, end_line, end_if_character, end_if_columns, put_item, put_items}
-use Rattle.tbr_model.specs.Rule.{Event, call, entry, Space, Progress, at_start, spaces, space_text, pending_width, is_space_item, is_white_item, without_leading, without_trailing, trimmed, space_of, wrap_space_by, wrap_space, put_space, put_spaces, put_pending, is_pre, lay_here, lay_fresh, lay, flush_word, break_word, join, collapse, newline, put_tab, tab, keep_space, passes, tag_of, keep_character, preserve, enter, step, progress, finished, waiting}
-use Rattle.tbr_model.specs.Mapped.{map_item, map_items, map_entry, map_lines, map_event, map_events, map_laid, map_space, map_progress}
+use Rattle.tbr_model.proofs.Common.{◌≡◌, ℕ, zero, suc, ◌+◌, ◌-◌, ◌%◌, ◌==◌, ◌&&◌, nat_le, nat_lt, false, if◌then◌else◌, is_some, is_none, Option, Some, None, List, [], ◌∷◌, ◌++◌, fold, refl, ap, sym}
+use Rattle.tbr_model.proofs.Common.{◌∙◌, append_assoc, arith, option_map, map-append, WhiteSpace, Normal, Pre, PreWrap, Entry, character, marker_entry, Item, glyph, marker, item_width, items_width}
+use Rattle.tbr_model.proofs.Common.{has_character, is_blank, is_break, Laid, extended, end_line, end_if_character, end_if_columns, put_item, put_items, Event, call, entry, Space, Progress, at_start}
+use Rattle.tbr_model.proofs.Common.{spaces, space_text, pending_width, is_space_item, is_white_item, without_leading, without_trailing, trimmed, space_of, wrap_space_by, wrap_space, put_space}
+use Rattle.tbr_model.proofs.Common.{put_spaces, put_pending, is_pre, lay_here, lay_fresh, lay, flush_word, break_word, join, collapse, newline, put_tab, tab, keep_space, passes, tag_of}
+use Rattle.tbr_model.proofs.Common.{keep_character, preserve, enter, step, progress, finished, waiting, map_item, map_items, map_entry, map_lines, map_event, map_space}
+use Rattle.tbr_model.specs.Mapped.{map_events, map_laid, map_progress}
 use Rattle.tbr_model.proofs.maps.Words.{item_width-map, items_width-map, has_character-map}
 use Rattle.tbr_model.proofs.lists.Each.{if_same}
 
@@ -81,7 +79,9 @@ module _ {A B : Type 0} (d : List (List (Item B))) (f : A → B) (columns : ℕ 
   without_trailing-map [] = refl
   without_trailing-map (i ∷ is) = go i (without_trailing is) refl (without_trailing-map is)
     where
-      go : (i : Item A) (js : List (Item A)) → without_trailing is ≡ js → without_trailing (map_items f is) ≡ map_items f (without_trailing is) → without_trailing (map_items f (i ∷ is)) ≡ map_items f (without_trailing (i ∷ is))
+      go : (i : Item A) (js : List (Item A)) → without_trailing is ≡ js →
+          without_trailing (map_items f is) ≡ map_items f (without_trailing is) →
+          without_trailing (map_items f (i ∷ is)) ≡ map_items f (without_trailing (i ∷ is))
       go (glyph c a) [] e h = rw (h, e) (if_same (map_items f) (is_space_item (glyph c a)) _ _ _ _ refl refl)
       go (marker name) [] e h = rw (h, e) refl
       go (glyph c a) (j ∷ js) e h = rw (h, e) refl
@@ -185,7 +185,9 @@ module _ {A B : Type 0} (d : List (List (Item B))) (f : A → B) (columns : ℕ 
   passes-map : (n : ℕ) (p : Progress A) → passes columns width n (moved d f p) ≡ passes columns width n p
   passes-map n p = rw (pending_width-map p.space, items_width-map f columns p.word) refl
 
-  keep_character-map : (c : ℕ) (a b : A) (m : WhiteSpace) (o : Option ℕ) (p : Progress A) → keep_character columns width c (f a) (f b) m o (moved d f p) ≡ moved d f (keep_character columns width c a b m o p)
+  keep_character-map : (c : ℕ) (a b : A) (m : WhiteSpace) (o : Option ℕ) (p : Progress A) →
+      keep_character columns width c (f a) (f b) m o (moved d f p) ≡ moved d f
+      (keep_character columns width c a b m o p)
   keep_character-map c a b m None p = refl
   keep_character-map c a b m (Some n) p = grind (arith, passes-map, if_same, join-map, tag_of-map)
 
@@ -193,8 +195,12 @@ module _ {A B : Type 0} (d : List (List (Item B))) (f : A → B) (columns : ℕ 
   preserve-map c a b m p =
       if_same (moved d f) (c == 8203) _ _ _ _ refl
       (if_same (moved d f) (c == 10) _ _ _ _ (ap newline (flush_word-map p) ∙ newline-map (flush_word columns width p))
-      (if_same (moved d f) (c == 9) _ _ _ _ (ap (λ x. tab width x (flush_word columns width (moved d f p))) tagged ∙ ap (tab width (f (tag_of p a b))) (flush_word-map p) ∙ tab-map (tag_of p a b) (flush_word columns width p))
-      (if_same (moved d f) (is_blank c) _ _ _ _ (ap (λ x. keep_space c x m (columns c) (moved d f p)) tagged ∙ keep_space-map c (tag_of p a b) m (columns c) p) (keep_character-map c a b m (columns c) p))))
+      (if_same (moved d f) (c == 9) _ _ _ _
+      (ap (λ x. tab width x (flush_word columns width (moved d f p))) tagged
+      ∙ ap (tab width (f (tag_of p a b))) (flush_word-map p) ∙ tab-map (tag_of p a b) (flush_word columns width p))
+      (if_same (moved d f) (is_blank c) _ _ _ _
+      (ap (λ x. keep_space c x m (columns c) (moved d f p)) tagged
+      ∙ keep_space-map c (tag_of p a b) m (columns c) p) (keep_character-map c a b m (columns c) p))))
     where
       tagged : tag_of (moved d f p) (f a) (f b) ≡ f (tag_of p a b)
       tagged = tag_of-map p a b

@@ -1,10 +1,9 @@
 -- The words of a run under other annotations.
-use Rattle.std.proofs.Common.{◌≡◌, ℕ, nat_lt, ◌&&◌, Option, None, Some, List, [], ◌∷◌, map, fold, refl, ap, ◌∙◌, arith}
-use Rattle.std.specs.Option.{option_map}
-use Rattle.std.proofs.lemmas.List.{map-append}
-use Rattle.tbr_model.specs.Run.{Entry, character, marker_entry, Item, glyph, marker, item_width, items_width, items_of, is_kept, is_blank, blank_of, first_of, is_break_entry, has_character, Reading, start, works, read, reading, words_of, trailing}
+use Rattle.tbr_model.proofs.Common.{◌≡◌, ℕ, nat_lt, ◌&&◌, Option, None, Some, List, [], ◌∷◌, map, fold, refl, ap, ◌∙◌, arith, option_map, map-append, Entry, character, marker_entry, Item, glyph}
+use Rattle.tbr_model.proofs.Common.{marker, item_width, items_width, items_of, is_kept, is_blank, blank_of, first_of, is_break_entry, has_character, Reading, start, works, read, reading, words_of}
+use Rattle.tbr_model.proofs.Common.{trailing, map_item, map_items, map_entry, map_run, map_word}
 use Rattle.tbr_model.proofs.lists.Each.{if_same}
-use Rattle.tbr_model.specs.Mapped.{map_item, map_items, map_entry, map_run, map_word, map_reading}
+use Rattle.tbr_model.specs.Mapped.{map_reading}
 
 module _ {A B : Type 0} (f : A → B) (columns : ℕ → Option ℕ) where
   pub item_width-map : (i : Item A) → item_width columns (map_item f i) ≡ item_width columns i

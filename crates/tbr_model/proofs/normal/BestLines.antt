@@ -1,14 +1,7 @@
 -- A run of Normal mode ends, by the rule, with the lines of its best layout, and where such a run shows nothing.
-use Rattle.std.proofs.Common.{◌≡◌, ℕ, ◌<◌, ◌≤◌, inl, inr, true, false, if◌then◌else◌, Option, List, [], ◌∷◌, ◌++◌, map, flat_map, refl, ap, sym, ◌∙◌, subst, arith}
-use Rattle.std.specs.List.{AllByRecursion as Each}
-use Rattle.std.proofs.lemmas.Bool.{cases_Bool}
-use Rattle.tbr_model.specs.declared.white_space.WhiteSpace.TheVariants.{Normal}
-use Rattle.tbr_model.specs.Run.{Entry, Item, item_width, items_width, has_character, kept_items, Word, word_of, Reading, start, reading, words_of, trailing}
-use Rattle.tbr_model.specs.Layout.{Slot, slots_of, line_text, line_width, IsBest}
-use Rattle.tbr_model.specs.Greedy.{Lines, close, no_lines, wrapped, IsNarrow}
-use Rattle.tbr_model.specs.Laid.{Laid, end_if_character}
-use Rattle.tbr_model.specs.Rule.{Event, run_of, Progress, lay, progress, finished, lines_of, waiting}
-use Rattle.tbr_model.specs.Hard.{HasMode}
+use Rattle.tbr_model.proofs.Common.{◌≡◌, ℕ, ◌<◌, ◌≤◌, inl, inr, true, false, if◌then◌else◌, Option, List, [], ◌∷◌, ◌++◌, map, flat_map, refl, ap, sym, ◌∙◌, subst, arith, Each, cases_Bool, Normal}
+use Rattle.tbr_model.proofs.Common.{Entry, Item, item_width, items_width, has_character, kept_items, Word, word_of, Reading, start, reading, words_of, trailing, Slot, slots_of, line_text, line_width}
+use Rattle.tbr_model.proofs.Common.{IsBest, Lines, close, no_lines, wrapped, IsNarrow, Laid, end_if_character, Event, run_of, Progress, lay, progress, finished, lines_of, waiting, HasMode}
 use Rattle.tbr_model.proofs.words.Items.{items_width-append, no_character_no_width}
 use Rattle.tbr_model.proofs.lists.Each.{each_append}
 use Rattle.tbr_model.proofs.words.BestLayout.{wrapped_holds, holds_best}
@@ -71,7 +64,8 @@ module _ {A : Type 0} (columns : ℕ → Option ℕ) (width : ℕ) where
   best : (es : List (Event A)) → let lines : Lines A = wrapped columns width (words_of columns (run_of es)) in
       Each (λ w. IsNarrow columns width w.items) (words_of columns (run_of es)) → lines_of columns width es ≡ map line_text (close lines.done lines.last) →
       (ls : List (List (Slot A))) × IsBest width (slots_of columns width (run_of es)) ls × (lines_of columns width es ≡ map line_text ls)
-  best es narrow are = (_, holds_best width (slots_of columns width (run_of es)) (wrapped columns width (words_of columns (run_of es))) (wrapped_holds columns width (words_of columns (run_of es)) narrow), are)
+  best es narrow are =
+      (_, holds_best width (slots_of columns width (run_of es)) (wrapped columns width (words_of columns (run_of es))) (wrapped_holds columns width (words_of columns (run_of es)) narrow), are)
 
   -- where all that is laid at its end is narrow
   pub normal_end : (es : List (Event A)) → Each (HasMode Normal) (run_of es) → AllLaid (IsNarrowItem columns width) (finished columns width (progress columns width es)) →
@@ -119,5 +113,7 @@ module _ {A : Type 0} (columns : ℕ → Option ℕ) (width : ℕ) where
     blank_state : NormalBlank columns (state_of columns width r) run
     blank_state = grind (arith, blank_words, nothing, kept_word, no_words_if, no_character_no_width, no_text)
 
-  pub normal_blank : (es : List (Event A)) → Each (HasMode Normal) (run_of es) → AllLaid (IsNarrowItem columns width) (progress columns width es).laid → NormalBlank columns (progress columns width es) (run_of es)
+  pub normal_blank : (es : List (Event A)) → Each (HasMode Normal) (run_of es) →
+      AllLaid (IsNarrowItem columns width) (progress columns width es).laid →
+      NormalBlank columns (progress columns width es) (run_of es)
   normal_blank es modes narrow = grind (arith, normal_state, blank_state)

@@ -1,16 +1,10 @@
 -- Laying a word of items by the rule of Normal mode is placing its slots.
-use Rattle.std.proofs.Common.{◌≡◌, ℕ, ◌+◌, ◌<◌, ◌≤◌, Bool, true, false, nat_lt, nat_le, if◌then◌else◌, Option, None, Some, List, [], ◌∷◌, ◌++◌, map, refl, ap, sym, ◌∙◌, arith, append_assoc, append-nil, leb-true, leb-false, ltb-false, le-leb, inl, inr}
-use Rattle.std.specs.List.{AllByRecursion as Each}
-use Rattle.std.proofs.lemmas.Bool.{cond_both, cases_Bool}
-use Rattle.std.proofs.lemmas.List.{map-append}
+use Rattle.tbr_model.proofs.Common.{◌≡◌, ℕ, ◌+◌, ◌<◌, ◌≤◌, Bool, true, false, nat_lt, nat_le, if◌then◌else◌, Option, None, Some, List, [], ◌∷◌, ◌++◌, map, refl, ap, sym, ◌∙◌, arith, append_assoc}
+use Rattle.tbr_model.proofs.Common.{append-nil, leb-true, leb-false, ltb-false, le-leb, inl, inr, Each, cond_both, cases_Bool, map-append, Normal, Item, glyph, marker, item_width, items_width}
+use Rattle.tbr_model.proofs.Common.{has_character, Slot, slot_of, slots_within, line_text, rest_text, gap_text, line_width, rest_width, gap_width, line_has_character, Lines, close, fill, place_word}
+use Rattle.tbr_model.proofs.Common.{IsNarrow, Laid, extended, end_if_character, put_item, put_items, Progress, Space, lay}
 use Rattle.tbr_model.proofs.lists.Each.{if_same}
-use Rattle.tbr_model.specs.declared.white_space.WhiteSpace.TheVariants.{Normal}
-use Rattle.tbr_model.specs.Run.{Item, glyph, marker, item_width, items_width, has_character}
-use Rattle.tbr_model.specs.Layout.{Slot, slot_of, slots_within, line_text, rest_text, gap_text, line_width, rest_width, gap_width, line_has_character}
 use Rattle.tbr_model.proofs.words.SpacedGaps.{rest_text-append, inner_text}
-use Rattle.tbr_model.specs.Greedy.{Lines, close, fill, place_word, IsNarrow}
-use Rattle.tbr_model.specs.Laid.{Laid, extended, end_if_character, put_item, put_items}
-use Rattle.tbr_model.specs.Rule.{Progress, Space, lay}
 use Rattle.tbr_model.proofs.layouts.Ahead.{rest_width-append, line_width_back}
 use Rattle.tbr_model.proofs.layouts.Greedy.{line_width_front}
 use Rattle.tbr_model.proofs.words.BestLayout.{rest_width_within}
@@ -48,13 +42,18 @@ word_text : {A : Type 0} (columns : ℕ → Option ℕ) (wider : Bool) (l : List
     line_text (l ++ (s ∷ map (slot_of columns wider None false) is)) ≡ line_text l ++ (gap_text (gap_after l s.gap) ++ (s.item ∷ is))
 word_text columns wider [] s is = ap (λ js. s.item ∷ js) (inner_text columns wider is)
 word_text columns wider (t ∷ l) s is =
-    ap (λ js. t.item ∷ js) (rest_text-append l (s ∷ map (slot_of columns wider None false) is) ∙ ap (λ js. rest_text l ++ js) (append_assoc (gap_text s.gap) (s.item ∷ []) (rest_text (map (slot_of columns wider None false) is)) ∙ ap (λ js. gap_text s.gap ++ (s.item ∷ js)) (inner_text columns wider is)))
+    ap (λ js. t.item ∷ js)
+    (rest_text-append l (s ∷ map (slot_of columns wider None false) is)
+    ∙ ap (λ js. rest_text l ++ js)
+    (append_assoc (gap_text s.gap) (s.item ∷ []) (rest_text (map (slot_of columns wider None false) is))
+    ∙ ap (λ js. gap_text s.gap ++ (s.item ∷ js)) (inner_text columns wider is)))
 
 word_width : {A : Type 0} (l : List (Slot A)) (s : Slot A) (ss : List (Slot A)) → line_width (l ++ (s ∷ ss)) ≡ line_width l + (gap_width (gap_after l s.gap) + line_width (s ∷ ss))
 word_width [] s ss = omega arith
 word_width (t ∷ l) s ss = omega (arith, rest_width-append l (s ∷ ss))
 
-slots_width : {A : Type 0} (columns : ℕ → Option ℕ) (wider : Bool) (gap : Option A) (i : Item A) (is : List (Item A)) → line_width (slots_within columns wider gap (i ∷ is)) ≡ items_width columns (i ∷ is)
+slots_width : {A : Type 0} (columns : ℕ → Option ℕ) (wider : Bool) (gap : Option A) (i : Item A) (is : List (Item A)) →
+    line_width (slots_within columns wider gap (i ∷ is)) ≡ items_width columns (i ∷ is)
 slots_width columns wider gap i is = ap (λ n. item_width columns i + n) (rest_width_within columns wider is)
 
 -- where a line has characters, its text has
@@ -62,7 +61,8 @@ pub text_has : {A : Type 0} (l : List (Slot A)) → line_has_character l ≡ tru
 text_has [] h = h
 text_has {A} (s ∷ ss) h = gap_has None s.item (map (λ t. t.item) ss) (rest_text ss) h (rest_has ss)
   where
-    gap_has : (gap : Option A) (i : Item A) (is more : List (Item A)) → has_character (i ∷ is) ≡ true → (has_character is ≡ true → has_character more ≡ true) → has_character ((gap_text gap ++ i ∷ []) ++ more) ≡ true
+    gap_has : (gap : Option A) (i : Item A) (is more : List (Item A)) → has_character (i ∷ is) ≡ true →
+        (has_character is ≡ true → has_character more ≡ true) → has_character ((gap_text gap ++ i ∷ []) ++ more) ≡ true
     gap_has (Some a) i is more h k = refl
     gap_has None (glyph c a) is more h k = refl
     gap_has None (marker m) is more h k = k h
@@ -83,7 +83,8 @@ end_if_character_text {A} lines h = go lines.last h
   where
     go : (last : List (Slot A)) → LastHas last → end_if_character (text_of (record { done = lines.done; last = last })) ≡ text_of (record { done = close lines.done last; last = [] })
     go [] k = refl
-    go (s ∷ last) k = rw (text_has (s ∷ last) k) (ap (λ (d : List (List (Item A))). let l : Laid A = record { done = d; line = []; width = 0 } in l) (sym (map-append line_text lines.done ((s ∷ last) ∷ []))))
+    go (s ∷ last) k =
+        rw (text_has (s ∷ last) k) (ap (λ (d : List (List (Item A))). let l : Laid A = record { done = d; line = []; width = 0 } in l) (sym (map-append line_text lines.done ((s ∷ last) ∷ []))))
 
 module _ {A : Type 0} (columns : ℕ → Option ℕ) (width : ℕ) where
   -- ---- item by item
@@ -144,7 +145,11 @@ module _ {A : Type 0} (columns : ℕ → Option ℕ) (width : ℕ) where
       let rest : List (Slot A) = map (slot_of columns wider None false) is in
       let fits : nat_le (line_width (first ∷ [])) width ≡ true = le-leb _ _ (omega (arith, narrow.0)) in
       let test : nat_le (0 + item_width columns i) width ≡ true = le-leb _ _ (omega (arith, narrow.0)) in
-      let put : put_item columns width (text_of (record { done = done; last = [] })) i ≡ text_of (record { done = done; last = first ∷ [] }) = rw test (laid_same _ _ _ _ _ _ refl refl (omega arith)) in
+      let put : put_item columns width (text_of (record {
+        done =
+            done;
+        last = [];
+      })) i ≡ text_of (record { done = done; last = first ∷ [] }) = rw test (laid_same _ _ _ _ _ _ refl refl (omega arith)) in
       let items : is ≡ map (λ s. s.item) rest = sym (items_within columns wider is) in
       rw fits (ap (λ (l : Laid A). put_items columns width l is) put
       ∙ ap (put_items columns width (text_of (record { done = done; last = first ∷ [] }))) items
@@ -186,7 +191,8 @@ module _ {A : Type 0} (columns : ℕ → Option ℕ) (width : ℕ) where
 
       -- the word is on a line of its own, or it is wider
       pick : width < line_width (lines.last ++ slots) → (w : Bool) → wider ≡ w →
-          text_of (fill width (close lines.done lines.last) [] slots) ≡ text_of (if w then fill width (close lines.done lines.last) [] slots else record { done = lines.done ++ lines.last ∷ []; last = slots })
+          text_of (fill width (close lines.done lines.last) [] slots) ≡ text_of
+          (if w then fill width (close lines.done lines.last) [] slots else record { done = lines.done ++ lines.last ∷ []; last = slots })
       pick full true e = refl
       pick full false e =
           let fits : line_width slots ≤ width = omega (arith, ltb-false _ _ e, slots_width columns wider gap i is) in
@@ -211,6 +217,7 @@ module _ {A : Type 0} (columns : ℕ → Option ℕ) (width : ℕ) where
 
   -- ---- the rule
 
-  pub lay_normal : (l : Laid A) (gap : Option A) (items : List (Item A)) → has_character items ≡ true → lay columns width (normal_at l gap items) ≡ normal_at (laid_word columns width l gap items) None []
+  pub lay_normal : (l : Laid A) (gap : Option A) (items : List (Item A)) → has_character items ≡ true →
+      lay columns width (normal_at l gap items) ≡ normal_at (laid_word columns width l gap items) None []
   lay_normal l None items some = if_same (λ (m : Laid A). normal_at m None []) (nat_le (l.width + (0 + items_width columns items)) width) _ _ _ _ refl (rw some refl)
   lay_normal l (Some a) items some = if_same (λ (m : Laid A). normal_at m None []) (nat_le (l.width + (1 + items_width columns items)) width) _ _ _ _ refl (rw some refl)

@@ -1,16 +1,10 @@
 -- A run of Normal mode is, by the rule, at the texts of the layout of its words so far.
-use Rattle.std.proofs.Common.{◌≡◌, ℕ, ◌+◌, ◌<◌, ◌≤◌, ◌⊎◌, inl, inr, Bool, true, false, nat_lt, nat_le, if◌then◌else◌, Option, None, Some, List, [], ◌∷◌, ◌++◌, map, fold, refl, ap, sym, ◌∙◌, subst, append_assoc, append-nil, ltb-true, lt-ltb, arith}
-use Rattle.std.specs.List.{AllByRecursion as Each}
-use Rattle.std.proofs.lemmas.Bool.{cond_both, or_parts, cases_Bool}
-use Rattle.std.proofs.lemmas.List.Sums.{fold-append}
+use Rattle.tbr_model.proofs.Common.{◌≡◌, ℕ, ◌+◌, ◌<◌, ◌≤◌, ◌⊎◌, inl, inr, Bool, true, false, nat_lt, nat_le, if◌then◌else◌, Option, None, Some, List, [], ◌∷◌, ◌++◌, map, fold, refl, ap, sym, ◌∙◌}
+use Rattle.tbr_model.proofs.Common.{subst, append_assoc, append-nil, ltb-true, lt-ltb, arith, Each, cond_both, or_parts, cases_Bool, fold-append, Normal, Pre, PreWrap, Entry, character, marker_entry}
+use Rattle.tbr_model.proofs.Common.{Item, marker, items_width, items_of, kept_items, is_break, is_break_entry, is_blank, blank_of, first_of, has_character, Word, word_of, Reading, start, works, read}
+use Rattle.tbr_model.proofs.Common.{reading, Slot, line_text, line_width, gap_text, gap_width, Lines, place_word, no_lines, wrapped, IsNarrow, Laid, end_if_character, extended, put_items, Event, call}
+use Rattle.tbr_model.proofs.Common.{entry, run_of, Progress, lay, collapse, enter, step, progress, HasMode}
 use Rattle.tbr_model.proofs.rule.LaidText.{text-extended, text-put_items}
-use Rattle.tbr_model.specs.declared.white_space.WhiteSpace.TheVariants.{Normal, Pre, PreWrap}
-use Rattle.tbr_model.specs.Run.{Entry, character, marker_entry, Item, marker, items_width, items_of, kept_items, is_break, is_break_entry, is_blank, blank_of, first_of, has_character, Word, word_of, Reading, start, works, read, reading}
-use Rattle.tbr_model.specs.Layout.{Slot, line_text, line_width, gap_text, gap_width}
-use Rattle.tbr_model.specs.Greedy.{Lines, place_word, no_lines, wrapped, IsNarrow}
-use Rattle.tbr_model.specs.Laid.{Laid, end_if_character, extended, put_items}
-use Rattle.tbr_model.specs.Rule.{Event, call, entry, run_of, Progress, lay, collapse, enter, step, progress}
-use Rattle.tbr_model.specs.Hard.{HasMode}
 use Rattle.tbr_model.proofs.words.Items.{WaitsIn}
 use Rattle.tbr_model.proofs.lists.Each.{each_append, each_front, each_back}
 use Rattle.tbr_model.proofs.words.BestLayout.{wrapped_holds}
@@ -106,7 +100,8 @@ module _ {A : Type 0} (columns : ℕ → Option ℕ) (width : ℕ) where
   word_kept : (P : Item A → Type 0) (l : Laid A) (gap : Option A) (items : List (Item A)) → AllLaid P (laid_word columns width l gap items) → Each P items
   word_kept P l gap items h =
       cond_both (nat_le (l.width + (gap_width gap + items_width columns items)) width) _ _ (λ (k : Laid A). AllLaid P k → Each P items)
-      (λ _ k. each_back P (gap_text gap) items (laid_after P l (extended l (gap_text gap ++ items) (gap_width gap + items_width columns items)) (gap_text gap ++ items) (text-extended l (gap_text gap ++ items) (gap_width gap + items_width columns items)) k).1)
+      (λ _ k. each_back P (gap_text gap) items
+      (laid_after P l (extended l (gap_text gap ++ items) (gap_width gap + items_width columns items)) (gap_text gap ++ items) (text-extended l (gap_text gap ++ items) (gap_width gap + items_width columns items)) k).1)
       (λ _ k. (laid_after P (end_if_character l) (put_items columns width (end_if_character l) items) items (text-put_items columns width items (end_if_character l)) k).1) h
 
   laid_at : (r : Reading A) → has_character r.items ≡ true →
@@ -131,10 +126,12 @@ module _ {A : Type 0} (columns : ℕ → Option ℕ) (width : ℕ) where
 
   -- what a reading becomes, as the break point works or not
   abbrev after : Reading A → Entry A → Bool → Reading A
-  after r e p = if p then record { words = r.words ++ word_of r ∷ []; gap = blank_of e; items = [] } else record { words = r.words; gap = first_of r.gap (blank_of e); items = r.items ++ items_of columns e }
+  after r e p =
+      if p then record { words = r.words ++ word_of r ∷ []; gap = blank_of e; items = [] } else record { words = r.words; gap = first_of r.gap (blank_of e); items = r.items ++ items_of columns e }
 
   goes_marker : (r : Reading A) (name : List ℕ) → Lined r.words → Goes r (marker_entry name) (read columns r (marker_entry name))
-  goes_marker r name h = (ap (λ (o : Option A). normal_at (text_of (wrapped columns width r.words)) (gap_after (wrapped columns width r.words).last o) (r.items ++ marker name ∷ [])) (sym (first_of_none r.gap)), h)
+  goes_marker r name h =
+      (ap (λ (o : Option A). normal_at (text_of (wrapped columns width r.words)) (gap_after (wrapped columns width r.words).last o) (r.items ++ marker name ∷ [])) (sym (first_of_none r.gap)), h)
 
   goes_break : (r : Reading A) (c : ℕ) (a b : A) → is_break c ≡ true → Lined r.words → (0 < items_width columns r.items → IsNarrow columns width r.items) →
       Goes r (character c a b Normal) (read columns r (character c a b Normal))
@@ -144,12 +141,17 @@ module _ {A : Type 0} (columns : ℕ → Option ℕ) (width : ℕ) where
         let some : 0 < items_width columns r.items = ltb-true _ _ wide in
         let lined : Lined words = lined_push r.words (word_of r) h (narrow some) some in
         rw (breaks, wide) (
-          ap (collapse c a) (lay_reading r h (wide_items columns r.items some) (narrow some) ∙ ap (λ (o : Option A). normal_at (text_of (wrapped columns width words)) o []) (sym (none_after (wrapped columns width words).last)))
+          ap (collapse c a)
+              (lay_reading r h (wide_items columns r.items some) (narrow some)
+              ∙ ap (λ (o : Option A). normal_at (text_of (wrapped columns width words)) o [])
+              (sym (none_after (wrapped columns width words).last)))
               ∙ collapse_standing (wrapped columns width words) None [] c a (lined_positive words lined),
           lined,
         )
     | inr none ↦
-        let left : r.items ++ items_of columns (character c a b Normal) ≡ r.items = ap (λ (is : List (Item A)). r.items ++ is) (break_left columns (character c a b Normal) breaks) ∙ append-nil r.items in
+        let left : r.items ++ items_of columns (character c a b Normal) ≡ r.items =
+        ap (λ (is : List (Item A)). r.items ++ is) (break_left columns (character c a b Normal) breaks)
+        ∙ append-nil r.items in
         rw (breaks, none) (
           collapse_standing (wrapped columns width r.words) r.gap r.items c a (lined_positive r.words h)
               ∙ ap (λ (is : List (Item A)). standing (wrapped columns width r.words) (first_of r.gap (blank_of (character c a b Normal))) is) (rw breaks at (sym left)),
@@ -208,7 +210,8 @@ module _ {A : Type 0} (columns : ℕ → Option ℕ) (width : ℕ) where
       let kept : List (Item A) = kept_items columns (run_of es) in
       let now = goes r e modes.0 h (λ _ _. each_front P r.items (items_of columns e ++ kept) narrow) in
       let rest : IsNarrow columns width ((read columns r e).items ++ kept) =
-      cond_both (works columns r e) _ _ (λ (q : Reading A). IsNarrow columns width (q.items ++ kept)) (λ _. each_back P (items_of columns e) kept (each_back P r.items (items_of columns e ++ kept) narrow))
+      cond_both (works columns r e) _ _ (λ (q : Reading A). IsNarrow columns width (q.items ++ kept))
+      (λ _. each_back P (items_of columns e) kept (each_back P r.items (items_of columns e ++ kept) narrow))
       (λ _. subst (Each P) (sym (append_assoc r.items (items_of columns e) kept)) narrow) in
       let later = narrow_runs es (read columns r e) modes.1 now.1 rest in
       (ap (λ (p : Progress A). fold (step columns width) p es) now.0 ∙ later.0, later.1, later.2)

@@ -1,13 +1,7 @@
 -- What a run of Normal mode has laid stays laid.
-use Rattle.std.proofs.Common.{◌≡◌, ◌≢◌, ℕ, ◌≤◌, nat_lt, ◌&&◌, is_none, Option, None, Some, List, [], ◌∷◌, ◌++◌, fold, refl, ap, sym, ◌∙◌, append_assoc, append-nil, arith}
-use Rattle.std.specs.List.{AllByRecursion as Each}
-use Rattle.std.proofs.lemmas.Bool.{cond_both}
-use Rattle.tbr_model.specs.declared.white_space.WhiteSpace.TheVariants.{Normal, PreWrap}
-use Rattle.tbr_model.specs.Run.{Entry, Item, glyph, item_width, is_blank}
-use Rattle.tbr_model.specs.Layout.{joined}
-use Rattle.tbr_model.specs.Laid.{Laid, extended, end_if_character}
-use Rattle.tbr_model.specs.Rule.{Event, run_of, Progress, Space, collapse, enter, step, progress, finished}
-use Rattle.tbr_model.specs.Hard.{HasMode}
+use Rattle.tbr_model.proofs.Common.{◌≡◌, ◌≢◌, ℕ, ◌≤◌, nat_lt, ◌&&◌, is_none, Option, None, Some, List, [], ◌∷◌, ◌++◌, fold, refl, ap, sym, ◌∙◌, append_assoc, append-nil, arith, Each, cond_both}
+use Rattle.tbr_model.proofs.Common.{Normal, PreWrap, Entry, Item, glyph, item_width, is_blank, joined, Laid, extended, end_if_character, Event, run_of, Progress, Space, collapse, enter, step}
+use Rattle.tbr_model.proofs.Common.{progress, finished, HasMode}
 use Rattle.tbr_model.proofs.words.Items.{WaitsIn}
 use Rattle.tbr_model.proofs.lists.Each.{each_front, each_back, each_append}
 use Rattle.tbr_model.proofs.rule.LaidText.{text, text-extended, text-end_line, text-end_if_character}
@@ -80,7 +74,8 @@ module _ {A : Type 0} (columns : ℕ → Option ℕ) (width : ℕ) where
       (laid_after P q.laid (fold (step columns width) q es).laid r.0 r.1 h).0
 
   -- by the end of the run
-  pub laid_before_end : (P : Item A → Type 0) (es : List (Event A)) → Each (HasMode Normal) (run_of es) → AllLaid P (finished columns width (progress columns width es)) → AllLaid P (progress columns width es).laid
+  pub laid_before_end : (P : Item A → Type 0) (es : List (Event A)) → Each (HasMode Normal) (run_of es) →
+      AllLaid P (finished columns width (progress columns width es)) → AllLaid P (progress columns width es).laid
   laid_before_end P es modes h =
       let p : Progress A = progress columns width es in
       let r = run_ended (more_laid (text p.laid)) [] p (begins p (run_walked (more_laid []) es ([], refl) modes).space) in

@@ -1,12 +1,8 @@
 -- A word of Pre that doesn't fit is cut after every `width` characters.
-use Rattle.std.proofs.Common.{◌≡◌, ℕ, ◌+◌, ◌<◌, ◌≤◌, nat_le, true, Option, None, List, [], ◌∷◌, ◌++◌, map, length, refl, ap, sym, ◌∙◌, arith, append_assoc, append-nil, length-append, subst, leb-true, leb-false, inl, inr, le-leb}
-use Rattle.std.specs.List.{AllByRecursion as Each}
-use Rattle.std.proofs.lemmas.Bool.{cond_both, cases_Bool}
+use Rattle.tbr_model.proofs.Common.{◌≡◌, ℕ, ◌+◌, ◌<◌, ◌≤◌, nat_le, true, Option, None, List, [], ◌∷◌, ◌++◌, map, length, refl, ap, sym, ◌∙◌, arith, append_assoc, append-nil, length-append, subst}
+use Rattle.tbr_model.proofs.Common.{leb-true, leb-false, inl, inr, le-leb, Each, cond_both, cases_Bool, Item, glyph, marker, items_width, has_character, Laid, extended, end_line, put_items, Progress}
+use Rattle.tbr_model.proofs.Common.{pending_width, wrap_space, lay_fresh, flush_word, letters_of, IsCutEvery}
 use Rattle.std.proofs.Math.Seq.{take-append_seam, drop-append_seam}
-use Rattle.tbr_model.specs.Run.{Item, glyph, marker, items_width, has_character}
-use Rattle.tbr_model.specs.Laid.{Laid, extended, end_line, put_items}
-use Rattle.tbr_model.specs.Rule.{Progress, pending_width, wrap_space, lay_fresh, flush_word}
-use Rattle.tbr_model.specs.Hard.{letters_of, IsCutEvery}
 use Rattle.tbr_model.proofs.words.Items.{letters_of-append, some_letters, has_letters}
 use Rattle.tbr_model.proofs.rule.LaidText.{text, text-put_items}
 use Rattle.tbr_model.proofs.pre.WaitingWord.{IsUnit, units_width, Waits}
@@ -46,8 +42,12 @@ put_cut {A} columns width (marker name ∷ is) l wide units same fits some =
 put_cut {A} columns width (glyph c a ∷ is) l wide units same fits some = elim (cases_Bool (nat_le (l.width + 1) width)) [
   | inl e ↦
       let line : letters_of (l.line ++ glyph c a ∷ []) ≡ letters_of l.line ++ c ∷ [] = letters_of-append l.line (glyph c a ∷ []) in
-      let whole : letters_of (l.line ++ glyph c a ∷ []) ++ letters_of is ≡ letters_of l.line ++ c ∷ letters_of is = ap (λ cs. cs ++ letters_of is) line ∙ append_assoc (letters_of l.line) (c ∷ []) (letters_of is) in
-      let k = put_cut columns width is (extended l (glyph c a ∷ []) 1) wide units.1 (omega (arith, same, ap length line, length-append (letters_of l.line) (c ∷ []))) (leb-true _ _ e) (rw whole some) in
+      let whole : letters_of (l.line ++ glyph c a ∷ []) ++ letters_of is ≡ letters_of l.line ++ c ∷ letters_of is =
+      ap (λ cs. cs ++ letters_of is) line ∙ append_assoc (letters_of l.line) (c ∷ []) (letters_of is) in
+      let k =
+      put_cut columns width is (extended l (glyph c a ∷ []) 1) wide units.1
+      (omega (arith, same, ap length line, length-append (letters_of l.line) (c ∷ []))) (leb-true _ _ e)
+      (rw whole some) in
       rw (units.0, e) (record {
         lines = k.lines;
         done = k.done;
@@ -73,7 +73,9 @@ pub record IsCutOn {A : Type 0} (width : ℕ) (is : List (Item A)) (l : Laid A) 
   pub last : has_character l.line ≡ true
   pub whole : text l ≡ is
 
-pub cut_laid : {A : Type 0} (columns : ℕ → Option ℕ) (width : ℕ) (x : List ℕ) (q : Progress A) → 0 < width → Waits columns x q → q.space ≡ None → has_character q.word ≡ true → IsCutOn width q.word (flush_word columns width q).laid
+pub cut_laid : {A : Type 0} (columns : ℕ → Option ℕ) (width : ℕ) (x : List ℕ) (q : Progress A) → 0 < width →
+    Waits columns x q → q.space ≡ None → has_character q.word ≡ true →
+    IsCutOn width q.word (flush_word columns width q).laid
 cut_laid {A} columns width x q wide h none some =
     rw some
     (cond_both (nat_le (q.laid.width + (pending_width q.space + items_width columns q.word)) width) _ _ (λ (r : Progress A). IsCutOn width q.word r.laid)

@@ -1,19 +1,14 @@
 -- What a block shows of one hard line of Pre.
-use Rattle.std.proofs.Common.{◌≡◌, ℕ, if◌then◌else◌, Option, List, ◌∷◌, filter, fold, refl, ap, ◌∙◌, suc, ◌<◌, ◌≤◌, Bool, true, false, Some, None, [], ◌++◌, map, length, sym, arith, subst, replicate}
-use Rattle.std.specs.List.{AllZip, AllByRecursion as Each}
+use Rattle.tbr_model.proofs.Common.{◌≡◌, ℕ, if◌then◌else◌, Option, List, ◌∷◌, filter, fold, refl, ap, ◌∙◌, suc, ◌<◌, ◌≤◌, Bool, true, false, Some, None, [], ◌++◌, map, length, sym, arith, subst}
+use Rattle.tbr_model.proofs.Common.{replicate, AllZip, Each, WhiteSpace, Pre, Entry, Item, is_kept, character, marker_entry, has_character, joined, Event, run_of, Progress, flush_word, step, newline}
+use Rattle.tbr_model.proofs.Common.{finished, Space, pending_width, lines_of, HasMode, entry_letters, glyphs_of, letters_of, IsPrintableEntry, IsPrintableLine, IsSpaces, BeginsWithNonBlank}
+use Rattle.tbr_model.proofs.Common.{IsCutEvery, blank_lines, ShowsPre, hard_lines, Parted, Laid, end_line}
 use Rattle.tbr_model.proofs.rule.HardLines.{ShowsOne, hard_lines_parted}
 use Rattle.tbr_model.proofs.tabs.HardLine.{IsLine, end_reads}
-use Rattle.tbr_model.specs.declared.white_space.WhiteSpace.{WhiteSpace}
-use Rattle.tbr_model.specs.declared.white_space.WhiteSpace.TheVariants.{Pre}
-use Rattle.tbr_model.specs.Run.{Entry, Item, is_kept, character, marker_entry, has_character}
-use Rattle.tbr_model.specs.Layout.{joined}
-use Rattle.tbr_model.specs.Rule.{Event, run_of, Progress, flush_word, step, newline, finished, Space, pending_width, lines_of}
-use Rattle.tbr_model.specs.Hard.{HasMode, entry_letters, glyphs_of, letters_of, IsPrintableEntry, IsPrintableLine, IsSpaces, BeginsWithNonBlank, IsCutEvery, blank_lines, ShowsPre, hard_lines, Parted}
 use Rattle.tbr_model.proofs.rule.HardLineStart.{BeginsHardLine}
 use Rattle.tbr_model.proofs.rule.LaidText.{kept_of, kept-append, none_kept, joined-end_line}
 use Rattle.tbr_model.proofs.rule.Content.{LooksAtKept, StandsFor, by_entry, found_from}
 use Rattle.std.proofs.lemmas.Bool.{true_from_ne_false}
-use Rattle.tbr_model.specs.Laid.{Laid, end_line}
 use Rattle.tbr_model.proofs.rule.BlankLines.{blank_line_of, mode_preserves}
 use Rattle.tbr_model.proofs.prewrap.OneWay.{begins_not_spaces}
 use Rattle.tbr_model.proofs.pre.WaitingWord.{Waits, line_waits, fresh_waits}
@@ -75,7 +70,10 @@ module _ {A : Type 0} (columns : ℕ → Option ℕ) (width : ℕ) (p : Progress
 
     -- the lines before a newline, or others that are the same where the last one has a character
     shows : (more : Bool) (ls : List (List (Item A))) → filter (is_kept columns) (letters_of (joined ls)) ≡ filter (is_kept columns) (entry_letters (run_of es)) →
-        (IsSpaces (entry_letters (run_of es)) → ls ≡ blank_lines more) → (has_character laid.line ≡ true → (end_line laid).done ≡ ls) → (IsLine (entry_letters (run_of es)) laid → map letters_of ls ≡ entry_letters (run_of es) ∷ []) → ShowsPre columns Same width more (run_of es) ls
+        (IsSpaces (entry_letters (run_of es)) → ls ≡ blank_lines more) →
+        (has_character laid.line ≡ true → (end_line laid).done ≡ ls) →
+        (IsLine (entry_letters (run_of es)) laid → map letters_of ls ≡ entry_letters (run_of es) ∷ []) →
+        ShowsPre columns Same width more (run_of es) ls
     shows more ls kept blank alike is_line = record {
       kept = kept;
       fits = λ printable other fits. is_line (line_fits printable other fits);
@@ -84,7 +82,9 @@ module _ {A : Type 0} (columns : ℕ → Option ℕ) (width : ℕ) (p : Progress
           let k = line_cut wide printable begins none in
           let word : letters_of q.word ≡ entry_letters (run_of es) = ap (λ (o : Option (Space A)). replicate (pending_width o) 32 ++ letters_of q.word) (sym none)
           ∙ ap (λ (is : List (Item A)). letters_of is ++ (replicate (pending_width q.space) 32 ++ letters_of q.word)) (sym (waits printable).line) ∙ (waits printable).text.text in
-          subst (λ (ms : List (List (Item A))). IsCutEvery width (entry_letters (run_of es)) (map letters_of ms)) (alike k.last) (subst (λ (cs : List ℕ). IsCutEvery width cs (map letters_of (end_line laid).done)) word k.cut));
+          subst (λ (ms : List (List (Item A))). IsCutEvery width (entry_letters (run_of es)) (map letters_of ms))
+          (alike k.last)
+          (subst (λ (cs : List ℕ). IsCutEvery width cs (map letters_of (end_line laid).done)) word k.cut));
       blank = blank;
       main = λ printable begins. rw (glyphs printable begins) (tagged_main Same width 0 width (glyphs_of q.word) (run_of es) (omega arith) (tags printable begins).0);
       continuation = λ printable begins. rw (glyphs printable begins) (tagged_continuation Same width 0 width (glyphs_of q.word) (run_of es) (omega arith) (tags printable begins).0);
@@ -96,7 +96,8 @@ module _ {A : Type 0} (columns : ℕ → Option ℕ) (width : ℕ) (p : Progress
             ap (λ (ms : List (List (Item A))). glyphs_of (joined ms)) (sym (alike k.last)) ∙ ap glyphs_of (joined-end_line laid ∙ k.whole)
 
 -- one hard line of a run of Pre, before a newline and at the end of the run
-pre_line : {A : Type 0} (columns : ℕ → Option ℕ) (Same : A → A → Type 0) (width : ℕ) → columns 32 ≡ Some 1 → 0 < width → ((x : A) → Same x x) → ShowsOne columns width (ShowsPre columns Same width) (HasMode Pre)
+pre_line : {A : Type 0} (columns : ℕ → Option ℕ) (Same : A → A → Type 0) (width : ℕ) → columns 32 ≡ Some 1 → 0 < width →
+    ((x : A) → Same x x) → ShowsOne columns width (ShowsPre columns Same width) (HasMode Pre)
 pre_line columns Same width one_space wide reflexive p es f pre more =
     let q = fold (step columns width) p es in
     let kept = pre_kept columns width p es f pre in

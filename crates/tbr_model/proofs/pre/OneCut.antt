@@ -1,8 +1,6 @@
 -- A text is cut after every so many characters in one way.
-use Rattle.std.proofs.Common.{◌≡◌, ℕ, ◌<◌, List, [], ◌∷◌, ◌++◌, length, drop, ap, sym, ◌∙◌, arith, append-nil, length-drop}
+use Rattle.tbr_model.proofs.Common.{◌≡◌, ℕ, ◌<◌, List, [], ◌∷◌, ◌++◌, length, drop, ap, sym, ◌∙◌, arith, append-nil, length-drop, joined, IsCutEvery}
 use Rattle.std.proofs.lemmas.List.{take-append-drop}
-use Rattle.tbr_model.specs.Layout.{joined}
-use Rattle.tbr_model.specs.Hard.{IsCutEvery}
 
 cut_some : (width : ℕ) (cs : List ℕ) (ls : List (List ℕ)) → IsCutEvery width cs ls → 0 < length cs
 cut_some width cs [] h = absurd h

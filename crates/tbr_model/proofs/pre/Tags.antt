@@ -1,13 +1,8 @@
 -- The annotations of a hard line of Pre: the main one up to the width, the continuation's after it.
-use Rattle.std.proofs.Common.{◌≡◌, ◌≢◌, ℕ, zero, suc, ◌+◌, ◌<◌, ◌≤◌, if◌then◌else◌, Bool, true, false, Option, Some, None, List, [], ◌∷◌, ◌++◌, map, fold, length, take, drop, refl, ap, sym, ◌∙◌, arith, append_assoc, append-nil, subst, add-one, ltb-true, ltb-false, inl, inr}
-use Rattle.std.specs.List.{AllByRecursion as Each}
-use Rattle.std.proofs.lemmas.Bool.{cond_both}
-use Rattle.std.proofs.lemmas.Bool.Decides.{eqb_tells}
-use Rattle.tbr_model.specs.declared.white_space.WhiteSpace.{WhiteSpace}
-use Rattle.tbr_model.specs.declared.white_space.WhiteSpace.TheVariants.{Pre}
-use Rattle.tbr_model.specs.Run.{Entry, character, marker_entry, Item, glyph, items_width, has_character}
-use Rattle.tbr_model.specs.Rule.{Event, call, entry, run_of, Progress, pending_width, keep_space, keep_character, passes, tag_of, enter, step}
-use Rattle.tbr_model.specs.Hard.{HasMode, glyphs_of, entry_letters, IsPrintable, IsPrintableEntry, BeginsWithNonBlank, StandUnder, HasMain, HasContinuation}
+use Rattle.tbr_model.proofs.Common.{◌≡◌, ◌≢◌, ℕ, zero, suc, ◌+◌, ◌<◌, ◌≤◌, if◌then◌else◌, Bool, true, false, Option, Some, None, List, [], ◌∷◌, ◌++◌, map, fold, length, take, drop, refl, ap, sym, ◌∙◌}
+use Rattle.tbr_model.proofs.Common.{arith, append_assoc, append-nil, subst, add-one, ltb-true, ltb-false, inl, inr, Each, cond_both, eqb_tells, WhiteSpace, Pre, Entry, character, marker_entry, Item}
+use Rattle.tbr_model.proofs.Common.{glyph, items_width, has_character, Event, call, entry, run_of, Progress, pending_width, keep_space, keep_character, passes, tag_of, enter, step, HasMode, glyphs_of}
+use Rattle.tbr_model.proofs.Common.{entry_letters, IsPrintable, IsPrintableEntry, BeginsWithNonBlank, StandUnder, HasMain, HasContinuation}
 use Rattle.tbr_model.proofs.rule.Printable.{preserved_space, preserved_visible, visible_of}
 use Rattle.tbr_model.proofs.words.Items.{items_width-append, glyphs_of-append, no_glyphs, back_has}
 use Rattle.tbr_model.proofs.rule.HardLineStart.{BeginsHardLine}
@@ -22,7 +17,8 @@ IsTagged Same width k [] (e ∷ es) = ⊥
 IsTagged Same width k (g ∷ gs) [] = ⊥
 IsTagged Same width k (g ∷ gs) (e ∷ es) = (g.0 ≢ 32 → (k < width → HasMain Same e g.1) × (width ≤ k → HasContinuation Same e g.1)) × IsTagged Same width (suc k) gs es
 
-pub tagged_main : {A : Type 0} (Same : A → A → Type 0) (width k m : ℕ) (gs : List (ℕ × A)) (es : List (Entry A)) → k + m ≡ width → IsTagged Same width k gs es → StandUnder (HasMain Same) (take m gs) (take m es)
+pub tagged_main : {A : Type 0} (Same : A → A → Type 0) (width k m : ℕ) (gs : List (ℕ × A)) (es : List (Entry A)) →
+    k + m ≡ width → IsTagged Same width k gs es → StandUnder (HasMain Same) (take m gs) (take m es)
 tagged_main Same width k zero gs es sum h = tt
 tagged_main Same width k (suc m) [] [] sum h = tt
 tagged_main Same width k (suc m) [] (e ∷ es) sum h = absurd h
@@ -35,7 +31,8 @@ tagged_after Same width k [] (e ∷ es) past h = absurd h
 tagged_after Same width k (g ∷ gs) [] past h = absurd h
 tagged_after Same width k (g ∷ gs) (e ∷ es) past h = (λ other. (h.0 other).1 past, tagged_after Same width (suc k) gs es (omega arith) h.1)
 
-pub tagged_continuation : {A : Type 0} (Same : A → A → Type 0) (width k m : ℕ) (gs : List (ℕ × A)) (es : List (Entry A)) → k + m ≡ width → IsTagged Same width k gs es → StandUnder (HasContinuation Same) (drop m gs) (drop m es)
+pub tagged_continuation : {A : Type 0} (Same : A → A → Type 0) (width k m : ℕ) (gs : List (ℕ × A)) (es : List (Entry A))
+    → k + m ≡ width → IsTagged Same width k gs es → StandUnder (HasContinuation Same) (drop m gs) (drop m es)
 tagged_continuation Same width k zero gs es sum h = tagged_after Same width k gs es (omega arith) h
 tagged_continuation Same width k (suc m) [] [] sum h = tt
 tagged_continuation Same width k (suc m) [] (e ∷ es) sum h = absurd h
@@ -98,7 +95,9 @@ module _ {A : Type 0} (columns : ℕ → Option ℕ) (Same : A → A → Type 0)
       ((s : Progress A) → HasBegunWord columns width s (entry_letters (run_of es)) → AddsTagged columns Same width s (fold (step columns width) s es) (run_of es)) →
       AddsTagged columns Same width q (fold (step columns width) (enter columns width q (character c a b Pre)) es) (character c a b Pre ∷ run_of es)
   character_tags c a b es q printable h rest = elim (eqb_tells c 32) [
-    | inl w ↦ subst Holds (subst (λ (d : ℕ). keep_space d (tag_of q a b) Pre (Some 1) q ≡ enter columns width q (character d a b Pre)) (sym w.1) (sym (preserved_space columns width a b Pre q one_space))) (spaced w.1)
+    | inl w ↦ subst Holds
+        (subst (λ (d : ℕ). keep_space d (tag_of q a b) Pre (Some 1) q ≡ enter columns width q (character d a b Pre))
+        (sym w.1) (sym (preserved_space columns width a b Pre q one_space))) (spaced w.1)
     | inr w ↦ subst Holds (sym (preserved_visible columns width c a b Pre q (visible_of columns c printable w.1))) visible
   ]
     where
@@ -108,7 +107,8 @@ module _ {A : Type 0} (columns : ℕ → Option ℕ) (Same : A → A → Type 0)
       spaced : c ≡ 32 → Holds (keep_space c (tag_of q a b) Pre (Some 1) q)
       spaced same =
           cond_both (has_character q.word) _ _ Holds
-          (λ some. joined_tags q c a b (tag_of q a b) (if has_character q.word then q.mode else Pre) q.continuation_flag q.in_continuation es h printable.2 (λ other. absurd (other same)) (λ less. h.first (omega arith))
+          (λ some. joined_tags q c a b (tag_of q a b) (if has_character q.word then q.mode else Pre) q.continuation_flag
+          q.in_continuation es h printable.2 (λ other. absurd (other same)) (λ less. h.first (omega arith))
           (rest _))
           (λ none. absurd (h.begins none same))
 
@@ -118,7 +118,9 @@ module _ {A : Type 0} (columns : ℕ → Option ℕ) (Same : A → A → Type 0)
           cond_both (passes columns width 1 q) _ _ Holds
           (λ past.
           let after : width ≤ items_width columns q.word = omega (arith, ltb-true _ _ past, h.empty, columns_before) in
-          joined_tags q c a b b (if has_character q.word then q.mode else Pre) true true es h printable.2 (λ _. (λ less. absurd (omega (arith, less, after)), λ _. reflexive b)) (λ less. absurd (omega (arith, less, after)))
+          joined_tags q c a b b (if has_character q.word then q.mode else Pre) true true es h printable.2
+          (λ _. (λ less. absurd (omega (arith, less, after)), λ _. reflexive b))
+          (λ less. absurd (omega (arith, less, after)))
           (rest _))
           (λ within.
           let before : items_width columns q.word < width = omega (arith, ltb-false _ _ within, h.empty, columns_before) in
@@ -140,7 +142,8 @@ module _ {A : Type 0} (columns : ℕ → Option ℕ) (Same : A → A → Type 0)
       rw (pre.0) (character_tags c a b es q printable.0 h (λ s begun. line_tags es s begun pre.1 printable.1))
 
   -- the word of a hard line that begins with a non-blank
-  pub pre_tags : (p : Progress A) (es : List (Event A)) → BeginsHardLine p → Each (HasMode Pre) (run_of es) → Each (IsPrintableEntry columns) (run_of es) → BeginsWithNonBlank (entry_letters (run_of es)) →
+  pub pre_tags : (p : Progress A) (es : List (Event A)) → BeginsHardLine p → Each (HasMode Pre) (run_of es) →
+      Each (IsPrintableEntry columns) (run_of es) → BeginsWithNonBlank (entry_letters (run_of es)) →
       let q = fold (step columns width) p es in
       IsTagged Same width 0 (glyphs_of q.word) (run_of es) × (q.space ≡ None)
   pre_tags p es f pre printable begins =

@@ -1,12 +1,7 @@
 -- A hard line of printable characters waits as one word after its first spaces.
-use Rattle.std.proofs.Common.{◌≡◌, ℕ, false, Option, Some, List, [], ◌∷◌, ◌++◌, fold, length, refl, sym, arith, append_assoc, append-nil, subst, inl, inr}
-use Rattle.std.specs.List.{AllByRecursion as Each}
-use Rattle.std.proofs.lemmas.Bool.{cond_both, both_ways}
-use Rattle.std.proofs.lemmas.Bool.Decides.{eqb_tells}
-use Rattle.tbr_model.specs.declared.white_space.WhiteSpace.TheVariants.{Pre}
-use Rattle.tbr_model.specs.Run.{character, marker_entry, Item, glyph, marker, items_width, has_character}
-use Rattle.tbr_model.specs.Rule.{Event, call, entry, run_of, Progress, keep_space, keep_character, passes, tag_of, enter, step}
-use Rattle.tbr_model.specs.Hard.{HasMode, letters_of, entry_letters, IsPrintableEntry, IsSpaces}
+use Rattle.tbr_model.proofs.Common.{◌≡◌, ℕ, false, Option, Some, List, [], ◌∷◌, ◌++◌, fold, length, refl, sym, arith, append_assoc, append-nil, subst, inl, inr, Each, cond_both, both_ways, eqb_tells}
+use Rattle.tbr_model.proofs.Common.{Pre, character, marker_entry, Item, glyph, marker, items_width, has_character, Event, call, entry, run_of, Progress, keep_space, keep_character, passes, tag_of}
+use Rattle.tbr_model.proofs.Common.{enter, step, HasMode, letters_of, entry_letters, IsPrintableEntry, IsSpaces}
 use Rattle.tbr_model.proofs.rule.Printable.{preserved_space, preserved_visible, visible_of}
 use Rattle.tbr_model.proofs.words.Items.{each_marker, back_has}
 use Rattle.tbr_model.proofs.lists.Each.{each_append}

@@ -1,17 +1,11 @@
 -- What holds before each entry of a hard line of `PreWrap`, and the items of a word, put one by one: on which lines they are.
-use Rattle.std.proofs.Common.{◌≡◌, ℕ, zero, suc, ◌+◌, ◌<◌, ◌≤◌, ◌⊎◌, inl, inr, nat_le, Option, List, [], ◌∷◌, length, refl, ap, ◌∙◌, arith, subst, le-leb, ◌++◌, map, append_assoc, append-nil, length-append, leb-true, leb-false, ne_eqb}
-use Rattle.std.specs.List.{AllByRecursion as Each}
-use Rattle.std.proofs.lemmas.Bool.{cases_Bool}
-use Rattle.tbr_model.specs.declared.white_space.WhiteSpace.TheVariants.{PreWrap}
-use Rattle.tbr_model.specs.Run.{Item, glyph, marker, items_width}
-use Rattle.tbr_model.specs.Laid.{Laid, extended, end_line, put_items}
-use Rattle.tbr_model.specs.Rule.{Progress, pending_width, space_of, without_leading, join, without_trailing}
-use Rattle.tbr_model.specs.Hard.{letters_of, EndsWithNonBlank, first_stretch, BeginsAfter}
+use Rattle.tbr_model.proofs.Common.{◌≡◌, ℕ, zero, suc, ◌+◌, ◌<◌, ◌≤◌, ◌⊎◌, inl, inr, nat_le, Option, List, [], ◌∷◌, length, refl, ap, ◌∙◌, arith, subst, le-leb, ◌++◌, map, append_assoc, append-nil}
+use Rattle.tbr_model.proofs.Common.{length-append, leb-true, leb-false, ne_eqb, Each, cases_Bool, PreWrap, Item, glyph, marker, items_width, Laid, extended, end_line, put_items, Progress}
+use Rattle.tbr_model.proofs.Common.{pending_width, space_of, without_leading, join, without_trailing, letters_of, EndsWithNonBlank, first_stretch, BeginsAfter, map-append}
 use Rattle.tbr_model.proofs.words.Items.{each_marker, WaitsIn, pending_width-of, letters_of-append}
 use Rattle.tbr_model.proofs.lists.Each.{each_append}
 use Rattle.tbr_model.proofs.rule.HardLineStart.{BeginsHardLine}
 use Rattle.tbr_model.proofs.rule.Printable.{IsVisible, whitespace_not}
-use Rattle.std.proofs.lemmas.List.{map-append}
 use Rattle.tbr_model.proofs.prewrap.WrappedText.{AreNonBlank, GoesOnFrom, ends_nonblank, stretch_front, stretch_all, longer, ended, begun, last_of}
 
 -- ---- items
@@ -43,7 +37,8 @@ pub record IsReadyForWord {A : Type 0} (columns : ℕ → Option ℕ) (p : Progr
 
 pub waits : {A : Type 0} (columns : ℕ → Option ℕ) (p : Progress A) (a : A) → Each (IsVisibleOrMarker columns) p.word → p.laid.width ≡ length (letters_of p.laid.line) →
     IsReadyForWord columns (record p { space = space_of (pending_width p.space + 1) a PreWrap })
-waits {A} columns p a plain measured = record { plain = plain; measured = measured; apart = inr (omega (arith, pending_width-of (pending_width p.space + 1) a PreWrap)); wraps = wrapped (pending_width p.space + 1) }
+waits {A} columns p a plain measured =
+    record { plain = plain; measured = measured; apart = inr (omega (arith, pending_width-of (pending_width p.space + 1) a PreWrap)); wraps = wrapped (pending_width p.space + 1) }
   where
     wrapped : (n : ℕ) → WaitsIn PreWrap (space_of n a PreWrap)
     wrapped zero = tt
@@ -121,7 +116,12 @@ module _ {A : Type 0} (columns : ℕ → Option ℕ) (width : ℕ) (some : 0 < w
         ) in
         record {
           all = y ∷ g.all;
-          are = g.are ∙ ap (λ (xs : List (List ℕ)). xs ++ g.all) (map-append letters_of l.done (l.line ∷ []) ∙ ap (λ (x : List ℕ). map letters_of l.done ++ x ∷ []) letters) ∙ append_assoc (map letters_of l.done) (y ∷ []) g.all;
+          are =
+              g.are
+              ∙ ap (λ (xs : List (List ℕ)). xs ++ g.all)
+              (map-append letters_of l.done (l.line ∷ [])
+              ∙ ap (λ (x : List ℕ). map letters_of l.done ++ x ∷ []) letters)
+              ∙ append_assoc (map letters_of l.done) (y ∷ []) g.all;
           goes = ended width y (c ∷ (w ++ text)) g.all (ends_nonblank y nonblank (omega (arith, full, some))) (omega (arith, full)) (begun width y (c ∷ (w ++ text)) g.all 0 next begins);
           reach = λ n wide _. (let all : length y ≤ length (first_stretch (y ++ [])) = stretch_front y [] nonblank in omega (arith, wide, full, all));
         });

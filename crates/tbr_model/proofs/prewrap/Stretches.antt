@@ -1,9 +1,8 @@
 -- Stretches of non-blanks, and where the lines of a wrapped text cut them.
-use Rattle.std.proofs.Common.{◌≡◌, ◌≢◌, ℕ, zero, suc, ◌<◌, inl, inr, Bool, true, false, not, ◌==◌, if◌then◌else◌, List, [], ◌∷◌, ◌++◌, flat_map, replicate, length, refl, ap, sym, ◌∙◌, subst, arith, append-nil, length-append, ne_eqb}
-use Rattle.std.specs.List.{AllByRecursion as Each}
-use Rattle.std.proofs.lemmas.Bool.{cond_both, not-true}
-use Rattle.std.proofs.lemmas.Bool.Decides.{eqb_tells}
-use Rattle.tbr_model.specs.Hard.{IsSpaces, BeginsWithNonBlank, EndsWithNonBlank, onto_first, begins_stretch, first_stretch, stretches, IsCutOf, IsWrapped}
+use Rattle.tbr_model.proofs.Common.{◌≡◌, ◌≢◌, ℕ, zero, suc, ◌<◌, inl, inr, Bool, true, false, not, ◌==◌, if◌then◌else◌, List, [], ◌∷◌, ◌++◌, flat_map, replicate, length, refl, ap, sym, ◌∙◌, subst}
+use Rattle.tbr_model.proofs.Common.{arith, append-nil, length-append, ne_eqb, Each, cond_both, not-true, eqb_tells, IsSpaces, BeginsWithNonBlank, EndsWithNonBlank, onto_first, first_stretch}
+use Rattle.tbr_model.proofs.Common.{stretches, IsCutOf, IsWrapped}
+use Rattle.tbr_model.specs.Hard.{begins_stretch}
 use Rattle.tbr_model.proofs.prewrap.OneWay.{filled}
 
 -- ---- stretches of a text
@@ -90,7 +89,9 @@ module _ (width : ℕ) where
   apart l r ps is h = subst (λ (ss : List (List ℕ)). IsCutOf width ss (stretches l ++ ps)) (sym is) (whole_first (stretches l) (stretches r) ps h)
 
   -- A line, and the lines after it. If a stretch goes on from one to the other, it fills the line, and is cut.
-  cut_line : (l r : List ℕ) (ls : List (List ℕ)) → EndsWithNonBlank l → IsWrapped width l r ls → IsCutOf width (stretches r) (flat_map stretches ls) → IsCutOf width (stretches (l ++ r)) (stretches l ++ flat_map stretches ls)
+  cut_line : (l r : List ℕ) (ls : List (List ℕ)) → EndsWithNonBlank l → IsWrapped width l r ls →
+      IsCutOf width (stretches r) (flat_map stretches ls) →
+      IsCutOf width (stretches (l ++ r)) (stretches l ++ flat_map stretches ls)
   cut_line l [] ls ends h k = apart l [] (flat_map stretches ls) (ap stretches (append-nil l) ∙ sym (append-nil (stretches l))) k
   cut_line l (c ∷ r) ls ends h k = elim (eqb_tells c 32) [
     | inl w ↦ apart l (c ∷ r) (flat_map stretches ls) (rw (w.1) (stretches_gap l r)) k

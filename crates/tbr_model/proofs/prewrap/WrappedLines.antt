@@ -1,20 +1,16 @@
 -- A hard line of `PreWrap` is wrapped: spaces are dropped, and a line ends, only where the next stretch doesn't fit.
-use Rattle.std.proofs.Common.{◌≡◌, ℕ, ◌+◌, ◌<◌, ◌≤◌, ◌⊎◌, inl, inr, Bool, true, false, nat_le, if◌then◌else◌, Option, Some, None, List, [], ◌∷◌, ◌++◌, map, fold, replicate, length, refl, ap, sym, ◌∙◌, arith, append_assoc, append-nil, length-append, subst, leb-true, leb-false, lt-ltb}
-use Rattle.std.specs.List.{AllByRecursion as Each}
-use Rattle.std.proofs.lemmas.Bool.{cond_both, cases_Bool}
-use Rattle.std.proofs.lemmas.Bool.Decides.{eqb_tells}
-use Rattle.std.proofs.lemmas.List.{map-append, length-replicate}
-use Rattle.tbr_model.specs.declared.white_space.WhiteSpace.TheVariants.{PreWrap}
-use Rattle.tbr_model.specs.Run.{character, marker_entry, Item, glyph, items_width, has_character}
-use Rattle.tbr_model.specs.Laid.{Laid, end_line, end_if_character, put_items}
-use Rattle.tbr_model.specs.Rule.{Event, call, entry, run_of, Progress, Space, pending_width, space_of, trimmed, wrap_space_by, wrap_space, is_pre, lay_here, lay_fresh, lay, flush_word, break_word, join, tag_of, keep_space, newline, enter, step, finished}
-use Rattle.tbr_model.specs.Hard.{HasMode, letters_of, entry_letters, IsPrintableLine, IsSpaces, EndsWithNonBlank, IsWrapped}
+use Rattle.tbr_model.proofs.Common.{◌≡◌, ℕ, ◌+◌, ◌<◌, ◌≤◌, ◌⊎◌, inl, inr, Bool, true, false, nat_le, if◌then◌else◌, Option, Some, None, List, [], ◌∷◌, ◌++◌, map, fold, replicate, length, refl, ap}
+use Rattle.tbr_model.proofs.Common.{sym, ◌∙◌, arith, append_assoc, append-nil, length-append, subst, leb-true, leb-false, lt-ltb, Each, cond_both, cases_Bool, eqb_tells, map-append, length-replicate}
+use Rattle.tbr_model.proofs.Common.{PreWrap, character, marker_entry, Item, glyph, items_width, has_character, Laid, end_line, end_if_character, put_items, Event, call, entry, run_of, Progress, Space}
+use Rattle.tbr_model.proofs.Common.{pending_width, space_of, trimmed, wrap_space_by, wrap_space, is_pre, lay_here, lay_fresh, lay, flush_word, break_word, join, tag_of, keep_space, newline, enter}
+use Rattle.tbr_model.proofs.Common.{step, finished, HasMode, letters_of, entry_letters, IsPrintableLine, IsSpaces, EndsWithNonBlank, IsWrapped}
 use Rattle.tbr_model.proofs.rule.BlankLines.{not_broken}
 use Rattle.tbr_model.proofs.words.Items.{letters_of-append, some_letters, has_letters, no_letters, no_character_no_width, WaitsIn, pending_width-of}
 use Rattle.tbr_model.proofs.tabs.HardLine.{laid_letters}
 use Rattle.tbr_model.proofs.rule.Printable.{visible_of, preserved_space, entered_visible}
 use Rattle.tbr_model.proofs.rule.HardLineStart.{BeginsHardLine}
-use Rattle.tbr_model.proofs.prewrap.WrappedText.{GoesOnFrom, GoesOn, IsOpen, ends_nonblank, ends_append, goes_on_some, ended, begun, on_line, from_some, from_none, begins_after, first_begins, spaces_alone, one_more_space}
+use Rattle.tbr_model.proofs.prewrap.WrappedText.{GoesOnFrom, GoesOn, IsOpen, ends_nonblank, ends_append, goes_on_some, ended, begun, on_line, from_some, from_none, begins_after, first_begins}
+use Rattle.tbr_model.proofs.prewrap.WrappedText.{spaces_alone, one_more_space}
 use Rattle.tbr_model.proofs.prewrap.PutText.{trailing_whole, nonblanks, PutsText, ReachesFrom, put_text, IsVisibleOrMarker, plain_width, plain_leading, IsReadyForWord, waits, join_ready, fresh_ready}
 
 module _ {A : Type 0} (columns : ℕ → Option ℕ) (width : ℕ) (some : 0 < width) where
@@ -147,7 +143,9 @@ module _ {A : Type 0} (columns : ℕ → Option ℕ) (width : ℕ) (some : 0 < w
           none : letters_of p.laid.line ≡ []
           none = sym d.line ∙ no_letters q.laid.line e
 
-          first : (text : List ℕ) (ls : List (List ℕ)) → ReachesFrom columns width some q.laid [] w (put_items columns width q.laid p.word) text ls → LaysOn p (put_items columns width q.laid p.word) text ls
+          first : (text : List ℕ) (ls : List (List ℕ)) →
+              ReachesFrom columns width some q.laid [] w (put_items columns width q.laid p.word) text ls →
+              LaysOn p (put_items columns width q.laid p.word) text ls
           first text ls g = (
             g.all,
             g.are ∙ ap (λ (ds : List (List (Item A))). map letters_of ds ++ g.all) d.done,
@@ -221,14 +219,18 @@ module _ {A : Type 0} (columns : ℕ → Option ℕ) (width : ℕ) (some : 0 < w
 
   -- a space after a word that is laid
   space_laid : (p : Progress A) (a : A) (cs : List ℕ) (l : Laid A) → LaysText p (lay columns width p) →
-      (let n : Progress A = record (lay columns width p) { space = space_of (pending_width (lay columns width p).space + 1) a PreWrap } in WrapsText n.laid (text_ahead n cs) l) → WrapsText p.laid (text_ahead p (32 ∷ cs)) l
+      (let n : Progress A = record (lay columns width p) { space = space_of (pending_width (lay columns width p).space + 1) a PreWrap } in WrapsText n.laid (text_ahead n cs) l)
+      → WrapsText p.laid (text_ahead p (32 ∷ cs)) l
   space_laid p a cs l k rest =
       let q : Progress A = lay columns width p in
       let n : Progress A = record q { space = space_of (pending_width q.space + 1) a PreWrap } in
       let ahead : text_ahead n cs ≡ 32 ∷ cs =
       ap (λ (m : ℕ). replicate m 32 ++ (letters_of q.word ++ cs)) (pending_width-of (pending_width q.space + 1) a PreWrap ∙ ap (λ (o : Option (Space A)). pending_width o + 1) k.space)
       ∙ ap (λ (is : List (Item A)). 32 ∷ (letters_of is ++ cs)) k.word in
-      let (all, are, goes) = k.goes (32 ∷ cs) rest.lines (subst (λ (ds : List ℕ). GoesOnFrom width (letters_of q.laid.line) ds rest.lines) ahead (goes_on_some width (letters_of q.laid.line) (text_ahead n cs) rest.lines k.measured rest.goes)) in
+      let (all, are, goes) =
+      k.goes (32 ∷ cs) rest.lines
+      (subst (λ (ds : List ℕ). GoesOnFrom width (letters_of q.laid.line) ds rest.lines) ahead
+      (goes_on_some width (letters_of q.laid.line) (text_ahead n cs) rest.lines k.measured rest.goes)) in
       record {
         lines = all;
         are = rest.are ∙ are;
@@ -279,30 +281,42 @@ module _ {A : Type 0} (columns : ℕ → Option ℕ) (width : ℕ) (some : 0 < w
       kept : (q : Progress A) → has_character q.word ≡ false → WrapsText p.laid (text_ahead p (32 ∷ entry_letters (run_of es))) (end_laid_from (spaced q (tag_of q a b)) es) → ReadsSpace es p a b q
       kept q none k = subst (λ (r : Progress A). WrapsText p.laid (text_ahead p (32 ∷ entry_letters (run_of es))) (end_laid_from r es)) (sym (keeps q (tag_of q a b) none)) k
 
-  wraps_read : (es : List (Event A)) (p : Progress A) → columns 32 ≡ Some 1 → Each (HasMode PreWrap) (run_of es) → IsPrintableLine columns (run_of es) → IsReadyForWord columns p → IsOpen width (letters_of p.laid.line) →
+  wraps_read : (es : List (Event A)) (p : Progress A) → columns 32 ≡ Some 1 → Each (HasMode PreWrap) (run_of es) →
+      IsPrintableLine columns (run_of es) → IsReadyForWord columns p → IsOpen width (letters_of p.laid.line) →
       WrapsText p.laid (text_ahead p (entry_letters (run_of es))) (flush_word columns width (fold (step columns width) p es)).laid
-  wraps_read [] p one modes printable h line = cond_both (has_character p.word) _ _ (λ (q : Progress A). WrapsText p.laid (text_ahead p []) q.laid) (λ has. end_laid p h line has) (λ none. end_bare p line none)
+  wraps_read [] p one modes printable h line =
+      cond_both (has_character p.word) _ _ (λ (q : Progress A). WrapsText p.laid (text_ahead p []) q.laid)
+      (λ has. end_laid p h line has) (λ none. end_bare p line none)
   wraps_read (call ∷ es) p one modes printable h line =
       wraps_read es (record p { in_continuation = p.continuation_flag }) one modes printable (record { plain = h.plain; measured = h.measured; apart = h.apart; wraps = h.wraps }) line
   wraps_read (entry (marker_entry name) ∷ es) p one modes printable h line = absurd printable.0
   wraps_read (entry (character c a b mode) ∷ es) p one modes printable h line =
       rw (modes.0) (elim (eqb_tells c 32) [
         | inl w ↦
-            subst (λ d. WrapsText p.laid (text_ahead p (d ∷ entry_letters (run_of es))) (flush_word columns width (fold (step columns width) (enter columns width p (character d a b PreWrap)) es)).laid) (sym w.1)
+            subst
+            (λ d. WrapsText p.laid (text_ahead p (d ∷ entry_letters (run_of es)))
+            (flush_word columns width (fold (step columns width) (enter columns width p (character d a b PreWrap)) es)).laid)
+            (sym w.1)
             (subst (λ (r : Progress A). WrapsText p.laid (text_ahead p (32 ∷ entry_letters (run_of es))) (flush_word columns width (fold (step columns width) r es)).laid)
-            (sym (preserved_space columns width a b PreWrap (break_word columns width p) one)) (space_read es p a b h line (λ n ready open_line. wraps_read es n one modes.1 printable.1 ready open_line)))
+            (sym (preserved_space columns width a b PreWrap (break_word columns width p) one))
+            (space_read es p a b h line
+            (λ n ready open_line. wraps_read es n one modes.1 printable.1 ready open_line)))
         | inr w ↦
             let v = visible_of columns c printable.0 w.1 in
             let n = join c (tag_of p a b) PreWrap p in
             let k = wraps_read es n one modes.1 printable.1 (join_ready columns p c (tag_of p a b) v h) line in
             let text : letters_of n.word ++ entry_letters (run_of es) ≡ letters_of p.word ++ (c ∷ entry_letters (run_of es)) =
             ap (λ cs. cs ++ entry_letters (run_of es)) (letters_of-append p.word (glyph c (tag_of p a b) ∷ [])) ∙ append_assoc (letters_of p.word) (c ∷ []) (entry_letters (run_of es)) in
-            subst (λ (r : Progress A). WrapsText p.laid (text_ahead p (c ∷ entry_letters (run_of es))) (flush_word columns width (fold (step columns width) r es)).laid) (sym (entered_visible columns width c a b PreWrap p (λ e. cc) v))
+            subst
+            (λ (r : Progress A). WrapsText p.laid (text_ahead p (c ∷ entry_letters (run_of es)))
+            (flush_word columns width (fold (step columns width) r es)).laid)
+            (sym (entered_visible columns width c a b PreWrap p (λ e. cc) v))
             (subst (λ (t : List ℕ). WrapsText p.laid (replicate (pending_width p.space) 32 ++ t) (flush_word columns width (fold (step columns width) n es)).laid) text k)
       ])
 
 -- the lines of a hard line, before a newline and at the end of the run
-pub wrapped_line : {A : Type 0} (columns : ℕ → Option ℕ) (width : ℕ) → 0 < width → columns 32 ≡ Some 1 → (p : Progress A) (es : List (Event A)) → BeginsHardLine p → Each (HasMode PreWrap) (run_of es) →
+pub wrapped_line : {A : Type 0} (columns : ℕ → Option ℕ) (width : ℕ) → 0 < width → columns 32 ≡ Some 1 →
+    (p : Progress A) (es : List (Event A)) → BeginsHardLine p → Each (HasMode PreWrap) (run_of es) →
     IsPrintableLine columns (run_of es) → ¬ (IsSpaces (entry_letters (run_of es))) →
     IsWrapped width [] (entry_letters (run_of es)) (map letters_of (newline (flush_word columns width (fold (step columns width) p es))).laid.done)
     × IsWrapped width [] (entry_letters (run_of es)) (map letters_of (finished columns width (fold (step columns width) p es)).done)

@@ -1,10 +1,6 @@
 -- Lines on which a text of stretches and spaces goes on from an open line.
-use Rattle.std.proofs.Common.{◌≡◌, ℕ, zero, suc, ◌+◌, ◌<◌, ◌≤◌, ◌⊎◌, inl, inr, List, [], ◌∷◌, ◌++◌, replicate, length, refl, ap, sym, ◌∙◌, arith, append_assoc, append-nil, subst, ne_eqb}
-use Rattle.std.specs.List.{AllByRecursion as Each}
-use Rattle.std.proofs.lemmas.Bool.Decides.{eqb_tells}
-use Rattle.std.proofs.lemmas.List.{replicate-append-replicate}
-use Rattle.std.proofs.lemmas.Bool.{cases_lt}
-use Rattle.tbr_model.specs.Hard.{IsSpaces, BeginsWithNonBlank, EndsWithNonBlank, first_stretch, BeginsAfter, IsWrapped}
+use Rattle.tbr_model.proofs.Common.{◌≡◌, ℕ, zero, suc, ◌+◌, ◌<◌, ◌≤◌, ◌⊎◌, inl, inr, List, [], ◌∷◌, ◌++◌, replicate, length, refl, ap, sym, ◌∙◌, arith, append_assoc, append-nil, subst, ne_eqb, Each}
+use Rattle.tbr_model.proofs.Common.{eqb_tells, replicate-append-replicate, cases_lt, IsSpaces, BeginsWithNonBlank, EndsWithNonBlank, first_stretch, BeginsAfter, IsWrapped}
 
 -- characters that are neither spaces nor before them
 abbrev pub AreNonBlank : List ℕ → Type 0
@@ -83,7 +79,8 @@ ended width line text ls ends fits wrapped =
     }
 
 -- a line begins
-pub begun : (width : ℕ) (before text : List ℕ) (ls : List (List ℕ)) (gap : ℕ) (h : GoesOnFrom width [] text ls) → BeginsAfter width before gap h.more → IsWrapped width before (replicate gap 32 ++ text) ls
+pub begun : (width : ℕ) (before text : List ℕ) (ls : List (List ℕ)) (gap : ℕ) (h : GoesOnFrom width [] text ls) →
+    BeginsAfter width before gap h.more → IsWrapped width before (replicate gap 32 ++ text) ls
 begun width before text ls gap h begins = grind (arith, ℕ)
 
 -- an open line that holds nothing yet, or ends with a non-blank and fits

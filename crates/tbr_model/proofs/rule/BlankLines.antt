@@ -1,12 +1,8 @@
 -- A hard line of spaces alone leaves an empty line before a newline, and none at the end of a run.
-use Rattle.std.proofs.Common.{◌≡◌, ◌≢◌, ℕ, true, false, Option, None, Some, List, [], ◌∷◌, fold, refl, ap, sym, ◌∙◌, subst, arith}
-use Rattle.std.specs.List.{AllByRecursion as Each}
+use Rattle.tbr_model.proofs.Common.{◌≡◌, ◌≢◌, ℕ, true, false, Option, None, Some, List, [], ◌∷◌, fold, refl, ap, sym, ◌∙◌, subst, arith, Each, WhiteSpace, Normal, Pre, PreWrap, Entry, character}
+use Rattle.tbr_model.proofs.Common.{marker_entry, marker, items_width, has_character, Event, call, entry, run_of, Progress, flush_word, break_word, tag_of, newline, keep_space, enter, step, finished}
+use Rattle.tbr_model.proofs.Common.{HasMode, Preserves, entry_letters, IsSpaces, blank_lines}
 use Rattle.tbr_model.proofs.lists.Each.{each_weaker}
-use Rattle.tbr_model.specs.declared.white_space.WhiteSpace.{WhiteSpace}
-use Rattle.tbr_model.specs.declared.white_space.WhiteSpace.TheVariants.{Normal, Pre, PreWrap}
-use Rattle.tbr_model.specs.Run.{Entry, character, marker_entry, marker, items_width, has_character}
-use Rattle.tbr_model.specs.Rule.{Event, call, entry, run_of, Progress, flush_word, break_word, tag_of, newline, keep_space, enter, step, finished}
-use Rattle.tbr_model.specs.Hard.{HasMode, Preserves, entry_letters, IsSpaces, blank_lines}
 use Rattle.tbr_model.proofs.words.Items.{has_character-append, no_character_no_width}
 use Rattle.tbr_model.proofs.rule.HardLineStart.{BeginsHardLine}
 use Rattle.tbr_model.proofs.rule.HardLines.{not_flushed}

@@ -1,21 +1,14 @@
 -- What is found in a run's items, for any way to look at them that passes over characters that aren't kept. The rule
 -- keeps it, in order.
-use Rattle.std.proofs.Common.{◌≡◌, ℕ, ◌⊎◌, inl, true, false, List, Option, [], ◌∷◌, ◌++◌, fold, refl, ap, sym, ◌∙◌, append_assoc, append-nil, Bool, filter, arith}
-use Rattle.std.specs.Char.{is_whitespace}
-use Rattle.std.specs.List.{AllZip, AllByRecursion as Each}
-use Rattle.std.proofs.lemmas.Bool.{eqb-true}
-use Rattle.tbr_model.specs.declared.white_space.WhiteSpace.{WhiteSpace}
-use Rattle.tbr_model.specs.declared.white_space.WhiteSpace.TheVariants.{Pre, PreWrap}
-use Rattle.tbr_model.specs.Run.{Entry, character, marker_entry, Item, glyph, marker, item_width, has_character, is_kept}
-use Rattle.tbr_model.specs.Layout.{joined}
-use Rattle.tbr_model.specs.Laid.{Laid, nothing_laid, extended, end_line}
-use Rattle.tbr_model.specs.Rule.{Event, run_of, Progress, is_space_item, is_white_item, without_trailing, trimmed, is_pre, flush_word, newline, step, progress, finished, waiting, lines_of}
+use Rattle.tbr_model.proofs.Common.{◌≡◌, ℕ, ◌⊎◌, inl, true, false, List, Option, [], ◌∷◌, ◌++◌, fold, refl, ap, sym, ◌∙◌, append_assoc, append-nil, Bool, filter, arith, is_whitespace, AllZip, Each}
+use Rattle.tbr_model.proofs.Common.{eqb-true, WhiteSpace, Pre, PreWrap, Entry, character, marker_entry, Item, glyph, marker, item_width, has_character, is_kept, joined, Laid, nothing_laid, extended}
+use Rattle.tbr_model.proofs.Common.{end_line, Event, run_of, Progress, is_space_item, is_white_item, without_trailing, trimmed, is_pre, flush_word, newline, step, progress, finished, waiting}
+use Rattle.tbr_model.proofs.Common.{lines_of, filter-append}
 use Rattle.tbr_model.proofs.rule.LaidText.{text, text-extended, text-end_line, trailing_cases}
 use Rattle.tbr_model.proofs.rule.HardLineStart.{BeginsHardLine}
 use Rattle.tbr_model.proofs.rule.HardLines.{no_character_after_end, flush_flushes}
 use Rattle.tbr_model.proofs.rule.Walk.{KeptByRule, word_flushed, line_ended, run_ended, walked, run_walked}
 use Rattle.tbr_model.proofs.words.Items.{break_lost}
-use Rattle.std.proofs.lemmas.List.Elements.{filter-append}
 
 -- ---- ways to look at items
 
@@ -140,12 +133,16 @@ module _ {A X : Type 0} {columns : ℕ → Option ℕ} {Comes : Entry A → Type
   found_under_way width es comes = (run_walked (finds width) es begun comes).laid
 
   -- where the run ends, on its lines and in what waits
-  pub found_at_end : (width : ℕ) (es : List (Event A)) → Each Comes (run_of es) → FoundIn Modes found (run_of es) (found (joined (lines_of columns width es) ++ waiting columns width (progress columns width es)))
+  pub found_at_end : (width : ℕ) (es : List (Event A)) → Each Comes (run_of es) →
+      FoundIn Modes found (run_of es)
+      (found (joined (lines_of columns width es) ++ waiting columns width (progress columns width es)))
   found_at_end width es comes =
       let p : Progress A = progress columns width es in
       let l : Laid A = finished columns width p in
       let w : List (Item A) = (flush_word columns width p).word in
-      again (run_of es) (in_all l w) _ (ap found (sym (append_assoc (joined l.done) l.line w)) ∙ looks.append (text l) w) (run_ended (finds width) (run_of es) p (run_walked (finds width) es begun comes))
+      again (run_of es) (in_all l w) _
+      (ap found (sym (append_assoc (joined l.done) l.line w)) ∙ looks.append (text l) w)
+      (run_ended (finds width) (run_of es) p (run_walked (finds width) es begun comes))
 
   -- ---- where nothing is found in markers
 
@@ -178,7 +175,8 @@ passing test is = filter (item_passes test) is
 pub passing-append : {A : Type 0} (test : ℕ → Bool) (is js : List (Item A)) → passing test (is ++ js) ≡ passing test is ++ passing test js
 passing-append test is js = filter-append (item_passes test) is js
 
-pub looks_at_passing : {A : Type 0} (columns : ℕ → Option ℕ) (Comes : Entry A → Type 0) (Modes : WhiteSpace → Type 0) (test : ℕ → Bool) → ((c : ℕ) (a b : A) (m : WhiteSpace) → Comes (character c a b m) → Modes m) →
+pub looks_at_passing : {A : Type 0} (columns : ℕ → Option ℕ) (Comes : Entry A → Type 0) (Modes : WhiteSpace → Type 0)
+    (test : ℕ → Bool) → ((c : ℕ) (a b : A) (m : WhiteSpace) → Comes (character c a b m) → Modes m) →
     ((c : ℕ) → is_kept columns c ≡ false → test c ≡ false) → (Modes PreWrap → (c : ℕ) → is_whitespace c ≡ true → test c ≡ false) → LooksAtKept columns Comes Modes (passing test)
 looks_at_passing columns Comes Modes test modes lost white = record {
   modes = modes;

@@ -1,11 +1,7 @@
 -- Lines that are done have no influence on how a block goes on: this is the rule where each annotation stays as it is.
-use Rattle.std.proofs.Common.{◌≡◌, ℕ, ◌&&◌, nat_lt, is_none, Option, Some, None, List, [], ◌++◌, fold, refl, ap, sym, ◌∙◌, append-nil, arith}
-use Rattle.std.specs.Option.{option_map}
-use Rattle.tbr_model.specs.declared.white_space.WhiteSpace.{WhiteSpace}
-use Rattle.tbr_model.specs.Run.{character, marker_entry, Item, glyph, marker, is_blank}
-use Rattle.tbr_model.specs.Laid.{Laid, put_items}
-use Rattle.tbr_model.specs.Rule.{Event, call, entry, Space, Progress, collapse, newline, tab, preserve, step, finished}
-use Rattle.tbr_model.specs.Mapped.{map_item, map_items, map_event, map_space}
+use Rattle.tbr_model.proofs.Common.{◌≡◌, ℕ, ◌&&◌, nat_lt, is_none, Option, Some, None, List, [], ◌++◌, fold, refl, ap, sym, ◌∙◌, append-nil, arith, option_map, WhiteSpace, character, marker_entry}
+use Rattle.tbr_model.proofs.Common.{Item, glyph, marker, is_blank, Laid, put_items, Event, call, entry, Space, Progress, collapse, newline, tab, preserve, step, finished, map_item, map_items}
+use Rattle.tbr_model.proofs.Common.{map_event, map_space}
 pub use Rattle.tbr_model.proofs.lists.Each.{if_same}
 use Rattle.tbr_model.proofs.lists.Each.{map_same}
 use Rattle.tbr_model.proofs.maps.Rule.{moved_laid, moved, put_items-map, tab-map, preserve-map, step-map, steps-map, finished_moved, newline-map}
@@ -38,13 +34,16 @@ space_same (Some s) = refl
 laid_same : {A : Type 0} (d : List (List (Item A))) (l : Laid A) → moved_laid d (λ a. a) l ≡ under d l
 laid_same d l = rw (map_same (map_items (λ a. a)) items_same l.done, items_same l.line) refl
 
-by_move : {A : Type 0} (d : List (List (Item A))) (F : Progress A → Progress A) → ((p : Progress A) → F (moved d (λ a. a) p) ≡ moved d (λ a. a) (F p)) → (p : Progress A) → F (after d p) ≡ after d (F p)
+by_move : {A : Type 0} (d : List (List (Item A))) (F : Progress A → Progress A) →
+    ((p : Progress A) → F (moved d (λ a. a) p) ≡ moved d (λ a. a) (F p)) → (p : Progress A) →
+    F (after d p) ≡ after d (F p)
 by_move {A} d F goes p = ap F (sym (same p)) ∙ goes p ∙ same (F p)
   where
     same : (q : Progress A) → moved d (λ a. a) q ≡ after d q
     same q = rw (laid_same d q.laid, space_same q.space, items_same q.word) refl
 
-pub put_items_under : {A : Type 0} (columns : ℕ → Option ℕ) (width : ℕ) (d : List (List (Item A))) (l : Laid A) (is : List (Item A)) → put_items columns width (under d l) is ≡ under d (put_items columns width l is)
+pub put_items_under : {A : Type 0} (columns : ℕ → Option ℕ) (width : ℕ) (d : List (List (Item A))) (l : Laid A)
+    (is : List (Item A)) → put_items columns width (under d l) is ≡ under d (put_items columns width l is)
 put_items_under {A} columns width d l is =
     ap (λ (m : Laid A). put_items columns width m is) (sym (laid_same d l)) ∙ ap (put_items columns width (moved_laid d (λ a. a) l)) (sym (items_same is))
     ∙ put_items-map d (λ a. a) columns width is l ∙ laid_same d (put_items columns width l is)
@@ -72,12 +71,18 @@ module _ {A : Type 0} (columns : ℕ → Option ℕ) (width : ℕ) (d : List (Li
   fold_after es = grind (arith, by_move, moved, map_same, event_same, steps-map)
 
   pub finished_after : finished columns width (after d p) ≡ under d (finished columns width p)
-  finished_after = ap (λ (q : Progress A). q.laid) (by_move d (λ q. record q { laid = finished columns width q }) (λ q. ap (λ (l : Laid A). record (moved d (λ a. a) q) { laid = l }) (finished_moved d (λ a. a) columns width q)) p)
+  finished_after =
+      ap (λ (q : Progress A). q.laid)
+      (by_move d (λ q. record q { laid = finished columns width q })
+      (λ q. ap (λ (l : Laid A). record (moved d (λ a. a) q) { laid = l })
+      (finished_moved d (λ a. a) columns width q)) p)
 
 -- ---- lines are only added
 
 -- by what has no use for them
-pub adds_by : {A : Type 0} (F : Progress A → Progress A) → ((d : List (List (Item A))) (p : Progress A) → F (after d p) ≡ after d (F p)) → (p : Progress A) → (more : List (List (Item A))) × ((F p).laid.done ≡ p.laid.done ++ more)
+pub adds_by : {A : Type 0} (F : Progress A → Progress A) →
+    ((d : List (List (Item A))) (p : Progress A) → F (after d p) ≡ after d (F p)) → (p : Progress A) →
+    (more : List (List (Item A))) × ((F p).laid.done ≡ p.laid.done ++ more)
 adds_by {A} F same p =
     let bare : Progress A = record p { laid = record p.laid { done = [] } } in
     let is : after p.laid.done bare ≡ p = ap (λ ls. record p { laid = record p.laid { done = ls } }) (append-nil p.laid.done) in

@@ -1,7 +1,5 @@
 -- Where a block is at the beginning of a hard line.
-use Rattle.std.proofs.Common.{◌≡◌, false, None, []}
-use Rattle.tbr_model.specs.Run.{has_character}
-use Rattle.tbr_model.specs.Rule.{Progress}
+use Rattle.tbr_model.proofs.Common.{◌≡◌, false, None, [], has_character, Progress}
 
 -- Nothing is laid, no space waits, no character is in the word, which may hold markers, and no line goes on.
 pub record BeginsHardLine {A : Type 0} (p : Progress A) : Type 0 where

@@ -1,13 +1,8 @@
 -- What holds of one hard line at a time holds of a run of them.
-use Rattle.std.proofs.Common.{◌≡◌, ℕ, ◌+◌, nat_lt, Bool, true, false, Option, List, [], ◌∷◌, ◌++◌, fold, refl, ap, sym, ◌∙◌, subst, append_assoc, append-nil, ltb-true, inl, inr, arith}
-use Rattle.std.specs.List.{AllByRecursion as Each}
-use Rattle.std.proofs.lemmas.Bool.{cond_both, eqb-true, cases_Bool}
-use Rattle.std.proofs.lemmas.List.Sums.{fold-append}
-use Rattle.tbr_model.specs.declared.white_space.WhiteSpace.TheVariants.{Normal, Pre, PreWrap}
-use Rattle.tbr_model.specs.Run.{Entry, character, marker_entry, Item, items_width, has_character}
-use Rattle.tbr_model.specs.Laid.{Laid, end_if_character}
-use Rattle.tbr_model.specs.Rule.{Event, call, entry, run_of, Progress, at_start, lay, flush_word, break_word, newline, enter, step, finished, lines_of}
-use Rattle.tbr_model.specs.Hard.{Preserves, is_newline, onto_first, hard_lines, Parted}
+use Rattle.tbr_model.proofs.Common.{◌≡◌, ℕ, ◌+◌, nat_lt, Bool, true, false, Option, List, [], ◌∷◌, ◌++◌, fold, refl, ap, sym, ◌∙◌, subst, append_assoc, append-nil, ltb-true, inl, inr, arith, Each}
+use Rattle.tbr_model.proofs.Common.{cond_both, eqb-true, cases_Bool, fold-append, Normal, Pre, PreWrap, Entry, character, marker_entry, Item, items_width, has_character, Laid, end_if_character, Event}
+use Rattle.tbr_model.proofs.Common.{call, entry, run_of, Progress, at_start, lay, flush_word, break_word, newline, enter, step, finished, lines_of, Preserves, onto_first, hard_lines, Parted}
+use Rattle.tbr_model.specs.Hard.{is_newline}
 use Rattle.tbr_model.proofs.lists.Each.{each_append}
 use Rattle.tbr_model.proofs.words.LinesHaveCharacters.{wide_items}
 use Rattle.tbr_model.proofs.rule.HardLineStart.{BeginsHardLine}
@@ -139,7 +134,8 @@ module _ {A : Type 0} (columns : ℕ → Option ℕ) (width : ℕ) (R : Bool →
       at_line : enter columns width q e ≡ after ended_line.laid.done (restart ended_line)
       at_line = enter_newline columns width q e (preserves e m) k ∙ sym (restart_after ended_line)
 
-      lines : (finished columns width (fold (step columns width) (enter columns width q e) es)).done ≡ ended_line.laid.done ++ (finished columns width (fold (step columns width) (restart ended_line) es)).done
+      lines : (finished columns width (fold (step columns width) (enter columns width q e) es)).done ≡
+          ended_line.laid.done ++ (finished columns width (fold (step columns width) (restart ended_line) es)).done
       lines =
           ap (λ r. (finished columns width (fold (step columns width) r es)).done) at_line
           ∙ ap (λ r. (finished columns width r).done) (fold_after columns width ended_line.laid.done (restart ended_line) es)

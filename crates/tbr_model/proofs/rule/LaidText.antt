@@ -1,12 +1,7 @@
 -- What a block has laid, as one text, and the characters of a text.
-use Rattle.std.proofs.Common.{◌≡◌, ℕ, ◌+◌, nat_le, ◌==◌, false, Option, List, [], ◌∷◌, ◌++◌, map, filter, refl, ap, sym, ◌∙◌, append_assoc, append-nil, true}
-use Rattle.std.proofs.lemmas.Bool.{cond_both}
-use Rattle.std.proofs.lemmas.List.Elements.{filter-append}
-use Rattle.tbr_model.specs.Rule.{is_space_item, without_trailing}
-use Rattle.tbr_model.specs.Run.{Item, item_width, is_kept, has_character}
-use Rattle.tbr_model.specs.Layout.{joined}
-use Rattle.tbr_model.specs.Laid.{Laid, extended, end_line, end_if_character, end_if_columns, put_item, put_items}
-use Rattle.tbr_model.specs.Hard.{letters_of}
+use Rattle.tbr_model.proofs.Common.{◌≡◌, ℕ, ◌+◌, nat_le, ◌==◌, false, Option, List, [], ◌∷◌, ◌++◌, map, filter, refl, ap, sym, ◌∙◌, append_assoc, append-nil, true, cond_both, filter-append}
+use Rattle.tbr_model.proofs.Common.{is_space_item, without_trailing, Item, item_width, is_kept, has_character, joined, Laid, extended, end_line, end_if_character, end_if_columns, put_item, put_items}
+use Rattle.tbr_model.proofs.Common.{letters_of}
 use Rattle.tbr_model.proofs.words.Items.{letters_of-append, no_glyphs}
 use Rattle.tbr_model.proofs.lists.Joined.{joined-append}
 
@@ -32,7 +27,9 @@ text-put_item {A} columns width l i =
     cond_both (nat_le (l.width + item_width columns i) width) _ _ Holds (λ _. text-extended l (i ∷ []) (item_width columns i))
     (λ _. cond_both (nat_le (item_width columns i) width) _ _ Holds
     (λ _. text-extended (end_line l) (i ∷ []) (item_width columns i) ∙ ap (λ is. is ++ i ∷ []) (text-end_line l))
-    (λ _. text-end_line (extended (end_if_columns l) (i ∷ []) (item_width columns i)) ∙ text-extended (end_if_columns l) (i ∷ []) (item_width columns i) ∙ ap (λ is. is ++ i ∷ []) (cond_both (l.width == 0) _ _ (λ (m : Laid A). text m ≡ text l) (λ _. refl) (λ _. text-end_line l))))
+    (λ _. text-end_line (extended (end_if_columns l) (i ∷ []) (item_width columns i)) ∙ text-extended (end_if_columns l)
+    (i ∷ []) (item_width columns i) ∙ ap (λ is. is ++ i ∷ [])
+    (cond_both (l.width == 0) _ _ (λ (m : Laid A). text m ≡ text l) (λ _. refl) (λ _. text-end_line l))))
   where
     Holds : Laid A → Type 0
     Holds m = text m ≡ text l ++ i ∷ []
@@ -43,7 +40,9 @@ text-put_items columns width (i ∷ is) l =
     text-put_items columns width is (put_item columns width l i) ∙ ap (λ js. js ++ is) (text-put_item columns width l i) ∙ append_assoc (text l) (i ∷ []) is
 
 -- what the spaces at the end are taken from: an item stays in front, or is a space that nothing is left after
-pub trailing_cases : {A : Type 0} (P : List (Item A) → List (Item A) → Type 0) → P [] [] → ((i : Item A) (is js : List (Item A)) → P is js → P (i ∷ is) (i ∷ js)) → ((i : Item A) (is : List (Item A)) → is_space_item i ≡ true → P is [] → P (i ∷ is) []) →
+pub trailing_cases : {A : Type 0} (P : List (Item A) → List (Item A) → Type 0) → P [] [] →
+    ((i : Item A) (is js : List (Item A)) → P is js → P (i ∷ is) (i ∷ js)) →
+    ((i : Item A) (is : List (Item A)) → is_space_item i ≡ true → P is [] → P (i ∷ is) []) →
     (is : List (Item A)) → P is (without_trailing is)
 trailing_cases P none more drops [] = none
 trailing_cases {A} P none more drops (i ∷ is) = go (without_trailing is) refl (trailing_cases P none more drops is)

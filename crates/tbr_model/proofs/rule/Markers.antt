@@ -1,10 +1,7 @@
 -- How a block goes on keeps the markers, in order.
-use Rattle.std.proofs.Common.{◌≡◌, ℕ, false, Option, List, [], ◌∷◌, ◌++◌, map, fold, refl, ap, sym, ◌∙◌, append_assoc, append-nil, arith}
-use Rattle.std.specs.List.{AllZip}
-use Rattle.tbr_model.specs.Run.{Entry, character, marker_entry, Item, glyph, marker, has_character}
-use Rattle.tbr_model.specs.Layout.{joined}
-use Rattle.tbr_model.specs.Rule.{Event, entry, run_of, Progress, at_start, enter, step, progress, waiting, lines_of}
-use Rattle.tbr_model.specs.Markers.{names_in_items, names_in_run, marker_run, marker_items}
+use Rattle.tbr_model.proofs.Common.{◌≡◌, ℕ, false, Option, List, [], ◌∷◌, ◌++◌, map, fold, refl, ap, sym, ◌∙◌, append_assoc, append-nil, arith, AllZip, Entry, character, marker_entry, Item, glyph}
+use Rattle.tbr_model.proofs.Common.{marker, has_character, joined, Event, entry, run_of, Progress, at_start, enter, step, progress, waiting, lines_of, names_in_items, names_in_run, marker_run}
+use Rattle.tbr_model.proofs.Common.{marker_items}
 use Rattle.tbr_model.proofs.words.Items.{has_character-append}
 use Rattle.tbr_model.proofs.rule.Content.{LooksAtKept, AnyEntry, AnyMode, StandsFor, by_entry, found_under_way, found_at_end}
 use Rattle.tbr_model.proofs.rule.Walk.{any_entries}

@@ -1,13 +1,8 @@
 -- What the rule does with a printable character.
-use Rattle.std.proofs.Common.{◌≡◌, ◌≢◌, ℕ, ◌≤◌, false, if◌then◌else◌, Option, Some, refl, ap, arith, ne_eqb}
+use Rattle.tbr_model.proofs.Common.{◌≡◌, ◌≢◌, ℕ, ◌≤◌, false, if◌then◌else◌, Option, Some, refl, ap, arith, ne_eqb, is_whitespace, WhiteSpace, Normal, Pre, PreWrap, character, is_blank, is_break}
+use Rattle.tbr_model.proofs.Common.{Progress, break_word, tag_of, keep_space, keep_character, preserve, enter, IsPrintable}
 use Rattle.std.proofs.lemmas.Bool.Decides.{nat_tests}
 use Rattle.std.proofs.lemmas.Grind.{common_steps}
-use Rattle.std.specs.Char.{is_whitespace}
-use Rattle.tbr_model.specs.declared.white_space.WhiteSpace.{WhiteSpace}
-use Rattle.tbr_model.specs.declared.white_space.WhiteSpace.TheVariants.{Normal, Pre, PreWrap}
-use Rattle.tbr_model.specs.Run.{character, is_blank, is_break}
-use Rattle.tbr_model.specs.Rule.{Progress, break_word, tag_of, keep_space, keep_character, preserve, enter}
-use Rattle.tbr_model.specs.Hard.{IsPrintable}
 
 pub whitespace_not : (c : ℕ) → 33 ≤ c → c ≤ 126 → is_whitespace c ≡ false
 whitespace_not c h k = grind (arith, nat_tests, common_steps)

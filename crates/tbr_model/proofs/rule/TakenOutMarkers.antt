@@ -1,17 +1,13 @@
 -- Markers at the end of the word under way can be taken out of the run.
-use Rattle.std.proofs.Common.{◌≡◌, ℕ, ◌+◌, ◌-◌, ◌≤◌, ◌⊎◌, inl, inr, ◌==◌, ◌&&◌, ◌||◌, Bool, true, false, nat_le, nat_lt, if◌then◌else◌, is_some, Option, Some, None, List, [], ◌∷◌, ◌++◌, length, refl, ap, sym, ◌∙◌, arith, append-nil, length-append, ltb-true, ltb-false, lt-ltb}
-use Rattle.std.proofs.lemmas.Bool.{cond_both, le-ltb, or_parts, cases_Bool}
-use Rattle.std.proofs.lemmas.List.Sums.{fold-append}
-use Rattle.tbr_model.specs.declared.white_space.WhiteSpace.{WhiteSpace}
-use Rattle.tbr_model.specs.declared.white_space.WhiteSpace.TheVariants.{Normal, Pre, PreWrap}
-use Rattle.tbr_model.specs.Run.{Entry, character, marker_entry, Item, items_width, has_character, is_blank, is_break}
-use Rattle.tbr_model.specs.Rule.{Event, call, entry, run_of, Space, Progress, at_start, pending_width, space_of, is_white_item, without_leading, wrap_space_by, wrap_space, lay_here, lay_fresh, lay, flush_word, break_word, join, collapse, newline, tab, keep_space, is_pre, passes, tag_of, keep_character, preserve, enter_normal, enter, step, progress}
-use Rattle.tbr_model.specs.Markers.{names_in_run}
+use Rattle.tbr_model.proofs.Common.{◌≡◌, ℕ, ◌+◌, ◌-◌, ◌≤◌, ◌⊎◌, inl, inr, ◌==◌, ◌&&◌, ◌||◌, Bool, true, false, nat_le, nat_lt, if◌then◌else◌, is_some, Option, Some, None, List, [], ◌∷◌, ◌++◌, length}
+use Rattle.tbr_model.proofs.Common.{refl, ap, sym, ◌∙◌, arith, append-nil, length-append, ltb-true, ltb-false, lt-ltb, cond_both, le-ltb, or_parts, cases_Bool, fold-append, WhiteSpace, Normal, Pre}
+use Rattle.tbr_model.proofs.Common.{PreWrap, Entry, character, marker_entry, Item, items_width, has_character, is_blank, is_break, Event, call, entry, run_of, Space, Progress, at_start, pending_width}
+use Rattle.tbr_model.proofs.Common.{space_of, is_white_item, without_leading, wrap_space_by, wrap_space, lay_here, lay_fresh, lay, flush_word, break_word, join, collapse, newline, tab, keep_space}
+use Rattle.tbr_model.proofs.Common.{is_pre, passes, tag_of, keep_character, preserve, enter_normal, enter, step, progress, names_in_run, or-false}
 use Rattle.tbr_model.specs.TakenOut.{without_markers}
 use Rattle.tbr_model.proofs.lists.Each.{from_front}
 use Rattle.tbr_model.proofs.words.Items.{items_width-append, has_character-append, back_has, no_character_no_width}
 use Rattle.tbr_model.proofs.rule.HardLines.{run_of-append}
-use Rattle.std.proofs.Math.Bool.{or-false}
 use Rattle.tbr_model.proofs.rule.Markers.{names_in_run-append}
 
 -- ---- the last markers among events
@@ -20,7 +16,9 @@ pub without_no_event : {A : Type 0} (es : List (Event A)) → without_markers 0 
 without_no_event [] = refl
 without_no_event {A} (call ∷ es) = ap (λ (fs : List (Event A)). call ∷ fs) (without_no_event es)
 without_no_event {A} (entry (character c a b mode) ∷ es) = ap (λ (fs : List (Event A)). entry (character c a b mode) ∷ fs) (without_no_event es)
-without_no_event {A} (entry (marker_entry name) ∷ es) = rw (le-ltb (length (names_in_run (run_of es))) 0 (omega arith)) (ap (λ (fs : List (Event A)). entry (marker_entry name) ∷ fs) (without_no_event es))
+without_no_event {A} (entry (marker_entry name) ∷ es) =
+    rw (le-ltb (length (names_in_run (run_of es))) 0 (omega arith))
+    (ap (λ (fs : List (Event A)). entry (marker_entry name) ∷ fs) (without_no_event es))
 
 without_events-append : {A : Type 0} (n : ℕ) (es fs : List (Event A)) → length (names_in_run (run_of fs)) ≤ n →
     without_markers n (es ++ fs) ≡ without_markers (n - length (names_in_run (run_of fs))) es ++ without_markers n fs
@@ -37,10 +35,14 @@ without_events-append {A} n (entry (marker_entry name) ∷ es) fs h = elim (case
 ]
   where
     both : length (names_in_run (run_of (es ++ fs))) ≡ length (names_in_run (run_of es)) + length (names_in_run (run_of fs))
-    both = ap (λ (gs : List (Entry A)). length (names_in_run gs)) (run_of-append es fs) ∙ ap length (names_in_run-append (run_of es) (run_of fs)) ∙ length-append (names_in_run (run_of es)) (names_in_run (run_of fs))
+    both =
+        ap (λ (gs : List (Entry A)). length (names_in_run gs)) (run_of-append es fs)
+        ∙ ap length (names_in_run-append (run_of es) (run_of fs))
+        ∙ length-append (names_in_run (run_of es)) (names_in_run (run_of fs))
 
 -- one more event that is no marker, and one more marker that goes
-without_plain : {A : Type 0} (n : ℕ) (es : List (Event A)) (x : Event A) → length (names_in_run (run_of (x ∷ []))) ≡ 0 → without_markers n (es ++ x ∷ []) ≡ without_markers n es ++ without_markers n (x ∷ [])
+without_plain : {A : Type 0} (n : ℕ) (es : List (Event A)) (x : Event A) → length (names_in_run (run_of (x ∷ []))) ≡ 0 →
+    without_markers n (es ++ x ∷ []) ≡ without_markers n es ++ without_markers n (x ∷ [])
 without_plain n es x none = grind (arith, without_events-append)
 
 without_one : {A : Type 0} (n : ℕ) (es : List (Event A)) (name : List ℕ) → without_markers (n + 1) (es ++ entry (marker_entry name) ∷ []) ≡ without_markers n es
@@ -112,7 +114,9 @@ module _ {A : Type 0} where
   abbrev IsBlind : (Progress A → Bool) → Type 0
   IsBlind t = (p : Progress A) (before ms : List (Item A)) → p.word ≡ before ++ ms → has_character ms ≡ false → t (with_word p before) ≡ t p
 
-  leaves_as : (F f : Progress A → Progress A) (p : Progress A) → F p ≡ f p → ((before ms : List (Item A)) → p.word ≡ before ++ ms → has_character ms ≡ false → F (with_word p before) ≡ f (with_word p before)) → Leaves f p → Leaves F p
+  leaves_as : (F f : Progress A → Progress A) (p : Progress A) → F p ≡ f p →
+      ((before ms : List (Item A)) → p.word ≡ before ++ ms → has_character ms ≡ false → F (with_word p before) ≡ f
+      (with_word p before)) → Leaves f p → Leaves F p
   leaves_as F f p here there h front ms none e = grind arith
 
   leaves_if : (t : Progress A → Bool) (f g : Progress A → Progress A) (p : Progress A) → IsBlind t → (t p ≡ true → Leaves f p) → (t p ≡ false → Leaves g p) → Leaves (λ q. if t q then f q else g q) p
@@ -165,7 +169,9 @@ module _ {A : Type 0} (columns : ℕ → Option ℕ) (width : ℕ) where
   keep_character_leaves c a b mode None p = λ front ms h e. inr (front, e, refl)
   keep_character_leaves c a b mode (Some n) p =
       whole_leaves (keep_character columns width c a b mode (Some n)) p
-      (cond_both (is_pre mode && passes columns width n p) _ _ EndsWhole (λ _. joined_whole c b mode (record p { continuation_flag = true; in_continuation = true })) (λ _. joined_whole c (tag_of p a b) mode p))
+      (cond_both (is_pre mode && passes columns width n p) _ _ EndsWhole
+      (λ _. joined_whole c b mode (record p { continuation_flag = true; in_continuation = true }))
+      (λ _. joined_whole c (tag_of p a b) mode p))
 
   preserve_leaves : (c : ℕ) (a b : A) (mode : WhiteSpace) (p : Progress A) → Leaves (preserve columns width c a b mode) p
   preserve_leaves c a b mode p = go (c == 8203) (c == 10) (c == 9) (is_blank c)

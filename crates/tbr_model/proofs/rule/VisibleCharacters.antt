@@ -1,14 +1,9 @@
 -- A block shows the visible characters of its run once, in order.
-use Rattle.std.proofs.Common.{◌≡◌, ℕ, ◌⊎◌, inl, inr, true, false, not, Option, List, [], ◌∷◌, ◌++◌, filter, fold, refl, ap, ◌∙◌, arith, length-append}
-use Rattle.std.specs.List.{AllZip, AllByRecursion as Each}
-use Rattle.std.specs.Char.{is_whitespace}
-use Rattle.std.proofs.lemmas.Bool.{and_left, and_right, not_from_true, cases_Bool}
-use Rattle.std.proofs.lemmas.List.Elements.{filter-append}
-use Rattle.tbr_model.specs.declared.white_space.WhiteSpace.{WhiteSpace}
-use Rattle.tbr_model.specs.declared.white_space.WhiteSpace.TheVariants.{Pre}
-use Rattle.tbr_model.specs.Run.{Entry, character, Item, glyph, marker, has_character, is_kept}
-use Rattle.tbr_model.specs.Rule.{Event, run_of, Progress, at_start, flush_word, newline, step, finished, lines_of}
-use Rattle.tbr_model.specs.Hard.{glyphs_of, is_visible, visible_glyphs, visible_entries, IsShown, ShowsVisible, Preserves, hard_lines, Parted, ShowsHardLine}
+use Rattle.tbr_model.proofs.Common.{◌≡◌, ℕ, ◌⊎◌, inl, inr, true, false, not, Option, List, [], ◌∷◌, ◌++◌, filter, fold, refl, ap, ◌∙◌, arith, length-append, AllZip, Each, is_whitespace, and_left}
+use Rattle.tbr_model.proofs.Common.{and_right, not_from_true, cases_Bool, filter-append, WhiteSpace, Pre, Entry, character, Item, glyph, marker, has_character, is_kept, Event, run_of, Progress}
+use Rattle.tbr_model.proofs.Common.{at_start, flush_word, newline, step, finished, lines_of, glyphs_of, is_visible, visible_entries, IsShown, ShowsVisible, Preserves, hard_lines, Parted}
+use Rattle.tbr_model.proofs.Common.{ShowsHardLine}
+use Rattle.tbr_model.specs.Hard.{visible_glyphs}
 use Rattle.tbr_model.proofs.rule.HardLineStart.{BeginsHardLine}
 use Rattle.tbr_model.proofs.words.Items.{glyphs_of-append}
 use Rattle.tbr_model.proofs.rule.Content.{LooksAtKept, AnyEntry, AnyMode, StandsFor, by_entry, found_from}
@@ -33,7 +28,8 @@ pub looks_at_characters : {A : Type 0} (columns : ℕ → Option ℕ) (Comes : E
 looks_at_characters columns Comes Modes modes = grind (arith, visible-append, and_left, white_not_visible)
 
 -- the visible ones among items that stand for entries, where each has a relation to its entry
-pub visible_zip : {A : Type 0} (columns : ℕ → Option ℕ) (Modes : WhiteSpace → Type 0) (S : ℕ × A → Entry A → Type 0) → ((c : ℕ) (x a b : A) (m : WhiteSpace) → (x ≡ a) ⊎ ((x ≡ b) × Modes Pre) → S (c, x) (character c a b m)) →
+pub visible_zip : {A : Type 0} (columns : ℕ → Option ℕ) (Modes : WhiteSpace → Type 0) (S : ℕ × A → Entry A → Type 0) →
+    ((c : ℕ) (x a b : A) (m : WhiteSpace) → (x ≡ a) ⊎ ((x ≡ b) × Modes Pre) → S (c, x) (character c a b m)) →
     (is : List (Item A)) (es : List (Entry A)) → AllZip (StandsFor Modes) is es → AllZip S (visible_glyphs columns is) (visible_entries columns es)
 visible_zip {A} columns Modes S each =
     by_entry Modes (λ is es. AllZip S (visible_glyphs columns is) (visible_entries columns es)) tt

@@ -1,13 +1,13 @@
 -- The rule, walked once: what each elementary change keeps holds of all that the rule lays.
-use Rattle.std.proofs.Common.{◌≡◌, ◌≢◌, ℕ, zero, suc, ◌+◌, ◌-◌, ◌%◌, ◌<◌, ◌≤◌, ◌==◌, ◌&&◌, ◌⊎◌, inl, inr, nat_le, nat_lt, Bool, true, false, not, if◌then◌else◌, is_some, is_none, Option, Some, None, List, [], ◌∷◌, ◌++◌, fold, refl, ap, sym, subst, append_assoc, append-nil, arith, leb-true, leb-false, ltb-true}
-use Rattle.std.specs.List.{AllByRecursion as Each}
-use Rattle.std.proofs.lemmas.Bool.{cond_both, eqb-true, eqb-false, and_left, and_parts, or_right}
+use Rattle.tbr_model.proofs.Common.{◌≡◌, ◌≢◌, ℕ, zero, suc, ◌+◌, ◌-◌, ◌%◌, ◌<◌, ◌≤◌, ◌==◌, ◌&&◌, ◌⊎◌, inl, inr, nat_le, nat_lt, Bool, true, false, not, if◌then◌else◌, is_some, is_none, Option, Some}
+use Rattle.tbr_model.proofs.Common.{None, List, [], ◌∷◌, ◌++◌, fold, refl, ap, sym, subst, append_assoc, append-nil, arith, leb-true, leb-false, ltb-true, Each, cond_both, eqb-true, and_left}
+use Rattle.tbr_model.proofs.Common.{and_parts, or_right, WhiteSpace, Normal, Pre, PreWrap, Entry, character, marker_entry, Item, glyph, marker, item_width, items_width, has_character, is_blank}
+use Rattle.tbr_model.proofs.Common.{is_break, is_kept, Laid, nothing_laid, extended, end_line, end_if_character, put_item, put_items, Event, call, entry, run_of, Space, Progress, at_start, spaces}
+use Rattle.tbr_model.proofs.Common.{pending_width, space_text, is_white_item, without_leading, trimmed, space_of, wrap_space_by, wrap_space, put_space, put_spaces, put_pending, is_pre, lay_here}
+use Rattle.tbr_model.proofs.Common.{lay_fresh, lay, flush_word, break_word, join, collapse, newline, put_tab, tab, keep_space, passes, tag_of, keep_character, preserve, enter_normal, enter, step}
+use Rattle.tbr_model.proofs.Common.{progress, finished}
+use Rattle.std.proofs.lemmas.Bool.{eqb-false}
 use Rattle.tbr_model.specs.Codes.{zero_width_space}
-use Rattle.tbr_model.specs.declared.white_space.WhiteSpace.{WhiteSpace}
-use Rattle.tbr_model.specs.declared.white_space.WhiteSpace.TheVariants.{Normal, Pre, PreWrap}
-use Rattle.tbr_model.specs.Run.{Entry, character, marker_entry, Item, glyph, marker, item_width, items_width, has_character, is_blank, is_break, is_kept}
-use Rattle.tbr_model.specs.Laid.{Laid, nothing_laid, extended, end_line, end_if_character, put_item, put_items}
-use Rattle.tbr_model.specs.Rule.{Event, call, entry, run_of, Space, Progress, at_start, spaces, pending_width, space_text, is_white_item, without_leading, trimmed, space_of, wrap_space_by, wrap_space, put_space, put_spaces, put_pending, is_pre, lay_here, lay_fresh, lay, flush_word, break_word, join, collapse, newline, put_tab, tab, keep_space, passes, tag_of, keep_character, preserve, enter_normal, enter, step, progress, finished}
 use Rattle.tbr_model.proofs.words.Items.{break_lost}
 
 -- A kept character may join a word, and white space that has a width in a preserving mode.
@@ -24,14 +24,16 @@ pub record KeptByRule {A : Type 0} (columns : ℕ → Option ℕ) (width : ℕ) 
   pub bare : Rooms → (es : List (Entry A)) (l : Laid A) (w : List (Item A)) → R es l w → has_character l.line ≡ false → l.width ≡ 0
   -- the word's first item goes on the open line, or fits none and fills an empty one
   pub item : (es : List (Entry A)) (l : Laid A) (i : Item A) (w : List (Item A)) → l.width + item_width columns i ≤ width → R es l (i ∷ w) → R es (extended l (i ∷ []) (item_width columns i)) w
-  pub wide : (es : List (Entry A)) (l : Laid A) (i : Item A) (w : List (Item A)) → l.width ≡ 0 → width < item_width columns i → R es l (i ∷ w) → R es (end_line (extended l (i ∷ []) (item_width columns i))) w
+  pub wide : (es : List (Entry A)) (l : Laid A) (i : Item A) (w : List (Item A)) → l.width ≡ 0 →
+      width < item_width columns i → R es l (i ∷ w) → R es (end_line (extended l (i ∷ []) (item_width columns i))) w
   pub space : (es : List (Entry A)) (l : Laid A) (w : List (Item A)) (a : A) → (Rooms → l.width < width) → Tag a → R es l w → R es (extended l (glyph 32 a ∷ []) 1) w
   pub ended : (es : List (Entry A)) (l : Laid A) (w : List (Item A)) → R es l w → R es (end_line l) w
   -- in `PreWrap` the spaces at the end of the line are dropped, and the white space in front of the word
   pub trims : Mode PreWrap → (es : List (Entry A)) (l : Laid A) (w : List (Item A)) → R es l w → R es (trimmed columns l) w
   pub white : Mode PreWrap → (es : List (Entry A)) (l : Laid A) (i : Item A) (w : List (Item A)) → is_white_item i ≡ true → R es l (i ∷ w) → R es l w
   -- an entry comes: its item joins the word, or none does
-  pub joins : (es : List (Entry A)) (l : Laid A) (w : List (Item A)) (c : ℕ) (a b : A) (m : WhiteSpace) (x : A) → Comes (character c a b m) → (x ≡ a) ⊎ ((x ≡ b) × Mode Pre) → MayJoin columns m c → R es l w →
+  pub joins : (es : List (Entry A)) (l : Laid A) (w : List (Item A)) (c : ℕ) (a b : A) (m : WhiteSpace) (x : A) →
+      Comes (character c a b m) → (x ≡ a) ⊎ ((x ≡ b) × Mode Pre) → MayJoin columns m c → R es l w →
       R (es ++ character c a b m ∷ []) l (w ++ glyph c x ∷ [])
   pub marks : (es : List (Entry A)) (l : Laid A) (w : List (Item A)) (name : List ℕ) → Comes (marker_entry name) → R es l w → R (es ++ marker_entry name ∷ []) l (w ++ marker name ∷ [])
   pub lost : (es : List (Entry A)) (l : Laid A) (w : List (Item A)) (c : ℕ) (a b : A) (m : WhiteSpace) → is_kept columns c ≡ false → R es l w → R (es ++ character c a b m ∷ []) l w
@@ -53,7 +55,8 @@ pub any_entries : {A : Type 0} (es : List (Entry A)) → Each (λ e. Unit {0}) e
 any_entries [] = tt
 any_entries (e ∷ es) = (tt, any_entries es)
 
-module _ {A : Type 0} {columns : ℕ → Option ℕ} {width : ℕ} {Comes : Entry A → Type 0} {Tag : A → Type 0} {Mode : WhiteSpace → Type 0} {Rooms : Type 0} {R : List (Entry A) → Laid A → List (Item A) → Type 0}
+module _ {A : Type 0} {columns : ℕ → Option ℕ} {width : ℕ} {Comes : Entry A → Type 0} {Tag : A → Type 0}
+    {Mode : WhiteSpace → Type 0} {Rooms : Type 0} {R : List (Entry A) → Laid A → List (Item A) → Type 0}
     (k : KeptByRule columns width Comes Tag Mode Rooms R) where
   abbrev pub Waits : Option (Space A) → Type 0
   Waits None = Unit {0}
@@ -112,7 +115,10 @@ module _ {A : Type 0} {columns : ℕ → Option ℕ} {width : ℕ} {Comes : Entr
     spaces_put (suc n) a l w room t r =
         let m : Laid A = extended l (glyph 32 a ∷ []) 1 in
         let placed = k.space es l w a room t r in
-        let put = cond_both (l.width + 1 == width) (end_line m) m (λ (q : Laid A). R es q w × (Rooms → q.width < width)) (λ _. (k.ended es m w placed, λ s. k.some s)) (λ e. (placed, λ s. omega (arith, room s, eqb-false _ _ e))) in
+        let put =
+        cond_both (l.width + 1 == width) (end_line m) m (λ (q : Laid A). R es q w × (Rooms → q.width < width))
+        (λ _. (k.ended es m w placed, λ s. k.some s))
+        (λ e. (placed, λ s. omega (arith, room s, eqb-false _ _ e))) in
         spaces_put n a (put_space width a l) w put.1 t put.0
 
     pending_put : (o : Option (Space A)) (l : Laid A) (w : List (Item A)) → (Rooms → l.width < width) → Waits o → R es l w → R es (put_pending width o l) w
@@ -142,7 +148,10 @@ module _ {A : Type 0} {columns : ℕ → Option ℕ} {width : ℕ} {Comes : Entr
 
     laid_here : (p : Progress A) → p.laid.width + (pending_width p.space + items_width columns p.word) ≤ width → Stands es p → Stands es (lay_here columns p)
     laid_here p room h = record {
-      laid = subst (λ (m : Laid A). R es m []) (extended_twice p.laid (space_text p.space) p.word (pending_width p.space) (items_width columns p.word) (pending_width p.space + items_width columns p.word) refl)
+      laid =
+          subst (λ (m : Laid A). R es m [])
+          (extended_twice p.laid (space_text p.space) p.word (pending_width p.space) (items_width columns p.word)
+          (pending_width p.space + items_width columns p.word) refl)
           (items_here p.word (extended p.laid (space_text p.space) (pending_width p.space)) (omega (arith, room)) (text_here p.space p.laid p.word (λ _. omega (arith, room)) h.space h.laid));
       space = tt;
       flags = (h.flags.0, (λ e. cc), h.flags.2);
@@ -221,7 +230,10 @@ module _ {A : Type 0} {columns : ℕ → Option ℕ} {width : ℕ} {Comes : Entr
         let q : Progress A = break_word columns width p in
         let l = word_broken p h in
         let collapsed : Stands es (collapse c (tag_of p a b) q) =
-        cond_both (is_blank c && (nat_lt 0 q.laid.width && is_none q.space)) _ _ (Stands es) (λ _. record { laid = l.laid; space = (tagged c a b Normal comes p, (k.tags c a b Normal comes).2); flags = l.flags }) (λ _. l) in
+        cond_both (is_blank c && (nat_lt 0 q.laid.width && is_none q.space)) _ _ (Stands es)
+        (λ _.
+        record { laid = l.laid; space = (tagged c a b Normal comes p, (k.tags c a b Normal comes).2); flags = l.flags })
+        (λ _. l) in
         cond_both (is_break c) _ _ (Stands (es ++ character c a b Normal ∷ [])) (λ e. passed c a b Normal comes (collapse c (tag_of p a b) q) (break_lost columns c e) collapsed)
         (λ unbroken. cond_both (is_some (columns c)) _ _ (Stands (es ++ character c a b Normal ∷ [])) (λ some. joined c a b Normal comes p (inl (known_kept columns c some unbroken)) h)
         (λ none. passed c a b Normal comes p (unknown_lost columns c none) h))

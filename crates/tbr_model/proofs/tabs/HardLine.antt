@@ -1,18 +1,14 @@
 -- A hard line of printable characters and tabs, as long as it fits the open line.
-use Rattle.std.proofs.Common.{◌≡◌, ℕ, ◌+◌, ◌-◌, ◌%◌, ◌≤◌, Bool, true, false, ◌&&◌, nat_lt, nat_le, Option, Some, List, [], ◌∷◌, ◌++◌, replicate, length, refl, ap, sym, ◌∙◌, arith, append_assoc, append-nil, length-append, le-leb, lt-ltb, subst, ◌≢◌, ◌<◌, ◌⊎◌, inl, inr, ◌==◌, if◌then◌else◌, map, fold, ne_eqb}
-use Rattle.std.proofs.lemmas.Bool.{cond_both, both_ways}
-use Rattle.std.proofs.lemmas.List.{length-replicate, replicate-append-replicate}
+use Rattle.tbr_model.proofs.Common.{◌≡◌, ℕ, ◌+◌, ◌-◌, ◌%◌, ◌≤◌, Bool, true, false, ◌&&◌, nat_lt, nat_le, Option, Some, List, [], ◌∷◌, ◌++◌, replicate, length, refl, ap, sym, ◌∙◌, arith, append_assoc}
+use Rattle.tbr_model.proofs.Common.{append-nil, length-append, le-leb, lt-ltb, subst, ◌≢◌, ◌<◌, ◌⊎◌, inl, inr, ◌==◌, if◌then◌else◌, map, fold, ne_eqb, cond_both, both_ways, length-replicate}
+use Rattle.tbr_model.proofs.Common.{replicate-append-replicate, WhiteSpace, Normal, Pre, PreWrap, glyph, items_width, has_character, is_break, character, marker_entry, Laid, extended, end_line}
+use Rattle.tbr_model.proofs.Common.{end_if_character, Progress, spaces, pending_width, space_text, space_of, is_pre, lay_here, lay, flush_word, break_word, join, tab, tag_of, keep_space, passes}
+use Rattle.tbr_model.proofs.Common.{keep_character, Event, call, entry, run_of, enter, step, lines_of, letters_of, HasMode, Preserves, entry_letters, IsPrintable, IsTabbedLine, EndsWithNonBlank}
+use Rattle.tbr_model.proofs.Common.{ShowsTabs, hard_lines, Parted, Each, eqb_tells}
 use Rattle.tbr_model.proofs.rule.HardLines.{ShowsOne, hard_lines_parted}
-use Rattle.tbr_model.specs.declared.white_space.WhiteSpace.{WhiteSpace}
-use Rattle.tbr_model.specs.declared.white_space.WhiteSpace.TheVariants.{Normal, Pre, PreWrap}
-use Rattle.tbr_model.specs.Run.{glyph, items_width, has_character, is_break, character, marker_entry}
-use Rattle.tbr_model.specs.Laid.{Laid, extended, end_line, end_if_character}
-use Rattle.tbr_model.specs.Rule.{Progress, spaces, pending_width, space_text, space_of, is_pre, lay_here, lay, flush_word, break_word, join, tab, tag_of, keep_space, passes, keep_character, Event, call, entry, run_of, enter, step, lines_of}
-use Rattle.tbr_model.specs.Hard.{letters_of, HasMode, Preserves, entry_letters, IsPrintable, IsTabbedLine, EndsWithNonBlank, tabs_filled, ShowsTabs, hard_lines, Parted}
+use Rattle.tbr_model.specs.Hard.{tabs_filled}
 use Rattle.tbr_model.proofs.words.Items.{back_has, letters_of-append, items_width-append, no_character_no_width, no_letters, letters_of-spaces, letters_of-space_text, pending_width-of}
 use Rattle.tbr_model.proofs.rule.Printable.{prepared, IsVisible, entered, preserved_space, entered_visible, visible_of}
-use Rattle.std.specs.List.{AllByRecursion as Each}
-use Rattle.std.proofs.lemmas.Bool.Decides.{eqb_tells}
 use Rattle.tbr_model.proofs.lists.Each.{if_same, each_weaker}
 use Rattle.tbr_model.proofs.rule.BlankLines.{mode_preserves}
 use Rattle.tbr_model.proofs.rule.HardLineStart.{BeginsHardLine}
@@ -36,7 +32,10 @@ lay_fits columns width x p h fits = grind (arith, le-leb, reads_length)
 pub laid_letters : {A : Type 0} (columns : ℕ → Option ℕ) (p : Progress A) →
     letters_of (lay_here columns p).laid.line ≡ letters_of p.laid.line ++ (replicate (pending_width p.space) 32 ++ letters_of p.word)
 laid_letters columns p =
-    letters_of-append p.laid.line (space_text p.space ++ p.word) ∙ ap (λ cs. letters_of p.laid.line ++ cs) (letters_of-append (space_text p.space) p.word ∙ ap (λ cs. cs ++ letters_of p.word) (letters_of-space_text p.space))
+    letters_of-append p.laid.line (space_text p.space ++ p.word)
+    ∙ ap (λ cs. letters_of p.laid.line ++ cs)
+    (letters_of-append (space_text p.space) p.word
+    ∙ ap (λ cs. cs ++ letters_of p.word) (letters_of-space_text p.space))
 
 pub lay_here_reads : {A : Type 0} (columns : ℕ → Option ℕ) (x : List ℕ) (p : Progress A) → HoldsText columns x p → HoldsText columns x (lay_here columns p)
 lay_here_reads columns x p h = record {
@@ -56,14 +55,17 @@ pub flush_reads : {A : Type 0} (columns : ℕ → Option ℕ) (width : ℕ) (x :
     HoldsText columns x (flush_word columns width p) × has_character (flush_word columns width p).word ≡ false
 flush_reads {A} columns width x p h fits = grind (arith, cond_both, lay_fits, lay_here_reads)
 
-pub prepared_reads : {A : Type 0} (columns : ℕ → Option ℕ) (width c : ℕ) (mode : WhiteSpace) (x : List ℕ) (p : Progress A) → HoldsText columns x p → length x ≤ width → HoldsText columns x (prepared columns width c mode p)
+pub prepared_reads : {A : Type 0} (columns : ℕ → Option ℕ) (width c : ℕ) (mode : WhiteSpace) (x : List ℕ)
+    (p : Progress A) → HoldsText columns x p → length x ≤ width →
+    HoldsText columns x (prepared columns width c mode p)
 prepared_reads columns width c Normal x p h fits = h
 prepared_reads columns width c Pre x p h fits = h
 prepared_reads {A} columns width c PreWrap x p h fits =
     cond_both (is_break c) _ _ (λ (q : Progress A). HoldsText columns x q) (λ _. break_reads columns width x p h fits) (λ _. h)
 
 -- a character joins the word
-pub join_reads : {A : Type 0} (columns : ℕ → Option ℕ) (c : ℕ) (a : A) (mode : WhiteSpace) (x : List ℕ) (p : Progress A) → columns c ≡ Some 1 → HoldsText columns x p → HoldsText columns (x ++ c ∷ []) (join c a mode p)
+pub join_reads : {A : Type 0} (columns : ℕ → Option ℕ) (c : ℕ) (a : A) (mode : WhiteSpace) (x : List ℕ) (p : Progress A)
+    → columns c ≡ Some 1 → HoldsText columns x p → HoldsText columns (x ++ c ∷ []) (join c a mode p)
 join_reads {A} columns c a mode x p one h = record {
   done = h.done;
   width = h.width;
@@ -78,7 +80,8 @@ join_reads {A} columns c a mode x p one h = record {
     wide = rw one refl
 
 -- a space joins the word, or waits after other space
-pub space_reads : {A : Type 0} (columns : ℕ → Option ℕ) (a : A) (mode : WhiteSpace) (x : List ℕ) (p : Progress A) → columns 32 ≡ Some 1 → HoldsText columns x p → HoldsText columns (x ++ 32 ∷ []) (keep_space 32 a mode (Some 1) p)
+pub space_reads : {A : Type 0} (columns : ℕ → Option ℕ) (a : A) (mode : WhiteSpace) (x : List ℕ) (p : Progress A) →
+    columns 32 ≡ Some 1 → HoldsText columns x p → HoldsText columns (x ++ 32 ∷ []) (keep_space 32 a mode (Some 1) p)
 space_reads {A} columns a mode x p one h =
     cond_both (has_character p.word) _ _ (λ (q : Progress A). HoldsText columns (x ++ 32 ∷ []) q) (λ _. join_reads columns 32 a mode x p one h) (λ none. record {
       done = h.done;
@@ -95,7 +98,9 @@ space_reads {A} columns a mode x p one h =
         rw (pending_width-of (n + 1) a mode) (ap (λ cs. l ++ (replicate (n + 1) 32 ++ cs)) e ∙ ap (λ cs. l ++ cs) (append-nil (replicate (n + 1) 32) ∙ more)
         ∙ sym (append_assoc l (replicate n 32) (32 ∷ [])) ∙ ap (λ cs. cs ++ 32 ∷ []) without)
 
-pub continuation_reads : {A : Type 0} (columns : ℕ → Option ℕ) (x : List ℕ) (p : Progress A) (continuation_flag in_continuation : Bool) → HoldsText columns x p → HoldsText columns x (record p { continuation_flag = continuation_flag; in_continuation = in_continuation })
+pub continuation_reads : {A : Type 0} (columns : ℕ → Option ℕ) (x : List ℕ) (p : Progress A)
+    (continuation_flag in_continuation : Bool) → HoldsText columns x p →
+    HoldsText columns x (record p { continuation_flag = continuation_flag; in_continuation = in_continuation })
 continuation_reads columns x p continuation_flag in_continuation h = record { done = h.done; width = h.width; word = h.word; text = h.text }
 
 -- any other character joins the word
@@ -103,7 +108,8 @@ pub character_reads : {A : Type 0} (columns : ℕ → Option ℕ) (width c : ℕ
     HoldsText columns (x ++ c ∷ []) (keep_character columns width c a b mode (Some 1) p)
 character_reads {A} columns width c a b mode x p one h =
     cond_both (is_pre mode && passes columns width 1 p) _ _ (λ (q : Progress A). HoldsText columns (x ++ c ∷ []) q)
-    (λ _. join_reads columns c b mode x (record p { continuation_flag = true; in_continuation = true }) one (continuation_reads columns x p true true h)) (λ _. join_reads columns c (tag_of p a b) mode x p one h)
+    (λ _. join_reads columns c b mode x (record p { continuation_flag = true; in_continuation = true }) one
+    (continuation_reads columns x p true true h)) (λ _. join_reads columns c (tag_of p a b) mode x p one h)
 
 pub character_joins : {A : Type 0} (columns : ℕ → Option ℕ) (width c : ℕ) (a b : A) (mode : WhiteSpace) (p : Progress A) →
     has_character (keep_character columns width c a b mode (Some 1) p).word ≡ true
@@ -116,7 +122,10 @@ tab_reads {A} columns width a x p h none fits = subst (λ (l : Laid A). HoldsTex
   done = h.done;
   width = omega (arith, h.width, ap length letters, length-append (letters_of p.laid.line) (replicate n 32), length-replicate {A = ℕ} n 32);
   word = h.word;
-  text = ap (λ cs. cs ++ (replicate s 32 ++ letters_of p.word)) letters ∙ ap (λ cs. (letters_of p.laid.line ++ replicate n 32) ++ (replicate s 32 ++ cs)) empty ∙ turned ∙ ap (λ cs. cs ++ replicate n 32) before;
+  text =
+      ap (λ cs. cs ++ (replicate s 32 ++ letters_of p.word)) letters
+      ∙ ap (λ cs. (letters_of p.laid.line ++ replicate n 32) ++ (replicate s 32 ++ cs)) empty ∙ turned
+      ∙ ap (λ cs. cs ++ replicate n 32) before;
 })
   where
     n : ℕ
@@ -199,7 +208,8 @@ ends_on : (has : Bool) (c : ℕ) (cs : List ℕ) → EndsWithNonBlank (c ∷ cs)
 ends_on has c [] h f = f h
 ends_on has c (d ∷ cs) h f = h
 
-tabs_read : {A : Type 0} (columns : ℕ → Option ℕ) (width : ℕ) (es : List (Event A)) (x all : List ℕ) (p : Progress A) → columns 32 ≡ Some 1 → Each Preserves (run_of es) → IsTabbedLine columns (run_of es) →
+tabs_read : {A : Type 0} (columns : ℕ → Option ℕ) (width : ℕ) (es : List (Event A)) (x all : List ℕ) (p : Progress A) →
+    columns 32 ≡ Some 1 → Each Preserves (run_of es) → IsTabbedLine columns (run_of es) →
     Ends (has_character p.word) (entry_letters (run_of es)) → x ++ tabs_filled (length x) (entry_letters (run_of es)) ≡ all → length all ≤ width → HoldsText columns x p →
     HoldsText columns all (fold (step columns width) p es) × has_character (fold (step columns width) p es).word ≡ true
 tabs_read columns width [] x all p one kept tabbed ends whole fits h = (subst (λ (t : List ℕ). HoldsText columns t p) (sym (append-nil x) ∙ whole) h, ends)
@@ -210,7 +220,8 @@ tabs_read columns width (entry (character c a b mode) ∷ es) x all p one kept t
     let cs = entry_letters (run_of es) in
     let first : x ++ (filled (length x) c ++ tabs_filled (length x + length (filled (length x) c)) cs) ≡ all = ap (λ ds. x ++ ds) (sym (filled_first (length x) c cs)) ∙ whole in
     let on : (x ++ filled (length x) c) ++ tabs_filled (length (x ++ filled (length x) c)) cs ≡ all =
-    ap (λ k. (x ++ filled (length x) c) ++ tabs_filled k cs) (length-append x (filled (length x) c)) ∙ append_assoc x (filled (length x) c) (tabs_filled (length x + length (filled (length x) c)) cs) ∙ first in
+    ap (λ k. (x ++ filled (length x) c) ++ tabs_filled k cs) (length-append x (filled (length x) c))
+    ∙ append_assoc x (filled (length x) c) (tabs_filled (length x + length (filled (length x) c)) cs) ∙ first in
     let room : length x + length (filled (length x) c) ≤ width =
     omega (arith, fits, ap length on, length-append x (filled (length x) c), length-append (x ++ filled (length x) c) (tabs_filled (length (x ++ filled (length x) c)) cs)) in
     let next = entry_reads columns width a b mode kept.0 x p h c one tabbed.0 room in
@@ -233,7 +244,8 @@ line_is {A} x l done letters has = grind (arith, cond_both, both_ways)
 pub laid_has : {A : Type 0} (columns : ℕ → Option ℕ) (p : Progress A) → has_character p.word ≡ true → has_character (lay_here columns p).laid.line ≡ true
 laid_has columns p has = back_has p.laid.line (space_text p.space ++ p.word) (back_has (space_text p.space) p.word has)
 
-pub end_reads : {A : Type 0} (columns : ℕ → Option ℕ) (width : ℕ) (x : List ℕ) (p : Progress A) → HoldsText columns x p → length x ≤ width → has_character p.word ≡ true → IsLine x (flush_word columns width p).laid
+pub end_reads : {A : Type 0} (columns : ℕ → Option ℕ) (width : ℕ) (x : List ℕ) (p : Progress A) →
+    HoldsText columns x p → length x ≤ width → has_character p.word ≡ true → IsLine x (flush_word columns width p).laid
 end_reads columns width x p h fits has =
     rw has (rw (lay_fits columns width x p h fits) (line_is x (lay_here columns p).laid h.done (laid_letters columns p ∙ h.text) (laid_has columns p has)))
 
@@ -242,14 +254,19 @@ some_end [] h = absurd h
 some_end (c ∷ cs) h = h
 
 -- Tabs of a hard line in a run of one preserving mode.
-tab_line : {A : Type 0} (columns : ℕ → Option ℕ) (width : ℕ) → columns 32 ≡ Some 1 → 0 < width → (mode : WhiteSpace) → mode ≢ Normal → ShowsOne columns width (ShowsTabs {A = A} columns width) (HasMode mode)
-tab_line {A} columns width one some mode kept p es h modes no_newline = (record { tabs = λ tabbed ends fits. (line tabbed ends fits).0 }, record { tabs = λ tabbed ends fits. (line tabbed ends fits).1 })
+tab_line : {A : Type 0} (columns : ℕ → Option ℕ) (width : ℕ) → columns 32 ≡ Some 1 → 0 < width → (mode : WhiteSpace) →
+    mode ≢ Normal → ShowsOne columns width (ShowsTabs {A = A} columns width) (HasMode mode)
+tab_line {A} columns width one some mode kept p es h modes no_newline =
+    (record { tabs = λ tabbed ends fits. (line tabbed ends fits).0 }, record { tabs = λ tabbed ends fits. (line tabbed ends fits).1 })
   where
     line : IsTabbedLine columns (run_of es) → EndsWithNonBlank (entry_letters (run_of es)) → length (tabs_filled 0 (entry_letters (run_of es))) ≤ width →
         IsLine (tabs_filled 0 (entry_letters (run_of es))) (flush_word columns width (fold (step columns width) p es)).laid
     line tabbed ends fits =
         let starts : Ends (has_character p.word) (entry_letters (run_of es)) = rw (h.word) (some_end (entry_letters (run_of es)) ends) in
-        let both = tabs_read columns width es [] (tabs_filled 0 (entry_letters (run_of es))) p one (each_weaker (HasMode mode) Preserves (mode_preserves mode kept) (run_of es) modes) tabbed starts refl fits (fresh_reads columns p h) in
+        let both =
+        tabs_read columns width es [] (tabs_filled 0 (entry_letters (run_of es))) p one
+        (each_weaker (HasMode mode) Preserves (mode_preserves mode kept) (run_of es) modes) tabbed starts refl
+        fits (fresh_reads columns p h) in
         end_reads columns width (tabs_filled 0 (entry_letters (run_of es))) (fold (step columns width) p es) both.0 fits both.1
 
 -- each hard line's tabs, in a run of one preserving mode

@@ -1,13 +1,12 @@
 -- What the words of a run are made of, and the best layout of them.
-use Rattle.std.proofs.Common.{◌≡◌, ℕ, ◌+◌, ◌<◌, ◌≤◌, Bool, true, false, nat_lt, nat_le, Option, None, List, [], ◌∷◌, ◌++◌, map, fold, flat_map, length, refl, ap, sym, ◌∙◌, arith, append_assoc, append-nil, leb-true, leb-false, ltb-false, le-leb, le-ltb}
-use Rattle.std.specs.List.{AllByRecursion as Each}
-use Rattle.std.proofs.lemmas.Bool.{cond_both}
-use Rattle.tbr_model.specs.Run.{Item, item_width, items_width, Word}
-use Rattle.tbr_model.specs.Layout.{Slot, slot_of, word_slots, joined, line_width, rest_width, MayFollow, FirstMayBegin, IsLegalLine, IsBest}
+use Rattle.tbr_model.proofs.Common.{◌≡◌, ℕ, ◌+◌, ◌<◌, ◌≤◌, Bool, true, false, nat_lt, nat_le, Option, None, List, [], ◌∷◌, ◌++◌, map, fold, flat_map, length, refl, ap, sym, ◌∙◌, arith, append_assoc}
+use Rattle.tbr_model.proofs.Common.{append-nil, leb-true, leb-false, ltb-false, le-leb, Each, cond_both, Item, item_width, items_width, Word, Slot, slot_of, word_slots, joined, line_width, rest_width}
+use Rattle.tbr_model.proofs.Common.{MayFollow, FirstMayBegin, IsLegalLine, IsBest, close, Lines, fill, place_word, no_lines, wrapped, IsNarrow}
+use Rattle.std.proofs.Common.{le-ltb}
 use Rattle.tbr_model.proofs.lists.Joined.{joined-append}
 use Rattle.tbr_model.proofs.lists.Each.{each_append, each_weaker, each_map}
 use Rattle.tbr_model.proofs.layouts.Ahead.{line_width_back, greedy_best}
-use Rattle.tbr_model.specs.Greedy.{close, Lines, fill, place, place_word, no_lines, wrapped, IsNarrow}
+use Rattle.tbr_model.specs.Greedy.{place}
 use Rattle.tbr_model.proofs.layouts.Greedy.{stays_by_unit, stays_by_wider, MayNotBegin, HoldsSlots, InWider, longer, longer_holds_slots, next_holds_slots, fill_holds_slots, greedy_close}
 
 -- ---- a word's slots

@@ -1,12 +1,7 @@
 -- Characters and columns of items, one after another, and of space that waits.
-use Rattle.std.proofs.Common.{◌≡◌, ℕ, zero, suc, ◌+◌, ◌<◌, true, false, not, ◌||◌, is_some, Option, Some, None, List, [], ◌∷◌, ◌++◌, map, length, replicate, refl, ap, ◌∙◌, arith}
-use Rattle.std.specs.List.{AllByRecursion as Each}
-use Rattle.std.proofs.lemmas.Bool.{and_right, or_right, not_from_true}
-use Rattle.std.proofs.lemmas.List.{map-append}
-use Rattle.tbr_model.specs.declared.white_space.WhiteSpace.{WhiteSpace}
-use Rattle.tbr_model.specs.Run.{Item, glyph, marker, items_width, has_character, is_kept, is_break}
-use Rattle.tbr_model.specs.Rule.{Space, spaces, pending_width, space_text, space_of}
-use Rattle.tbr_model.specs.Hard.{glyphs_of, letters_of}
+use Rattle.tbr_model.proofs.Common.{◌≡◌, ℕ, zero, suc, ◌+◌, ◌<◌, true, false, not, ◌||◌, is_some, Option, Some, None, List, [], ◌∷◌, ◌++◌, map, length, replicate, refl, ap, ◌∙◌, arith, Each}
+use Rattle.tbr_model.proofs.Common.{and_right, or_right, not_from_true, map-append, WhiteSpace, Item, glyph, marker, items_width, has_character, is_kept, is_break, Space, spaces, pending_width}
+use Rattle.tbr_model.proofs.Common.{space_text, space_of, glyphs_of, letters_of}
 
 -- ---- items after items
 

@@ -1,12 +1,9 @@
 -- The words of a run hold its kept items, and which runs have a legal layout.
-use Rattle.std.proofs.Common.{◌≡◌, ℕ, ◌≤◌, Bool, true, false, nat_lt, Option, None, List, [], ◌∷◌, ◌++◌, map, fold, flat_map, refl, ap, sym, ◌∙◌, arith, append_assoc, append-nil, subst}
-use Rattle.std.specs.List.{AllByRecursion as Each}
-use Rattle.std.proofs.lemmas.Bool.{cond_both, and_parts, cases_Bool}
-use Rattle.std.proofs.lemmas.List.Concat.{flat_map-append}
-use Rattle.tbr_model.specs.Run.{Entry, character, marker_entry, Item, item_width, items_width, items_of, kept_items, is_kept, is_break_entry, has_character, Word, Reading, read, reading, words_of, trailing}
-use Rattle.tbr_model.specs.Layout.{Slot, slot_of, word_slots, slots_of, joined, line_width, rest_width, IsLegalLine, IsLegal, IsBest}
+use Rattle.tbr_model.proofs.Common.{◌≡◌, ℕ, ◌≤◌, Bool, true, false, nat_lt, Option, None, List, [], ◌∷◌, ◌++◌, map, fold, flat_map, refl, ap, sym, ◌∙◌, arith, append_assoc, append-nil, subst, Each}
+use Rattle.tbr_model.proofs.Common.{cond_both, and_parts, cases_Bool, flat_map-append, Entry, character, marker_entry, Item, item_width, items_width, items_of, kept_items, is_kept, is_break_entry}
+use Rattle.tbr_model.proofs.Common.{has_character, Word, Reading, read, reading, words_of, trailing, Slot, slot_of, word_slots, slots_of, joined, line_width, rest_width, IsLegalLine, IsLegal, IsBest}
+use Rattle.tbr_model.proofs.Common.{close, wrapped, IsNarrow}
 use Rattle.tbr_model.proofs.lists.Each.{each_front, each_back, each_append, each_unmap}
-use Rattle.tbr_model.specs.Greedy.{close, wrapped, IsNarrow}
 use Rattle.tbr_model.proofs.words.Items.{each_marker, break_lost}
 use Rattle.tbr_model.proofs.words.BestLayout.{wrapped_holds, holds_best}
 
@@ -86,7 +83,8 @@ narrow_if_legal {A} columns width run lines h =
     (each_append P (flat_map (λ w. w.items) (words_of columns run)) (trailing columns run) (flat_map_each P (λ w. w.items) (words_of columns run) words)
     (cond_both (has_character (reading columns run).items) _ _ (IsNarrow columns width) (λ _. tt) (narrow_markers columns width (reading columns run).items)))
 
-pub each_words_narrow : {A : Type 0} (columns : ℕ → Option ℕ) (width : ℕ) (run : List (Entry A)) → IsNarrow columns width (kept_items columns run) → Each (λ w. IsNarrow columns width w.items) (words_of columns run)
+pub each_words_narrow : {A : Type 0} (columns : ℕ → Option ℕ) (width : ℕ) (run : List (Entry A)) →
+    IsNarrow columns width (kept_items columns run) → Each (λ w. IsNarrow columns width w.items) (words_of columns run)
 each_words_narrow {A} columns width run h =
     let P : Item A → Type 0 = λ i. item_width columns i ≤ width in
     let all : Each P (flat_map (λ w. w.items) (words_of columns run) ++ trailing columns run) = subst (Each P) (sym (words_hold columns run)) h in

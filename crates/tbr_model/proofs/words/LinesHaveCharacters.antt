@@ -1,11 +1,8 @@
 -- No line of the best layout is without a character.
-use Rattle.std.proofs.Common.{◌≡◌, ℕ, ◌+◌, ◌<◌, ◌≤◌, Bool, true, false, nat_lt, nat_le, ◌||◌, Option, None, List, [], ◌∷◌, ◌++◌, map, fold, refl, ap, sym, ◌∙◌, arith, append_assoc, append-nil, leb-true, leb-false, ltb-true, ltb-false, le-leb}
-use Rattle.std.specs.List.{AllByRecursion as Each}
-use Rattle.std.proofs.lemmas.Bool.{cond_both, and_parts, or_right, or_parts}
-use Rattle.std.proofs.lemmas.List.{map-append}
-use Rattle.tbr_model.specs.Run.{Entry, Item, glyph, marker, item_width, items_width, has_character, Word, word_of, Reading, works, read, words_of}
-use Rattle.tbr_model.specs.Layout.{Slot, slot_of, slots_of, line_width, gap_width, line_has_character, IsBest}
-use Rattle.tbr_model.specs.Greedy.{close, Lines, fill, place_word, no_lines, wrapped, IsNarrow}
+use Rattle.tbr_model.proofs.Common.{◌≡◌, ℕ, ◌+◌, ◌<◌, ◌≤◌, Bool, true, false, nat_lt, nat_le, ◌||◌, Option, None, List, [], ◌∷◌, ◌++◌, map, fold, refl, ap, sym, ◌∙◌, arith, append_assoc, append-nil}
+use Rattle.tbr_model.proofs.Common.{leb-true, leb-false, ltb-true, ltb-false, le-leb, Each, cond_both, and_parts, or_right, or_parts, map-append, Entry, Item, glyph, marker, item_width, items_width}
+use Rattle.tbr_model.proofs.Common.{has_character, Word, word_of, Reading, works, read, words_of, Slot, slot_of, slots_of, line_width, gap_width, line_has_character, IsBest, close, Lines, fill}
+use Rattle.tbr_model.proofs.Common.{place_word, no_lines, wrapped, IsNarrow}
 use Rattle.tbr_model.proofs.words.Items.{has_character-append, no_character_no_width}
 use Rattle.tbr_model.proofs.lists.Each.{each_append, each_map}
 use Rattle.tbr_model.proofs.layouts.Ahead.{rest_width-append, unique}
@@ -41,7 +38,8 @@ wide_items columns (marker m ∷ is) h = wide_items columns is (omega arith)
 one_width : {A : Type 0} (columns : ℕ → Option ℕ) (s : Slot A) → s.width ≡ item_width columns s.item → line_has_character (s ∷ []) ≡ false → s.width ≡ 0
 one_width {A} columns s e none = omega (arith, e, no_character_no_width columns (s.item ∷ []) none)
 
-fill_characters : {A : Type 0} (columns : ℕ → Option ℕ) (width : ℕ) (done : List (List (Slot A))) (last ss : List (Slot A)) → Each HasGlyph done → Each (Inner columns width) ss → line_width last ≤ width →
+fill_characters : {A : Type 0} (columns : ℕ → Option ℕ) (width : ℕ) (done : List (List (Slot A)))
+    (last ss : List (Slot A)) → Each HasGlyph done → Each (Inner columns width) ss → line_width last ≤ width →
     (line_has_character last ≡ false → line_width last ≡ 0) → HasGlyph (last ++ ss) → Each HasGlyph (fill width done last ss).done × HasGlyph (fill width done last ss).last
 fill_characters columns width done last [] h inner fits empty some = (h, rw append-nil at some)
 fill_characters {A} columns width done last (s ∷ ss) h inner fits empty some =
@@ -76,14 +74,17 @@ each_close : {A : Type 0} (done : List (List (Slot A))) (last : List (Slot A)) �
 each_close done [] h k = h
 each_close done (s ∷ l) h k = each_append HasGlyph done ((s ∷ l) ∷ []) h (k, tt)
 
-pub inner_slots : {A : Type 0} (columns : ℕ → Option ℕ) (width : ℕ) (wider : Bool) (is : List (Item A)) → IsNarrow columns width is → Each (Inner columns width) (map (slot_of columns wider None false) is)
+pub inner_slots : {A : Type 0} (columns : ℕ → Option ℕ) (width : ℕ) (wider : Bool) (is : List (Item A)) →
+    IsNarrow columns width is → Each (Inner columns width) (map (slot_of columns wider None false) is)
 inner_slots columns width wider = each_map (slot_of columns wider None false) (λ i. item_width columns i ≤ width) (Inner columns width) (λ i h. (refl, refl, h))
 
 pub items_within : {A : Type 0} (columns : ℕ → Option ℕ) (wider : Bool) (is : List (Item A)) → map (λ s. s.item) (map (slot_of columns wider None false) is) ≡ is
 items_within columns wider [] = refl
 items_within columns wider (i ∷ is) = ap (λ js. i ∷ js) (items_within columns wider is)
 
-pub place_characters : {A : Type 0} (columns : ℕ → Option ℕ) (width : ℕ) (lines : Lines A) (gap : Option A) (is : List (Item A)) → Each HasGlyph lines.done → LastHas lines.last → has_character is ≡ true → IsNarrow columns width is →
+pub place_characters : {A : Type 0} (columns : ℕ → Option ℕ) (width : ℕ) (lines : Lines A) (gap : Option A)
+    (is : List (Item A)) → Each HasGlyph lines.done → LastHas lines.last → has_character is ≡ true →
+    IsNarrow columns width is →
     (let r = place_word columns width lines (record { gap = gap; items = is }) in Each HasGlyph r.done × LastHas r.last)
 place_characters columns width lines gap [] h k some narrow = cc
 place_characters {A} columns width lines gap (i ∷ is) h k some narrow =

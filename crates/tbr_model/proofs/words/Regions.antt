@@ -1,11 +1,10 @@
 -- The left-to-right reading finds the words between the working break points.
-use Rattle.std.proofs.Common.{◌≡◌, ℕ, zero, suc, ◌+◌, Bool, true, false, ◌&&◌, ◌||◌, nat_lt, if◌then◌else◌, IsTrue, Option, Some, None, List, [], ◌∷◌, ◌++◌, fold, flat_map, refl, ap, sym, ◌∙◌, inl, inr, arith, append_assoc, append-nil, subst, lt-ltb}
-use Rattle.std.specs.List.{AllByRecursion as Each, list_any}
-use Rattle.std.proofs.lemmas.List.Concat.{flat_map-append}
-use Rattle.std.proofs.lemmas.List.Sums.{fold-append}
-use Rattle.std.proofs.lemmas.Bool.{and_from, and_parts, false_from_ne_true, cases_Bool, both_ways}
-use Rattle.tbr_model.specs.Run.{Entry, character, marker_entry, Item, items_width, items_of, kept_items, is_break, is_break_entry, blank_of, first_of, has_character, Word, word_of, Reading, works, read, words_of, trailing}
-use Rattle.tbr_model.specs.Regions.{takes_columns, HasColumns, NoBreakWorks, Region, region_entries, EndsAtWorkingBreak, IsParted, first_blank, word_after, words_after, words_between, markers_left}
+use Rattle.tbr_model.proofs.Common.{◌≡◌, ℕ, zero, suc, ◌+◌, Bool, true, false, ◌&&◌, ◌||◌, nat_lt, if◌then◌else◌, IsTrue, Option, Some, None, List, [], ◌∷◌, ◌++◌, fold, flat_map, refl, ap, sym, ◌∙◌}
+use Rattle.tbr_model.proofs.Common.{inl, inr, arith, append_assoc, append-nil, subst, lt-ltb, Each, list_any, flat_map-append, fold-append, and_parts, false_from_ne_true, cases_Bool, both_ways, Entry}
+use Rattle.tbr_model.proofs.Common.{character, marker_entry, Item, items_width, items_of, kept_items, is_break, is_break_entry, blank_of, first_of, has_character, Word, word_of, Reading, works, read}
+use Rattle.tbr_model.proofs.Common.{words_of, trailing, takes_columns, HasColumns, NoBreakWorks, EndsAtWorkingBreak, first_blank, word_after}
+use Rattle.std.proofs.lemmas.Bool.{and_from}
+use Rattle.tbr_model.specs.Regions.{Region, region_entries, IsParted, words_after, words_between, markers_left}
 use Rattle.tbr_model.proofs.words.Items.{items_width-append}
 use Rattle.tbr_model.proofs.lists.Joined.{cut_twice}
 use Rattle.tbr_model.proofs.lists.Each.{each_append, if_same}
@@ -56,7 +55,8 @@ goes_on {A} columns words before since e h =
     blank : first_of (first_blank (before ++ since)) (blank_of e) ≡ first_blank (before ++ (since ++ e ∷ []))
     blank = ap (first_of (first_blank (before ++ since))) (sym (first_of_none (blank_of e))) ∙ sym (first_blank-append (before ++ since) (e ∷ [])) ∙ ap first_blank (append_assoc before since (e ∷ []))
 
-    same : let r : Reading A = record { words = words; gap = first_of (first_blank (before ++ since)) (blank_of e); items = kept_items columns since ++ items_of columns e } in r ≡ read_since columns words before (since ++ e ∷ [])
+    same : let r : Reading A =
+        record { words = words; gap = first_of (first_blank (before ++ since)) (blank_of e); items = kept_items columns since ++ items_of columns e } in r ≡ read_since columns words before (since ++ e ∷ [])
     same = rw (← kept_more columns since e) (ap (λ (gap : Option A). let r : Reading A = record { words = words; gap = gap; items = kept_items columns (since ++ e ∷ []) } in r) blank)
 
 pub still : {A : Type 0} (columns : ℕ → Option ℕ) (words : List (Word A)) (before since es : List (Entry A)) → NoBreakWorks columns (since ++ es) →
@@ -78,7 +78,8 @@ stops {A} columns words before r h =
     ends = and_from _ _ h.is_break (sym (has_columns_width columns r.content) ∙ h.works)
 
 pub over_region : {A : Type 0} (columns : ℕ → Option ℕ) (words : List (Word A)) (before : List (Entry A)) (r : Region A) (es : List (Entry A)) → EndsAtWorkingBreak columns r →
-    fold (read columns) (read_since columns words before []) (region_entries r ++ es) ≡ fold (read columns) (read_since columns (words ++ word_after columns before r.content ∷ []) (r.break ∷ []) []) es
+    fold (read columns) (read_since columns words before []) (region_entries r ++ es) ≡ fold (read columns)
+    (read_since columns (words ++ word_after columns before r.content ∷ []) (r.break ∷ []) []) es
 over_region {A} columns words before r es h =
     fold-append (read columns) (read_since columns words before []) (r.content ++ r.break ∷ []) es
     ∙ ap (λ (q : Reading A). fold (read columns) q es) (
@@ -119,7 +120,9 @@ words_parted {A} columns run regions rest h =
 
 -- ---- each run is parted
 
-pub longer_rest : {A : Type 0} (columns : ℕ → Option ℕ) (rest : List (Entry A)) (e : Entry A) → NoBreakWorks columns rest → (IsTrue (is_break_entry e) → ¬ HasColumns columns rest) → NoBreakWorks columns (rest ++ e ∷ [])
+pub longer_rest : {A : Type 0} (columns : ℕ → Option ℕ) (rest : List (Entry A)) (e : Entry A) →
+    NoBreakWorks columns rest → (IsTrue (is_break_entry e) → ¬ HasColumns columns rest) →
+    NoBreakWorks columns (rest ++ e ∷ [])
 longer_rest {A} columns rest e h k before b after same breaks =
     elim (cut_twice rest (e ∷ []) before (b ∷ after) same) [
       | inl w ↦ at_end w.0 w.1 w.2

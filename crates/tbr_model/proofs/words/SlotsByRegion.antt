@@ -1,11 +1,8 @@
 -- The slots of a run, read region by region.
-use Rattle.std.proofs.Common.{◌≡◌, ℕ, zero, suc, ◌+◌, ◌-◌, ◌≤◌, Bool, if◌then◌else◌, Option, Some, List, [], ◌∷◌, ◌++◌, fold, flat_map, take, drop, slice_get, slice_range, ap, sym, ◌∙◌, arith, append_assoc, append-nil, take-append-drop, drop-drop, add-one}
-use Rattle.std.proofs.Math.Seq.{take-add}
-use Rattle.std.proofs.lemmas.List.Concat.{flat_map-append}
+use Rattle.tbr_model.proofs.Common.{◌≡◌, ℕ, zero, suc, ◌+◌, ◌-◌, ◌≤◌, Bool, if◌then◌else◌, Option, Some, List, [], ◌∷◌, ◌++◌, fold, flat_map, take, drop, slice_get, slice_range, ap, sym, ◌∙◌, arith}
+use Rattle.tbr_model.proofs.Common.{append_assoc, append-nil, take-append-drop, drop-drop, add-one, take-add, flat_map-append, Entry, items_of, kept_items, has_character, Word, word_of, Reading, read}
+use Rattle.tbr_model.proofs.Common.{reading, Slot, word_slots, slots_of, NoBreakWorks, EndsAtWorkingBreak, IsFirstWorkingBreak, word_after}
 use Rattle.tbr_model.proofs.lists.Each.{if_same}
-use Rattle.tbr_model.specs.Run.{Entry, items_of, kept_items, has_character, Word, word_of, Reading, read, reading}
-use Rattle.tbr_model.specs.Layout.{Slot, word_slots, slots_of}
-use Rattle.tbr_model.specs.Regions.{NoBreakWorks, EndsAtWorkingBreak, IsFirstWorkingBreak, word_after}
 use Rattle.tbr_model.proofs.words.KeptItems.{break_left}
 use Rattle.tbr_model.proofs.layouts.Cuts.{line_and_rest, slice_get-drop}
 use Rattle.tbr_model.proofs.words.Regions.{read_since, still, over_region}
@@ -64,7 +61,9 @@ split_at (y ∷ xs) (suc i) x h = split_at xs i x h
 
 pub next_region : {A : Type 0} (columns : ℕ → Option ℕ) (width : ℕ) (run : List (Entry A)) (slots : List (Slot A)) (opening from place : ℕ) → opening ≤ from →
     HasRead columns width run slots (slice_range run opening from) (drop from run) → IsFirstWorkingBreak columns (drop from run) place →
-    HasRead columns width run (slots ++ word_slots columns width (word_after columns [] (slice_range run opening (from + place)))) (slice_range run (from + place) (from + place + 1)) (drop (from + place + 1) run)
+    HasRead columns width run
+    (slots ++ word_slots columns width (word_after columns [] (slice_range run opening (from + place))))
+    (slice_range run (from + place) (from + place + 1)) (drop (from + place + 1) run)
 next_region {A} columns width run slots opening from place le h (break, at, ends) =
     let content = take place (drop from run) in
     let back : drop place (drop from run) ≡ drop (from + place) run = drop-drop place from run in

@@ -1,9 +1,6 @@
 -- What is between neighbouring words of a line.
-use Rattle.std.proofs.Common.{◌≡◌, ℕ, ◌<◌, Bool, false, Option, None, Some, List, [], ◌∷◌, ◌++◌, map, flat_map, length, refl, ap, sym, ◌∙◌, arith, append_assoc}
-use Rattle.std.specs.List.{AllByRecursion as Each}
-use Rattle.tbr_model.specs.Run.{Entry, Item, first_of, blank_of, Word}
-use Rattle.tbr_model.specs.Layout.{Slot, slot_of, slots_within, word_slots, gap_text, rest_text, line_text}
-use Rattle.tbr_model.specs.Regions.{first_blank}
+use Rattle.tbr_model.proofs.Common.{◌≡◌, ℕ, ◌<◌, Bool, false, Option, None, Some, List, [], ◌∷◌, ◌++◌, map, flat_map, length, refl, ap, sym, ◌∙◌, arith, append_assoc, Each, Entry, Item, first_of}
+use Rattle.tbr_model.proofs.Common.{blank_of, Word, Slot, slot_of, slots_within, word_slots, gap_text, rest_text, line_text, first_blank}
 
 module _ {A : Type 0} where
   pub rest_text-append : (ss ts : List (Slot A)) → rest_text (ss ++ ts) ≡ rest_text ss ++ rest_text ts
@@ -25,7 +22,8 @@ module _ {A : Type 0} where
   words_after_text columns width [] some = refl
   words_after_text columns width (w ∷ ws) some = grind (arith, rest_text-append, within_text, words_after_text columns width ws some.1)
 
-  first_text : (columns : ℕ → Option ℕ) (wider : Bool) (gap : Option A) (is : List (Item A)) (ss : List (Slot A)) → 0 < length is → line_text (slots_within columns wider gap is ++ ss) ≡ is ++ rest_text ss
+  first_text : (columns : ℕ → Option ℕ) (wider : Bool) (gap : Option A) (is : List (Item A)) (ss : List (Slot A)) →
+      0 < length is → line_text (slots_within columns wider gap is ++ ss) ≡ is ++ rest_text ss
   first_text columns wider gap [] ss some = absurd (let none : ⊥ = omega (arith, some) in none)
   first_text columns wider gap (i ∷ is) ss some =
       ap (λ js. i ∷ js) (rest_text-append (map (slot_of columns wider None false) is) ss ∙ ap (λ js. js ++ rest_text ss) (inner_text columns wider is))

@@ -1,12 +1,10 @@
 -- Entries in memory, one after another.
-use Rattle.std.proofs.Common.{◌≡◌, ℕ, ◌+◌, ◌-◌, ◌<◌, ◌||◌, Bool, Some, option_map, List, [], ◌∷◌, ◌++◌, length, take, drop, get_or, slice_get, slice_range, refl, ap, sym, ◌∙◌}
-use Rattle.std.specs.List.{list_any}
-use Rattle.std.proofs.lemmas.List.{take_more, take-map, drop-map, take_rest, map-append}
-use Rattle.std.proofs.Math.Bool.{or-false}
-use Rattle.std.proofs.lemmas.List.Folds.{list_any-append}
+use Rattle.tbr_model.proofs.Common.{◌≡◌, ℕ, ◌+◌, ◌-◌, ◌<◌, ◌||◌, Bool, Some, List, [], ◌∷◌, ◌++◌, length, take, drop, get_or, slice_get, slice_range, refl, ap, sym, ◌∙◌, list_any, take-map, drop-map}
+use Rattle.tbr_model.proofs.Common.{take_rest, map-append, or-false, list_any-append, entry_value, entry_values}
+use Rattle.std.proofs.Common.{option_map}
+use Rattle.std.proofs.lemmas.List.{take_more}
 use Rattle.std.proofs.lemmas.Option.{slice_get-map, slice_get_read}
 use Rattle.tbr_model.specs.declared.entry.Entry.{Entry as StoredEntry}
-use Rattle.tbr_model.specs.Entry.{entry_value, entry_values}
 
 pub list_any_more : {X : Type 0} (p : X → Bool) (xs : List X) (x : X) → list_any p (xs ++ x ∷ []) ≡ list_any p xs || p x
 list_any_more p xs x = list_any-append p xs (x ∷ []) ∙ ap (λ b. list_any p xs || b) (or-false (p x))

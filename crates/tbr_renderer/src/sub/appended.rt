@@ -13,7 +13,6 @@ ghost use Rattle.tbr_renderer.specs.Renderer.{KeepsSettings, with_line, block_wi
 ghost use Rattle.tbr_tagged.specs.Outcome.{done, refused};
 ghost use Rattle.tbr_renderer.specs.Outcomes.{and_then, gathered, taking};
 ghost use Rattle.tbr_renderer.specs.Flush.{EndsBest, after_flush};
-ghost use Rattle.tbr_renderer.specs.Calls as call;
 ghost use Rattle.tbr_renderer.specs.Calls.{Takes, IsWide, calls_by};
 ghost use Rattle.tbr_renderer.specs.Appended.{GivesFirst, AreAlike, alike, texts_of, with_prefixed, with_cell, with_cell_below, with_cells, after_lines, after_cells, handed_out};
 
@@ -22,9 +21,11 @@ use std::alloc::Global;
 use std::convert::AsStr;
 use std::vec::IntoIter;
 use tbr_annotations::Annotations;
+use tbr_border::{BorderSegHoriz, RenderLine};
 use tbr_decor::TextDecorator;
 use tbr_kept_lines::KeptLines;
-use tbr_lines::{BorderSegHoriz, CharWidth, Error, OutOfMemory, RenderLine, TaggedLine};
+use tbr_model::CharWidth;
+use tbr_tagged::{Error, OutOfMemory, TaggedLine};
 
 impl<D: TextDecorator, W: CharWidth> SubRenderer<D, W> {
     /// A line as text: a border's cells are under a copy of the annotations.
@@ -245,7 +246,7 @@ impl<D: TextDecorator, W: CharWidth> SubRenderer<D, W> {
         ensures takes { let calls = calls_by W.columns (decoration_of D.TextDecorator D.Annotation.tells) in
             let prefixes = alike (chars first.now) (chars others.now) in
             Takes calls (handed_out W.columns other) (IsWide calls other)
-            (λ lines. calls.after (call.append_subrender (prefixes (length lines)) lines)) self.old result self.new }
+            (λ lines. calls.append_subrender (prefixes (length lines)) lines) self.old result self.new }
         ensures best { OnOk result (EndsBest W.columns self.old × EndsBest W.columns other) }
     {
         self.refusal()?;

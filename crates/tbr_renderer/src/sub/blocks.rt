@@ -12,7 +12,9 @@ ghost use Rattle.tbr_renderer.specs.Steps.{with_empty_line, after_empty_line, bl
 use crate::sub::SubRenderer;
 use tbr_annotations::Annotations;
 use tbr_decor::TextDecorator;
-use tbr_lines::{CharWidth, EndedLines, Error, OutOfMemory, TaggedLine, WrappedBlock};
+use tbr_model::CharWidth;
+use tbr_tagged::{Error, OutOfMemory, TaggedLine};
+use tbr_wrap::{EndedLines, WrappedBlock};
 
 impl<D: TextDecorator, W: CharWidth> SubRenderer<D, W> {
     /// Adds the lines that a block has ended. It refuses only where memory is refused.

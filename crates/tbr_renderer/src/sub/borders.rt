@@ -10,8 +10,10 @@ ghost use Rattle.tbr_renderer.specs.Outcomes.{Tries};
 
 use crate::sub::SubRenderer;
 use tbr_annotations::Annotations;
+use tbr_border::{BorderHoriz, BorderSegHoriz, RenderLine};
 use tbr_decor::TextDecorator;
-use tbr_lines::{BorderHoriz, BorderSegHoriz, CharWidth, Error, OutOfMemory, RenderLine};
+use tbr_model::CharWidth;
+use tbr_tagged::{Error, OutOfMemory};
 
 impl<D: TextDecorator, W: CharWidth> SubRenderer<D, W> {
     /// Adds a border, as text where lines are padded. Where memory is refused, it is lost.

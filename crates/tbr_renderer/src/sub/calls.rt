@@ -5,7 +5,6 @@ ghost use Rattle.tbr_renderer.specs.Renderer.{kept_of};
 ghost use Rattle.tbr_kept_lines.specs.LastBorder.{without_last};
 ghost use Rattle.tbr_renderer.specs.Steps.{block_is_empty, is_empty};
 ghost use Rattle.tbr_renderer.specs.Calls.{after, calls_by, IsWide, Takes};
-ghost use Rattle.tbr_renderer.specs.Calls as call;
 ghost use Rattle.tbr_tagged.specs.Outcome.{done};
 ghost use Rattle.tbr_renderer.specs.Outcomes.{gathered};
 ghost use Rattle.tbr_renderer.specs.Appended.{handed_out};
@@ -23,7 +22,8 @@ use crate::sub::decorated::{End, Start};
 use std::convert::AsStr;
 use tbr_annotations::{Annotations, OpenAnnotations};
 use tbr_decor::{Colour, TextDecorator};
-use tbr_lines::{CellAlign, CharWidth, Error, WhiteSpace};
+use tbr_model::{CharWidth, WhiteSpace};
+use tbr_tagged::{CellAlign, Error};
 
 impl<D: TextDecorator, W: CharWidth> SubRenderer<D, W> {
     /// Pushes a mode.
@@ -265,7 +265,7 @@ impl<D: TextDecorator, W: CharWidth> Renderer for SubRenderer<D, W> {
     fn append_vert_row(&mut self, cols: Vec<SubRenderer<D, W>>) -> Result<(), Error>
         ensures takes { let calls = calls_by W.columns (decoration_of D.TextDecorator D.Annotation.tells) in
             let given = gathered (λ col. handed_out W.columns col) cols.items in
-            Takes calls given (Each (IsWide calls) cols.items) (λ cells. calls.after (call.append_vert_row cells))
+            Takes calls given (Each (IsWide calls) cols.items) calls.append_vert_row
             self.old result self.new }
         ensures best { OnOk result (EndsBest W.columns self.old × Each (λ col. EndsBest W.columns col) cols.items) }
     {
@@ -285,7 +285,7 @@ impl<D: TextDecorator, W: CharWidth> Renderer for SubRenderer<D, W> {
         requires fits { row_fits self.old.hanging (spots_of W.columns cols.items) ≡ true }
         ensures takes { let calls = calls_by W.columns (decoration_of D.TextDecorator D.Annotation.tells) in
             let given = cells_handed_out W.columns cols.items aligns.now in
-            Takes calls given (Each (λ col. IsWide calls col.0) cols.items) (calls.after_row collapse)
+            Takes calls given (Each (λ col. IsWide calls col.0) cols.items) (calls.append_row collapse)
             self.old result self.new }
         ensures best { OnOk result (EndsBest W.columns self.old × Each (λ col. EndsBest W.columns col.0) cols.items) }
     {
@@ -303,7 +303,7 @@ impl<D: TextDecorator, W: CharWidth> Renderer for SubRenderer<D, W> {
         requires fits { row_fits self.old.hanging (spots_of W.columns cols.items) ≡ true }
         ensures takes { let calls = calls_by W.columns (decoration_of D.TextDecorator D.Annotation.tells) in
             let given = cells_handed_out W.columns cols.items [] in
-            Takes calls given (Each (λ col. IsWide calls col.0) cols.items) (calls.after_row collapse)
+            Takes calls given (Each (λ col. IsWide calls col.0) cols.items) (calls.append_row collapse)
             self.old result self.new }
         ensures best { OnOk result (EndsBest W.columns self.old × Each (λ col. EndsBest W.columns col.0) cols.items) }
     {

@@ -9,7 +9,8 @@ ghost use Rattle.tbr_renderer.specs.Decorated.{asked_for_colour, asked_to_end, c
 
 use crate::sub::SubRenderer;
 use tbr_decor::{Colour, TextDecorator};
-use tbr_lines::{CharWidth, Error, OutOfMemory};
+use tbr_model::CharWidth;
+use tbr_tagged::{Error, OutOfMemory};
 
 /// What is coloured.
 #[derive(Clone, Copy)]

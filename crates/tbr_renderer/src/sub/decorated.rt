@@ -5,14 +5,14 @@ ghost use Rattle.tbr_tagged.specs.declared.Error.TheVariants as E;
 ghost use Rattle.tbr_decor.specs.Decoration.{decoration_of};
 ghost use Rattle.tbr_renderer.specs.Renderer.{kept_of, block_width, with_annotation, without_annotation};
 ghost use Rattle.tbr_renderer.specs.View.{start_of, end_of};
-ghost use Rattle.tbr_renderer.specs.Calls as call;
 ghost use Rattle.tbr_renderer.specs.Outcomes.{Tries};
 ghost use Rattle.tbr_renderer.specs.Calls.{calls_by, Answers};
 ghost use Rattle.tbr_renderer.specs.Decorated.{asked_to_open, annotated, asked_to_close, after_start, after_end};
 
 use crate::sub::SubRenderer;
 use tbr_decor::TextDecorator;
-use tbr_lines::{CharWidth, Error, OutOfMemory};
+use tbr_model::CharWidth;
+use tbr_tagged::{Error, OutOfMemory};
 
 /// What a decorator opens.
 #[derive(Clone, Copy)]
@@ -129,8 +129,8 @@ impl<D: TextDecorator, W: CharWidth> SubRenderer<D, W> {
 
     /// Opens decorated text, and keeps a refusal.
     pub(crate) fn begin(&mut self, start: Start) -> Result<(), Error>
-        ensures answers { Answers (calls_by W.columns (decoration_of D.TextDecorator D.Annotation.tells))
-            (call.begin (start_of start.entry)) self.old result self.new }
+        ensures answers { let calls = calls_by W.columns (decoration_of D.TextDecorator D.Annotation.tells) in
+            Answers calls (calls.begin (start_of start.entry)) self.old result self.new }
     {
         self.refusal()?;
         let done = self.try_open(start);
@@ -153,8 +153,8 @@ impl<D: TextDecorator, W: CharWidth> SubRenderer<D, W> {
 
     /// Closes decorated text, and keeps a refusal.
     pub(crate) fn finish(&mut self, end: End) -> Result<(), Error>
-        ensures answers { Answers (calls_by W.columns (decoration_of D.TextDecorator D.Annotation.tells))
-            (call.finish (end_of end)) self.old result self.new }
+        ensures answers { let calls = calls_by W.columns (decoration_of D.TextDecorator D.Annotation.tells) in
+            Answers calls (calls.finish (end_of end)) self.old result self.new }
     {
         self.refusal()?;
         let done = self.try_close(end);

@@ -9,7 +9,8 @@ ghost use Rattle.tbr_renderer.specs.Outcomes.{Tries};
 use crate::sub::SubRenderer;
 use crate::sub::decorated::Start;
 use tbr_decor::TextDecorator;
-use tbr_lines::{CharWidth, Error};
+use tbr_model::CharWidth;
+use tbr_tagged::Error;
 
 impl<D: TextDecorator, W: CharWidth> SubRenderer<D, W> {
     /// Adds the decorator's text for an image, if one is shown, under an annotation of its own.

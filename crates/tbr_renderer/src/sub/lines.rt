@@ -22,9 +22,11 @@ use std::alloc::Global;
 use std::collections::LinkedList;
 use std::mem;
 use tbr_annotations::{Annotations, written_out};
+use tbr_border::RenderLine;
 use tbr_decor::TextDecorator;
 use tbr_kept_lines::KeptLines;
-use tbr_lines::{CharWidth, Error, OutOfMemory, RenderLine};
+use tbr_model::CharWidth;
+use tbr_tagged::{Error, OutOfMemory};
 use tbr_tags::Tag;
 
 impl<D: TextDecorator, W: CharWidth> SubRenderer<D, W> {

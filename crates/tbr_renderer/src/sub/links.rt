@@ -18,7 +18,8 @@ use crate::sub::SubRenderer;
 use tbr_annotations::Annotations;
 use tbr_decor::TextDecorator;
 use tbr_footnotes::FootnoteLines;
-use tbr_lines::{CharWidth, Error, OutOfMemory, TaggedLine};
+use tbr_model::CharWidth;
+use tbr_tagged::{Error, OutOfMemory, TaggedLine};
 
 impl<D: TextDecorator, W: CharWidth> SubRenderer<D, W> {
     /// The lines that the decorator makes of the targets of links, in their order. Without footnotes it is given no

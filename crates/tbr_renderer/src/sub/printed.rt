@@ -2,7 +2,7 @@
 use crate::sub::SubRenderer;
 use std::fmt;
 use tbr_decor::TextDecorator;
-use tbr_lines::CharWidth;
+use tbr_model::CharWidth;
 
 /// Shows its columns, and then each of its lines on a line of its own: a text between `<` and `>`, a border between `[`
 /// and `]`. Text of an open block isn't shown; the last line says that one is open.

@@ -16,16 +16,18 @@ ghost use Rattle.tbr_renderer.specs.Outcomes.{and_then, taking};
 ghost use Rattle.tbr_renderer.specs.Flush.{EndsBest, after_flush};
 ghost use Rattle.tbr_kept_lines.specs.LastBorder.{last_border, before_border};
 ghost use Rattle.tbr_renderer.specs.Rows as model;
-ghost use Rattle.tbr_renderer.specs.Rows.{GivenCell, ComesAs, cells_handed_out, after_row, row_seen};
+ghost use Rattle.tbr_renderer.specs.Rows.{GivenCell, ComesAs, cells_handed_out, row_made, row_seen};
 
 use crate::renderer::Renderer;
 use crate::sub::SubRenderer;
 use std::mem;
 use tbr_annotations::Annotations;
+use tbr_border::{BorderHoriz, RenderLine};
 use tbr_decor::TextDecorator;
 use tbr_kept_lines::KeptLines;
-use tbr_lines::{BorderHoriz, CellAlign, CharWidth, Error, OutOfMemory, RenderLine, TaggedLine};
+use tbr_model::CharWidth;
 use tbr_rows::{Columns, Overhang, Row, RowStyle};
+use tbr_tagged::{CellAlign, Error, OutOfMemory, TaggedLine};
 use tbr_tags::Tag;
 
 impl<D: TextDecorator, W: CharWidth> SubRenderer<D, W> {
@@ -87,7 +89,7 @@ impl<D: TextDecorator, W: CharWidth> SubRenderer<D, W> {
         requires unfailed { self.old.failure ≡ None }
         requires fits { row_fits self.old.hanging (model.spots_of W.columns cols.items) ≡ true }
         ensures ok { let given = cells_handed_out W.columns cols.items aligns.now in
-            let row = after_row (pointwise D.Annotation.same) W.columns collapses in
+            let row = row_made (pointwise D.Annotation.same) W.columns collapses in
             OnOk result (taking (after_flush W.columns) given row self.old ≡ done self.new) }
         ensures too_narrow { result ≡ Err E.TooNarrow → and_then (after_flush W.columns self.old)
             (λ _. cells_handed_out W.columns cols.items aligns.now) ≡ refused E.TooNarrow }

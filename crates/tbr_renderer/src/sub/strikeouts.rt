@@ -9,7 +9,8 @@ ghost use Rattle.tbr_renderer.specs.Outcomes.{Tries};
 use crate::sub::SubRenderer;
 use crate::sub::decorated::{End, Start};
 use tbr_decor::TextDecorator;
-use tbr_lines::{CharWidth, Error};
+use tbr_model::CharWidth;
+use tbr_tagged::Error;
 
 impl<D: TextDecorator, W: CharWidth> SubRenderer<D, W> {
     /// Gives later text one stroke more, if the options ask for strokes.

@@ -13,8 +13,9 @@ use crate::sub::SubRenderer;
 use std::alloc::Global;
 use tbr_annotations::Annotations;
 use tbr_decor::TextDecorator;
-use tbr_lines::{CharWidth, Error, OutOfMemory, TaggedLineElement, WhiteSpace, WrappedBlock};
-use tbr_tagged::STROKE;
+use tbr_model::{CharWidth, WhiteSpace};
+use tbr_tagged::{Error, OutOfMemory, STROKE, TaggedLineElement};
+use tbr_wrap::WrappedBlock;
 
 impl<D: TextDecorator, W: CharWidth> SubRenderer<D, W> {
     /// The mode that was pushed last.

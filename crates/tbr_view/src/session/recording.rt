@@ -15,12 +15,13 @@ ghost use Rattle.tbr_view.specs.Tables.{kept, place_of, with_if, with_given, Tab
 use crate::session::{Session, Tables};
 use tbr_commands::{Command, Layout, Request};
 use tbr_headings::Headings;
-use tbr_lines::{CharWidth, OutOfMemory, text_width};
+use tbr_model::CharWidth;
 use tbr_recorded::TableScript;
+use tbr_renderer::Renderer;
 use tbr_script::TextPair;
 use tbr_statements::{Block, Opener, Refusal, Statement, Stretch, advice};
 use tbr_tables::{Drawn, Step};
-use text_block_renderer::Renderer;
+use tbr_tagged::{OutOfMemory, text_width};
 
 impl<D: Headings, W: CharWidth> Session<D, W> {
     /// Records a step of a line that is no command, in the table that is open.

@@ -1,11 +1,7 @@
 -- The markers among items, counted.
-use Rattle.tbr_model.proofs.rule.LaidText.{trailing_cases}
-use Rattle.std.proofs.Common.{◌≡◌, ℕ, zero, suc, nat_lt, ◌≤◌, true, List, [], ◌∷◌, length, refl, ◌∙◌, arith}
-use Rattle.std.proofs.lemmas.Bool.{cases_lt, lt-ltb, le-ltb}
-use Rattle.tbr_model.specs.Run.{Item, glyph, marker, has_character}
-use Rattle.tbr_model.specs.Rule.{spaces, is_space_item, without_trailing}
-use Rattle.tbr_model.specs.Markers.{names_in_items}
-use Rattle.tbr_flat.proofs.MarkedItems.{markers-append}
+use Rattle.tbr_wrap.proofs.Common.{trailing_cases, ◌≡◌, ℕ, zero, suc, nat_lt, ◌≤◌, true, List, [], ◌∷◌, length, refl, ◌∙◌, arith, cases_lt, Item, glyph, marker, has_character, spaces, is_space_item}
+use Rattle.tbr_wrap.proofs.Common.{without_trailing, names_in_items, markers-append}
+use Rattle.std.proofs.lemmas.Bool.{lt-ltb, le-ltb}
 
 pub markers_within : {A : Type 0} (is : List (Item A)) → length (names_in_items is) ≤ length is
 markers_within [] = omega arith

@@ -1,12 +1,6 @@
 -- Lines that are cut out of the items of all of them.
-use Rattle.std.proofs.Common.{◌≡◌, ℕ, ◌||◌, List, [], ◌∷◌, ◌++◌, map, length, take, drop, refl, ap, sym, ◌∙◌, subst, arith, append_assoc}
-use Rattle.std.specs.List.{list_any}
-use Rattle.std.proofs.Math.Bool.{or-false}
-use Rattle.std.proofs.lemmas.List.{take_at, drop_at}
-use Rattle.tbr_model.specs.Run.{Item, has_character}
-use Rattle.tbr_model.specs.Layout.{joined}
-use Rattle.tbr_model.proofs.words.Items.{has_character-append}
-use Rattle.tbr_wrap.specs.EndedLines.{cut, AreLines}
+use Rattle.tbr_wrap.proofs.Common.{◌≡◌, ℕ, ◌||◌, List, [], ◌∷◌, ◌++◌, map, length, take, drop, refl, ap, sym, ◌∙◌, subst, arith, append_assoc, list_any, or-false, take_at, drop_at, Item}
+use Rattle.tbr_wrap.proofs.Common.{has_character, joined, has_character-append, cut, AreLines}
 
 module _ {X : Type 0} where
   -- none is left where there is no length

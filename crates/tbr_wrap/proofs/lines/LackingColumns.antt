@@ -1,10 +1,9 @@
 -- What lines lack of a width.
-use Rattle.std.proofs.Common.{◌≡◌, ℕ, ◌-◌, ◌<◌, ◌^◌, min, Option, List, [], ◌∷◌, ◌++◌, map, length, take, drop, refl, sym, ◌∙◌, arith, append_assoc, append-nil}
+use Rattle.tbr_wrap.proofs.Common.{◌≡◌, ℕ, ◌-◌, ◌<◌, Option, List, [], ◌∷◌, ◌++◌, map, length, take, drop, refl, sym, ◌∙◌, arith, append_assoc, append-nil, Item, items_width, cut}
+use Rattle.std.proofs.Common.{◌^◌, min}
 use Rattle.std.proofs.lemmas.List.{take-map, drop-map}
-use Rattle.tbr_model.specs.Run.{Item, items_width}
 use Rattle.tbr_flat.specs.Walk.{character_in, given_width}
 use Rattle.tbr_flat.proofs.WalkedItems.{width_given}
-use Rattle.tbr_wrap.specs.EndedLines.{cut}
 
 -- what lines of these lengths lack, as a walk gives them
 abbrev pub lacking : (ℕ → Option ℕ) → ℕ → List ℕ → List (Option ℕ) → List ℕ
@@ -20,7 +19,8 @@ module _ (columns : ℕ → Option ℕ) (width : ℕ) where
       rw (take-map character_in n is, drop-map character_in n is, width_given columns (take n is), lines_lack ns (drop n is)) refl
 
   -- before the first line
-  pub lacking_first : {A : Type 0} (lens left found : List ℕ) (is : List (Item A)) (lines : List (List (Item A))) (given : List (Option ℕ)) → cut lens is ≡ lines → left ≡ lens → given ≡ map character_in is → found ≡ [] →
+  pub lacking_first : {A : Type 0} (lens left found : List ℕ) (is : List (Item A)) (lines : List (List (Item A)))
+      (given : List (Option ℕ)) → cut lens is ≡ lines → left ≡ lens → given ≡ map character_in is → found ≡ [] →
       lines_lacking columns width lines ≡ found ++ lacking columns width left given
   lacking_first lens left found is lines given e l g f = rw (← e, l, g, f) (lines_lack lens is)
 

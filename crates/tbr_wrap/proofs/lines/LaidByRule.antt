@@ -1,17 +1,11 @@
 -- What the fields hold is what the rule lays.
-use Rattle.std.proofs.Common.{Ok, ◌≡◌, ◌≢◌, None, ℕ, zero, suc, Some, ◌+◌, ◌<◌, ◌≤◌, Bool, true, false, Option, List, [], ◌∷◌, length, take, drop, refl, ap, sym, ◌∙◌, arith, append_assoc, unwrap_or, MatchOption}
-use Rattle.std.specs.Cmp.{IsEquivalence}
-use Rattle.std.proofs.lemmas.List.Elements.{length_all_zip}
-use Rattle.tbr_model.specs.Run.{Item, item_width, items_width, has_character}
-use Rattle.tbr_model.specs.Greedy.{IsNarrow}
-use Rattle.tbr_model.specs.Rule.{spaces}
-use Rattle.tbr_model.specs.Laid.{Laid, extended, end_line, end_if_character, end_if_columns, put_item, put_items}
-use Rattle.tbr_model.proofs.words.Items.{no_character_no_width}
-use Rattle.tbr_tagged.specs.Elements.{SameItem, SameItems}
-use Rattle.tbr_wrap.specs.LaidLines.{HoldsLaid, LaidLikeRule, HoldsRule, PutsFront, KeepsLimits}
-use Rattle.tbr_wrap.specs.declared.laid_lines.LaidLines.{LaidLines}
-use Rattle.tbr_tagged.proofs.SameItems.{same_items_append, all_zip_append, same_has, same_width}
-use Rattle.tbr_flat.proofs.MarkedItems.{same_take}
+use Rattle.tbr_wrap.proofs.Common.{Ok, ◌≡◌, ◌≢◌, None, ℕ, zero, suc, Some, ◌+◌, ◌<◌, ◌≤◌, Bool, true, false, Option, List, [], ◌∷◌, length, take, drop, refl, ap, sym, ◌∙◌, arith, append_assoc}
+use Rattle.tbr_wrap.proofs.Common.{unwrap_or, IsEquivalence, length_all_zip, Item, item_width, items_width, has_character, IsNarrow, spaces, Laid, extended, end_line, end_if_character, end_if_columns}
+use Rattle.tbr_wrap.proofs.Common.{put_items, no_character_no_width, SameItem, SameItems, HoldsLaid, LaidLikeRule, HoldsRule, KeepsLimits, LaidLines, same_items_append, all_zip_append, same_has}
+use Rattle.tbr_wrap.proofs.Common.{same_width, same_take}
+use Rattle.std.proofs.Common.{MatchOption}
+use Rattle.tbr_model.specs.Laid.{put_item}
+use Rattle.tbr_wrap.specs.LaidLines.{PutsFront}
 use Rattle.tbr_wrap.proofs.lines.LineWidths.{measured_ended, measured_extended, measured_wide}
 
 module _ {A : Type 0} (eq : A → A → Bool) (laws : IsEquivalence eq) (given : List (List (Item A))) where
@@ -21,7 +15,9 @@ module _ {A : Type 0} (eq : A → A → Bool) (laws : IsEquivalence eq) (given :
   pub shows_extended : (l r : Laid A) (is js : List (Item A)) (m n : ℕ) → LaidLikeRule eq given l r → SameItems eq is js → m ≡ n → LaidLikeRule eq given (extended l is m) (extended r js n)
   shows_extended l r is js m n h same e = grind (arith, same_items_append)
 
-module _ {A : Type 0} (columns : ℕ → Option ℕ) (eq : A → A → Bool) (laws : IsEquivalence eq) (b c : LaidLines A) (same : KeepsLimits b c) (before given : List (List (Item A))) (r : Laid A) (h : HoldsRule columns eq b before given r) where
+module _ {A : Type 0} (columns : ℕ → Option ℕ) (eq : A → A → Bool) (laws : IsEquivalence eq) (b c : LaidLines A)
+    (same : KeepsLimits b c) (before given : List (List (Item A))) (r : Laid A)
+    (h : HoldsRule columns eq b before given r) where
   pub lays_ended : HoldsLaid c before (end_line h.laid) → HoldsRule columns eq c before given (end_line r)
   lays_ended k = record {
     laid = end_line h.laid;
@@ -30,7 +26,9 @@ module _ {A : Type 0} (columns : ℕ → Option ℕ) (eq : A → A → Bool) (la
     measured = rw same.width (rw same.may_overflow (measured_ended columns b.width b.may_overflow r h.measured));
   }
 
-  pub lays_extended : (is js : List (Item A)) (n : ℕ) → SameItems eq is js → n ≡ items_width columns js → b.line_width + n ≤ b.width → HoldsLaid c before (extended h.laid is n) → HoldsRule columns eq c before given (extended r js n)
+  pub lays_extended : (is js : List (Item A)) (n : ℕ) → SameItems eq is js → n ≡ items_width columns js →
+      b.line_width + n ≤ b.width → HoldsLaid c before (extended h.laid is n) →
+      HoldsRule columns eq c before given (extended r js n)
   lays_extended is js n items e room k = record {
     laid = extended h.laid is n;
     holds = k;
@@ -38,12 +36,16 @@ module _ {A : Type 0} (columns : ℕ → Option ℕ) (eq : A → A → Bool) (la
     measured = rw same.width (rw same.may_overflow (measured_extended columns b.width b.may_overflow r js n h.measured e (omega (arith, room, h.holds.width, h.shows.width))));
   }
 
-  pub lays_wide : (i j : Item A) → SameItem eq i j → b.may_overflow ≡ true → b.line_width ≡ 0 → b.width < item_width columns j → HoldsLaid c before (end_line (extended h.laid (i ∷ []) (item_width columns j))) →
+  pub lays_wide : (i j : Item A) → SameItem eq i j → b.may_overflow ≡ true → b.line_width ≡ 0 →
+      b.width < item_width columns j → HoldsLaid c before (end_line (extended h.laid (i ∷ []) (item_width columns j))) →
       HoldsRule columns eq c before given (end_line (extended r (j ∷ []) (item_width columns j)))
   lays_wide i j item may none wide k = record {
     laid = end_line (extended h.laid (i ∷ []) (item_width columns j));
     holds = k;
-    shows = shows_ended eq laws given (extended h.laid (i ∷ []) (item_width columns j)) (extended r (j ∷ []) (item_width columns j)) (shows_extended eq laws given h.laid r (i ∷ []) (j ∷ []) (item_width columns j) (item_width columns j) h.shows (item, tt) refl);
+    shows =
+        shows_ended eq laws given (extended h.laid (i ∷ []) (item_width columns j))
+        (extended r (j ∷ []) (item_width columns j))
+        (shows_extended eq laws given h.laid r (i ∷ []) (j ∷ []) (item_width columns j) (item_width columns j) h.shows (item, tt) refl);
     measured = rw same.width (rw same.may_overflow (measured_wide columns b.width b.may_overflow r j h.measured may (omega (arith, none, h.holds.width, h.shows.width)) (omega (arith, wide))));
   }
 
@@ -68,7 +70,8 @@ module _ {A : Type 0} (columns : ℕ → Option ℕ) (width : ℕ) (P : Laid A �
   item_wide wide h = grind arith
 
 -- items of which the first doesn't fit the open line, and fits a fresh one
-pub put_fresh : {A : Type 0} (columns : ℕ → Option ℕ) (width : ℕ) (r : Laid A) (js : List (Item A)) (n : ℕ) → 0 < n → r.width ≤ width → width < r.width + items_width columns (take 1 js) → items_width columns (take 1 js) ≤ width →
+pub put_fresh : {A : Type 0} (columns : ℕ → Option ℕ) (width : ℕ) (r : Laid A) (js : List (Item A)) (n : ℕ) → 0 < n →
+    r.width ≤ width → width < r.width + items_width columns (take 1 js) → items_width columns (take 1 js) ≤ width →
     put_items columns width r (take n js) ≡ put_items columns width (end_line r) (take n js)
 put_fresh {A} columns width r js zero some small full fits = absurd (omega (arith, some))
 put_fresh {A} columns width r [] (suc n) some small full fits = absurd (omega (arith, small, full))
@@ -81,7 +84,8 @@ narrow_rest columns width (suc n) [] h = h
 narrow_rest columns width (suc n) (i ∷ is) h = narrow_rest columns width n is h.1
 
 -- items that are put at two goes
-pub put_parts : {A : Type 0} (columns : ℕ → Option ℕ) (width : ℕ) (l : Laid A) (n : ℕ) (is : List (Item A)) → put_items columns width l is ≡ put_items columns width (put_items columns width l (take n is)) (drop n is)
+pub put_parts : {A : Type 0} (columns : ℕ → Option ℕ) (width : ℕ) (l : Laid A) (n : ℕ) (is : List (Item A)) →
+    put_items columns width l is ≡ put_items columns width (put_items columns width l (take n is)) (drop n is)
 put_parts columns width l (suc n) (i ∷ is) = put_parts columns width (put_item columns width l i) n is
 put_parts columns width l _ _ = refl
 
@@ -113,11 +117,16 @@ none_same eq [] h = refl
 none_same eq (j ∷ js) h = absurd h
 
 -- a word without a first item
-pub none_first : {A : Type 0} (columns : ℕ → Option ℕ) (o : Option ℕ) (word : List (Item A)) → MatchOption o (word ≡ []) (λ n. (i : Item A) × (rest : List (Item A)) × (word ≡ i ∷ rest) × (n ≡ item_width columns i)) → ((n : ℕ) → o ≢ Some n) → word ≡ []
+pub none_first : {A : Type 0} (columns : ℕ → Option ℕ) (o : Option ℕ) (word : List (Item A)) →
+    MatchOption o (word ≡ [])
+    (λ n. (i : Item A) × (rest : List (Item A)) × (word ≡ i ∷ rest) × (n ≡ item_width columns i)) →
+    ((n : ℕ) → o ≢ Some n) → word ≡ []
 none_first columns None word h not = h
 none_first columns (Some n) word h not = absurd (not n refl)
 
-pub first_columns : {A : Type 0} (columns : ℕ → Option ℕ) (n : ℕ) (word : List (Item A)) → (i : Item A) × (rest : List (Item A)) × (word ≡ i ∷ rest) × (n ≡ item_width columns i) → n ≡ items_width columns (take 1 word)
+pub first_columns : {A : Type 0} (columns : ℕ → Option ℕ) (n : ℕ) (word : List (Item A)) →
+    (i : Item A) × (rest : List (Item A)) × (word ≡ i ∷ rest) × (n ≡ item_width columns i) →
+    n ≡ items_width columns (take 1 word)
 first_columns columns n word (i, rest, is, width) = rw is (omega (arith, width))
 
 -- ---- items that a word begins with are put
@@ -127,6 +136,8 @@ module _ {A E F : Type 0} (columns : ℕ → Option ℕ) (eq : A → A → Bool)
   put_here same = grind arith
 
   -- on a fresh line
-  pub put_next : mid.flat ≡ b.flat → mid.width ≡ b.width → ((before given : List (List (Item A))) (r : Laid A) → HoldsRule columns eq b before given r → HoldsRule columns eq mid before given (end_line r)) →
+  pub put_next : mid.flat ≡ b.flat → mid.width ≡ b.width →
+      ((before given : List (List (Item A))) (r : Laid A) → HoldsRule columns eq b before given r → HoldsRule columns eq
+      mid before given (end_line r)) →
       b.width < b.line_width + items_width columns (take 1 b.flat.word) → items_width columns (take 1 b.flat.word) ≤ b.width → PutsFront {E = F} columns eq b c (Ok tt)
   put_next flat width ended full fits = grind (arith, same_width, same_take, put_fresh)

@@ -1,8 +1,8 @@
 -- Spaces put many at a time.
-use Rattle.std.proofs.Common.{◌≡◌, ℕ, zero, suc, ◌+◌, ◌<◌, true, false, [], ◌∷◌, refl, ap, sym, ◌∙◌, arith, append_assoc, append-nil, ◌==◌, eq-eqb, ne_eqb}
-use Rattle.tbr_model.specs.Run.{glyph}
-use Rattle.tbr_model.specs.Laid.{Laid, extended, end_line}
-use Rattle.tbr_model.specs.Rule.{spaces, put_space, put_spaces}
+use Rattle.tbr_wrap.proofs.Common.{◌≡◌, ℕ, zero, suc, ◌+◌, ◌<◌, true, false, [], ◌∷◌, refl, ap, sym, ◌∙◌, arith, append_assoc, append-nil, ◌==◌, ne_eqb, glyph, Laid, extended, end_line, spaces}
+use Rattle.tbr_wrap.proofs.Common.{put_spaces}
+use Rattle.std.proofs.Common.{eq-eqb}
+use Rattle.tbr_model.specs.Rule.{put_space}
 
 module _ {A : Type 0} (width : ℕ) (a : A) where
   -- spaces after spaces

@@ -1,16 +1,8 @@
 -- Spaces taken away from a line, and white space from a word.
-use Rattle.tbr_model.proofs.rule.LaidText.{trailing_cases}
-use Rattle.std.proofs.Common.{◌≡◌, ℕ, ◌+◌, ◌-◌, ◌≤◌, Bool, true, false, Option, Some, if◌then◌else◌, List, [], ◌∷◌, ◌++◌, length, refl, ap, ◌∙◌, arith, unwrap_or, ◌==◌}
-use Rattle.std.proofs.lemmas.Bool.{cond_both, eqb-true}
-use Rattle.std.specs.Char.{is_whitespace}
-use Rattle.tbr_model.specs.Run.{Item, glyph, marker, item_width, items_width}
-use Rattle.tbr_model.specs.Rule.{is_space_item, is_white_item, without_leading, without_trailing, trimmed}
-use Rattle.tbr_model.specs.Laid.{Laid}
-use Rattle.tbr_model.specs.Layout.{joined}
-use Rattle.tbr_tagged.specs.Elements.{SameItem, SameItems}
-use Rattle.tbr_wrap.specs.LaidLines.{HoldsRule, KeepsLimits}
-use Rattle.tbr_wrap.specs.declared.laid_lines.LaidLines.{LaidLines}
-use Rattle.std.proofs.lemmas.List.Elements.{length_all_zip}
+use Rattle.tbr_wrap.proofs.Common.{trailing_cases, ◌≡◌, ℕ, ◌+◌, ◌-◌, ◌≤◌, Bool, true, false, Option, Some, if◌then◌else◌, List, [], ◌∷◌, ◌++◌, length, refl, ap, ◌∙◌, arith, unwrap_or, ◌==◌, cond_both}
+use Rattle.tbr_wrap.proofs.Common.{eqb-true, is_whitespace, Item, glyph, marker, item_width, items_width, is_space_item, without_leading, without_trailing, trimmed, Laid, joined, SameItem, SameItems}
+use Rattle.tbr_wrap.proofs.Common.{HoldsRule, KeepsLimits, LaidLines, length_all_zip}
+use Rattle.tbr_model.specs.Rule.{is_white_item}
 use Rattle.tbr_wrap.proofs.lines.CountedMarkers.{markers_within, trailing_markers}
 
 same_space : {A : Type 0} (eq : A → A → Bool) (i j : Item A) → SameItem eq i j → is_space_item i ≡ is_space_item j
@@ -50,12 +42,14 @@ space_width columns one (glyph c a) e = ap (λ x. unwrap_or (columns x) 0) (eqb-
 space_width columns one (marker m) e = cc
 
 -- each space that is taken away took a column
-pub trailing_width : {A : Type 0} (columns : ℕ → Option ℕ) → columns 32 ≡ Some 1 → (is : List (Item A)) → items_width columns is + length (without_trailing is) ≡ items_width columns (without_trailing is) + length is
+pub trailing_width : {A : Type 0} (columns : ℕ → Option ℕ) → columns 32 ≡ Some 1 → (is : List (Item A)) →
+    items_width columns is + length (without_trailing is) ≡ items_width columns (without_trailing is) + length is
 trailing_width {A} columns one is =
     trailing_cases (λ (is js : List (Item A)). items_width columns is + length js ≡ items_width columns js + length is) refl (λ i is js h. omega (arith, h))
     (λ i is s h. omega (arith, h, space_width columns one i s)) is
 
-module _ {A : Type 0} (columns : ℕ → Option ℕ) (one : columns 32 ≡ Some 1) (eq : A → A → Bool) (b : LaidLines A) (before given : List (List (Item A))) (r : Laid A) (h : HoldsRule columns eq b before given r) (n : ℕ)
+module _ {A : Type 0} (columns : ℕ → Option ℕ) (one : columns 32 ≡ Some 1) (eq : A → A → Bool) (b : LaidLines A)
+    (before given : List (List (Item A))) (r : Laid A) (h : HoldsRule columns eq b before given r) (n : ℕ)
     (removed : n + length (without_trailing h.laid.line) ≡ length h.laid.line) where
   pub removed_len : n ≤ b.line_len
   removed_len = omega (arith, removed, h.holds.len)
@@ -67,17 +61,22 @@ module _ {A : Type 0} (columns : ℕ → Option ℕ) (one : columns 32 ≡ Some 
   left_width : n + items_width columns (without_trailing r.line) ≡ items_width columns r.line
   left_width =
       let k = same_trailing eq h.laid.line r.line h.shows.last in
-      omega (arith, removed, trailing_width columns one r.line, length_all_zip (SameItem eq) h.laid.line r.line h.shows.last, length_all_zip (SameItem eq) (without_trailing h.laid.line) (without_trailing r.line) k)
+      omega
+      (arith, removed, trailing_width columns one r.line, length_all_zip (SameItem eq) h.laid.line r.line h.shows.last, length_all_zip (SameItem eq) (without_trailing h.laid.line) (without_trailing r.line) k)
 
   pub removed_width : n ≤ b.line_width
   removed_width = omega (arith, left_width, h.measured.line, h.shows.width, h.holds.width)
 
-  pub lays_trimmed : (c : LaidLines A) → KeepsLimits b c → c.flat.placed ≡ joined (before ++ h.laid.done) ++ without_trailing h.laid.line → c.ended ≡ b.ended → c.line_len ≡ b.line_len - n → c.line_markers ≡ b.line_markers → c.line_width ≡ b.line_width - n → HoldsRule columns eq c before given (trimmed columns r)
+  pub lays_trimmed : (c : LaidLines A) → KeepsLimits b c →
+      c.flat.placed ≡ joined (before ++ h.laid.done) ++ without_trailing h.laid.line → c.ended ≡ b.ended →
+      c.line_len ≡ b.line_len - n → c.line_markers ≡ b.line_markers → c.line_width ≡ b.line_width - n →
+      HoldsRule columns eq c before given (trimmed columns r)
   lays_trimmed c same placed lines len markers width =
       let left : b.line_width - n ≡ items_width columns (without_trailing r.line) = omega (arith, left_width, h.measured.line, h.shows.width, h.holds.width) in
       record {
         laid = record { done = h.laid.done; line = without_trailing h.laid.line; width = b.line_width - n };
-        holds = record { placed = placed; lens = ap (λ q. q.items) lines ∙ h.holds.lens; len = omega (arith, len, removed, h.holds.len); markers = omega (arith, markers, h.holds.markers, trailing_markers h.laid.line); width = width };
+        holds =
+            record { placed = placed; lens = ap (λ q. q.items) lines ∙ h.holds.lens; len = omega (arith, len, removed, h.holds.len); markers = omega (arith, markers, h.holds.markers, trailing_markers h.laid.line); width = width };
         shows = record { rest = h.shows.rest; split = h.shows.split; done = h.shows.done; last = same_trailing eq h.laid.line r.line h.shows.last; width = left };
         measured = record { small = omega (arith, left_width, same.width, h.measured.small, h.measured.line); line = refl; done = rw same.width (rw same.may_overflow h.measured.done) };
       }

@@ -1,40 +1,32 @@
 -- What follows from the outcomes of a block's calls.
-use Rattle.std.proofs.Common.{◌≡◌, ℕ, ◌-◌, ◌<◌, ◌≤◌, ◌==◌, not, ◌&&◌, ◌⊎◌, Bool, true, false, Option, None, Some, IfSome, List, [], ◌∷◌, ◌++◌, drop, length, map, refl, ap, sym, ◌∙◌, subst, arith, append_assoc, append-nil, length-append, lt-ltb, inl, inr, if◌then◌else◌}
+use Rattle.tbr_wrap.proofs.Common.{◌≡◌, ℕ, ◌-◌, ◌<◌, ◌≤◌, ◌==◌, not, ◌&&◌, ◌⊎◌, Bool, true, false, Option, None, Some, IfSome, List, [], ◌∷◌, ◌++◌, drop, length, map, refl, ap, sym, ◌∙◌, subst, arith}
+use Rattle.tbr_wrap.proofs.Common.{append_assoc, append-nil, length-append, lt-ltb, inl, inr, if◌then◌else◌, drop_at, and_parts, and_left, and_right, cases_lt, cond_both, eqb-true, not-true, Each}
+use Rattle.tbr_wrap.proofs.Common.{WhiteSpace, Item, marker, Entry, marker_entry, has_character, reading, trailing, names_in_items, is_visible, end_if_character, joined, Event, entry, run_of}
+use Rattle.tbr_wrap.proofs.Common.{Progress, at_start, waiting, lines_fit, items_width-append, no_character_no_width, NormalBlank, finished_adds, run_of-append, waiting_none, marker_items_alone}
+use Rattle.tbr_wrap.proofs.Common.{normal_keeps, Element, done, refused, live_goes, FitsBlock, HasBestLines, WordsFit, EndedWordsFit, ShowsText, IsNormal, CharactersFit, VisibleFit, is_some_list}
+use Rattle.tbr_wrap.proofs.Common.{text_entries, Block, new_block, progress_of, lines, all_lines, left, has_no_character, loose_names, loose, allows, grown, text_events, flushed, after_flush}
+use Rattle.tbr_wrap.proofs.Common.{without_loose, line_handed_out, HandsOutFirst, RuleFitsWidth}
 use Rattle.std.proofs.Math.ListN.{drop_of_length-le}
-use Rattle.std.proofs.lemmas.List.{drop-append-le, drop_at}
-use Rattle.std.proofs.lemmas.Bool.{and_parts, and_left, and_right, or_right, cases_lt, cond_both, eqb-true, ne_eqb, not-true, cases_Bool, or_parts}
-use Rattle.std.specs.List.{AllByRecursion as Each}
-use Rattle.tbr_model.specs.declared.white_space.WhiteSpace.{WhiteSpace}
-use Rattle.tbr_model.specs.Run.{Item, marker, Entry, marker_entry, has_character, reading, trailing}
-use Rattle.tbr_model.specs.Markers.{names_in_items, names_in_run, marker_run, marker_items, names_after, last}
-use Rattle.tbr_model.specs.Hard.{is_visible}
-use Rattle.tbr_model.specs.Laid.{end_if_character}
-use Rattle.tbr_model.specs.Layout.{joined, slots_of, HasLegalLines}
+use Rattle.std.proofs.lemmas.List.{drop-append-le}
+use Rattle.std.proofs.lemmas.Bool.{or_right, ne_eqb, cases_Bool, or_parts}
+use Rattle.tbr_model.specs.Markers.{names_in_run, marker_run, marker_items, names_after, last}
+use Rattle.tbr_model.specs.Layout.{slots_of, HasLegalLines}
 use Rattle.tbr_model.specs.Shown.{without_spaces, run_shows_columns}
-use Rattle.tbr_model.specs.Rule.{Event, entry, run_of, Progress, at_start, waiting}
-use Rattle.tbr_model.specs.Fits.{lines_fit}
 use Rattle.tbr_model.proofs.words.KeptItems.{narrow_if_legal, each_words_narrow}
-use Rattle.tbr_model.proofs.words.Items.{items_width-append, no_character_no_width}
-use Rattle.tbr_model.proofs.normal.BestLines.{NormalBlank}
-use Rattle.tbr_model.proofs.rule.DoneLines.{if_same, finished_adds}
-use Rattle.tbr_model.proofs.rule.HardLines.{run_of-append, not_flushed}
-use Rattle.tbr_model.proofs.rule.Markers.{run_of_markers, markers_run, markers_at_end, waiting_none, marker_items_alone, names_in_items-append}
+use Rattle.tbr_model.proofs.rule.DoneLines.{if_same}
+use Rattle.tbr_model.proofs.rule.HardLines.{not_flushed}
+use Rattle.tbr_model.proofs.rule.Markers.{run_of_markers, markers_run, markers_at_end, names_in_items-append}
 use Rattle.tbr_model.proofs.lines.Columns.{columns_show}
 use Rattle.tbr_model.proofs.lines.KeptOrder.{shown_in_order}
 use Rattle.tbr_model.proofs.lines.MarkersAlone.{no_line_ends}
-use Rattle.tbr_model.proofs.lines.NormalItems.{normal_keeps}
 use Rattle.tbr_model.proofs.lines.NothingInvented.{nothing_invented}
 use Rattle.tbr_model.proofs.lines.OwnAnnotations.{own_shown}
 use Rattle.tbr_model.proofs.lines.RunCharacters.{come_with_run}
 use Rattle.tbr_model.proofs.lines.WaitingMarkers.{waits_after_visible, waits_after_kept}
-use Rattle.tbr_tagged.specs.Elements.{Element}
 use Rattle.tbr_tagged.specs.declared.error.Error.TheVariants as E
-use Rattle.tbr_tagged.specs.Outcome.{done, refused}
-use Rattle.tbr_tagged.proofs.Outcomes.{live_done, live_goes, live_refused}
-use Rattle.tbr_wrap.specs.Wrapped.{FitsBlock, HasBestLines, WordsFit, EndedWordsFit, ShowsText}
-use Rattle.tbr_wrap.specs.Runs.{IsNormal, CharactersFit, VisibleFit, EndsRun, AreLastOf, is_some_list, text_entries}
-use Rattle.tbr_wrap.specs.Block.{Block, new_block, progress_of, lines, all_lines, left, takes_no_columns, has_no_character, loose_names, loose, waiting_names, allows, grown, text_events, flushed, after_text, after_marker, after_taking, after_flush, after_line, without_loose, line_handed_out, HandsOutFirst, IsSound, RunDecides}
-use Rattle.tbr_wrap.specs.LaidLines.{RuleFitsWidth}
+use Rattle.tbr_tagged.proofs.Outcomes.{live_done, live_refused}
+use Rattle.tbr_wrap.specs.Runs.{EndsRun, AreLastOf}
+use Rattle.tbr_wrap.specs.Block.{takes_no_columns, waiting_names, after_text, after_marker, after_taking, after_line, IsSound, RunDecides}
 use Rattle.tbr_wrap.proofs.runs.EndedRuns.{shown_run, waits_normal, blank_normal, stands, words_fit, visible_fit, two_columns_characters}
 use Rattle.tbr_wrap.proofs.runs.FittingLines.{fitting_lines}
 use Rattle.tbr_wrap.proofs.runs.LinesLeft.{some_count}
@@ -116,7 +108,10 @@ module _ {A : Type 0} (columns : ℕ → Option ℕ) where
     lines_grown = let add = steps_add columns s.width es (progress_of columns s) in (add.0, ap (λ (p : Progress A). p.laid.done) (progress_grown columns s es) ∙ add.1)
 
     pub left_grown : s.handed ≤ length (lines columns s) → left columns (grown s es) ≡ left columns s ++ lines_grown.0
-    left_grown within = ap (λ ls. s.ended ++ drop s.handed ls) lines_grown.1 ∙ ap (λ ls. s.ended ++ ls) (drop-append-le s.handed (lines columns s) lines_grown.0 within) ∙ sym (append_assoc s.ended (drop s.handed (lines columns s)) lines_grown.0)
+    left_grown within =
+        ap (λ ls. s.ended ++ drop s.handed ls) lines_grown.1
+        ∙ ap (λ ls. s.ended ++ ls) (drop-append-le s.handed (lines columns s) lines_grown.0 within)
+        ∙ sym (append_assoc s.ended (drop s.handed (lines columns s)) lines_grown.0)
 
   lines_taken : (s : Block A) → lines columns (without_loose columns s) ≡ lines columns s
   lines_taken s = grind (arith, cases_Bool, none_taken, progress_taken)
@@ -131,7 +126,9 @@ module _ {A : Type 0} (columns : ℕ → Option ℕ) where
   left_flushed s = ap (λ ls. (flushed columns s).ended ++ drop 0 ls) (none_flushed s) ∙ append-nil (flushed columns s).ended
 
   -- the lines that the end of the run adds come after those that are left
-  pub left_ended : (s : Block A) → s.handed ≤ length (lines columns s) → (more : List (List (Item A))) × (all_lines columns s ≡ lines columns s ++ more) × (left columns (flushed columns s) ≡ left columns s ++ more)
+  pub left_ended : (s : Block A) → s.handed ≤ length (lines columns s) →
+      (more : List (List (Item A))) × (all_lines columns s ≡ lines columns s ++ more) ×
+      (left columns (flushed columns s) ≡ left columns s ++ more)
   left_ended s within =
       let add = finished_adds columns s.width (progress_of columns s) in
       (add.0, add.1, rw (left_flushed s, add.1, drop-append-le s.handed (lines columns s) add.0 within, append_assoc) refl)
@@ -208,7 +205,9 @@ module _ {A : Type 0} (columns : ℕ → Option ℕ) where
     abbrev Same : A → A → Type 0
     Same a b = a ≡ b
 
-    ends_run : columns 32 ≡ Some 1 → 0 < s.width → Each (FitsBlock columns s.width s.may_overflow) (all_lines columns s) → EndsRun columns s.width s.may_overflow run (all_lines columns s) (waiting_names columns s)
+    ends_run : columns 32 ≡ Some 1 → 0 < s.width →
+        Each (FitsBlock columns s.width s.may_overflow) (all_lines columns s) →
+        EndsRun columns s.width s.may_overflow run (all_lines columns s) (waiting_names columns s)
     ends_run one wide fits = record {
       shown = shown_run columns s.width one wide s.may_overflow s.events fits;
       fits = fits;
@@ -260,7 +259,9 @@ module _ {A : Type 0} (columns : ℕ → Option ℕ) where
       no_layout_if_refused e normal some =
           flush_wide_word live e normal (each_words_narrow columns s.width (run_of s.events) (narrow_if_legal columns s.width (run_of s.events) some.0 some.1))
 
-      pub refused_if_no_layout : s.may_overflow ≡ false → IsNormal (run_of s.events) → ¬ (HasLegalLines s.width (slots_of columns s.width (run_of s.events))) → after_flush columns s ≡ refused E.TooNarrow
+      pub refused_if_no_layout : s.may_overflow ≡ false → IsNormal (run_of s.events) →
+          ¬ (HasLegalLines s.width (slots_of columns s.width (run_of s.events))) →
+          after_flush columns s ≡ refused E.TooNarrow
       refused_if_no_layout never normal none = go (allows columns s (all_lines columns s)) refl
         where
           go : (b : Bool) → allows columns s (all_lines columns s) ≡ b → after_flush columns s ≡ refused E.TooNarrow
@@ -306,7 +307,9 @@ module _ {A : Type 0} (columns : ℕ → Option ℕ) where
     text_run = run_of-append s.events (text_events cs a b mode) ∙ ap (λ (es : List (Entry A)). run_of s.events ++ es) (entries_run (text_entries cs a b mode))
 
     -- where a `Normal` text joins, each word that a break point has ended fits
-    pub text_words_fit : (t : Block A) → after_text columns cs a b mode s ≡ done t → columns 32 ≡ Some 1 → 0 < s.width → s.may_overflow ≡ false → IsNormal (run_of s.events ++ text_entries cs a b mode) → EndedWordsFit columns s.width (run_of s.events ++ text_entries cs a b mode)
+    pub text_words_fit : (t : Block A) → after_text columns cs a b mode s ≡ done t → columns 32 ≡ Some 1 → 0 < s.width →
+        s.may_overflow ≡ false → IsNormal (run_of s.events ++ text_entries cs a b mode) →
+        EndedWordsFit columns s.width (run_of s.events ++ text_entries cs a b mode)
     text_words_fit t e one wide never normal =
         let fits = run_fits columns s.width true one wide g.events (inl refl) in
         subst (EndedWordsFit columns s.width) text_run
@@ -321,7 +324,9 @@ module _ {A : Type 0} (columns : ℕ → Option ℕ) where
 
     module _ (one : columns 32 ≡ Some 1) (wide : 0 < s.width) (live : s.failure ≡ None) (e : after_text columns cs a b mode s ≡ refused E.TooNarrow) where
       pub text_wide : ¬ (CharactersFit columns s.width (run_of s.events ++ text_entries cs a b mode))
-      text_wide fit = refused_where g (lines columns g) (not_ended live e) (run_fits columns s.width false one wide g.events (inr (subst (λ (es : List (Entry A)). CharactersFit columns s.width es) (sym text_run) fit))).done
+      text_wide fit =
+          refused_where g (lines columns g) (not_ended live e)
+          (run_fits columns s.width false one wide g.events (inr (subst (λ (es : List (Entry A)). CharactersFit columns s.width es) (sym text_run) fit))).done
 
       pub text_wide_word : IsNormal (run_of s.events ++ text_entries cs a b mode) → ¬ (EndedWordsFit columns s.width (run_of s.events ++ text_entries cs a b mode))
       text_wide_word normal fit = grind (arith, refused_where, not_ended, normal_run_fits, text_run)

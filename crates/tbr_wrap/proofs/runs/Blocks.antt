@@ -1,31 +1,19 @@
 -- What each change leaves of a block, and where it allows its lines.
-use Rattle.std.proofs.Common.{◌≡◌, ℕ, if◌then◌else◌, ◌==◌, ◌||◌, length, Bool, true, false, Option, None, Some, List, [], ◌∷◌, ◌++◌, map, fold, chars, refl, ap, sym, ◌∙◌, subst, arith, append_assoc, append-nil, le-leb, leb-true, ne_eqb, inl}
-use Rattle.std.proofs.lemmas.Bool.{and_parts}
-use Rattle.std.proofs.lemmas.List.{length-map}
-use Rattle.std.proofs.lemmas.List.Sums.{fold-append}
-use Rattle.std.proofs.lemmas.Str.{chars-nil}
-use Rattle.std.specs.List.{AllByRecursion as Each}
-use Rattle.tbr_model.specs.declared.white_space.WhiteSpace.{WhiteSpace}
-use Rattle.tbr_model.specs.Run.{Entry, character, Item, marker, has_character}
-use Rattle.tbr_model.specs.Markers.{names_in_items}
-use Rattle.tbr_model.specs.Rule.{Event, call, entry, Progress, at_start, step, enter, waiting}
-use Rattle.tbr_model.specs.Fits.{lines_fit}
+use Rattle.tbr_wrap.proofs.Common.{◌≡◌, ℕ, if◌then◌else◌, ◌==◌, ◌||◌, length, Bool, true, false, Option, None, Some, List, [], ◌∷◌, ◌++◌, map, fold, chars, refl, ap, sym, ◌∙◌, subst, arith}
+use Rattle.tbr_wrap.proofs.Common.{append_assoc, append-nil, le-leb, ne_eqb, inl, and_parts, length-map, fold-append, chars-nil, Each, WhiteSpace, Entry, character, Item, marker, has_character}
+use Rattle.tbr_wrap.proofs.Common.{names_in_items, Event, call, entry, Progress, at_start, step, enter, waiting, lines_fit, waiting_none, marker_items_alone, Element, done, refused, FitsBlock}
+use Rattle.tbr_wrap.proofs.Common.{ShowsText, is_some_list, text_entries, Block, progress_of, lines, left, allows, grown, settled, settings_of, text_events, flushed, loose_names, line_handed_out}
+use Rattle.tbr_wrap.proofs.Common.{HandsOutFirst, without_loose, HasGrown, text_changes, block_of, KeepsLimits, RunChange}
+use Rattle.std.proofs.Common.{leb-true}
 use Rattle.tbr_model.specs.TakenOut.{without_markers}
 use Rattle.tbr_model.proofs.rule.DoneLines.{step_adds}
-use Rattle.tbr_model.proofs.rule.Markers.{waiting_none, marker_items_alone, markers_lead}
+use Rattle.tbr_model.proofs.rule.Markers.{markers_lead}
 use Rattle.tbr_model.proofs.rule.TakenOutMarkers.{taken_events, without_no_event}
 use Rattle.tbr_tagged.specs.declared.error.Error.TheVariants as E
-use Rattle.tbr_tagged.specs.Elements.{Element}
-use Rattle.tbr_tagged.specs.Outcome.{done, refused}
-use Rattle.tbr_wrap.specs.Wrapped.{FitsBlock, ShowsText}
-use Rattle.tbr_wrap.specs.Runs.{is_some_list, text_entries}
-use Rattle.tbr_wrap.specs.Block.{Block, progress_of, lines, left, allows, grown, settled, settings_of, text_events, flushed, loose_names, line_handed_out, HandsOutFirst, without_loose, HasGrown}
 use Rattle.tbr_wrap.proofs.runs.LinesLeft.{handed_keeps}
-use Rattle.tbr_wrap.specs.Story.{changed, story, text_changes}
-use Rattle.tbr_wrap.specs.Held.{padding_tag, block_of}
-use Rattle.tbr_wrap.specs.LaidLines.{KeepsLimits}
+use Rattle.tbr_wrap.specs.Story.{changed, story}
+use Rattle.tbr_wrap.specs.Held.{padding_tag}
 use Rattle.tbr_wrap.specs.declared.block.WrappedBlock.TheInside.{Inside}
-use Rattle.tbr_wrap.specs.declared.run_change.RunChange.{RunChange}
 use Rattle.tbr_wrap.specs.declared.run_change.RunChange.TheVariants.{HandedOut}
 
 no_chars : (rest : List ℕ) → (length rest == 0) ≡ true → chars rest ≡ []
@@ -51,11 +39,14 @@ module _ {A : Type 0} (columns : ℕ → Option ℕ) where
     seen_is r live = grind (arith, all_keep)
 
     -- more changes lead on
-    pub led_on : (r t : Inside A W) (new : List (RunChange × A × A)) → KeepsLimits r.wrapper.value.lines t.wrapper.value.lines → padding_tag t ≡ padding_tag r → t.changes.items ≡ r.changes.items ++ new → r.failure ≡ None → t.failure ≡ None →
+    pub led_on : (r t : Inside A W) (new : List (RunChange × A × A)) →
+        KeepsLimits r.wrapper.value.lines t.wrapper.value.lines → padding_tag t ≡ padding_tag r →
+        t.changes.items ≡ r.changes.items ++ new → r.failure ≡ None → t.failure ≡ None →
         block_of columns t ≡ fold (changed columns) (block_of columns r) new
     led_on r t new same pads more live still = grind (arith, seen_is, fold-append)
 
-    pub settings_kept : (r t : Inside A W) → KeepsLimits r.wrapper.value.lines t.wrapper.value.lines → padding_tag t ≡ padding_tag r → settings_of (block_of columns t) ≡ settings_of (block_of columns r)
+    pub settings_kept : (r t : Inside A W) → KeepsLimits r.wrapper.value.lines t.wrapper.value.lines →
+        padding_tag t ≡ padding_tag r → settings_of (block_of columns t) ≡ settings_of (block_of columns r)
     settings_kept r t same pads = λ i. record { width = same.width i; may_overflow = same.may_overflow i; padding = pads i }
 
   pub grown_more : (s : Block A) (es fs : List (Event A)) → grown (grown s es) fs ≡ grown s (es ++ fs)
@@ -142,7 +133,8 @@ module _ {A : Type 0} (columns : ℕ → Option ℕ) where
       grown (grown s (es ++ map entry (text_entries cs a b mode))) (map entry (text_entries ds a b mode)) ≡ grown s (es ++ map entry (text_entries (cs ++ ds) a b mode))
   front_and_rest s es cs ds a b mode = rw (entries_append cs ds a b mode) (simp append_assoc)
 
-  pub grown_on : (r s t : Block A) (es : List (Event A)) (text rest more : List ℕ) (a b : A) (mode : WhiteSpace) → HasGrown r es text rest a b mode s → HasGrown s [] rest more a b mode t → HasGrown r es text more a b mode t
+  pub grown_on : (r s t : Block A) (es : List (Event A)) (text rest more : List ℕ) (a b : A) (mode : WhiteSpace) →
+      HasGrown r es text rest a b mode s → HasGrown s [] rest more a b mode t → HasGrown r es text more a b mode t
   grown_on r s t es text rest more a b mode h k = grind (arith, append_assoc, front_and_rest)
 
   -- with what is left of the text too, it is as with the whole text
@@ -151,7 +143,9 @@ module _ {A : Type 0} (columns : ℕ → Option ℕ) where
   grown_whole r s es text rest a b mode h =
       rw (h.is, h.split) (front_and_rest r es h.front (chars rest) a b mode)
 
-  pub grown_all : (r s : Block A) (es : List (Event A)) (text rest : List ℕ) (a b : A) (mode : WhiteSpace) → (length rest == 0) ≡ true → HasGrown r es text rest a b mode s → s ≡ grown r (es ++ map entry (text_entries (chars text) a b mode))
+  pub grown_all : (r s : Block A) (es : List (Event A)) (text rest : List ℕ) (a b : A) (mode : WhiteSpace) →
+      (length rest == 0) ≡ true → HasGrown r es text rest a b mode s →
+      s ≡ grown r (es ++ map entry (text_entries (chars text) a b mode))
   grown_all r s es text rest a b mode e h =
       rw (no_chars rest e, append-nil s.events) at (grown_whole r s es text rest a b mode h)
 
@@ -161,7 +155,9 @@ module _ {A : Type 0} (columns : ℕ → Option ℕ) where
     text_done e test = ap (settled columns) (sym (grown_all r s (call ∷ []) text rest a b mode e h)) ∙ if_allowed (allows columns s (lines columns s)) s test
 
   -- a word of the text is too wide
-  pub refused_text : (s : Block A) (es : List (Entry A)) → s.may_overflow ≡ false → lines_fit columns s.width (fold (enter columns s.width) (progress_of columns s) es).laid.done ≡ false → settled columns (grown s (map entry es)) ≡ refused E.TooNarrow
+  pub refused_text : (s : Block A) (es : List (Entry A)) → s.may_overflow ≡ false →
+      lines_fit columns s.width (fold (enter columns s.width) (progress_of columns s) es).laid.done ≡ false →
+      settled columns (grown s (map entry es)) ≡ refused E.TooNarrow
   refused_text s es never h = grind (arith, if_not_allowed, not_allowed, fold-append, entries_entered)
 
   -- ---- a line

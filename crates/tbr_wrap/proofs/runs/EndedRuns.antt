@@ -1,27 +1,23 @@
 -- What a block's lines show of its run.
-use Rattle.std.proofs.Common.{◌≡◌, ℕ, ◌<◌, ◌≤◌, inl, inr, Bool, true, false, Option, Some, None, IfSome, unwrap_or, List, [], ◌∷◌, ◌++◌, map, filter, fold, refl, sym, ◌∙◌, subst, arith, lt-ltb, IsTrue}
-use Rattle.std.specs.List.{AllZip, AllByRecursion as Each}
-use Rattle.std.proofs.lemmas.Bool.{cond_both}
-use Rattle.std.proofs.lemmas.List.Sums.{fold-append}
-use Rattle.tbr_model.specs.declared.white_space.WhiteSpace.TheVariants.{Pre, PreWrap}
-use Rattle.tbr_model.specs.Run.{Entry, character, marker_entry, Item, glyph, marker, items_width, has_character, is_break_entry, trailing, word_of, Reading, start, works, read, reading}
-use Rattle.tbr_model.specs.Layout.{Slot, line_text, joined}
-use Rattle.tbr_model.specs.Greedy.{IsNarrow, wrapped}
-use Rattle.tbr_model.specs.Rule.{Event, run_of, progress, finished, waiting, lines_of}
-use Rattle.tbr_model.specs.Hard.{IsNarrowEntry, glyphs_of, is_visible, visible_glyphs, visible_entries, IsShown}
-use Rattle.tbr_model.proofs.lists.Each.{each_append, each_front, each_back}
+use Rattle.tbr_wrap.proofs.Common.{◌≡◌, ℕ, ◌<◌, ◌≤◌, inl, inr, Bool, true, false, Option, Some, None, IfSome, unwrap_or, List, [], ◌∷◌, ◌++◌, map, fold, refl, sym, ◌∙◌, subst, arith, lt-ltb, AllZip}
+use Rattle.tbr_wrap.proofs.Common.{Each, cond_both, fold-append, Pre, PreWrap, Entry, character, marker_entry, Item, glyph, marker, items_width, has_character, trailing, reading, joined, IsNarrow}
+use Rattle.tbr_wrap.proofs.Common.{Event, run_of, progress, finished, waiting, lines_of, IsNarrowEntry, is_visible, visible_glyphs, visible_entries, IsShown, each_append, each_front, each_back}
+use Rattle.tbr_wrap.proofs.Common.{no_character_after_end, NormalBlank, HasBestLines, FitsBlock, EndedWordsFit, WordsFit, IsNormal, CharactersFit, VisibleFit}
+use Rattle.std.proofs.Common.{filter, IsTrue}
+use Rattle.tbr_model.specs.Run.{is_break_entry, word_of, Reading, start, works, read}
+use Rattle.tbr_model.specs.Layout.{Slot, line_text}
+use Rattle.tbr_model.specs.Greedy.{wrapped}
+use Rattle.tbr_model.specs.Hard.{glyphs_of}
 use Rattle.tbr_model.proofs.words.KeptItems.{narrow_markers}
 use Rattle.tbr_model.proofs.words.LinesHaveCharacters.{HasGlyph, best_characters}
 use Rattle.tbr_model.proofs.rule.PreservingModes.{pre_shown, prewrap_shown, tabs_shown}
-use Rattle.tbr_model.proofs.rule.HardLines.{no_character_after_end}
 use Rattle.tbr_model.proofs.rule.VisibleCharacters.{visible_shown, hard_lines_shown}
 use Rattle.tbr_model.proofs.normal.LaidWords.{text_has}
 use Rattle.tbr_model.proofs.normal.StaysLaid.{AllLaid, IsNarrowItem}
 use Rattle.tbr_model.proofs.normal.LayoutSoFar.{NormalStands, normal_stands}
 use Rattle.tbr_model.proofs.normal.TrailingMarkers.{normal_waiting}
-use Rattle.tbr_model.proofs.normal.BestLines.{NormalBlank, normal_lines, normal_blank}
-use Rattle.tbr_wrap.specs.Wrapped.{HasBestLines, FitsBlock, EndedWordsFit, WordsFit}
-use Rattle.tbr_wrap.specs.Runs.{IsNormal, CharactersFit, IsNarrowIfVisible, VisibleFit, IsShownBy}
+use Rattle.tbr_model.proofs.normal.BestLines.{normal_lines, normal_blank}
+use Rattle.tbr_wrap.specs.Runs.{IsNarrowIfVisible, IsShownBy}
 
 -- ---- no line without a character
 
@@ -99,7 +95,9 @@ module _ {A : Type 0} (columns : ℕ → Option ℕ) (width : ℕ) where
       let ls : List (List (Item A)) = lines_of columns width es in
       let glyphs : Each IsNarrowGlyph (glyphs_of (joined ls)) = glyphs_narrow (joined ls) (narrow_joined ls (narrow_lines ls fits)) in
       let seen : Each IsNarrowGlyph (visible_glyphs columns (joined ls)) = each_filter IsNarrowGlyph (λ g. is_visible columns g.0) (glyphs_of (joined ls)) glyphs in
-      narrow_visible (run_of es) (shown_narrow (λ x y. true) (visible_glyphs columns (joined ls)) (visible_entries columns (run_of es)) (visible_shown columns width (λ x y. true ≡ true) (λ x. refl) es) seen)
+      narrow_visible (run_of es)
+      (shown_narrow (λ x y. true) (visible_glyphs columns (joined ls)) (visible_entries columns (run_of es))
+      (visible_shown columns width (λ x y. true ≡ true) (λ x. refl) es) seen)
 
 -- ---- a whole run
 
@@ -108,7 +106,9 @@ module _ {A : Type 0} (columns : ℕ → Option ℕ) (width : ℕ) (one_space : 
   Same a b = a ≡ b
 
   -- what a block's lines show of its run
-  pub shown_run : (may_overflow : Bool) (es : List (Event A)) → Each (FitsBlock columns width may_overflow) (lines_of columns width es) → IsShownBy columns width may_overflow (run_of es) (lines_of columns width es)
+  pub shown_run : (may_overflow : Bool) (es : List (Event A)) →
+      Each (FitsBlock columns width may_overflow) (lines_of columns width es) →
+      IsShownBy columns width may_overflow (run_of es) (lines_of columns width es)
   shown_run may_overflow es fits = record {
     best = λ never normal. best_texts columns width es (subst (λ (o : Bool). Each (FitsBlock columns width o) (lines_of columns width es)) never fits) normal;
     visible = visible_shown columns width Same (λ a. refl) es;
@@ -142,7 +142,9 @@ module _ {A : Type 0} (columns : ℕ → Option ℕ) (width : ℕ) where
   ended_of_all run fit = grind (arith, cond_both, each_front)
 
   -- a break point ends the items under way, if they take columns
-  broken_fits : (run : List (Entry A)) (e : Entry A) → is_break_entry e ≡ true → 0 < items_width columns (reading columns run).items → EndedWordsFit columns width (run ++ e ∷ []) → IsNarrow columns width (reading columns run).items
+  broken_fits : (run : List (Entry A)) (e : Entry A) → is_break_entry e ≡ true →
+      0 < items_width columns (reading columns run).items → EndedWordsFit columns width (run ++ e ∷ []) →
+      IsNarrow columns width (reading columns run).items
   broken_fits run e breaks some fit = grind (arith, lt-ltb, fold-append, each_back)
 
   -- no line that is laid is wider than the block
@@ -158,8 +160,13 @@ module _ {A : Type 0} (columns : ℕ → Option ℕ) (width : ℕ) where
     blank_normal = normal_blank columns width es normal all_narrow
 
     -- a word that a break point ends has none
-    pub narrow_if_ended : (e : Entry A) → is_break_entry e ≡ true → 0 < items_width columns (progress columns width es).word → EndedWordsFit columns width (run_of es ++ e ∷ []) → IsNarrow columns width (progress columns width es).word
-    narrow_if_ended e breaks some fit = subst (IsNarrow columns width) (sym stands.1.word) (broken_fits (run_of es) e breaks (subst (λ (js : List (Item A)). 0 < items_width columns js) stands.1.word some) fit)
+    pub narrow_if_ended : (e : Entry A) → is_break_entry e ≡ true →
+        0 < items_width columns (progress columns width es).word → EndedWordsFit columns width (run_of es ++ e ∷ []) →
+        IsNarrow columns width (progress columns width es).word
+    narrow_if_ended e breaks some fit =
+        subst (IsNarrow columns width) (sym stands.1.word)
+        (broken_fits (run_of es) e breaks
+        (subst (λ (js : List (Item A)). 0 < items_width columns js) stands.1.word some) fit)
 
     pub narrow_if_all : WordsFit columns width (run_of es) → IsNarrow columns width (progress columns width es).word
     narrow_if_all fit = subst (IsNarrow columns width) (sym stands.1.word) (last_fits (run_of es) fit)

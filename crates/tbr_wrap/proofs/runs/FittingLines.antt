@@ -1,17 +1,14 @@
 -- A hard line of `Pre` that fits isn't cut, and is under its own annotations.
-use Rattle.std.proofs.Common.{◌≡◌, ℕ, ◌+◌, ◌-◌, ◌%◌, ◌≤◌, ◌==◌, inl, inr, nat_le, nat_lt, Bool, true, false, if◌then◌else◌, Option, Some, None, unwrap_or, List, [], ◌∷◌, map, fold, length, Contains, refl, ap, sym, ◌∙◌, arith, subst, le-leb, lt-ltb, le-ltb}
-use Rattle.std.specs.List.{AllZip, AllByRecursion as Each}
-use Rattle.std.proofs.lemmas.Bool.{cond_both}
+use Rattle.tbr_wrap.proofs.Common.{◌≡◌, ℕ, ◌+◌, ◌-◌, ◌%◌, ◌≤◌, ◌==◌, inl, inr, nat_le, nat_lt, Bool, true, false, if◌then◌else◌, Option, Some, None, unwrap_or, List, [], ◌∷◌, map, fold, length, refl}
+use Rattle.tbr_wrap.proofs.Common.{ap, sym, ◌∙◌, arith, subst, le-leb, lt-ltb, le-ltb, AllZip, Each, cond_both, Pre, Entry, character, marker_entry, Item, marker, items_width, has_character, is_blank}
+use Rattle.tbr_wrap.proofs.Common.{joined, Laid, extended, end_if_character, Event, call, entry, run_of, Progress, spaces, pending_width, flush_word, join, newline, tab, tag_of, keep_space, passes}
+use Rattle.tbr_wrap.proofs.Common.{keep_character, enter, step, finished, lines_of, HasMode, visible_glyphs, visible_entries, IsShown, items_width-append, no_character_no_width}
+use Rattle.std.proofs.Common.{Contains}
 use Rattle.std.proofs.lemmas.List.Elements.{All-contains_itself, recursion_from_All}
-use Rattle.tbr_model.specs.declared.white_space.WhiteSpace.TheVariants.{Pre}
-use Rattle.tbr_model.specs.Run.{Entry, character, marker_entry, Item, marker, items_width, has_character, is_blank}
-use Rattle.tbr_model.specs.Layout.{joined}
-use Rattle.tbr_model.specs.Laid.{Laid, extended, end_if_character}
-use Rattle.tbr_model.specs.Rule.{Event, call, entry, run_of, Progress, spaces, pending_width, flush_word, join, newline, tab, tag_of, keep_space, passes, keep_character, enter, step, finished, lines_of}
-use Rattle.tbr_model.specs.Hard.{HasMode, is_newline, is_visible_entry, visible_glyphs, visible_entries, IsShown, ShowsVisible, hard_lines, Parted}
+use Rattle.tbr_model.specs.Hard.{is_newline, is_visible_entry, ShowsVisible, hard_lines, Parted}
 use Rattle.tbr_model.specs.Shown.{StandsUnderOwn, ShowsOwn, next_stop}
 use Rattle.tbr_model.proofs.lists.Each.{filter-map}
-use Rattle.tbr_model.proofs.words.Items.{items_width-append, no_character_no_width, pending_width-of}
+use Rattle.tbr_model.proofs.words.Items.{pending_width-of}
 use Rattle.tbr_model.proofs.lines.EachItem.{Brings, each_from}
 use Rattle.tbr_model.proofs.rule.BlankLines.{mode_preserves}
 use Rattle.tbr_model.proofs.rule.HardLineStart.{BeginsHardLine}
@@ -128,7 +125,9 @@ module _ {A : Type 0} (columns : ℕ → Option ℕ) (width : ℕ) where
           rw (e, other, f, tag_own a b p k.in_continuation, tag_own a a p k.in_continuation) (tab_fits a n (flush_word columns width p) small flushed.1 flushed.0, refl)
       go false e false f =
           let small : n + unwrap_or (columns c) 0 ≤ width = rw (e, f) at fits in
-          rw (e, other, f, tag_own a b p k.in_continuation, tag_own a a p k.in_continuation) (either (is_blank c) (kept_space_fits c a n (columns c) p refl k, refl) (character_fits c a b n (columns c) p refl small k))
+          rw (e, other, f, tag_own a b p k.in_continuation, tag_own a a p k.in_continuation)
+          (either (is_blank c) (kept_space_fits c a n (columns c) p refl k, refl)
+          (character_fits c a b n (columns c) p refl small k))
         where
           either : (v : Bool) → {q r s t : Progress A} → FitsSoFar (n + unwrap_or (columns c) 0) q × (q ≡ r) → FitsSoFar (n + unwrap_or (columns c) 0) s × (s ≡ t) →
               FitsSoFar (n + unwrap_or (columns c) 0) (if v then q else s) × ((let x : Progress A = if v then q else s in x) ≡ (if v then r else t))

@@ -1,27 +1,13 @@
 -- What the fields of a block hold, and what each change leaves of that.
-use Rattle.std.proofs.Common.{◌≡◌, ℕ, suc, ◌+◌, ◌<◌, ◌||◌, Bool, true, false, Option, List, [], ◌∷◌, ◌++◌, fold, map, length, take, drop, refl, ap, sym, ◌∙◌, subst, arith, append_assoc, length-append, lt-ltb, nat_lt}
-use Rattle.std.proofs.Math.Bool.{or_assoc, or-false, or-true}
-use Rattle.std.proofs.lemmas.List.{take_at, drop_at, length-take-le, length-map}
-use Rattle.std.proofs.lemmas.List.Elements.{length_all_zip}
-use Rattle.std.proofs.lemmas.Bool.{and_parts, not-true}
-use Rattle.std.specs.List.{AllZip}
-use Rattle.tbr_model.specs.Run.{Item, glyph, marker, has_character}
-use Rattle.tbr_model.specs.Markers.{names_in_items}
-use Rattle.tbr_model.specs.Laid.{Laid}
-use Rattle.tbr_model.specs.Layout.{joined}
-use Rattle.tbr_model.specs.Rule.{Event, Progress, at_start, step, finished, waiting}
-use Rattle.tbr_model.proofs.rule.DoneLines.{finished_adds}
+use Rattle.tbr_wrap.proofs.Common.{◌≡◌, ℕ, suc, ◌+◌, ◌<◌, ◌||◌, Bool, true, false, Option, List, [], ◌∷◌, ◌++◌, fold, map, length, take, drop, refl, ap, sym, ◌∙◌, subst, arith, append_assoc}
+use Rattle.tbr_wrap.proofs.Common.{length-append, lt-ltb, nat_lt, or-false, or-true, take_at, drop_at, length-map, length_all_zip, and_parts, not-true, AllZip, Item, glyph, marker, has_character}
+use Rattle.tbr_wrap.proofs.Common.{names_in_items, Laid, joined, Event, Progress, at_start, step, finished, waiting, finished_adds, SameItems, all_zip_append, same_has, is_some_list, Block, new_block}
+use Rattle.tbr_wrap.proofs.Common.{progress_of, all_lines, left, loose, has_no_character, grown, without_loose, flushed, line_handed_out, AreLines, HoldsRun, HoldsLaid, LaidLikeRule, LeavesAfterLine}
+use Rattle.tbr_wrap.proofs.Common.{KeepsLimits, IsAtProgress, RunIsFinished, LaidLines, Wrapper}
+use Rattle.std.proofs.Math.Bool.{or_assoc}
+use Rattle.std.proofs.lemmas.List.{length-take-le}
 use Rattle.tbr_model.proofs.words.Regions.{lt-zero-add}
-use Rattle.tbr_tagged.specs.Elements.{SameItems}
-use Rattle.tbr_tagged.proofs.SameItems.{all_zip_append, same_has}
-use Rattle.tbr_wrap.specs.Runs.{is_some_list}
-use Rattle.tbr_wrap.specs.Block.{Block, new_block, progress_of, all_lines, left, loose, has_no_character, grown, without_loose, flushed, line_handed_out}
-use Rattle.tbr_wrap.specs.EndedLines.{AreLines}
-use Rattle.tbr_wrap.specs.Held.{HoldsAt, HoldsRun}
-use Rattle.tbr_wrap.specs.LaidLines.{HoldsLaid, LaidLikeRule, LeavesAfterLine, KeepsLimits}
-use Rattle.tbr_wrap.specs.Wrapper.{IsAtProgress, RunIsFinished}
-use Rattle.tbr_wrap.specs.declared.laid_lines.LaidLines.{LaidLines}
-use Rattle.tbr_wrap.specs.declared.wrapper.Wrapper.{Wrapper}
+use Rattle.tbr_wrap.specs.Held.{HoldsAt}
 use Rattle.tbr_wrap.proofs.runs.LinesLeft.{first_of, some_count}
 use Rattle.tbr_wrap.proofs.runs.Blocks.{steps_add, progress_grown, progress_taken, progress_flushed}
 
@@ -32,7 +18,8 @@ begun_lists : {X Y : Type 0} (f g : Bool) (xs xs' : List X) (ys ys' : List Y) (n
     f || is_some_list xs' ≡ g || is_some_list ys'
 begun_lists f g xs xs' ys ys' n more_x more_y h = grind (arith, ℕ, lt-zero-add, or_assoc, some_count)
 
-pub first_shown : {X Y : Type 0} (R : X → Y → Type 0) (xs : List X) (ys : List Y) (y : Y) (rest : List Y) → ys ≡ y ∷ rest → AllZip R xs ys → (x : X) × (others : List X) × (xs ≡ x ∷ others) × R x y × AllZip R others rest
+pub first_shown : {X Y : Type 0} (R : X → Y → Type 0) (xs : List X) (ys : List Y) (y : Y) (rest : List Y) →
+    ys ≡ y ∷ rest → AllZip R xs ys → (x : X) × (others : List X) × (xs ≡ x ∷ others) × R x y × AllZip R others rest
 first_shown R [] ys y rest e h = absurd (subst (λ zs. AllZip R [] zs) e h)
 first_shown R (x ∷ xs) ys y rest e h = let k = subst (λ zs. AllZip R (x ∷ xs) zs) e h in (x, xs, refl, k.0, k.1)
 
@@ -40,12 +27,15 @@ pub no_lines : {X : Type 0} (xs : List X) → (0 < length xs → ⊥) → xs ≡
 no_lines [] h = refl
 no_lines (x ∷ xs) h = absurd (h (omega arith))
 
-first_showing : {X Y : Type 0} (R : X → Y → Type 0) (xs : List X) (ys : List Y) (x : X) (others : List X) → xs ≡ x ∷ others → AllZip R xs ys → (y : Y) × (rest : List Y) × (ys ≡ y ∷ rest) × AllZip R others rest
+first_showing : {X Y : Type 0} (R : X → Y → Type 0) (xs : List X) (ys : List Y) (x : X) (others : List X) →
+    xs ≡ x ∷ others → AllZip R xs ys → (y : Y) × (rest : List Y) × (ys ≡ y ∷ rest) × AllZip R others rest
 first_showing R xs [] x others e h = absurd (subst (λ zs. AllZip R zs []) e h)
 first_showing R xs (y ∷ ys) x others e h = let k = subst (λ zs. AllZip R zs (y ∷ ys)) e h in (y, ys, refl, k.1)
 
 module _ {A : Type 0} (columns : ℕ → Option ℕ) (eq : A → A → Bool) where
-  lines_count : (b : Wrapper A) (before given : List (List (Item A))) (p : Progress A) → IsAtProgress columns eq b before given p → length b.lines.ended.items + length given ≡ length before + length p.laid.done
+  lines_count : (b : Wrapper A) (before given : List (List (Item A))) (p : Progress A) →
+      IsAtProgress columns eq b before given p →
+      length b.lines.ended.items + length given ≡ length before + length p.laid.done
   lines_count b before given p s = grind (arith, length-map, length-append, length_all_zip)
 
   pub holds_new : (b : Wrapper A) (width : ℕ) (may : Bool) (padding : Option A) → IsAtProgress columns eq b [] [] at_start → HoldsRun columns eq b false (new_block width may padding)
@@ -124,7 +114,10 @@ module _ {A : Type 0} (columns : ℕ → Option ℕ) (eq : A → A → Bool) whe
         let adds = finished_adds columns s.width p in
         let longer : length all ≡ length p.laid.done + length adds.0 = ap length adds.1 ∙ length-append p.laid.done adds.0 in
         let left : Progress A = record at_start { word = waiting columns s.width p } in
-        let stood : IsAtProgress columns eq d (h.before ++ e.now) [] left = subst (λ w. IsAtProgress columns eq d (h.before ++ e.now) [] (record at_start { word = waiting columns w p })) (sym wide) e.stands in
+        let stood : IsAtProgress columns eq d (h.before ++ e.now) [] left =
+        subst
+        (λ w. IsAtProgress columns eq d (h.before ++ e.now) [] (record at_start { word = waiting columns w p }))
+        (sym wide) e.stands in
         subst (λ (x : Progress A). HoldsAt columns eq d begun (flushed columns s) x) (sym (progress_flushed columns s))
         (record {
           before = h.before ++ e.now;
@@ -176,10 +169,14 @@ module _ {A : Type 0} (columns : ℕ → Option ℕ) (eq : A → A → Bool) whe
       abbrev d : Wrapper A
       d = record b { lines = ls }
 
-      stands_left : (before' given' : List (List (Item A))) (l : Laid A) → HoldsLaid ls before' l → ls.flat.word ≡ b.lines.flat.word → LaidLikeRule eq given' l p.laid → IsAtProgress columns eq d before' given' p
+      stands_left : (before' given' : List (List (Item A))) (l : Laid A) → HoldsLaid ls before' l →
+          ls.flat.word ≡ b.lines.flat.word → LaidLikeRule eq given' l p.laid →
+          IsAtProgress columns eq d before' given' p
       stands_left before' given' l holds word shows = grind arith
 
-      pub holds_handed : (is : List (Item A)) (more : List (List (Item A))) → h.before ++ laid.done ≡ is ∷ more → LeavesAfterLine b.lines ls more laid → 0 < length b.lines.ended.items → HoldsRun columns eq d true (line_handed_out s)
+      pub holds_handed : (is : List (Item A)) (more : List (List (Item A))) → h.before ++ laid.done ≡ is ∷ more →
+          LeavesAfterLine b.lines ls more laid → 0 < length b.lines.ended.items →
+          HoldsRun columns eq d true (line_handed_out s)
       holds_handed is more first v some = go h.before s.ended refl refl h.earlier
         where
           go : (bs es : List (List (Item A))) → h.before ≡ bs → s.ended ≡ es → AllZip (SameItems eq) bs es → HoldsRun columns eq d true (line_handed_out s)
@@ -194,7 +191,8 @@ module _ {A : Type 0} (columns : ℕ → Option ℕ) (eq : A → A → Bool) whe
               let count : length next ≡ suc s.handed = length-append given (f.0 ∷ []) ∙ omega (arith, given_count) in
               let taken : take (suc s.handed) p.laid.done ≡ next = ap (take (suc s.handed)) split ∙ take_at next f.1 (suc s.handed) count in
               let l : Laid A = record { done = more; line = laid.line; width = laid.width } in
-              let holds : HoldsLaid ls [] l = record { placed = v.placed; lens = v.lens; len = v.len ∙ h.stands.lays.holds.len; markers = v.markers ∙ h.stands.lays.holds.markers; width = v.width ∙ h.stands.lays.holds.width } in
+              let holds : HoldsLaid ls [] l =
+              record { placed = v.placed; lens = v.lens; len = v.len ∙ h.stands.lays.holds.len; markers = v.markers ∙ h.stands.lays.holds.markers; width = v.width ∙ h.stands.lays.holds.width } in
               let shows : LaidLikeRule eq next l p.laid = record { rest = f.1; split = split; done = f.3; last = h.stands.lays.shows.last; width = h.stands.lays.shows.width } in
               subst (HoldsRun columns eq d true) none
               (record {

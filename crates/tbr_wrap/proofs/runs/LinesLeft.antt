@@ -1,15 +1,12 @@
 -- Lines that are handed out one by one.
-use Rattle.std.proofs.Common.{◌≡◌, ℕ, zero, suc, ◌+◌, ◌-◌, nat_lt, lt-ltb, Option, None, Some, Bool, List, [], ◌∷◌, ◌++◌, take, drop, length, refl, ap, sym, ◌∙◌, arith, add-one}
-use Rattle.std.proofs.lemmas.List.{drop-drop, take-append-drop}
-use Rattle.std.proofs.lemmas.Bool.{cond_both}
-use Rattle.tbr_model.specs.Run.{Item}
-use Rattle.std.specs.Cmp.{IsEquivalence}
-use Rattle.tbr_tagged.specs.Elements.{Element, items_of, text_items, SameItems, IsMerged}
+use Rattle.tbr_wrap.proofs.Common.{◌≡◌, ℕ, zero, suc, ◌+◌, ◌-◌, nat_lt, lt-ltb, Option, None, Some, Bool, List, [], ◌∷◌, ◌++◌, take, drop, length, refl, ap, sym, ◌∙◌, arith, take-append-drop}
+use Rattle.tbr_wrap.proofs.Common.{cond_both, Item, IsEquivalence, Element, items_of, text_items, SameItems, IsMerged, same_items_trans, same_items_append, same_width, ShowsText, padding_of}
+use Rattle.tbr_wrap.proofs.Common.{is_some_list, Block, settings_of, lines, left, line_handed_out}
+use Rattle.std.proofs.Common.{add-one}
+use Rattle.std.proofs.lemmas.List.{drop-drop}
 use Rattle.tbr_tagged.specs.Padding.{spaces}
-use Rattle.tbr_tagged.proofs.SameItems.{same_items_trans, same_items_append, same_from_path, same_width}
-use Rattle.tbr_wrap.specs.Wrapped.{ShowsText, padding_of}
-use Rattle.tbr_wrap.specs.Runs.{is_some_list}
-use Rattle.tbr_wrap.specs.Block.{Block, settings_of, lines, left, line_handed_out, lines_handed_out}
+use Rattle.tbr_tagged.proofs.SameItems.{same_from_path}
+use Rattle.tbr_wrap.specs.Block.{lines_handed_out}
 
 pub some_count : {X : Type 0} (xs : List X) → is_some_list xs ≡ nat_lt 0 (length xs)
 some_count [] = refl
@@ -18,7 +15,10 @@ some_count (x ∷ xs) = sym (lt-ltb 0 (length (x ∷ xs)) (omega arith))
 -- what a line that is handed out leaves
 module _ {A : Type 0} (s : Block A) where
   pub handed_keeps : ((line_handed_out s).failure ≡ s.failure) × (settings_of (line_handed_out s) ≡ settings_of s) × ((line_handed_out s).events ≡ s.events)
-  handed_keeps = cond_both (is_some_list s.ended) _ _ (λ (t : Block A). (t.failure ≡ s.failure) × (settings_of t ≡ settings_of s) × (t.events ≡ s.events)) (λ _. (refl, refl, refl)) (λ _. (refl, refl, refl))
+  handed_keeps =
+      cond_both (is_some_list s.ended) _ _
+      (λ (t : Block A). (t.failure ≡ s.failure) × (settings_of t ≡ settings_of s) × (t.events ≡ s.events))
+      (λ _. (refl, refl, refl)) (λ _. (refl, refl, refl))
 
   pub left_after : (columns : ℕ → Option ℕ) → left columns (line_handed_out s) ≡ drop 1 (left columns s)
   left_after columns = go s.ended refl

@@ -1,16 +1,12 @@
 -- What a line shows under what its tags mean.
-use Rattle.std.proofs.Common.{◌≡◌, ℕ, ◌-◌, Bool, Option, None, Some, List, [], ◌∷◌, ◌++◌, map, refl, ap}
+use Rattle.tbr_wrap.proofs.Common.{◌≡◌, ℕ, ◌-◌, Bool, Option, None, Some, List, [], ◌∷◌, ◌++◌, map, refl, ap, AllZip, map-append, Item, glyph, items_width, Element, items_of, text_items, ShowsText}
+use Rattle.tbr_wrap.proofs.Common.{padding_of}
 use Rattle.std.specs.Option.{option_map}
-use Rattle.std.specs.List.{AllZip}
-use Rattle.std.proofs.lemmas.List.{map-append}
-use Rattle.tbr_model.specs.Run.{Item, glyph, items_width}
 use Rattle.tbr_model.specs.Mapped.{map_items}
 use Rattle.tbr_model.proofs.maps.Words.{items_width-map}
-use Rattle.tbr_tagged.specs.Elements.{Element, items_of, text_items}
 use Rattle.tbr_tagged.specs.Padding.{spaces}
 use Rattle.tbr_tagged.specs.Mapped.{MeansEqual}
 use Rattle.tbr_tagged.proofs.MappedTags.{means_same_items}
-use Rattle.tbr_wrap.specs.Wrapped.{ShowsText, padding_of}
 
 module _ {A B : Type 0} (f : A → B) where
   text_mapped : (cs : List ℕ) (a : A) → map_items f (text_items cs a) ≡ text_items cs (f a)

@@ -1,24 +1,17 @@
 -- Characters that a text begins with, and that join a word where it is.
-use Rattle.std.proofs.Common.{◌≡◌, ℕ, zero, suc, ◌+◌, ◌≤◌, ◌==◌, Bool, true, false, not, ◌&&◌, ◌||◌, if◌then◌else◌, Option, None, Some, is_some, List, [], ◌∷◌, ◌++◌, fold, length, take, drop, chars, encode_utf8, refl, ap, sym, ◌∙◌, subst, arith, append-nil, append_assoc, length-append, length-take-le}
+use Rattle.tbr_wrap.proofs.Common.{◌≡◌, ℕ, zero, suc, ◌+◌, ◌≤◌, ◌==◌, Bool, true, false, not, ◌&&◌, ◌||◌, if◌then◌else◌, Option, None, Some, is_some, List, [], ◌∷◌, ◌++◌, fold, length, take, drop}
+use Rattle.tbr_wrap.proofs.Common.{chars, refl, ap, sym, ◌∙◌, subst, arith, append-nil, append_assoc, length-append, length-take-le, or-false, take-append-drop, map-append, fold-append, IsAscii}
+use Rattle.tbr_wrap.proofs.Common.{take-append_seam, chars-IsAscii, IsUtf8-from_ascii, IsCharBoundary-from_take, chars-append, WhiteSpace, Progress, enter, character, is_break, is_kept, lines_fit}
+use Rattle.tbr_wrap.proofs.Common.{width_of_text, each_append, kept_width, ArePlain, joins, JoinWord, JoinInTurn, text_entries}
+use Rattle.std.proofs.Common.{encode_utf8}
 use lib.Utf8.{encodes}
-use Rattle.std.proofs.Math.Bool.{or-false}
 use Rattle.std.proofs.lemmas.Bool.{or_left}
-use Rattle.std.proofs.lemmas.List.{take-append-drop, map-append}
-use Rattle.std.proofs.lemmas.List.Sums.{fold-append}
 use Rattle.std.specs.Char.{len_utf8}
-use Rattle.std.specs.Str.{IsUtf8, IsAscii}
-use Rattle.std.proofs.Math.Seq.{take-append_seam}
-use Rattle.std.proofs.lemmas.Str.{encodes-append, encodes-chars, length-encode, chars-IsAscii, IsUtf8-from_ascii, IsUtf8-drop, IsCharBoundary-from_take, chars-append, chars_past_char}
-use Rattle.tbr_model.specs.declared.white_space.WhiteSpace.{WhiteSpace}
-use Rattle.tbr_model.specs.Rule.{Progress, enter}
-use Rattle.tbr_model.specs.Run.{character, is_break, is_kept}
-use Rattle.tbr_model.specs.Fits.{lines_fit}
-use Rattle.tbr_model.specs.Width.{width_of_text}
+use Rattle.std.specs.Str.{IsUtf8}
+use Rattle.std.proofs.lemmas.Str.{encodes-append, encodes-chars, length-encode, IsUtf8-drop, chars_past_char}
 use Rattle.tbr_model.proofs.rule.WiderLines.{unfit_entries}
-use Rattle.tbr_model.proofs.lists.Each.{each_append}
 use Rattle.tbr_tagged.proofs.TextColumns.{width_of_text-append}
-use Rattle.tbr_wrap.specs.Plain.{kept_width, begins_with_space, ArePlain, joins, JoinWord, JoinInTurn, IsFront, IsStretch}
-use Rattle.tbr_wrap.specs.Runs.{text_entries}
+use Rattle.tbr_wrap.specs.Plain.{begins_with_space, IsFront, IsStretch}
 use Rattle.tbr_wrap.specs.declared.plain.Stretch.{Stretch}
 use Rattle.tbr_flat.proofs.TextBytes.{splits_at}
 use Rattle.tbr_wrap.proofs.words.PlainText.{plain_parts}
@@ -38,7 +31,9 @@ unspaced columns keeps some (c ∷ cs) h = (more (keeps && some) c h.0, all cs h
     all (d ∷ ds) h = (more keeps d h.0, all ds h.1)
 
 -- a text that begins with no space
-in_turn : (columns : ℕ → Option ℕ) (keeps some : Bool) (text : List ℕ) (n : ℕ) → JoinWord columns (keeps && (some || not (begins_with_space text))) (take n text) → JoinInTurn columns keeps some (take n text)
+in_turn : (columns : ℕ → Option ℕ) (keeps some : Bool) (text : List ℕ) (n : ℕ) →
+    JoinWord columns (keeps && (some || not (begins_with_space text))) (take n text) →
+    JoinInTurn columns keeps some (take n text)
 in_turn columns keeps some (c ∷ cs) (suc n) h = go keeps some (c == 32) refl h
   where
     go : (k s b : Bool) → (c == 32) ≡ b → JoinWord columns (k && (s || not b)) (c ∷ take n cs) → JoinInTurn columns k s (c ∷ take n cs)
@@ -87,7 +82,10 @@ pub next_letter : (text rest : List ℕ) (n count c : ℕ) → IsUtf8 text → I
 next_letter text rest n count c utf8 f is =
     let first = take n text in let cs = chars first in
     let back = IsUtf8-drop text n utf8 (IsCharBoundary-from_take text n utf8 f.within f.utf8) in
-    let split : chars text ≡ (cs ++ c ∷ []) ++ chars rest = ap chars (sym (take-append-drop n text)) ∙ chars-append first (drop n text) f.utf8 ∙ ap (λ ds. cs ++ ds) (chars_past_char (drop n text) rest c back is) ∙ sym (append_assoc cs (c ∷ []) (chars rest)) in
+    let split : chars text ≡ (cs ++ c ∷ []) ++ chars rest =
+    ap chars (sym (take-append-drop n text)) ∙ chars-append first (drop n text) f.utf8
+    ∙ ap (λ ds. cs ++ ds) (chars_past_char (drop n text) rest c back is)
+    ∙ sym (append_assoc cs (c ∷ []) (chars rest)) in
     let long : n + len_utf8 c ≡ length (encodes (cs ++ c ∷ [])) = omega (arith, encoded_one cs c, ap length (encodes-chars first f.utf8), length-take-le n text f.within) in
     let k = front_of text (cs ++ c ∷ []) (chars rest) (n + len_utf8 c) utf8 split long in
     record {
@@ -103,12 +101,16 @@ module _ {A : Type 0} (columns : ℕ → Option ℕ) (width : ℕ) (a b : A) (mo
   entered_on cs ds p = ap (fold (enter columns width) p) (map-append (λ c. character c a b mode) cs ds) ∙ fold-append (enter columns width) p (text_entries cs a b mode) (text_entries ds a b mode)
 
   -- a wider line stays
-  pub unfit_on : (cs ds es : List ℕ) (c : ℕ) (p : Progress A) → es ≡ (cs ++ c ∷ []) ++ ds → lines_fit columns width (enter columns width (fold (enter columns width) p (text_entries cs a b mode)) (character c a b mode)).laid.done ≡ false →
+  pub unfit_on : (cs ds es : List ℕ) (c : ℕ) (p : Progress A) → es ≡ (cs ++ c ∷ []) ++ ds →
+      lines_fit columns width
+      (enter columns width (fold (enter columns width) p (text_entries cs a b mode)) (character c a b mode)).laid.done
+      ≡ false →
       lines_fit columns width (fold (enter columns width) p (text_entries es a b mode)).laid.done ≡ false
   unfit_on cs ds es c p is h = rw (is, entered_on (cs ++ c ∷ []) ds p, entered_on cs (c ∷ []) p) (unfit_entries columns width (text_entries ds a b mode) _ h)
 
 -- what was seen is what the text begins with
-pub seen_letters : (columns : ℕ → Option ℕ) (room : ℕ) (text cs rest : List ℕ) (s : Stretch) → IsUtf8 text → chars text ≡ cs ++ rest → Seen columns room cs s → (keeps some : Bool) → IsStretch columns keeps some text s
+pub seen_letters : (columns : ℕ → Option ℕ) (room : ℕ) (text cs rest : List ℕ) (s : Stretch) → IsUtf8 text →
+    chars text ≡ cs ++ rest → Seen columns room cs s → (keeps some : Bool) → IsStretch columns keeps some text s
 seen_letters columns room text cs rest s utf8 split h keeps some =
     let k = front_of text cs rest s.bytes utf8 split h.bytes in
     record {
@@ -128,7 +130,9 @@ kept_parts columns c n h = go (is_break c) (columns c) refl refl h
 -- the next one takes no more bytes than the text has
 pub next_short : (text cs rest : List ℕ) (c : ℕ) → IsUtf8 text → chars text ≡ cs ++ (c ∷ rest) → length (encodes cs) + len_utf8 c ≤ length text
 next_short text cs rest c utf8 split =
-    let whole : length text ≡ length (encodes cs) + length (encodes (c ∷ rest)) = ap length (sym (encodes-chars text utf8) ∙ ap encodes split ∙ encodes-append cs (c ∷ rest)) ∙ length-append (encodes cs) (encodes (c ∷ rest)) in
+    let whole : length text ≡ length (encodes cs) + length (encodes (c ∷ rest)) =
+    ap length (sym (encodes-chars text utf8) ∙ ap encodes split ∙ encodes-append cs (c ∷ rest))
+    ∙ length-append (encodes cs) (encodes (c ∷ rest)) in
     omega (arith, whole, length-append (encode_utf8 c) (encodes rest), length-encode c)
 
 pub seen_more : (columns : ℕ → Option ℕ) (room : ℕ) (cs : List ℕ) (c n : ℕ) (s t : Stretch) → Seen columns room cs s → kept_width columns c ≡ Some n → s.columns + n ≤ room →
@@ -141,7 +145,8 @@ pub ascii_front : (text : List ℕ) (n : ℕ) → n ≤ length text → IsAscii 
 ascii_front text n within ascii = grind (arith, IsUtf8-from_ascii, chars-IsAscii, length-take-le)
 
 -- plain characters
-pub plain_stretch : (columns : ℕ → Option ℕ) (keeps some : Bool) (text : List ℕ) (n : ℕ) → columns 32 ≡ Some 1 → n ≤ length text → ArePlain columns (keeps && (some || not (begins_with_space text))) (take n text) →
+pub plain_stretch : (columns : ℕ → Option ℕ) (keeps some : Bool) (text : List ℕ) (n : ℕ) → columns 32 ≡ Some 1 →
+    n ≤ length text → ArePlain columns (keeps && (some || not (begins_with_space text))) (take n text) →
     IsStretch columns keeps some text (record { bytes = n; count = n; columns = n })
 plain_stretch columns keeps some text n one within plain =
     let k = plain_parts columns _ (take n text) one plain in

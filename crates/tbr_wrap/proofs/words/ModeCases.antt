@@ -1,19 +1,10 @@
 -- What the rule does with a character, by tests that the code makes.
-use Rattle.std.proofs.Common.{◌≡◌, ◌≢◌, nat_lt, ◌&&◌, ◌||◌, not, ◌==◌, ℕ, zero, suc, ◌+◌, ◌<◌, Bool, true, false, if◌then◌else◌, Option, None, Some, is_none, is_some, List, refl, ap, ◌∙◌, arith, Result, Ok, Err, OnOk, le-ltb, ne_eqb}
-use Rattle.std.proofs.lemmas.Bool.{and_left, and_right}
-use Rattle.std.specs.Char.{is_whitespace}
-use Rattle.tbr_model.specs.declared.white_space.WhiteSpace.{WhiteSpace}
-use Rattle.tbr_model.specs.declared.white_space.WhiteSpace.TheVariants.{Normal}
-use Rattle.tbr_model.specs.Laid.{Laid}
-use Rattle.tbr_model.specs.Run.{Item, has_character, is_blank, is_break, always_takes_space}
-use Rattle.tbr_model.specs.Rule.{Space, Progress, space_of, pending_width, tag_of, collapse, preserve, newline, tab, flush_word, break_word, keep_space, keep_character, enter_normal, join}
-use Rattle.tbr_tagged.specs.Elements.{SameItems}
-use Rattle.tbr_wrap.specs.LaidLines.{HoldsRule}
-use Rattle.tbr_wrap.specs.Wrapper.{SameSpace, IsAtProgress}
-use Rattle.tbr_wrap.specs.declared.laid_lines.LaidLines.{LaidLines}
-use Rattle.tbr_wrap.specs.declared.wrapper.Wrapper.{Wrapper}
+use Rattle.tbr_wrap.proofs.Common.{◌≡◌, ◌≢◌, nat_lt, ◌&&◌, ◌||◌, not, ◌==◌, ℕ, zero, suc, ◌+◌, ◌<◌, Bool, true, false, if◌then◌else◌, Option, None, Some, is_none, is_some, List, refl, ap, ◌∙◌, arith}
+use Rattle.tbr_wrap.proofs.Common.{Result, Ok, Err, OnOk, le-ltb, ne_eqb, and_left, and_right, is_whitespace, WhiteSpace, Normal, Laid, Item, has_character, is_blank, is_break, always_takes_space}
+use Rattle.tbr_wrap.proofs.Common.{Space, Progress, pending_width, tag_of, collapse, newline, tab, flush_word, break_word, keep_space, keep_character, enter_normal, join, SameItems, HoldsRule}
+use Rattle.tbr_wrap.proofs.Common.{SameSpace, IsAtProgress, LaidLines, Wrapper, HeldSpace}
+use Rattle.tbr_model.specs.Rule.{space_of, preserve}
 use Rattle.tbr_wrap.proofs.words.WordsLaid.{stands_laid}
-use Rattle.tbr_wrap.specs.declared.wrapper.Space.{Space as HeldSpace}
 
 -- U+200B, white space that waits already, and an empty line: nothing is noted
 pub collapse_zero : {A : Type 0} (c : ℕ) (a : A) (p : Progress A) → c ≡ 8203 → collapse c a p ≡ p
@@ -45,13 +36,17 @@ none_held eq (suc n) a mode e = absurd (omega (arith, e))
 pub keep_joins : {A : Type 0} (c : ℕ) (a : A) (mode : WhiteSpace) (n : ℕ) (p : Progress A) → has_character p.word ≡ true → keep_space c a mode (Some n) p ≡ join c a mode p
 keep_joins c a mode n p e = rw e refl
 
-pub keep_waits : {A : Type 0} (c : ℕ) (a : A) (mode : WhiteSpace) (n : ℕ) (p : Progress A) → has_character p.word ≡ false → keep_space c a mode (Some n) p ≡ record p { space = space_of (pending_width p.space + n) a mode }
+pub keep_waits : {A : Type 0} (c : ℕ) (a : A) (mode : WhiteSpace) (n : ℕ) (p : Progress A) →
+    has_character p.word ≡ false →
+    keep_space c a mode (Some n) p ≡ record p { space = space_of (pending_width p.space + n) a mode }
 keep_waits c a mode n p e = rw e refl
 
 -- ---- spaces of a tab
 
 -- where they were put on the lines
-pub stands_put : {A E : Type 0} (columns : ℕ → Option ℕ) (eq : A → A → Bool) (b : Wrapper A) (lines : LaidLines A) (before given : List (List (Item A))) (p : Progress A) (l : Laid A) (result : Result (Unit {0}) E) → IsAtProgress columns eq b before given p → OnOk result (HoldsRule columns eq lines before given l) →
+pub stands_put : {A E : Type 0} (columns : ℕ → Option ℕ) (eq : A → A → Bool) (b : Wrapper A) (lines : LaidLines A)
+    (before given : List (List (Item A))) (p : Progress A) (l : Laid A) (result : Result (Unit {0}) E) →
+    IsAtProgress columns eq b before given p → OnOk result (HoldsRule columns eq lines before given l) →
     OnOk result (SameItems eq lines.flat.word p.word) → OnOk result (IsAtProgress columns eq (record b { lines = lines }) before given (record p { laid = l }))
 stands_put columns eq b lines before given p l (Ok x) s lays word = stands_laid columns eq b lines before given p l s lays word
 stands_put columns eq b lines before given p l (Err e) s lays word = tt
@@ -77,7 +72,9 @@ module _ {A : Type 0} (columns : ℕ → Option ℕ) (width c : ℕ) (a b : A) (
     preserve_other : preserve columns width c a b mode p ≡ (if is_blank c then keep_space c (tag_of p a b) mode (columns c) p else keep_character columns width c a b mode (columns c) p)
     preserve_other = rw (ne_eqb _ _ zero, ne_eqb _ _ line, ne_eqb _ _ stop) refl
 
-    by_width : (blank : Bool) (o : Option ℕ) → is_blank c ≡ blank → columns c ≡ o → preserve columns width c a b mode p ≡ (if blank then keep_space c (tag_of p a b) mode o p else keep_character columns width c a b mode o p)
+    by_width : (blank : Bool) (o : Option ℕ) → is_blank c ≡ blank → columns c ≡ o →
+        preserve columns width c a b mode p ≡
+        (if blank then keep_space c (tag_of p a b) mode o p else keep_character columns width c a b mode o p)
     by_width blank o e w = rw (preserve_other, e, w) refl
 
     pub preserve_space : (n : ℕ) → always_takes_space c ≡ false → columns c ≡ Some n → preserve columns width c a b mode p ≡ keep_space c (tag_of p a b) mode (Some n) p

@@ -1,21 +1,11 @@
 -- Characters at which no word ends join the word, one after the other.
-use Rattle.std.proofs.Common.{◌≡◌, ◌≢◌, ℕ, ◌+◌, ◌<◌, ◌≤◌, ◌==◌, Bool, true, false, not, ◌&&◌, ◌||◌, if◌then◌else◌, Option, None, Some, is_some, unwrap_or, List, [], ◌∷◌, ◌++◌, fold, length, refl, ap, sym, ◌∙◌, subst, arith, append_assoc, le-ltb}
-use Rattle.std.specs.Char.{is_ascii_graphic, is_whitespace}
-use Rattle.std.specs.Str.{IsAscii}
-use Rattle.std.proofs.lemmas.Bool.{and_left, and_right, and_parts}
-use Rattle.std.proofs.lemmas.Bool.Decides.{nat_tests}
-use Rattle.std.proofs.lemmas.Str.Ascii.{IsAscii-nil, IsAscii-cons}
-use Rattle.std.proofs.Math.Bool.{or-true, and-true}
-use Rattle.tbr_model.specs.declared.white_space.WhiteSpace.{WhiteSpace}
-use Rattle.tbr_model.specs.declared.white_space.WhiteSpace.TheVariants.{Normal, Pre, PreWrap}
-use Rattle.tbr_model.specs.Run.{glyph, character, has_character, items_width, is_break, is_kept, always_takes_space}
-use Rattle.tbr_model.specs.Rule.{Progress, enter, is_pre, join, tag_of, pending_width, keep_character}
-use Rattle.tbr_model.specs.Width.{width_of_text}
-use Rattle.tbr_model.proofs.words.Items.{has_character-append, items_width-append}
-use Rattle.tbr_tagged.specs.Elements.{text_items}
-use Rattle.tbr_wrap.specs.Plain.{is_narrow, is_plain, ArePlain, joins, JoinWord, JoinInTurn}
-use Rattle.tbr_wrap.specs.Runs.{text_entries}
-use Rattle.tbr_wrap.specs.Wrapper.{join_all}
+use Rattle.tbr_wrap.proofs.Common.{◌≡◌, ◌≢◌, ℕ, ◌+◌, ◌<◌, ◌≤◌, ◌==◌, Bool, true, false, not, ◌&&◌, ◌||◌, if◌then◌else◌, Option, None, Some, is_some, unwrap_or, List, [], ◌∷◌, ◌++◌, fold, length, refl}
+use Rattle.tbr_wrap.proofs.Common.{ap, sym, ◌∙◌, subst, arith, append_assoc, le-ltb, is_whitespace, IsAscii, and_left, and_right, and_parts, nat_tests, IsAscii-nil, IsAscii-cons, or-true, WhiteSpace}
+use Rattle.tbr_wrap.proofs.Common.{Normal, Pre, PreWrap, glyph, character, has_character, items_width, is_break, is_kept, always_takes_space, Progress, enter, is_pre, join, tag_of, pending_width}
+use Rattle.tbr_wrap.proofs.Common.{keep_character, width_of_text, has_character-append, items_width-append, text_items, is_narrow, ArePlain, joins, JoinWord, JoinInTurn, text_entries, join_all}
+use Rattle.std.specs.Char.{is_ascii_graphic}
+use Rattle.std.proofs.Math.Bool.{and-true}
+use Rattle.tbr_wrap.specs.Plain.{is_plain}
 use Rattle.tbr_wrap.proofs.words.ModeCases.{normal_kept, preserve_kept, preserve_space, keep_joins}
 
 -- ---- what is plain
@@ -115,7 +105,8 @@ pub data StaysUnder {A : Type 0} (width : ℕ) (columns : ℕ → Option ℕ) (m
 stays_first : {A : Type 0} (width : ℕ) (columns : ℕ → Option ℕ) (mode : WhiteSpace) (m n : ℕ) (p : Progress A) → m ≤ n → StaysUnder width columns mode n p → StaysUnder width columns mode m p
 stays_first width columns mode m n p less h = grind arith
 
-stays_after : {A : Type 0} (width : ℕ) (columns : ℕ → Option ℕ) (mode : WhiteSpace) (c n : ℕ) (a : A) (p : Progress A) → StaysUnder width columns mode (unwrap_or (columns c) 0 + n) p → StaysUnder width columns mode n (join c a mode p)
+stays_after : {A : Type 0} (width : ℕ) (columns : ℕ → Option ℕ) (mode : WhiteSpace) (c n : ℕ) (a : A) (p : Progress A) →
+    StaysUnder width columns mode (unwrap_or (columns c) 0 + n) p → StaysUnder width columns mode n (join c a mode p)
 stays_after width columns mode c n a p h = grind (arith, items_width-append)
 
 module _ {A : Type 0} (columns : ℕ → Option ℕ) (width : ℕ) (a b : A) (mode : WhiteSpace) where
@@ -129,27 +120,39 @@ module _ {A : Type 0} (columns : ℕ → Option ℕ) (width : ℕ) (a b : A) (mo
   keeps_tag c n p h = grind (arith, and_left, and_right, le-ltb, begun)
 
 module _ {A : Type 0} (columns : ℕ → Option ℕ) (width : ℕ) (a b : A) where
-  kept_entered : (mode : WhiteSpace) (c n : ℕ) (p : Progress A) → columns c ≡ Some n → is_break c ≡ false → StaysUnder width columns mode n p → enter columns width p (character c a b mode) ≡ join c (tag_of p a b) mode p
+  kept_entered : (mode : WhiteSpace) (c n : ℕ) (p : Progress A) → columns c ≡ Some n → is_break c ≡ false →
+      StaysUnder width columns mode n p → enter columns width p (character c a b mode) ≡ join c (tag_of p a b) mode p
   kept_entered Normal c n p has_width is h = normal_kept columns width c (tag_of p a b) p n is has_width
-  kept_entered Pre c n p has_width is h = preserve_kept columns width c a b Pre p (no_break c 8203 is refl) (no_break c 10 is refl) (no_break c 9 is refl) n (kept_takes c is) has_width ∙ keeps_tag columns width a b Pre c n p h
+  kept_entered Pre c n p has_width is h =
+      preserve_kept columns width c a b Pre p (no_break c 8203 is refl) (no_break c 10 is refl) (no_break c 9 is refl) n
+      (kept_takes c is) has_width ∙ keeps_tag columns width a b Pre c n p h
   kept_entered PreWrap c n p has_width is h =
-      rw is (preserve_kept columns width c a b PreWrap p (no_break c 8203 is refl) (no_break c 10 is refl) (no_break c 9 is refl) n (kept_takes c is) has_width ∙ keeps_tag columns width a b PreWrap c n p h)
+      rw is
+      (preserve_kept columns width c a b PreWrap p (no_break c 8203 is refl) (no_break c 10 is refl)
+      (no_break c 9 is refl) n (kept_takes c is) has_width ∙ keeps_tag columns width a b PreWrap c n p h)
 
   -- after a character of the word
-  space_entered : (mode : WhiteSpace) (p : Progress A) → columns 32 ≡ Some 1 → is_pre mode ≡ true → has_character p.word ≡ true → enter columns width p (character 32 a b mode) ≡ join 32 (tag_of p a b) mode p
+  space_entered : (mode : WhiteSpace) (p : Progress A) → columns 32 ≡ Some 1 → is_pre mode ≡ true →
+      has_character p.word ≡ true → enter columns width p (character 32 a b mode) ≡ join 32 (tag_of p a b) mode p
   space_entered Pre p one is some =
       preserve_space columns width 32 a b Pre p (λ e. omega (arith, e)) (λ e. omega (arith, e)) (λ e. omega (arith, e)) 1 refl one ∙ keep_joins 32 (tag_of p a b) Pre 1 p some
   space_entered _ p one is some = cc
 
   module _ (mode : WhiteSpace) (one : columns 32 ≡ Some 1) where
-    joins_entered : (c : ℕ) (p : Progress A) → joins columns (is_pre mode && has_character p.word) c ≡ true → StaysUnder width columns mode (unwrap_or (columns c) 0) p → enter columns width p (character c a b mode) ≡ join c (tag_of p a b) mode p
+    joins_entered : (c : ℕ) (p : Progress A) → joins columns (is_pre mode && has_character p.word) c ≡ true →
+        StaysUnder width columns mode (unwrap_or (columns c) 0) p →
+        enter columns width p (character c a b mode) ≡ join c (tag_of p a b) mode p
     joins_entered c p h stays =
         elim (joining columns (is_pre mode && has_character p.word) c h) [
           | kept n has_width is ↦ kept_entered mode c n p has_width is (subst (λ o. StaysUnder width columns mode (unwrap_or o 0) p) has_width stays)
-          | space e is ↦ let k = and_parts (is_pre mode) (has_character p.word) e in ap (λ d. enter columns width p (character d a b mode)) is ∙ space_entered mode p one k.0 k.1 ∙ ap (λ d. join d (tag_of p a b) mode p) (sym is)
+          | space e is ↦ let k =
+              and_parts (is_pre mode) (has_character p.word) e in ap (λ d. enter columns width p (character d a b mode)) is
+              ∙ space_entered mode p one k.0 k.1 ∙ ap (λ d. join d (tag_of p a b) mode p) (sym is)
         ]
 
-    pub all_join : (cs : List ℕ) (p : Progress A) → JoinInTurn columns (is_pre mode) (has_character p.word) cs → StaysUnder width columns mode (width_of_text columns cs) p → fold (enter columns width) p (text_entries cs a b mode) ≡ join_all cs (tag_of p a b) mode p
+    pub all_join : (cs : List ℕ) (p : Progress A) → JoinInTurn columns (is_pre mode) (has_character p.word) cs →
+        StaysUnder width columns mode (width_of_text columns cs) p →
+        fold (enter columns width) p (text_entries cs a b mode) ≡ join_all cs (tag_of p a b) mode p
     all_join [] p h stays = refl
     all_join (c ∷ cs) p h stays =
         let t = tag_of p a b in let q : Progress A = join c t mode p in

@@ -1,26 +1,15 @@
 -- Narrow words with one space between two go on the open line as one word does.
-use Rattle.std.proofs.Common.{◌≡◌, ℕ, suc, zero, ◌+◌, ◌<◌, ◌≤◌, ◌==◌, Bool, true, false, if◌then◌else◌, Option, None, Some, unwrap_or, List, [], ◌∷◌, ◌++◌, fold, length, take, slice_range, ◌-◌, refl, ap, sym, ◌∙◌, subst, arith, append_assoc, append-nil, length-append, lt-ltb, le-leb}
-use Rattle.std.specs.Str.{IsAscii}
+use Rattle.tbr_wrap.proofs.Common.{◌≡◌, ℕ, suc, zero, ◌+◌, ◌<◌, ◌≤◌, ◌==◌, Bool, true, false, if◌then◌else◌, Option, None, Some, unwrap_or, List, [], ◌∷◌, ◌++◌, fold, length, take, ◌-◌, refl, ap, sym}
+use Rattle.tbr_wrap.proofs.Common.{◌∙◌, subst, arith, append_assoc, append-nil, length-append, lt-ltb, le-leb, IsAscii, nat_tests, IsAscii-nil, IsAscii-cons, take-append_seam, or-true, Normal}
+use Rattle.tbr_wrap.proofs.Common.{extended, end_if_character, glyph, character, has_character, items_width, Space, Progress, enter, join, tag_of, space_text, pending_width, collapse, lay_here}
+use Rattle.tbr_wrap.proofs.Common.{wrap_space, width_of_text, has_character-append, items_width-append, text_items, items_width-text, is_narrow, joins, reads, JoinWord, AreWords, text_entries}
+use Rattle.tbr_wrap.proofs.Common.{join_all, extended_twice}
+use Rattle.std.proofs.Common.{slice_range}
 use Rattle.std.proofs.lemmas.Bool.{lt-leb}
-use Rattle.std.proofs.lemmas.Bool.Decides.{nat_tests}
 use Rattle.std.proofs.lemmas.Str.{IsAscii-append}
-use Rattle.std.proofs.lemmas.Str.Ascii.{IsAscii-nil, IsAscii-cons}
-use Rattle.std.proofs.Math.Seq.{take-append_seam}
-use Rattle.std.proofs.Math.Bool.{or-true}
-use Rattle.tbr_model.specs.declared.white_space.WhiteSpace.TheVariants.{Normal}
-use Rattle.tbr_model.specs.Laid.{extended, end_if_character}
-use Rattle.tbr_model.specs.Run.{glyph, character, has_character, items_width}
-use Rattle.tbr_model.specs.Rule.{Space, Progress, enter, join, tag_of, space_text, pending_width, collapse, lay, lay_here, wrap_space, wrap_space_by}
-use Rattle.tbr_model.specs.Width.{width_of_text}
-use Rattle.tbr_model.proofs.words.Items.{has_character-append, items_width-append}
-use Rattle.tbr_tagged.specs.Elements.{text_items}
-use Rattle.tbr_tagged.proofs.TextColumns.{items_width-text}
-use Rattle.tbr_wrap.specs.Plain.{is_narrow, joins, reads, JoinWord, AreWords}
-use Rattle.tbr_wrap.specs.Runs.{text_entries}
-use Rattle.tbr_wrap.specs.Wrapper.{join_all}
+use Rattle.tbr_model.specs.Rule.{lay, wrap_space_by}
 use Rattle.tbr_wrap.proofs.words.ModeCases.{normal_kept, normal_break}
 use Rattle.tbr_wrap.proofs.words.PlainText.{Narrow, narrow_parts, joined_text, graphic_low, graphic_joins}
-use Rattle.tbr_model.proofs.rule.Walk.{extended_twice}
 use Rattle.tbr_wrap.proofs.words.WordsLaid.{put_fitting, lay_fresh_some}
 
 -- ---- what is read
@@ -40,7 +29,9 @@ next_read columns inside c cs end h = go (c == 32) (is_narrow columns c) inside 
     none : fold (reads columns) None cs ≡ Some end → NextRead columns inside c cs end
     none h = absurd (let e : None ≡ Some end = sym (reads_none columns cs) ∙ h in cc)
 
-    go : (s n w : Bool) → (c == 32) ≡ s → is_narrow columns c ≡ n → inside ≡ w → fold (reads columns) (if s then (if w then Some false else None) else (if n then Some true else None)) cs ≡ Some end → NextRead columns inside c cs end
+    go : (s n w : Bool) → (c == 32) ≡ s → is_narrow columns c ≡ n → inside ≡ w →
+        fold (reads columns) (if s then (if w then Some false else None) else (if n then Some true else None)) cs ≡ Some
+        end → NextRead columns inside c cs end
     go true n true e f i h = space (grind (arith, nat_tests)) i h
     go true n false e f i h = none h
     go false true w e f i h = narrow (narrow_parts columns c f) h
@@ -99,7 +90,9 @@ module _ {A : Type 0} (columns : ℕ → Option ℕ) (one : columns 32 ≡ Some 
   collapsed q some = grind (arith, lt-ltb)
 
   -- a word that fits ends at a space
-  word_ended : (q : Progress A) → 0 < items_width columns q.word → q.laid.width + (pending_width q.space + items_width columns q.word) ≤ width → enter columns width q (character 32 a b Normal) ≡ after_word q
+  word_ended : (q : Progress A) → 0 < items_width columns q.word →
+      q.laid.width + (pending_width q.space + items_width columns q.word) ≤ width →
+      enter columns width q (character 32 a b Normal) ≡ after_word q
   word_ended q some fits = grind (arith, lt-ltb, le-leb, normal_break, collapsed)
 
   -- narrow characters after the word, and a space after them
@@ -132,7 +125,8 @@ module _ {A : Type 0} (columns : ℕ → Option ℕ) (one : columns 32 ≡ Some 
   after_none : (q : Progress A) → q.mode ≡ Normal → after_word q ≡ after_words q []
   after_none q e = grind (arith, append-nil)
 
-  words_entered : (inside : Bool) (cs : List ℕ) (q : Progress A) → fold (reads columns) (Some inside) cs ≡ Some true → IsReading inside q → q.laid.width + (pending_width q.space + (items_width columns q.word + length cs)) ≤ width →
+  words_entered : (inside : Bool) (cs : List ℕ) (q : Progress A) → fold (reads columns) (Some inside) cs ≡ Some true →
+      IsReading inside q → q.laid.width + (pending_width q.space + (items_width columns q.word + length cs)) ≤ width →
       fold (enter columns width) q (text_entries (cs ++ 32 ∷ []) a b Normal) ≡ after_words q cs
   words_entered true [] q read h fits = word_ended q h.0 (omega (arith, fits)) ∙ after_none q h.2
   words_entered false [] q read h fits = cc
@@ -151,7 +145,9 @@ module _ {A : Type 0} (columns : ℕ → Option ℕ) (one : columns 32 ≡ Some 
       ]
 
   -- the words go on the open line as one word does, and the last space waits
-  pub words_laid : (cs : List ℕ) (p : Progress A) → fold (reads columns) (Some false) cs ≡ Some true → has_character p.word ≡ false → p.laid.width + (pending_width p.space + (items_width columns p.word + length cs)) ≤ width →
+  pub words_laid : (cs : List ℕ) (p : Progress A) → fold (reads columns) (Some false) cs ≡ Some true →
+      has_character p.word ≡ false →
+      p.laid.width + (pending_width p.space + (items_width columns p.word + length cs)) ≤ width →
       fold (enter columns width) p (text_entries (cs ++ 32 ∷ []) a b Normal) ≡ collapse 32 (tag_of p a b) (lay_here columns (join_all cs (tag_of p a b) Normal p))
   words_laid cs p read none fits =
       let t = tag_of p a b in
@@ -159,9 +155,16 @@ module _ {A : Type 0} (columns : ℕ → Option ℕ) (one : columns 32 ≡ Some 
       let joined : join_all cs t Normal p ≡ record p { word = p.word ++ text_items cs t; mode = Normal } =
       joined_text cs t Normal p some ∙ ap (λ m. record p { word = p.word ++ text_items cs t; mode = m }) (joined_mode false p none) in
       let q : Progress A = record p { word = p.word ++ text_items cs t; mode = Normal } in
-      let wide : items_width columns q.word ≡ items_width columns p.word + length cs = items_width-append columns p.word (text_items cs t) ∙ ap (λ n. items_width columns p.word + n) (items_width-text columns cs t ∙ words_width columns one false cs true read) in
+      let wide : items_width columns q.word ≡ items_width columns p.word + length cs =
+      items_width-append columns p.word (text_items cs t)
+      ∙ ap (λ n. items_width columns p.word + n)
+      (items_width-text columns cs t ∙ words_width columns one false cs true read) in
       words_entered false cs p read none fits
-      ∙ sym (ap (λ n. record p { laid = extended p.laid (space_text p.space ++ q.word) (pending_width p.space + n); space = Some (record { width = 1; tag = t; mode = Normal }); word = []; mode = Normal; continuation_flag = false }) wide)
+      ∙ sym
+      (ap
+      (λ n. record p
+      { laid = extended p.laid (space_text p.space ++ q.word) (pending_width p.space + n); space = Some (record { width = 1; tag = t; mode = Normal }); word = []; mode = Normal; continuation_flag = false })
+      wide)
       ∙ sym (collapsed q (omega (arith, wide, some)))
       ∙ ap (λ r. collapse 32 t (lay_here columns r)) (sym joined)
 
@@ -181,11 +184,13 @@ module _ {A : Type 0} (columns : ℕ → Option ℕ) (one : columns 32 ≡ Some 
       go (Some s) e = ap (λ m. wrap_space_by columns width q s m) (h s e)
 
   -- a word that doesn't fit is laid as on a fresh line
-  laid_afresh : (q : Progress A) → DropsPending q → IsReading true q → (end_if_character q.laid).width ≡ 0 → width < q.laid.width + (pending_width q.space + items_width columns q.word) → items_width columns q.word ≤ width →
+  laid_afresh : (q : Progress A) → DropsPending q → IsReading true q → (end_if_character q.laid).width ≡ 0 →
+      width < q.laid.width + (pending_width q.space + items_width columns q.word) → items_width columns q.word ≤ width →
       lay columns width q ≡ lay columns width (afresh q)
   laid_afresh q drops h blank wide fits = grind (arith, lt-leb, le-leb, put_fitting, dropped, lay_fresh_some)
 
-  moved_end : (q : Progress A) → DropsPending q → IsReading true q → (end_if_character q.laid).width ≡ 0 → width < q.laid.width + (pending_width q.space + items_width columns q.word) → items_width columns q.word ≤ width →
+  moved_end : (q : Progress A) → DropsPending q → IsReading true q → (end_if_character q.laid).width ≡ 0 →
+      width < q.laid.width + (pending_width q.space + items_width columns q.word) → items_width columns q.word ≤ width →
       enter columns width q (character 32 a b Normal) ≡ enter columns width (afresh q) (character 32 a b Normal)
   moved_end q drops h blank wide fits = grind (arith, lt-ltb, normal_break, laid_afresh)
 
@@ -199,7 +204,9 @@ module _ {A : Type 0} (columns : ℕ → Option ℕ) (one : columns 32 ≡ Some 
   more_letters (suc n) c cs h = subst (λ k. JoinWord columns false (take k cs)) (omega arith) h.1
 
   -- words go on as from a fresh line, where more letters of the first one than fit are to come
-  pub words_moved : (inside : Bool) (cs : List ℕ) (n : ℕ) (q : Progress A) → fold (reads columns) (Some inside) cs ≡ Some true → IsReading inside q → DropsPending q → (end_if_character q.laid).width ≡ 0 → JoinWord columns false (take n (cs ++ 32 ∷ [])) →
+  pub words_moved : (inside : Bool) (cs : List ℕ) (n : ℕ) (q : Progress A) →
+      fold (reads columns) (Some inside) cs ≡ Some true → IsReading inside q → DropsPending q →
+      (end_if_character q.laid).width ≡ 0 → JoinWord columns false (take n (cs ++ 32 ∷ [])) →
       width < q.laid.width + (pending_width q.space + (items_width columns q.word + n)) → items_width columns q.word + length cs ≤ width →
       fold (enter columns width) q (text_entries (cs ++ 32 ∷ []) a b Normal) ≡ fold (enter columns width) (afresh q) (text_entries (cs ++ 32 ∷ []) a b Normal)
   words_moved true [] n q read h drops blank letters wide fits = moved_end q drops h blank (omega (arith, wide, no_more n [] letters)) (omega (arith, fits))

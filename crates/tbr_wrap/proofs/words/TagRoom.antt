@@ -1,10 +1,6 @@
 -- Where no character changes the tag.
-use Rattle.std.proofs.Common.{◌≡◌, ℕ, Bool, true, false, Option, List, inl, inr, refl, sym, ◌∙◌, arith}
-use Rattle.tbr_model.specs.declared.white_space.WhiteSpace.{WhiteSpace}
-use Rattle.tbr_model.specs.Run.{Item}
-use Rattle.tbr_model.specs.Rule.{Progress, is_pre}
-use Rattle.tbr_wrap.specs.declared.wrapper.Wrapper.{Wrapper}
-use Rattle.tbr_wrap.specs.Wrapper.{IsAtProgress, KeepsTag}
+use Rattle.tbr_wrap.proofs.Common.{◌≡◌, ℕ, Bool, true, false, Option, List, inl, inr, refl, sym, ◌∙◌, arith, WhiteSpace, Item, Progress, is_pre, Wrapper, IsAtProgress}
+use Rattle.tbr_wrap.specs.Wrapper.{KeepsTag}
 use Rattle.tbr_wrap.proofs.words.PlainText.{StaysUnder, elsewhere, fits, goes_on}
 use Rattle.tbr_wrap.proofs.words.WordsLaid.{same_held_width}
 

@@ -1,14 +1,14 @@
-use Rattle.std.proofs.Common.{◌∷◌, [], chars}
-use Rattle.std.proofs.lemmas.Result.{on_ok_weaker}
+use Rattle.callers.proofs.Common.{◌∷◌, [], chars, on_ok_weaker}
 use Rattle.tbr_decor.specs.Start as start
 use Rattle.tbr_decor.specs.End as end
 use Rattle.text_block_renderer.specs.Calls as call
+use Rattle.text_block_renderer.specs.Calls.{after_by}
 use Rattle.text_block_renderer.proofs.OutcomeParts.{run_on, run_last}
 use Rattle.callers.proofs.emphasised.emphasised.Goals as goal
 
 pub returns-clause-ok : goal.returns-clause-ok
 returns-clause-ok g c =
-    let after = g.R.Renderer.calls.after in
+    let after = after_by g.R.Renderer.calls in
     let state = g.R.Renderer.calls.state in
     let text = call.add_inline_text (chars c.args.text.now) in
     let ends = call.finish end.emphasis in

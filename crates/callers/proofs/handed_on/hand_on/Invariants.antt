@@ -1,9 +1,4 @@
-use Rattle.std.proofs.Common.{◌≡◌, List, ℕ, map}
-use Rattle.tbr_model.specs.Run.{marker_entry}
-use Rattle.tbr_model.specs.Rule.{entry}
-use Rattle.tbr_wrap.specs.Block.{grown}
-use Rattle.tbr_tagged.specs.Elements.{marker_element}
-use Rattle.tbr_tagged.specs.View.{element_of}
+use Rattle.callers.proofs.Common.{◌≡◌, List, ℕ, map, marker_entry, entry, grown, marker_element, element_of}
 use Rattle.callers.proofs.handed_on.hand_on.Given as goal
 
 abbrev pub invariant-loop-marker : goal.invariant-loop-marker

@@ -1,9 +1,8 @@
-use Rattle.std.proofs.Common.{◌≡◌, ◌++◌, drop, length, map-id, ap, ◌∙◌, sym, subst, arith}
-use Rattle.std.proofs.lemmas.Iterator.Adapters.{YieldsList-from_vec}
-use Rattle.std.proofs.lemmas.Iterator.Consumers.{YieldsList-end}
-use Rattle.tbr_wrap.specs.Block.{Block, left, HandsOutFirst}
+use Rattle.callers.proofs.Common.{◌≡◌, ◌++◌, drop, length, ap, ◌∙◌, sym, subst, arith, YieldsList-from_vec, YieldsList-end, Block, left, HandsOne}
+use Rattle.std.proofs.Common.{map-id}
+use Rattle.tbr_wrap.specs.Block.{HandsOutFirst}
 use Rattle.tbr_wrap.proofs.runs.LinesLeft.{left_after}
-use Rattle.tbr_wrap.proofs.runs.BlockLaws.{HandsOne, one_handed, none_handed}
+use Rattle.tbr_wrap.proofs.runs.BlockLaws.{one_handed, none_handed}
 use Rattle.callers.proofs.Walks.{HasTaken, none_taken, one_taken, all_taken}
 use Rattle.callers.proofs.line_by_line.line_by_line.Given.{Over}
 use Rattle.callers.proofs.line_by_line.line_by_line.Goals.{In-Some}
@@ -38,7 +37,10 @@ returns g c =
     let list = YieldsList-from_vec rest.items given.0 (given.1 ∙ rest.ok.0) in
     let end = YieldsList-end list c.loop-line.yielded c.loop-line.line-iterator c.loop-line.yielded_by c.next.result c.next.new.self c.in-None.is c.next.ensures.steps in
     let yielded : c.loop-line.yielded ≡ rest.items = sym (map-id c.loop-line.yielded) ∙ end.0 in
-    let none = none_handed columns eq block c.next_line.new.self c.in_ok-line.ensures.answers.ok (subst (λ o. HandsOutFirst columns eq block (left columns block) o) c.in_default.is c.in_ok-line.ensures.line) in
+    let none =
+    none_handed columns eq block c.next_line.new.self c.in_ok-line.ensures.answers.ok
+    (subst (λ o. HandsOutFirst columns eq block (left columns block) o) c.in_default.is
+    c.in_ok-line.ensures.line) in
     all_taken columns eq c.args.block c.next_line.new.self c.loop-lines.lines.items rest.items c.loop-line.lines.items
     (subst (λ (s : Block g.row.T.Denot). HasTaken columns eq c.args.block s c.loop-lines.lines.items) (sym none.1) c.loop-lines.invariant)
     (c.loop-line.invariant ∙ ap (λ ls. c.loop-lines.lines.items ++ ls) yielded) c.in_ok-line-items.ensures.gives

@@ -1,5 +1,4 @@
-use Rattle.std.proofs.Common.{◌≡◌, ◌++◌, length}
-use Rattle.tbr_wrap.specs.Block.{left}
+use Rattle.callers.proofs.Common.{◌≡◌, ◌++◌, length, left}
 use Rattle.callers.proofs.Walks.{HasTaken}
 use Rattle.callers.proofs.line_by_line.line_by_line.Given as goal
 

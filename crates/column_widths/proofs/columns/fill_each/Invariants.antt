@@ -1,6 +1,5 @@
-use Rattle.std.proofs.Common.{◌≡◌, drop}
-use Rattle.std.specs.List.{fold, filter}
-use Rattle.column_widths.specs.Needs.{after_cell, after_cells, is_of}
+use Rattle.column_widths.proofs.Common.{◌≡◌, drop, fold, filter, after_cell, is_of}
+use Rattle.column_widths.specs.Needs.{after_cells}
 use Rattle.column_widths.proofs.columns.fill_each.Given as goal
 
 abbrev pub invariant-loop-cell : goal.invariant-loop-cell

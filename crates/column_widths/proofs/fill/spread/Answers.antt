@@ -1,5 +1,4 @@
-use Rattle.std.proofs.Common.{arith}
-use Rattle.column_widths.specs.Needs.{width_of}
+use Rattle.column_widths.proofs.Common.{arith, width_of}
 use Rattle.column_widths.proofs.Walks.{element_in_sum}
 use Rattle.column_widths.proofs.fill.spread.Goals as goal
 

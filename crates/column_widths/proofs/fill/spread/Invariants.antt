@@ -1,5 +1,4 @@
-use Rattle.std.proofs.Common.{◌≡◌, ◌≤◌, ◌++◌, take, drop}
-use Rattle.column_widths.specs.Needs.{spread}
+use Rattle.column_widths.proofs.Common.{◌≡◌, ◌≤◌, ◌++◌, take, drop, spread}
 use Rattle.column_widths.proofs.fill.spread.Given as goal
 
 abbrev pub invariant-loop-need : goal.invariant-loop-need

@@ -1,6 +1,4 @@
-use Rattle.std.proofs.Common.{◌≡◌, ◌-◌, ◌*◌, ◌^◌, ◌≤◌, take}
-use Rattle.std.specs.List.{sum_by}
-use Rattle.column_widths.specs.Needs.{width_of}
+use Rattle.column_widths.proofs.Common.{◌≡◌, ◌-◌, ◌*◌, ◌^◌, ◌≤◌, take, sum_by, width_of}
 use Rattle.column_widths.proofs.room.total.Given as goal
 
 abbrev pub invariant-loop-need : goal.invariant-loop-need

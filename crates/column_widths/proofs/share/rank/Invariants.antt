@@ -1,6 +1,4 @@
-use Rattle.std.proofs.Common.{◌≡◌, ◌≤◌, take}
-use Rattle.std.specs.List.{count_by, enumerate_from}
-use Rattle.column_widths.specs.Widths.{is_ahead}
+use Rattle.column_widths.proofs.Common.{◌≡◌, ◌≤◌, take, count_by, enumerate_from, is_ahead}
 use Rattle.column_widths.proofs.share.rank.Given as goal
 
 abbrev pub invariant-loop-other_place : goal.invariant-loop-other_place

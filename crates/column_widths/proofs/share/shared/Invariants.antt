@@ -1,6 +1,4 @@
-use Rattle.std.proofs.Common.{◌≡◌, map, take}
-use Rattle.std.specs.List.{enumerate_from}
-use Rattle.column_widths.specs.Widths.{width_at}
+use Rattle.column_widths.proofs.Common.{◌≡◌, map, take, enumerate_from, width_at}
 use Rattle.column_widths.proofs.share.shared.Given as goal
 
 abbrev pub invariant-loop-place : goal.invariant-loop-place

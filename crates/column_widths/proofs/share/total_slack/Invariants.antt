@@ -1,6 +1,4 @@
-use Rattle.std.proofs.Common.{◌≡◌, ◌-◌, ◌*◌, ◌^◌, ◌≤◌, take}
-use Rattle.std.specs.List.{sum_by}
-use Rattle.column_widths.specs.Widths.{slack}
+use Rattle.column_widths.proofs.Common.{◌≡◌, ◌-◌, ◌*◌, ◌^◌, ◌≤◌, take, sum_by, slack}
 use Rattle.column_widths.proofs.share.total_slack.Given as goal
 
 abbrev pub invariant-loop-need : goal.invariant-loop-need

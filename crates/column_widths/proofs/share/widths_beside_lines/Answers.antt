@@ -1,5 +1,4 @@
-use Rattle.std.proofs.Common.{arith, ◌∙◌, sym, ap, Some, ℕ}
-use Rattle.column_widths.specs.Widths.{shared}
+use Rattle.column_widths.proofs.Common.{arith, ◌∙◌, sym, ap, Some, ℕ, shared}
 use Rattle.column_widths.proofs.Cases.{widths_between}
 use Rattle.column_widths.proofs.share.widths_beside_lines.Goals as goal
 

@@ -1,5 +1,4 @@
-use Rattle.std.proofs.Common.{rules}
-use Rattle.std.proofs.lemmas.List.{length-map}
+use Rattle.tbr_border.proofs.Common.{rules, length-map}
 use Rattle.tbr_border.proofs.JoinedCells.{set_changed, changed_past}
 use Rattle.tbr_border.proofs.border.chop_left_at.Goals as goal
 

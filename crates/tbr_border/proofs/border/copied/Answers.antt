@@ -1,9 +1,5 @@
-use Rattle.std.proofs.Common.{map, take, refl}
-use Rattle.std.proofs.lemmas.List.{map_push}
-use Rattle.tbr_border.specs.BorderView.{hole_of}
-use Rattle.tbr_tagged.proofs.ElementLoops.{one_more}
+use Rattle.tbr_border.proofs.Common.{map, take, refl, map_push, hole_of, one_more, SameHole}
 use Rattle.std.proofs.lemmas.List.Elements.{AllZip-push}
-use Rattle.tbr_border.specs.Border.{SameHole}
 use Rattle.tbr_border.proofs.border.copied.Goals as goal
 
 pub loop-span-preserved : goal.loop-span-preserved

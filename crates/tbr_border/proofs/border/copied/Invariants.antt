@@ -1,7 +1,4 @@
-use Rattle.std.proofs.Common.{map, take}
-use Rattle.std.specs.List.{AllZip}
-use Rattle.tbr_border.specs.Border.{SameHole}
-use Rattle.tbr_border.specs.BorderView.{hole_of}
+use Rattle.tbr_border.proofs.Common.{map, take, AllZip, SameHole, hole_of}
 use Rattle.tbr_border.proofs.border.copied.Given as goal
 
 abbrev pub invariant-loop-span : goal.invariant-loop-span

@@ -1,9 +1,5 @@
-use Rattle.std.proofs.Common.{append_assoc}
-use Rattle.std.specs.String.{string_bytes}
+use Rattle.tbr_border.proofs.Common.{append_assoc, string_bytes, IsUtf8-string_bytes, cell_of, chars_push}
 use Rattle.std.proofs.Math.Utf8.{encode}
-use Rattle.std.proofs.lemmas.Str.{IsUtf8-string_bytes}
-use Rattle.tbr_border.specs.Cell.{cell_of}
-use Rattle.tbr_tagged.proofs.TextAfter.{chars_push}
 use Rattle.tbr_border.proofs.BorderText.{character_scalar}
 use Rattle.tbr_border.proofs.StraightCells.{straight_first, straight_after}
 use Rattle.tbr_border.proofs.border.draw.Goals as goal

@@ -1,6 +1,4 @@
-use Rattle.std.proofs.Common.{◌≡◌, ◌++◌, map, length, chars}
-use Rattle.std.specs.String.{string_bytes}
-use Rattle.tbr_border.specs.Cell.{cell_of, character}
+use Rattle.tbr_border.proofs.Common.{◌≡◌, ◌++◌, map, length, chars, string_bytes, cell_of, character}
 use Rattle.tbr_border.proofs.border.draw.Given as goal
 
 abbrev pub invariant-loop-cell : goal.invariant-loop-cell

@@ -1,14 +1,7 @@
-use Rattle.std.proofs.Common.{◌≡◌, ◌+◌, ◌≤◌, List, ◌∷◌, [], ◌++◌, map, map-id, length, ap, sym, ◌∙◌, arith, append_assoc, append-nil, subst, refl}
-use Rattle.std.specs.List.{slice_range}
-use Rattle.std.proofs.lemmas.List.{map_push}
-use Rattle.std.proofs.lemmas.Iterator.Adapters.{YieldsList-from_vec}
-use Rattle.std.proofs.lemmas.Iterator.Consumers.{YieldsList-end}
-use Rattle.tbr_tagged.specs.Elements.{items_of, SameItems}
-use Rattle.tbr_border.specs.Cell.{cell_of}
-use Rattle.tbr_border.specs.Border.{Hole, AreInOrder, drawn, shown_from}
-use Rattle.tbr_border.specs.BorderView.{hole_of}
+use Rattle.tbr_border.proofs.Common.{◌≡◌, ◌+◌, ◌≤◌, List, ◌∷◌, [], ◌++◌, map, map-id, length, ap, sym, ◌∙◌, arith, append_assoc, append-nil, refl, slice_range, map_push, YieldsList-from_vec}
+use Rattle.tbr_border.proofs.Common.{YieldsList-end, items_of, SameItems, cell_of, Hole, AreInOrder, drawn, shown_from, hole_of, same_items, same_items_trans}
+use Rattle.std.proofs.Common.{subst}
 use Rattle.tbr_tagged.proofs.TextColumns.{turn_and_rest}
-use Rattle.tbr_tagged.proofs.SameItems.{same_items, same_items_trans}
 use Rattle.tbr_border.proofs.BorderText.{in_order_within, hole_here, map-slice, cells_from, line_step}
 use Rattle.tbr_border.proofs.border.flattened.Goals as goal
 use Rattle.tbr_border.proofs.border.flattened.Goals.{In-Some, In-None}

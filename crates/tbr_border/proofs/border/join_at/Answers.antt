@@ -1,4 +1,4 @@
-use Rattle.std.proofs.Common.{rules}
+use Rattle.tbr_border.proofs.Common.{rules}
 use Rattle.tbr_border.proofs.JoinedCells.{set_changed}
 use Rattle.tbr_border.proofs.border.join_at.Goals as goal
 

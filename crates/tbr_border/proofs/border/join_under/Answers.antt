@@ -1,6 +1,4 @@
-use Rattle.std.proofs.Common.{◌+◌, refl, sym, ap, ◌∙◌, map, arith, []}
-use Rattle.tbr_border.specs.declared.border.cell.BorderSegHoriz.TheVariants.{Horiz}
-use Rattle.tbr_border.specs.Cell.{cell_of, side_of, joined}
+use Rattle.tbr_border.proofs.Common.{◌+◌, refl, sym, ap, ◌∙◌, map, arith, [], Horiz, cell_of, side_of, joined}
 use Rattle.std.proofs.lemmas.List.{length-set}
 use Rattle.tbr_border.proofs.JoinedCells.{under_all_none, under_more, joins_below_end, set_changed}
 use Rattle.tbr_border.proofs.border.join_under.Goals as goal

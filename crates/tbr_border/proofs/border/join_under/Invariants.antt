@@ -1,6 +1,4 @@
-use Rattle.std.proofs.Common.{◌≡◌, map, take, length}
-use Rattle.tbr_border.specs.Cell.{cell_of, side_of}
-use Rattle.tbr_border.specs.Border.{joined_under}
+use Rattle.tbr_border.proofs.Common.{◌≡◌, map, take, length, cell_of, side_of, joined_under}
 use Rattle.tbr_border.proofs.border.join_under.Given as goal
 
 abbrev pub invariant-loop-i : goal.invariant-loop-i

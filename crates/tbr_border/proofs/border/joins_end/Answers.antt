@@ -1,6 +1,4 @@
-use Rattle.std.proofs.Common.{refl}
-use Rattle.tbr_border.specs.declared.border.cell.BorderSegHoriz.TheVariants.{Horiz}
-use Rattle.tbr_border.specs.Cell.{cell_of, side_of}
+use Rattle.tbr_border.proofs.Common.{refl, Horiz, cell_of, side_of}
 use Rattle.tbr_border.proofs.JoinedCells.{end_more}
 use Rattle.tbr_border.proofs.border.joins_end.Goals as goal
 use Rattle.tbr_border.proofs.border.joins_end.Goals.{then-merges, else-merges}

@@ -1,6 +1,4 @@
-use Rattle.std.proofs.Common.{◌≡◌, map, take}
-use Rattle.tbr_border.specs.Cell.{cell_of, side_of}
-use Rattle.tbr_border.specs.Border.{joins_end}
+use Rattle.tbr_border.proofs.Common.{◌≡◌, map, take, cell_of, side_of, joins_end}
 use Rattle.tbr_border.proofs.border.joins_end.Given as goal
 
 abbrev pub invariant-loop-i : goal.invariant-loop-i

@@ -1,7 +1,4 @@
-use Rattle.std.proofs.Common.{◌≡◌, map-id, sym, ◌∙◌, rules}
-use Rattle.std.proofs.lemmas.Iterator.Adapters.{YieldsList-from_vec}
-use Rattle.std.proofs.lemmas.Iterator.Consumers.{YieldsList-end}
-use Rattle.std.proofs.lemmas.List.{map_push}
+use Rattle.tbr_border.proofs.Common.{◌≡◌, map-id, sym, ◌∙◌, rules, YieldsList-from_vec, YieldsList-end, map_push}
 use Rattle.std.proofs.lemmas.Slice.Zip.{all_zipped_more}
 use Rattle.tbr_border.proofs.border.mapped_holes.Goals as goal
 

@@ -1,7 +1,5 @@
-use Rattle.std.proofs.Common.{map}
-use Rattle.std.specs.List.{AllZip}
-use Rattle.tbr_border.specs.Border.{Gives, MapsHole}
-use Rattle.tbr_border.specs.BorderView.{hole_of}
+use Rattle.tbr_border.proofs.Common.{map, AllZip, MapsHole, hole_of}
+use Rattle.tbr_border.specs.Border.{Gives}
 use Rattle.tbr_border.proofs.border.mapped_holes.Given as goal
 
 abbrev pub invariant-loop-span : goal.invariant-loop-span

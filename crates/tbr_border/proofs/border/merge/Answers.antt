@@ -1,5 +1,4 @@
-use Rattle.std.proofs.lemmas.Bool.{lt-ltb}
-use Rattle.std.proofs.Common.{true, false, rules}
+use Rattle.tbr_border.proofs.Common.{lt-ltb, true, false, rules}
 use Rattle.tbr_border.proofs.JoinedCells.{under_all_none, any_by_end}
 use Rattle.tbr_border.proofs.border.merge.Goals as goal
 

@@ -1,13 +1,9 @@
-use Rattle.std.proofs.Common.{◌≡◌, [], ◌++◌, map, length, ◌∙◌, sym, chars, append-nil, refl}
-use Rattle.std.specs.String.{string_bytes}
+use Rattle.tbr_border.proofs.Common.{◌≡◌, [], ◌++◌, map, length, ◌∙◌, sym, chars, append-nil, refl, string_bytes, chars-nil, on_ok_weaker, items_of, SameItems, cell_of, character, drawn, same_items}
+use Rattle.tbr_border.proofs.Common.{same_items_append, same_items_trans}
 use Rattle.std.proofs.lemmas.Bool.{eqb-true}
-use Rattle.std.proofs.lemmas.Str.{chars-nil}
 use Rattle.std.proofs.lemmas.List.{nil_from_length}
-use Rattle.std.proofs.lemmas.Result.{on_ok_weaker}
-use Rattle.tbr_tagged.specs.Elements.{items_of, text_items, SameItems}
-use Rattle.tbr_border.specs.Cell.{cell_of, character}
-use Rattle.tbr_border.specs.Border.{drawn}
-use Rattle.tbr_tagged.proofs.SameItems.{same_items, same_items_append, same_items_trans, same_texts}
+use Rattle.tbr_tagged.specs.Elements.{text_items}
+use Rattle.tbr_tagged.proofs.SameItems.{same_texts}
 use Rattle.tbr_border.proofs.border.push_cells.Goals as goal
 
 pub returns-then-is_empty-clause-items : goal.returns-then-is_empty-clause-items
@@ -27,5 +23,7 @@ returns-clause-items g c =
     on_ok_weaker c.push_str.result (λ pushed. same_items_trans eq laws (items_of c.push_str.new.self)
     (items_of c.args.line.now ++ text_items (chars (string_bytes c.draw.new.text)) c.in_ok-tag.tag) (items_of c.args.line.now ++ drawn (map cell_of c.args.cells.now) c.args.tag.now)
     pushed
-    (same_items_append eq laws (items_of c.args.line.now) (items_of c.args.line.now) (text_items (chars (string_bytes c.draw.new.text)) c.in_ok-tag.tag) (drawn (map cell_of c.args.cells.now) c.args.tag.now)
+    (same_items_append eq laws (items_of c.args.line.now) (items_of c.args.line.now)
+    (text_items (chars (string_bytes c.draw.new.text)) c.in_ok-tag.tag)
+    (drawn (map cell_of c.args.cells.now) c.args.tag.now)
     (same_items eq laws (items_of c.args.line.now)) same)) c.push_str.ensures.items

@@ -1,6 +1,4 @@
-use Rattle.std.proofs.Common.{refl, ap, map, ◌∙◌, arith}
-use Rattle.tbr_border.specs.declared.border.cell.BorderSegHoriz.TheVariants.{Horiz}
-use Rattle.tbr_border.specs.Cell.{cell_of}
+use Rattle.tbr_border.proofs.Common.{refl, ap, map, ◌∙◌, arith, Horiz, cell_of}
 use Rattle.tbr_border.proofs.JoinedCells.{stretched_items}
 use Rattle.tbr_border.proofs.border.stretch.Goals as goal
 

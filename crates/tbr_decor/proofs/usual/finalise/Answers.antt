@@ -12,4 +12,5 @@ loop-place-preserved g c =
     let line : IsFootnote IsDefault (i + 1) (chars (string_bytes c.url-item.result)) c.in_ok-footnote.field-0 =
     rw (← c.as_str.ensures.value) c.in_ok-footnote.ensures in
     rw c.in_ok-push.ensures.items
-    (footnotes_more IsDefault (λ url. chars (string_bytes url)) urls i c.url-item.result c.loop-place.lines.items c.in_ok-footnote.field-0 c.loop-place-test.true c.url-item.is c.loop-place.invariant line)
+    (footnotes_more IsDefault (λ url. chars (string_bytes url)) urls i c.url-item.result c.loop-place.lines.items
+    c.in_ok-footnote.field-0 c.loop-place-test.true c.url-item.is c.loop-place.invariant line)

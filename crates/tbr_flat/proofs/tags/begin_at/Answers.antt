@@ -1,4 +1,4 @@
-use Rattle.std.proofs.Common.{refl, arith}
+use Rattle.tbr_flat.proofs.Common.{refl, arith}
 use Rattle.tbr_flat.proofs.RepeatedTags.{offset_in, skip_part}
 use Rattle.tbr_flat.proofs.tags.begin_at.Goals as goal
 

@@ -1,4 +1,4 @@
-use Rattle.std.proofs.Common.{refl, arith}
+use Rattle.tbr_flat.proofs.Common.{refl, arith}
 use Rattle.tbr_flat.proofs.RepeatedTags.{ended}
 use Rattle.tbr_flat.proofs.tags.end_at.Goals as goal
 

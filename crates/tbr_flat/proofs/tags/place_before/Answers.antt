@@ -1,6 +1,4 @@
-use Rattle.std.proofs.Common.{◌≡◌, ℕ, List, zero, ◌-◌, ◌+◌, ◌<◌, ◌≤◌, suc, length, drop, arith, rules}
-use Rattle.tbr_flat.specs.declared.tags.RepeatedTag.{RepeatedTag}
-use Rattle.tbr_flat.specs.Tags.{tags_of}
+use Rattle.tbr_flat.proofs.Common.{◌≡◌, ℕ, List, zero, ◌-◌, ◌+◌, ◌<◌, ◌≤◌, suc, length, drop, arith, rules, RepeatedTag, tags_of}
 use Rattle.tbr_flat.proofs.RepeatedTags.{stored_len}
 use Rattle.tbr_flat.proofs.tags.place_before.Goals as goal
 

@@ -1,5 +1,4 @@
-use Rattle.std.proofs.Common.{◌≡◌, ◌≤◌, ◌+◌, length, drop}
-use Rattle.tbr_flat.specs.Tags.{tags_of}
+use Rattle.tbr_flat.proofs.Common.{◌≡◌, ◌≤◌, ◌+◌, length, drop, tags_of}
 use Rattle.tbr_flat.proofs.tags.place_before.Given as goal
 
 abbrev pub invariant-loop-left : goal.invariant-loop-left

@@ -1,6 +1,4 @@
-use Rattle.std.proofs.Common.{◌≡◌, ◌≤◌, ◌-◌, true, length, take, chars}
-use Rattle.std.specs.List.{AllByRecursion as Each}
-use Rattle.std.specs.Char.{is_whitespace}
+use Rattle.tbr_flat.proofs.Common.{◌≡◌, ◌≤◌, ◌-◌, true, length, take, chars, Each, is_whitespace}
 use Rattle.tbr_flat.proofs.TextBytes.{IsRead}
 use Rattle.tbr_flat.proofs.text_queue.blanks_in_front.Given as goal
 

@@ -1,4 +1,5 @@
-use Rattle.std.proofs.Common.{arith, length-take-le, rules}
+use Rattle.tbr_flat.proofs.Common.{arith, rules}
+use Rattle.std.proofs.Common.{length-take-le}
 use Rattle.tbr_flat.proofs.TextBytes.{read_next, read_len, chars_within, ascii_bytes}
 use Rattle.tbr_flat.proofs.text_queue.bytes_of.Goals as goal
 

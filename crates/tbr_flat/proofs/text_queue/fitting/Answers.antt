@@ -1,5 +1,5 @@
-use Rattle.std.proofs.Common.{◌≡◌, ◌+◌, ◌∷◌, [], length, take, chars, unwrap_or, ap, ◌∙◌, arith, length-append, length-take}
-use Rattle.tbr_model.specs.Width.{width_of_text}
+use Rattle.tbr_flat.proofs.Common.{◌≡◌, ◌+◌, ◌∷◌, [], length, take, chars, unwrap_or, ap, ◌∙◌, arith, width_of_text}
+use Rattle.std.proofs.Common.{length-append, length-take}
 use Rattle.tbr_tagged.proofs.TextColumns.{width_of_text-append}
 use Rattle.tbr_flat.proofs.TextBytes.{read_more, read_len}
 use Rattle.tbr_flat.proofs.text_queue.fitting.Goals as goal

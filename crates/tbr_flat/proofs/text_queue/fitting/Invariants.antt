@@ -1,6 +1,5 @@
-use Rattle.std.proofs.Common.{◌≡◌, ◌≤◌, length, take, chars}
+use Rattle.tbr_flat.proofs.Common.{◌≡◌, ◌≤◌, length, take, chars, width_of_text}
 use lib.Utf8.{encodes}
-use Rattle.tbr_model.specs.Width.{width_of_text}
 use Rattle.tbr_flat.proofs.TextBytes.{IsRead}
 use Rattle.tbr_flat.proofs.text_queue.fitting.Given as goal
 

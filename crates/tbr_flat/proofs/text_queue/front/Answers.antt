@@ -1,4 +1,4 @@
-use Rattle.std.proofs.Common.{take, chars, ap, ◌∙◌, refl, arith}
+use Rattle.tbr_flat.proofs.Common.{take, chars, ap, ◌∙◌, refl, arith}
 use Rattle.tbr_flat.proofs.TextBytes.{front_boundary, front_letters}
 use Rattle.tbr_flat.proofs.text_queue.front.Goals as goal
 

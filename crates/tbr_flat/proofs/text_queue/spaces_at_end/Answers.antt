@@ -1,4 +1,4 @@
-use Rattle.std.proofs.Common.{◌-◌, length, get_or, ap, ◌∙◌, arith}
+use Rattle.tbr_flat.proofs.Common.{◌-◌, length, get_or, ap, ◌∙◌, arith}
 use Rattle.tbr_flat.proofs.TextEnds.{end_spaces, more_spaces}
 use Rattle.tbr_flat.proofs.text_queue.spaces_at_end.Goals as goal
 

@@ -1,4 +1,4 @@
-use Rattle.std.proofs.Common.{◌≡◌, ◌-◌, ◌≤◌, length, drop, replicate}
+use Rattle.tbr_flat.proofs.Common.{◌≡◌, ◌-◌, ◌≤◌, length, drop, replicate}
 use Rattle.tbr_flat.proofs.text_queue.spaces_at_end.Given as goal
 
 abbrev pub invariant-loop-count : goal.invariant-loop-count

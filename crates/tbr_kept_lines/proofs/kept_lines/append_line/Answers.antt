@@ -1,4 +1,4 @@
-use Rattle.std.proofs.Common.{rules, append_assoc}
+use Rattle.tbr_kept_lines.proofs.Common.{rules, append_assoc}
 use Rattle.std.proofs.lemmas.Str.{IsUtf8-string_bytes}
 use Rattle.tbr_tagged.proofs.TextAfter.{chars_push}
 use Rattle.tbr_kept_lines.proofs.KeptParts.{line_seen_shows}

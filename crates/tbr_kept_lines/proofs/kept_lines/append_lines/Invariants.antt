@@ -1,7 +1,4 @@
-use Rattle.std.proofs.Common.{◌≡◌, ◌++◌, map}
-use Rattle.tbr_tagged.specs.View.{chars_of}
-use Rattle.tbr_kept_lines.specs.Text.{lines_text}
-use Rattle.tbr_kept_lines.specs.Line.{line_seen}
+use Rattle.tbr_kept_lines.proofs.Common.{◌≡◌, ◌++◌, map, chars_of, lines_text, line_seen}
 use Rattle.tbr_kept_lines.proofs.kept_lines.append_lines.Given as goal
 
 abbrev pub invariant-loop-line : goal.invariant-loop-line

@@ -1,7 +1,4 @@
-use Rattle.std.proofs.Common.{◌++◌, refl, ap, sym, ◌∙◌, rules}
-use Rattle.tbr_tagged.specs.View.{chars_of}
-use Rattle.tbr_kept_lines.specs.KeptLines.{parts_seen}
-use Rattle.tbr_kept_lines.specs.Text.{lines_text}
+use Rattle.tbr_kept_lines.proofs.Common.{◌++◌, refl, ap, sym, ◌∙◌, rules, chars_of, parts_seen, lines_text}
 use Rattle.tbr_kept_lines.proofs.KeptParts.{part_shown}
 use Rattle.tbr_kept_lines.proofs.ItemsLeft.{items_taken}
 use Rattle.tbr_kept_lines.proofs.kept_lines.append_parts.Goals as goal

@@ -1,7 +1,4 @@
-use Rattle.std.proofs.Common.{◌≡◌, ◌++◌}
-use Rattle.tbr_tagged.specs.View.{chars_of}
-use Rattle.tbr_kept_lines.specs.KeptLines.{parts_seen}
-use Rattle.tbr_kept_lines.specs.Text.{lines_text}
+use Rattle.tbr_kept_lines.proofs.Common.{◌≡◌, ◌++◌, chars_of, parts_seen, lines_text}
 use Rattle.tbr_kept_lines.proofs.kept_lines.append_parts.Given as goal
 
 abbrev pub invariant-loop-part : goal.invariant-loop-part

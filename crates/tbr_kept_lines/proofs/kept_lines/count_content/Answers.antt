@@ -1,4 +1,4 @@
-use Rattle.std.proofs.Common.{◌≤◌, ◌∙◌, Bool, true, false, ap, arith}
+use Rattle.tbr_kept_lines.proofs.Common.{◌≤◌, ◌∙◌, Bool, true, false, ap, arith}
 use mir.Val.{bool_byte}
 use Rattle.tbr_kept_lines.proofs.KeptParts.{content_next}
 use Rattle.tbr_kept_lines.proofs.kept_lines.count_content.Goals as goal

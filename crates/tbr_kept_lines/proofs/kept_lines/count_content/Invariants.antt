@@ -1,6 +1,5 @@
-use Rattle.std.proofs.Common.{◌≡◌, ◌≤◌, map, take}
-use Rattle.std.specs.Prelude.{filter, length}
-use Rattle.tbr_kept_lines.specs.Line.{line_seen, line_has_content}
+use Rattle.tbr_kept_lines.proofs.Common.{◌≡◌, ◌≤◌, map, take, filter, line_seen, line_has_content}
+use Rattle.std.specs.Prelude.{length}
 use Rattle.tbr_kept_lines.proofs.kept_lines.count_content.Given as goal
 
 abbrev pub invariant-loop-line : goal.invariant-loop-line

@@ -1,4 +1,4 @@
-use Rattle.std.proofs.Common.{◌∙◌}
+use Rattle.tbr_kept_lines.proofs.Common.{◌∙◌}
 use Rattle.tbr_kept_lines.proofs.Prefixes.{lines_counted}
 use Rattle.tbr_kept_lines.proofs.kept_lines.count_lines.Goals as goal
 

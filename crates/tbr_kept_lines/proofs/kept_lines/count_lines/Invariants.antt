@@ -1,5 +1,4 @@
-use Rattle.std.proofs.Common.{◌≡◌, length, take}
-use Rattle.tbr_kept_lines.specs.KeptLines.{parts_seen}
+use Rattle.tbr_kept_lines.proofs.Common.{◌≡◌, length, take, parts_seen}
 use Rattle.tbr_kept_lines.proofs.kept_lines.count_lines.Given as goal
 
 abbrev pub invariant-loop-part : goal.invariant-loop-part

@@ -1,8 +1,4 @@
-use Rattle.std.proofs.Common.{map}
-use Rattle.std.specs.List.{AllZip, AllByRecursion as Each}
-use Rattle.tbr_border.specs.RenderLine.{IsMergedText}
-use Rattle.tbr_kept_lines.specs.KeptLines.{parts_seen}
-use Rattle.tbr_kept_lines.specs.Line.{line_seen, SameSeen}
+use Rattle.tbr_kept_lines.proofs.Common.{map, AllZip, Each, IsMergedText, parts_seen, line_seen, SameSeen}
 use Rattle.tbr_kept_lines.proofs.kept_lines.lines_of.Given as goal
 
 abbrev pub invariant-loop-part : goal.invariant-loop-part

@@ -1,10 +1,4 @@
-use Rattle.std.proofs.Common.{◌++◌, subst}
-use Rattle.std.specs.Prelude.{chars}
-use Rattle.tbr_tagged.specs.Elements.{SameItems, items_of, text_items}
-use Rattle.tbr_tagged.proofs.SameItems.{same_items, same_items_trans, same_items_append}
-use Rattle.tbr_border.specs.RenderLine.{items_under}
-use Rattle.tbr_kept_lines.specs.Line.{line_seen}
-use Rattle.tbr_kept_lines.specs.Prefixed.{as_text}
+use Rattle.tbr_kept_lines.proofs.Common.{◌++◌, subst, chars, SameItems, items_of, text_items, same_items, same_items_trans, same_items_append, items_under, line_seen, as_text}
 use Rattle.tbr_kept_lines.proofs.Prefixes.{under_seen}
 use Rattle.tbr_kept_lines.proofs.kept_lines.put_prefix.Goals as goal
 

@@ -1,4 +1,4 @@
-use Rattle.std.specs.Prelude.{chars}
+use Rattle.tbr_kept_lines.proofs.Common.{chars}
 use denote.Text.{Utf8}
 use denote.Shadow.{shadow}
 use Rattle.tbr_kept_lines.proofs.Prefixes.{HasPut}

@@ -1,4 +1,4 @@
-use Rattle.std.proofs.Common.{refl, sym, ◌∙◌}
+use Rattle.tbr_kept_lines.proofs.Common.{refl, sym, ◌∙◌}
 use Rattle.tbr_kept_lines.proofs.LastBorder.{no_border_there}
 use Rattle.tbr_kept_lines.proofs.kept_lines.take_last_border.Goals as goal
 

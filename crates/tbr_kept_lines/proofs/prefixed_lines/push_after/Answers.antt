@@ -1,9 +1,6 @@
-use Rattle.std.proofs.Common.{◌≡◌, [], length, drop, ap, sym, ◌∙◌, subst, rules}
-use Rattle.std.proofs.lemmas.Bool.{eqb-false, eqb-true}
-use Rattle.std.proofs.lemmas.List.{nil_from_length}
-use Rattle.tbr_tagged.specs.Elements.{items_of}
+use Rattle.tbr_kept_lines.proofs.Common.{◌≡◌, [], length, drop, ap, sym, ◌∙◌, subst, rules, eqb-true, nil_from_length, items_of, after_prefixes, Pushes}
+use Rattle.std.proofs.lemmas.Bool.{eqb-false}
 use Rattle.tbr_wrap.proofs.runs.LinesLeft.{first_of}
-use Rattle.tbr_kept_lines.specs.Prefixed.{after_prefixes, Pushes}
 use Rattle.tbr_kept_lines.proofs.Prefixes.{after_copy, pushes_first, pushes_none}
 use Rattle.tbr_kept_lines.proofs.prefixed_lines.push_after.Goals as goal
 
@@ -18,7 +15,9 @@ loop-prefix-preserved g c =
     let others = c.args.others.now in
     let line = c.move_line.new.line in
     let f = first_of c.loop-prefix.ended (λ none. eqb-false _ 0 (sym c.is_empty.ensures ∙ c.loop-prefix-test.true) (ap length none)) in
-    let whole = after_copy eq g.met.T.Eq.laws prefix c.in_ok-text.text line f.0 inv.merged c.in_ok-text.ensures.elements (c.in_ok-move_line.ensures.items f.0 f.1 f.2) c.in_ok-move_line.ensures.merged in
+    let whole =
+    after_copy eq g.met.T.Eq.laws prefix c.in_ok-text.text line f.0 inv.merged c.in_ok-text.ensures.elements
+    (c.in_ok-move_line.ensures.items f.0 f.1 f.2) c.in_ok-move_line.ensures.merged in
     let rest = c.in_ok-move_line.ensures.rest ∙ ap (drop 1) f.2 in record {
       pushes = λ all h. inv.pushes all (subst (λ ls. Pushes eq c.loop-prefix.lines.items (after_prefixes (items_of prefix) (items_of others) ls) all) (sym f.2)
           (pushes_first eq c.loop-prefix.lines.items c.push.new.self.items all line (items_of prefix) (items_of others) f.0 f.1 c.in_ok-push.ensures.items whole

@@ -1,7 +1,4 @@
-use Rattle.std.proofs.Common.{List, length}
-use Rattle.tbr_border.specs.declared.RenderLine.{RenderLine}
-use Rattle.tbr_tagged.specs.Elements.{IsMerged, items_of}
-use Rattle.tbr_kept_lines.specs.Prefixed.{after_prefixes, Pushes}
+use Rattle.tbr_kept_lines.proofs.Common.{List, length, RenderLine, IsMerged, items_of, after_prefixes, Pushes}
 use Rattle.tbr_kept_lines.proofs.prefixed_lines.push_after.Given as goal
 
 abbrev pub invariant-loop-prefix : goal.invariant-loop-prefix

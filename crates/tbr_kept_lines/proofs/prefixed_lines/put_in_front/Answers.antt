@@ -1,7 +1,4 @@
-use Rattle.std.proofs.Common.{sym, ◌∙◌}
-use Rattle.std.specs.Prelude.{chars}
-use Rattle.std.proofs.lemmas.Result.{on_ok_weaker}
-use Rattle.tbr_tagged.specs.Elements.{items_of}
+use Rattle.tbr_kept_lines.proofs.Common.{sym, ◌∙◌, chars, on_ok_weaker, items_of}
 use Rattle.tbr_tagged.proofs.SameItems.{same_from_path}
 use Rattle.tbr_kept_lines.proofs.Prefixes.{no_prefix, under_copy}
 use Rattle.tbr_kept_lines.proofs.prefixed_lines.put_in_front.Goals as goal
@@ -13,5 +10,7 @@ returns-then-is_empty-clause-items g c =
 pub returns-clause-items : goal.returns-clause-items
 returns-clause-items g c =
     on_ok_weaker c.insert_front_str.result
-    (under_copy g.T.PartialEq.eq g.met.T.Eq.laws (chars c.args.text.now) c.args.tag.now c.in_ok-clone.field-0 (items_of c.insert_front_str.new.self) (items_of c.args.line.now) (g.met.T.Eq.laws.symm _ _ ∙ g.met.T.Tag.copies_equal _ _ c.in_ok-clone.ensures.cases))
+    (under_copy g.T.PartialEq.eq g.met.T.Eq.laws (chars c.args.text.now) c.args.tag.now c.in_ok-clone.field-0
+    (items_of c.insert_front_str.new.self) (items_of c.args.line.now)
+    (g.met.T.Eq.laws.symm _ _ ∙ g.met.T.Tag.copies_equal _ _ c.in_ok-clone.ensures.cases))
     c.insert_front_str.ensures.items

@@ -1,7 +1,5 @@
-use Rattle.std.proofs.Common.{◌≡◌, ◌+◌, ◌-◌, length, take, drop, length-drop, length-take, subst, arith, rules}
-use Rattle.std.proofs.lemmas.List.{length-map}
-use Rattle.tbr_model.specs.Longest.{TellsRests}
-use Rattle.tbr_model.specs.Slot.{slot_value, slot_values}
+use Rattle.tbr_model.proofs.Common.{◌≡◌, ◌+◌, ◌-◌, length, take, drop, length-drop, length-take, subst, arith, length-map, TellsRests, slot_value, slot_values}
+use Rattle.std.proofs.Common.{rules}
 use Rattle.tbr_model.proofs.layouts.LongestLines.{tells_later, last_cut}
 use Rattle.tbr_model.proofs.layouts.StoredSlots.{slot_values_rest}
 use Rattle.tbr_model.proofs.best.best_cuts.Goals as goal

@@ -1,5 +1,4 @@
-use Rattle.std.proofs.Common.{◌-◌, length}
-use Rattle.tbr_model.specs.Slot.{slot_values}
+use Rattle.tbr_model.proofs.Common.{◌-◌, length, slot_values}
 use Rattle.tbr_model.proofs.layouts.LongestLines.{CutsSoFar}
 use Rattle.tbr_model.proofs.best.best_cuts.Given as goal
 

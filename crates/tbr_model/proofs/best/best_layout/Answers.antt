@@ -1,8 +1,5 @@
-use Rattle.std.proofs.Common.{◌≡◌, ℕ, List, Option, Some, None, Result, Ok, Err, IfOk, IfSome, MatchOption, ap, ◌∙◌, subst}
-use Rattle.tbr_model.specs.Layout.{Slot, slots_of, IsBest}
-use Rattle.tbr_model.specs.Cuts.{HasLegalLayout, IsBestLayout, lines_between}
-use Rattle.tbr_model.specs.Entry.{entry_values}
-use Rattle.tbr_model.specs.Slot.{slot_values}
+use Rattle.tbr_model.proofs.Common.{◌≡◌, ℕ, List, Option, Some, None, MatchOption, ap, ◌∙◌, subst, Slot, slots_of, IsBest, HasLegalLayout, IsBestLayout, lines_between, entry_values, slot_values}
+use Rattle.std.proofs.Common.{Result, Ok, Err, IfOk, IfSome}
 use Rattle.tbr_model.proofs.layouts.Cuts.{best_alike}
 use Rattle.tbr_model.proofs.best.best_layout.Goals as goal
 

@@ -1,7 +1,4 @@
-use Rattle.std.proofs.Common.{◌≡◌, ◌+◌, ◌-◌, ◌<◌, length, take, sym, arith}
-use Rattle.std.proofs.lemmas.List.{take-map, length-map}
-use Rattle.tbr_model.specs.Layout.{IsLegalLine}
-use Rattle.tbr_model.specs.Slot.{slot_value, slot_values}
+use Rattle.tbr_model.proofs.Common.{◌≡◌, ◌+◌, ◌-◌, ◌<◌, length, take, sym, arith, take-map, length-map, IsLegalLine, slot_value, slot_values}
 use Rattle.tbr_model.proofs.layouts.LongestLines.{EndsLine, none_more, rest_solved, longest_end_line, no_line}
 use Rattle.tbr_model.proofs.best.longest_line.Goals as goal
 use Rattle.tbr_model.proofs.best.longest_line.Goals.{else-solved-slots-via-then-solved-slots+else-is_legal_line, else-solved-slots-via-else-solved-slots}

@@ -1,5 +1,4 @@
-use Rattle.std.proofs.Common.{ℕ, ◌<◌, ◌≤◌, length}
-use Rattle.tbr_model.specs.Slot.{slot_values}
+use Rattle.tbr_model.proofs.Common.{ℕ, ◌<◌, ◌≤◌, length, slot_values}
 use Rattle.tbr_model.proofs.layouts.LongestLines.{EndsLine}
 use Rattle.tbr_model.proofs.best.longest_line.Given as goal
 

@@ -1,9 +1,5 @@
-use Rattle.std.proofs.Common.{◌≡◌, ◌+◌, ◌-◌, ◌<◌, ◌↔◌, true, IsTrue, List, [], ◌∷◌, ◌++◌, length, take, drop, length-drop, length-append, length-take, ap, ◌∙◌, subst, arith}
-use Rattle.std.proofs.lemmas.List.{length-map}
-use Rattle.tbr_model.specs.Layout.{Slot}
-use Rattle.tbr_model.specs.Longest.{TellsRests}
-use Rattle.tbr_model.specs.Cuts.{HasLegalLayout}
-use Rattle.tbr_model.specs.Slot.{slot_value, slot_values}
+use Rattle.tbr_model.proofs.Common.{◌≡◌, ◌+◌, ◌-◌, ◌<◌, ◌↔◌, true, IsTrue, List, [], ◌∷◌, ◌++◌, length, take, drop, length-drop, length-append, length-take, ap, ◌∙◌, subst, arith, length-map, Slot}
+use Rattle.tbr_model.proofs.Common.{TellsRests, HasLegalLayout, slot_value, slot_values}
 use Rattle.tbr_model.proofs.layouts.LongestLines.{tells_first, tells_more, tells_later, legal_if_found}
 use Rattle.tbr_model.proofs.layouts.StoredSlots.{slot_values_rest}
 use Rattle.tbr_model.proofs.best.solved_rests.Goals as goal
@@ -33,7 +29,10 @@ loop-from-preserved g c =
     let n = length xs - c.loop-from.from + 1 in
     let long : length slots ≡ length xs = length-map xs slot_value in
     let some : 0 < length (take (length xs - from) (drop from xs)) = omega (arith, length-take (length xs - from) (drop from xs), length-drop from xs) in
-    let found = legal_if_found c.args.width (length (take (length xs - from) (drop from xs))) (slot_values (take (length xs - from) (drop from xs))) c.longest_line.result c.is_some-found.result some c.is_some-found.ensures c.longest_line.ensures in
+    let found =
+    legal_if_found c.args.width (length (take (length xs - from) (drop from xs)))
+    (slot_values (take (length xs - from) (drop from xs))) c.longest_line.result c.is_some-found.result some
+    c.is_some-found.ensures c.longest_line.ensures in
     let place : from ≡ length slots - n = omega arith in
     let new : IsTrue c.is_some-found.result ↔ HasLegalLayout c.args.width (drop (length slots - n) slots) =
     subst (λ (l : List (Slot _)). IsTrue c.is_some-found.result ↔ HasLegalLayout c.args.width l) (slot_values_rest xs from ∙ ap (λ i. drop i slots) place) found in

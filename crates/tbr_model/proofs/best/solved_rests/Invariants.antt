@@ -1,6 +1,4 @@
-use Rattle.std.proofs.Common.{◌≡◌, ◌+◌, ◌-◌, length}
-use Rattle.tbr_model.specs.Slot.{slot_values}
-use Rattle.tbr_model.specs.Longest.{TellsRests}
+use Rattle.tbr_model.proofs.Common.{◌≡◌, ◌+◌, ◌-◌, length, slot_values, TellsRests}
 use Rattle.tbr_model.proofs.best.solved_rests.Given as goal
 
 abbrev pub invariant-loop-from : goal.invariant-loop-from

@@ -1,8 +1,5 @@
-use Rattle.std.proofs.Common.{◌≡◌, suc, ◌∷◌, length, get_or, drop, drop-cons, sym, subst, add-one, arith, slice_range}
-use Rattle.std.proofs.lemmas.List.{length-map}
-use Rattle.tbr_model.specs.Slot.{slot_value, slot_values}
-use Rattle.tbr_model.specs.Layout.{IsLegalLine}
-use Rattle.tbr_model.specs.Cuts.{IsLegalLayout}
+use Rattle.tbr_model.proofs.Common.{◌≡◌, suc, ◌∷◌, length, get_or, drop, sym, subst, add-one, arith, slice_range, length-map, slot_value, slot_values, IsLegalLine, IsLegalLayout}
+use Rattle.std.proofs.Common.{drop-cons}
 use Rattle.tbr_model.proofs.layouts.Cuts.{LegalAfter, legal_from_first, legal_on, rises_below}
 use Rattle.tbr_model.proofs.layouts.StoredSlots.{slot_values_part}
 use Rattle.tbr_model.proofs.layout.is_legal.Goals as goal

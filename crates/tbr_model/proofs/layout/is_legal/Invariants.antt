@@ -1,6 +1,4 @@
-use Rattle.std.proofs.Common.{◌↔◌, drop}
-use Rattle.tbr_model.specs.Slot.{slot_values}
-use Rattle.tbr_model.specs.Cuts.{IsLegalLayout}
+use Rattle.tbr_model.proofs.Common.{◌↔◌, drop, slot_values, IsLegalLayout}
 use Rattle.tbr_model.proofs.layouts.Cuts.{LegalAfter}
 use Rattle.tbr_model.proofs.layout.is_legal.Given as goal
 

@@ -1,4 +1,4 @@
-use Rattle.std.proofs.Common.{◌≡◌, true, ◌||◌, sym, ◌∙◌}
+use Rattle.tbr_model.proofs.Common.{◌≡◌, true, ◌||◌, sym, ◌∙◌}
 use Rattle.tbr_model.proofs.layouts.StoredSlots.{legal_line}
 use Rattle.tbr_model.proofs.layout.is_legal_line.Goals as goal
 use Rattle.tbr_model.proofs.layout.is_legal_line.Goals.{then-may_begin, else-may_begin}

@@ -1,4 +1,4 @@
-use Rattle.std.proofs.Common.{arith, add-one}
+use Rattle.tbr_model.proofs.Common.{arith, add-one}
 use Rattle.tbr_model.proofs.layouts.StoredSlots.{rest_width_more, gap_byte}
 use Rattle.tbr_model.proofs.layout.line_width.Goals as goal
 

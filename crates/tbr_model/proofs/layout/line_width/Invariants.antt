@@ -1,6 +1,5 @@
-use Rattle.std.proofs.Common.{◌≡◌, ◌+◌, ◌<◌, ◌^◌, take}
-use Rattle.tbr_model.specs.Layout.{rest_width}
-use Rattle.tbr_model.specs.Slot.{slot_values}
+use Rattle.tbr_model.proofs.Common.{◌≡◌, ◌+◌, ◌<◌, take, rest_width, slot_values}
+use Rattle.std.proofs.Common.{◌^◌}
 use Rattle.tbr_model.proofs.layout.line_width.Given as goal
 
 abbrev pub invariant-loop-slot : goal.invariant-loop-slot

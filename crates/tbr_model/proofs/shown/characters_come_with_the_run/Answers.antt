@@ -1,4 +1,4 @@
-use Rattle.std.proofs.Common.{◌≡◌, true}
+use Rattle.tbr_model.proofs.Common.{◌≡◌, true}
 use Rattle.tbr_model.proofs.lines.RunCharacters.{come_with_run}
 use Rattle.tbr_model.proofs.shown.characters_come_with_the_run.Goals as goal
 

@@ -1,4 +1,4 @@
-use Rattle.std.proofs.Common.{◌≡◌, true}
+use Rattle.tbr_model.proofs.Common.{◌≡◌, true}
 use Rattle.tbr_model.proofs.lines.NothingInvented.{nothing_invented}
 use Rattle.tbr_model.proofs.shown.nothing_is_invented.Goals as goal
 

@@ -1,6 +1,5 @@
-use Rattle.std.proofs.Common.{◌≡◌, drop}
+use Rattle.tbr_model.proofs.Common.{◌≡◌, drop, entry_values}
 use Rattle.tbr_model.specs.Regions as regions
-use Rattle.tbr_model.specs.Entry.{entry_values}
 use Rattle.tbr_model.proofs.word.first_blank.Given as goal
 
 abbrev pub invariant-loop-entry : goal.invariant-loop-entry

@@ -1,7 +1,5 @@
-use Rattle.std.proofs.Common.{◌≡◌, drop}
+use Rattle.tbr_model.proofs.Common.{◌≡◌, drop, kept_items, entry_values}
 use Rattle.tbr_model.specs.Run as run
-use Rattle.tbr_model.specs.Run.{kept_items}
-use Rattle.tbr_model.specs.Entry.{entry_values}
 use Rattle.tbr_model.proofs.word.has_character.Given as goal
 
 abbrev pub invariant-loop-entry : goal.invariant-loop-entry

@@ -1,6 +1,4 @@
-use Rattle.std.proofs.Common.{◌≡◌, ◌+◌, drop}
-use Rattle.tbr_model.specs.Run.{items_width, kept_items}
-use Rattle.tbr_model.specs.Entry.{entry_values}
+use Rattle.tbr_model.proofs.Common.{◌≡◌, ◌+◌, drop, items_width, kept_items, entry_values}
 use Rattle.tbr_model.proofs.word.is_wider.Given as goal
 
 abbrev pub invariant-loop-entry : goal.invariant-loop-entry

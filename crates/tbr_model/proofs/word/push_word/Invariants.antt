@@ -1,8 +1,4 @@
-use Rattle.std.proofs.Common.{◌≡◌, ◌++◌, true, drop, option_copied, ℕ, Bool, false, Option, None, List, [], ◌∷◌, map}
-use Rattle.tbr_model.specs.Run.{kept_items, Item}
-use Rattle.tbr_model.specs.Entry.{entry_values}
-use Rattle.tbr_model.specs.Slot.{slot_values}
-use Rattle.tbr_model.specs.Layout.{Slot, slot_of}
+use Rattle.tbr_model.proofs.Common.{◌≡◌, ◌++◌, true, drop, option_copied, ℕ, Bool, false, Option, None, List, [], ◌∷◌, map, kept_items, Item, entry_values, slot_values, Slot, slot_of}
 use Rattle.tbr_model.proofs.word.push_word.Given as goal
 
 -- the slots of what is left of a word

@@ -1,11 +1,5 @@
-use Rattle.std.proofs.Common.{◌≡◌, ◌+◌, true, false, List, [], ◌++◌, length, drop, slice_range, length-drop, sym, ap, ◌∙◌, subst, arith}
-use Rattle.std.proofs.lemmas.List.{length-map}
-use Rattle.std.proofs.lemmas.Option.{slice_get_within}
-use Rattle.tbr_model.specs.Run.{Entry, kept_items, has_character}
-use Rattle.tbr_model.specs.Layout.{Slot, word_slots}
-use Rattle.tbr_model.specs.Regions.{NoBreakWorks, IsFirstWorkingBreak, word_after}
-use Rattle.tbr_model.specs.Entry.{entry_value, entry_values}
-use Rattle.tbr_model.specs.Slot.{slot_values}
+use Rattle.tbr_model.proofs.Common.{◌≡◌, ◌+◌, true, false, List, [], ◌++◌, length, drop, slice_range, length-drop, sym, ap, ◌∙◌, subst, arith, length-map, slice_get_within, Entry, kept_items}
+use Rattle.tbr_model.proofs.Common.{has_character, Slot, word_slots, NoBreakWorks, IsFirstWorkingBreak, word_after, entry_value, entry_values, slot_values}
 use Rattle.tbr_model.proofs.words.StoredEntries.{values_rest, values_part}
 use Rattle.tbr_model.proofs.words.SlotsByRegion.{HasRead, next_region, all_read}
 use Rattle.tbr_model.proofs.word.slots.Goals as goal
@@ -20,7 +14,11 @@ loop-place-preserved g c =
     let to = from + c.in-Some.place in
     let kept = c.loop-place.invariant in
     let first : IsFirstWorkingBreak columns (drop from run) c.in-Some.place = subst (λ (l : List (Entry _)). IsFirstWorkingBreak columns l c.in-Some.place) (values_rest es from) c.in-Some.ensures in
-    let pushed = c.in_ok-push_word.ensures ∙ ap (λ (l : List (Entry _)). slot_values c.loop-place.slots.items ++ word_slots columns c.args.width (word_after columns [] l)) (values_part es c.loop-place.opening to) in
+    let pushed =
+    c.in_ok-push_word.ensures
+    ∙ ap
+    (λ (l : List (Entry _)). slot_values c.loop-place.slots.items ++ word_slots columns c.args.width
+    (word_after columns [] l)) (values_part es c.loop-place.opening to) in
     let next = next_region columns c.args.width run (slot_values c.loop-place.slots.items) c.loop-place.opening from c.in-Some.place kept.1 kept.0 first in (
       subst (λ (s : List (Slot _)). HasRead columns c.args.width run s (slice_range run to (to + 1)) (drop (to + 1) run)) (sym pushed) next,
       omega arith,

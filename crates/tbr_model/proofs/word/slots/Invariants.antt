@@ -1,6 +1,4 @@
-use Rattle.std.proofs.Common.{◌-◌, ◌≤◌, length, drop, slice_range}
-use Rattle.tbr_model.specs.Entry.{entry_values}
-use Rattle.tbr_model.specs.Slot.{slot_values}
+use Rattle.tbr_model.proofs.Common.{◌-◌, ◌≤◌, length, drop, slice_range, entry_values, slot_values}
 use Rattle.tbr_model.proofs.words.SlotsByRegion.{HasRead}
 use Rattle.tbr_model.proofs.word.slots.Given as goal
 

@@ -1,11 +1,5 @@
-use Rattle.std.proofs.Common.{◌||◌, IsTrue, refl, ap, sym, ◌∙◌, take}
-use Rattle.std.specs.List.{list_any}
-use Rattle.std.proofs.lemmas.Bool.{or_right}
-use Rattle.tbr_model.specs.Run.{is_break_entry}
-use Rattle.tbr_model.specs.Regions.{takes_columns, HasColumns}
-use Rattle.tbr_model.specs.Entry.{entry_value, entry_values}
+use Rattle.tbr_model.proofs.Common.{◌||◌, IsTrue, refl, ap, sym, ◌∙◌, take, list_any, or_right, is_break_entry, takes_columns, HasColumns, entry_value, entry_values, or-false}
 use Rattle.tbr_model.proofs.words.Regions.{no_break, longer_rest}
-use Rattle.std.proofs.Math.Bool.{or-false}
 use Rattle.tbr_model.proofs.words.StoredEntries.{list_any_more, values_more}
 use Rattle.tbr_model.proofs.word.working_break.Goals as goal
 use Rattle.tbr_model.proofs.word.working_break.Goals.{else-works-via-then-works+else-is_break, else-works-via-else-works, then-takes_columns, else-takes_columns}
@@ -28,8 +22,17 @@ loop-place-preserved g c =
     ] in
     rw more (
       elim c.if-takes_columns.branch [
-        | then-takes_columns w ↦ w.works-is ∙ sym (list_any_more (takes_columns columns) (entry_values (take i es)) (entry_value e) ∙ or_right _ _ (sym c.takes_columns.ensures ∙ w.if-takes_columns.true))
-        | else-takes_columns w ↦ w.works-is ∙ (seen ∙ sym (list_any_more (takes_columns columns) (entry_values (take i es)) (entry_value e) ∙ ap (λ b. list_any (takes_columns columns) (entry_values (take i es)) || b) (sym c.takes_columns.ensures ∙ w.if-takes_columns.false) ∙ or-false _))
+        | then-takes_columns w ↦ w.works-is
+            ∙ sym
+            (list_any_more (takes_columns columns) (entry_values (take i es)) (entry_value e)
+            ∙ or_right _ _ (sym c.takes_columns.ensures ∙ w.if-takes_columns.true))
+        | else-takes_columns w ↦ w.works-is
+            ∙
+            (seen
+            ∙ sym
+            (list_any_more (takes_columns columns) (entry_values (take i es)) (entry_value e)
+            ∙ ap (λ b. list_any (takes_columns columns) (entry_values (take i es)) || b)
+            (sym c.takes_columns.ensures ∙ w.if-takes_columns.false) ∙ or-false _))
       ],
       longer_rest columns (entry_values (take i es)) (entry_value e) c.loop-place.invariant.1 no_work,
     )

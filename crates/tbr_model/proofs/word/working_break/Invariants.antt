@@ -1,7 +1,4 @@
-use Rattle.std.proofs.Common.{◌≡◌, take}
-use Rattle.std.specs.List.{list_any}
-use Rattle.tbr_model.specs.Regions.{takes_columns, NoBreakWorks}
-use Rattle.tbr_model.specs.Entry.{entry_values}
+use Rattle.tbr_model.proofs.Common.{◌≡◌, take, list_any, takes_columns, NoBreakWorks, entry_values}
 use Rattle.tbr_model.proofs.word.working_break.Given as goal
 
 abbrev pub invariant-loop-place : goal.invariant-loop-place

@@ -1,6 +1,6 @@
 use Rattle.tbr_program.proofs.Common.{◌≡◌, ◌==◌, true, false, None, Err, map, length, sym, ap, ◌∙◌, err_from_is_err_and, chars_of, decoration_of, handed_out, start_block, after}
 use Rattle.tbr_tagged.specs.declared.Error.TheVariants.{TooNarrow}
-use Rattle.text_block_renderer.proofs.Settings.{call_beside}
+use Rattle.tbr_renderer.proofs.Settings.{call_beside}
 use Rattle.tbr_program.proofs.Notes.{closed_without, closed_with, closing_refused, unfailed}
 use Rattle.tbr_program.proofs.closing.with_footnotes.Goals as goal
 

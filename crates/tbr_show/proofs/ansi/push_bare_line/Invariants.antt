@@ -1,6 +1,4 @@
-use Rattle.std.proofs.Common.{◌≡◌, ◌++◌, map}
-use Rattle.std.specs.Prelude.{flat_map}
-use Rattle.tbr_tagged.specs.View.{chars_of, element_of}
+use Rattle.tbr_show.proofs.Common.{◌≡◌, ◌++◌, map, flat_map, chars_of, element_of}
 use Rattle.tbr_show.proofs.Appended.{shown_of}
 use Rattle.tbr_show.proofs.ansi.push_bare_line.Given as goal
 

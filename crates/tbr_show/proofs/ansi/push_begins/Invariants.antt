@@ -1,6 +1,4 @@
-use Rattle.std.proofs.Common.{◌≡◌, ◌++◌, take}
-use Rattle.std.specs.Prelude.{flat_map}
-use Rattle.tbr_tagged.specs.View.{chars_of}
+use Rattle.tbr_show.proofs.Common.{◌≡◌, ◌++◌, take, flat_map, chars_of}
 use Rattle.tbr_show.specs.Ansi.{begins}
 use Rattle.tbr_show.proofs.ansi.push_begins.Given as goal
 

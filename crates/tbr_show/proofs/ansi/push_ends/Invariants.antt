@@ -1,7 +1,4 @@
-use Rattle.std.proofs.Common.{◌≡◌, ◌++◌, take}
-use Rattle.std.specs.Prelude.{flat_map}
-use Rattle.tbr_tagged.specs.View.{chars_of}
-use Rattle.tbr_show.specs.Ansi.{ends}
+use Rattle.tbr_show.proofs.Common.{◌≡◌, ◌++◌, take, flat_map, chars_of, ends}
 use Rattle.tbr_show.proofs.ansi.push_ends.Given as goal
 
 abbrev pub invariant-loop-annotation : goal.invariant-loop-annotation

@@ -1,8 +1,4 @@
-use Rattle.std.proofs.Common.{ap, ◌∙◌, ◌∷◌, [], ◌++◌, map, rules}
-use Rattle.std.specs.Prelude.{flat_map}
-use Rattle.tbr_model.specs.Codes.{newline_character}
-use Rattle.tbr_tagged.specs.View.{chars_of, element_of}
-use Rattle.tbr_tagged.specs.Walks.{elements_left}
+use Rattle.tbr_show.proofs.Common.{ap, ◌∙◌, ◌∷◌, [], ◌++◌, map, rules, flat_map, newline_character, chars_of, element_of, elements_left}
 use Rattle.tbr_show.specs.Ansi as model
 use Rattle.tbr_show.proofs.Appended.{one_after, flat_map-map_push, walked, on_ok_then}
 use Rattle.tbr_show.proofs.ansi.push_line.Goals as goal

@@ -1,4 +1,4 @@
-use Rattle.std.proofs.Common.{rules}
+use Rattle.tbr_show.proofs.Common.{rules}
 use Rattle.std.proofs.lemmas.Str.{chars-nil}
 use Rattle.tbr_show.specs.Target as target
 use Rattle.tbr_show.proofs.Appended.{on_ok_then}

@@ -1,7 +1,5 @@
-use Rattle.std.proofs.Common.{ap, ◌∙◌, ◌++◌, sym, string_bytes}
-use Rattle.std.specs.Prelude.{codes}
-use Rattle.tbr_tagged.specs.View.{chars_of}
-use Rattle.tbr_show.specs.Html.{begins, address}
+use Rattle.tbr_show.proofs.Common.{ap, ◌∙◌, ◌++◌, sym, string_bytes, codes, chars_of, begins}
+use Rattle.tbr_show.specs.Html.{address}
 use Rattle.tbr_show.proofs.Appended.{one_after, on_ok_then}
 use Rattle.tbr_show.proofs.html.push_begin.Goals as goal
 

@@ -1,4 +1,4 @@
-use Rattle.std.proofs.Common.{rules}
+use Rattle.tbr_show.proofs.Common.{rules}
 use Rattle.tbr_show.proofs.Appended.{one_after, on_ok_then}
 use Rattle.tbr_show.proofs.html.push_coloured.Goals as goal
 

@@ -1,6 +1,4 @@
-use Rattle.std.proofs.Common.{◌≡◌, ◌++◌, map}
-use Rattle.std.specs.Prelude.{flat_map}
-use Rattle.tbr_tagged.specs.View.{chars_of}
+use Rattle.tbr_show.proofs.Common.{◌≡◌, ◌++◌, map, flat_map, chars_of}
 use Rattle.tbr_show.specs.Html.{ends}
 use Rattle.tbr_show.proofs.html.push_ends.Given as goal
 

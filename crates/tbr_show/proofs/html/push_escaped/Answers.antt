@@ -1,9 +1,4 @@
-use Rattle.std.proofs.Common.{map-id, ap, sym, ◌∙◌, ◌++◌}
-use Rattle.std.proofs.lemmas.Iterator.{YieldsList-from_chars}
-use Rattle.std.proofs.lemmas.Iterator.Consumers.{YieldsList-end}
-use Rattle.tbr_tagged.specs.View.{chars_of}
-use Rattle.std.specs.Prelude.{flat_map}
-use Rattle.tbr_show.specs.Written.{printable}
+use Rattle.tbr_show.proofs.Common.{map-id, ap, sym, ◌∙◌, ◌++◌, YieldsList-from_chars, YieldsList-end, chars_of, flat_map, printable}
 use Rattle.tbr_show.specs.Html.{escaped}
 use Rattle.tbr_show.proofs.html.push_escaped.Goals as goal
 

@@ -1,6 +1,4 @@
-use Rattle.std.proofs.Common.{◌≡◌, ◌++◌, false}
-use Rattle.tbr_tagged.specs.View.{chars_of}
-use Rattle.tbr_show.specs.Written.{printable}
+use Rattle.tbr_show.proofs.Common.{◌≡◌, ◌++◌, false, chars_of, printable}
 use Rattle.tbr_show.proofs.Appended.{shown_open, wide_after}
 use Rattle.tbr_show.proofs.html.push_shown.Given as goal
 

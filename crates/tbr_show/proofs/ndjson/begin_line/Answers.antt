@@ -1,6 +1,5 @@
-use Rattle.std.specs.Prelude.{codes}
-use Rattle.json.specs.Token.{begin_object, begin_array, key, boolean}
-use Rattle.tbr_show.specs.Ndjson.{columns_tokens}
+use Rattle.tbr_show.proofs.Common.{codes, begin_object, begin_array, key, columns_tokens}
+use Rattle.json.specs.Token.{boolean}
 use Rattle.tbr_show.proofs.Appended.{beginning_written}
 use Rattle.tbr_show.proofs.ndjson.begin_line.Goals as goal
 

@@ -1,5 +1,4 @@
-use Rattle.std.proofs.Common.{[], ◌∷◌}
-use Rattle.json.specs.Token.{end_object, end_array}
+use Rattle.tbr_show.proofs.Common.{[], ◌∷◌, end_object, end_array}
 use Rattle.tbr_show.proofs.Appended.{one_after}
 use Rattle.tbr_show.proofs.ndjson.end_line.Goals as goal
 

@@ -1,7 +1,4 @@
-use Rattle.std.proofs.Common.{◌≡◌, ◌++◌}
-use Rattle.std.specs.Prelude.{flat_map}
-use Rattle.tbr_tagged.specs.View.{chars_of}
-use Rattle.tbr_show.specs.Ndjson.{escaped}
+use Rattle.tbr_show.proofs.Common.{◌≡◌, ◌++◌, flat_map, chars_of, escaped}
 use Rattle.tbr_show.proofs.ndjson.push_escaped.Given as goal
 
 abbrev pub invariant-loop-c : goal.invariant-loop-c

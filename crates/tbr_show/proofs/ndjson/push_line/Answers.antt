@@ -1,7 +1,5 @@
-use Rattle.std.proofs.Common.{ap, ◌∙◌, ◌++◌, ◌∷◌, [], List}
+use Rattle.tbr_show.proofs.Common.{ap, ◌∙◌, ◌++◌, ◌∷◌, [], List, newline_character, chars_of}
 use Rattle.json.specs.Token.{Token}
-use Rattle.tbr_model.specs.Codes.{newline_character}
-use Rattle.tbr_tagged.specs.View.{chars_of}
 use Rattle.tbr_show.specs.Ndjson.{written, line_tokens}
 use Rattle.tbr_show.proofs.Appended.{one_after, on_ok_then}
 use Rattle.tbr_show.proofs.ndjson.push_line.Goals as goal

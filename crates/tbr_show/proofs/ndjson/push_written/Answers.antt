@@ -1,9 +1,8 @@
-use Rattle.std.proofs.Common.{◌≡◌, Result, Ok, Err, IsOk, refl, ap, sym, subst, ◌∙◌, ◌++◌, List, ℕ, chars}
-use Rattle.std.specs.Prelude.{flat_map, MatchResult}
+use Rattle.tbr_show.proofs.Common.{◌≡◌, Result, Ok, Err, refl, ap, sym, subst, ◌∙◌, ◌++◌, List, ℕ, chars, flat_map, chars_of, escaped}
+use Rattle.std.proofs.Common.{IsOk}
+use Rattle.std.specs.Prelude.{MatchResult}
 use Rattle.std.specs.Str.{IsUtf8}
 use Rattle.json.specs.Print.{print}
-use Rattle.tbr_tagged.specs.View.{chars_of}
-use Rattle.tbr_show.specs.Ndjson.{escaped}
 use Rattle.tbr_show.proofs.Appended.{on_ok_then}
 use Rattle.tbr_show.proofs.ndjson.push_written.Goals as goal
 

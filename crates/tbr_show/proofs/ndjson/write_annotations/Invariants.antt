@@ -1,6 +1,4 @@
-use Rattle.std.proofs.Common.{◌≡◌, ◌++◌, take}
-use Rattle.std.specs.Prelude.{flat_map}
-use Rattle.tbr_show.specs.Ndjson.{annotation_tokens}
+use Rattle.tbr_show.proofs.Common.{◌≡◌, ◌++◌, take, flat_map, annotation_tokens}
 use Rattle.tbr_show.proofs.ndjson.write_annotations.Given as goal
 
 abbrev pub invariant-loop-annotation : goal.invariant-loop-annotation

@@ -1,4 +1,4 @@
-use Rattle.std.proofs.Common.{ap, ◌∙◌, ◌++◌, sym}
+use Rattle.tbr_show.proofs.Common.{ap, ◌∙◌, ◌++◌, sym}
 use Rattle.tbr_show.specs.Ndjson.{details}
 use Rattle.tbr_show.proofs.Appended.{one_after}
 use Rattle.tbr_show.proofs.ndjson.write_details.Goals as goal

@@ -1,8 +1,4 @@
-use Rattle.std.proofs.Common.{ap, ◌∙◌, ◌++◌, map, sym}
-use Rattle.std.specs.Prelude.{flat_map}
-use Rattle.tbr_tagged.specs.View.{element_of}
-use Rattle.tbr_tagged.specs.Walks.{elements_left}
-use Rattle.tbr_show.specs.Ndjson.{element_tokens}
+use Rattle.tbr_show.proofs.Common.{ap, ◌∙◌, ◌++◌, map, sym, flat_map, element_of, elements_left, element_tokens}
 use Rattle.tbr_show.proofs.Appended.{one_after, flat_map-map_push, walked}
 use Rattle.tbr_show.proofs.ndjson.write_elements.Goals as goal
 

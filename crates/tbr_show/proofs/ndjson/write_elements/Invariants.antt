@@ -1,7 +1,4 @@
-use Rattle.std.proofs.Common.{◌≡◌, ◌++◌, map}
-use Rattle.std.specs.Prelude.{flat_map}
-use Rattle.tbr_tagged.specs.View.{element_of}
-use Rattle.tbr_show.specs.Ndjson.{element_tokens}
+use Rattle.tbr_show.proofs.Common.{◌≡◌, ◌++◌, map, flat_map, element_of, element_tokens}
 use Rattle.tbr_show.proofs.ndjson.write_elements.Given as goal
 
 abbrev pub invariant-loop-element : goal.invariant-loop-element

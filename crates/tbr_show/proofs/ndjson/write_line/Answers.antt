@@ -1,7 +1,6 @@
-use Rattle.std.proofs.Common.{ap, ◌∙◌, ◌++◌, append_assoc}
-use Rattle.std.specs.Prelude.{flat_map}
+use Rattle.tbr_show.proofs.Common.{ap, ◌∙◌, ◌++◌, append_assoc, flat_map, element_tokens}
 use Rattle.tbr_tagged.specs.Elements.{line_width}
-use Rattle.tbr_show.specs.Ndjson.{element_tokens, begin_tokens, end_tokens}
+use Rattle.tbr_show.specs.Ndjson.{begin_tokens, end_tokens}
 use Rattle.tbr_show.proofs.Appended.{one_after, on_ok_then}
 use Rattle.tbr_show.proofs.ndjson.write_line.Goals as goal
 

@@ -1,8 +1,7 @@
-use Rattle.std.proofs.Common.{ap, ◌∙◌, ◌++◌, sym, string_bytes}
+use Rattle.tbr_show.proofs.Common.{ap, ◌∙◌, ◌++◌, sym, string_bytes, IsUtf8-string_bytes, chars_of, piece}
 use Rattle.std.specs.Prelude.{encode_utf8_all}
-use Rattle.std.proofs.lemmas.Str.{encodes-chars, IsUtf8-string_bytes}
-use Rattle.tbr_tagged.specs.View.{chars_of}
-use Rattle.tbr_tagged.specs.Elements.{piece, element_width}
+use Rattle.std.proofs.lemmas.Str.{encodes-chars}
+use Rattle.tbr_tagged.specs.Elements.{element_width}
 use Rattle.tbr_tagged.proofs.TextColumns.{items_width-text}
 use Rattle.tbr_show.specs.Ndjson.{piece_tokens}
 use Rattle.tbr_show.proofs.Appended.{on_ok_then}

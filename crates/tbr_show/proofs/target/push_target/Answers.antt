@@ -1,7 +1,5 @@
-use Rattle.std.proofs.Common.{rules}
-use Rattle.std.proofs.lemmas.Str.{IsUtf8-string_bytes}
+use Rattle.tbr_show.proofs.Common.{rules, IsUtf8-string_bytes, ascii_last}
 use Rattle.percent_encoding.proofs.PercentLemmas.{IsAscii-percent_encode}
-use Rattle.tbr_decor.proofs.Texts.{ascii_last}
 use Rattle.tbr_show.proofs.target.push_target.Goals as goal
 
 pub returns : goal.returns

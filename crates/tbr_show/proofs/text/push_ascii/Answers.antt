@@ -1,6 +1,5 @@
-use Rattle.std.proofs.Common.{rules}
-use Rattle.std.proofs.lemmas.Str.{IsUtf8-string_bytes}
-use Rattle.tbr_decor.proofs.Texts.{ascii_all, ascii_last}
+use Rattle.tbr_show.proofs.Common.{rules, IsUtf8-string_bytes, ascii_last}
+use Rattle.tbr_decor.proofs.Texts.{ascii_all}
 use Rattle.tbr_show.proofs.text.push_ascii.Goals as goal
 
 pub returns : goal.returns

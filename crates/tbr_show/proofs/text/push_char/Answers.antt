@@ -1,5 +1,4 @@
-use Rattle.std.proofs.Common.{chars, ap, ◌∙◌, string_bytes}
-use Rattle.std.proofs.lemmas.Str.{IsUtf8-string_bytes}
+use Rattle.tbr_show.proofs.Common.{chars, ap, ◌∙◌, string_bytes, IsUtf8-string_bytes}
 use Rattle.tbr_tagged.proofs.TextAfter.{chars_push}
 use Rattle.tbr_show.proofs.text.push_char.Goals as goal
 

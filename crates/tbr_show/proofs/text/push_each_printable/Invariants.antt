@@ -1,6 +1,4 @@
-use Rattle.std.proofs.Common.{◌≡◌, ◌++◌}
-use Rattle.tbr_tagged.specs.View.{chars_of}
-use Rattle.tbr_show.specs.Written.{printable}
+use Rattle.tbr_show.proofs.Common.{◌≡◌, ◌++◌, chars_of, printable}
 use Rattle.tbr_show.proofs.text.push_each_printable.Given as goal
 
 abbrev pub invariant-loop-c : goal.invariant-loop-c

@@ -1,4 +1,4 @@
-use Rattle.std.proofs.Common.{rules}
+use Rattle.tbr_show.proofs.Common.{rules}
 use Rattle.tbr_show.proofs.Appended.{printable_all, on_ok_then}
 use Rattle.tbr_show.proofs.text.push_printable.Goals as goal
 

@@ -1,5 +1,5 @@
-use Rattle.std.proofs.Common.{rules}
-use Rattle.std.proofs.lemmas.Str.{IsUtf8-string_bytes, chars-append}
+use Rattle.tbr_show.proofs.Common.{rules, IsUtf8-string_bytes}
+use Rattle.std.proofs.lemmas.Str.{chars-append}
 use Rattle.tbr_show.proofs.text.push_text.Goals as goal
 
 pub returns : goal.returns

@@ -1,6 +1,4 @@
-use Rattle.std.proofs.Common.{rules}
-use Rattle.std.proofs.lemmas.List.{map_push}
-use Rattle.std.proofs.lemmas.Result.{on_ok_weaker}
+use Rattle.tbr_tagged.proofs.Common.{rules, map_push, on_ok_weaker}
 use Rattle.tbr_tagged.proofs.TextAfter.{push_extends, push_after, chars_some}
 use Rattle.tbr_tagged.proofs.edits.push_copy.Goals as goal
 

@@ -1,10 +1,4 @@
-use Rattle.std.proofs.Common.{sym, [], ◌∷◌, map, arith}
-use Rattle.std.proofs.lemmas.List.{map_push}
-use Rattle.std.proofs.lemmas.List.Elements.{AllZip-push}
-use Rattle.std.proofs.lemmas.Result.{on_ok_weaker}
-use Rattle.tbr_tagged.specs.Elements.{SameElement, piece}
-use Rattle.tbr_tagged.specs.Stored.{stored}
-use Rattle.tbr_tagged.specs.View.{element_of}
+use Rattle.tbr_tagged.proofs.Common.{sym, [], ◌∷◌, map, arith, map_push, AllZip-push, on_ok_weaker, SameElement, piece, stored, element_of}
 use Rattle.tbr_tagged.proofs.TextAfter.{push_extends, push_after, same_elements}
 use Rattle.tbr_tagged.proofs.edits.push_glyph.Goals as goal
 

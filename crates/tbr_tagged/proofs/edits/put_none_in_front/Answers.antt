@@ -1,8 +1,4 @@
-use Rattle.std.proofs.Common.{◌≡◌, ◌∙◌, [], ap, sym, chars}
-use Rattle.std.specs.String.{string_bytes}
-use Rattle.std.proofs.lemmas.Str.{chars-nil}
-use Rattle.std.proofs.lemmas.Result.{on_ok_weaker}
-use Rattle.tbr_tagged.specs.Stored.{stored}
+use Rattle.tbr_tagged.proofs.Common.{◌≡◌, ◌∙◌, [], ap, sym, chars, string_bytes, chars-nil, on_ok_weaker, stored}
 use Rattle.tbr_tagged.specs.View.{elements_of}
 use Rattle.tbr_tagged.proofs.TextInFront.{none_extends, none_inserted}
 use Rattle.tbr_tagged.proofs.edits.put_none_in_front.Goals as goal
@@ -14,4 +10,6 @@ pub returns-clause-ok : goal.returns-clause-ok
 returns-clause-ok g c =
     let none : chars (string_bytes c.new-s.result) ≡ [] = ap chars c.new-s.ensures.bytes ∙ chars-nil in
     on_ok_weaker c.insert_front.result (λ h.
-    ap elements_of h ∙ none_inserted g.T.PartialEq.eq (elements_of (stored c.args.elements.now)) (chars (string_bytes c.new-s.result)) c.args.tag none (sym c.if-begins_under.ensures)) c.insert_front.ensures.ok
+    ap elements_of h
+    ∙ none_inserted g.T.PartialEq.eq (elements_of (stored c.args.elements.now)) (chars (string_bytes c.new-s.result))
+    c.args.tag none (sym c.if-begins_under.ensures)) c.insert_front.ensures.ok

@@ -1,5 +1,4 @@
-use Rattle.std.proofs.Common.{◌≡◌, [], sym, arith, chars, length}
-use Rattle.std.proofs.lemmas.Bool.{eqb-true}
+use Rattle.tbr_tagged.proofs.Common.{◌≡◌, [], sym, arith, chars, length, eqb-true}
 use Rattle.tbr_tagged.proofs.TextAfter.{chars_none}
 use Rattle.tbr_tagged.proofs.edits.put_str_in_front.Goals as goal
 

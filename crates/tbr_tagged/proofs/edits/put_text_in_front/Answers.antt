@@ -1,6 +1,4 @@
-use Rattle.std.proofs.Common.{◌≡◌, [], sym, arith, chars}
-use Rattle.std.specs.String.{string_bytes, string_len}
-use Rattle.std.proofs.lemmas.Bool.{eqb-true}
+use Rattle.tbr_tagged.proofs.Common.{◌≡◌, [], sym, arith, chars, string_bytes, string_len, eqb-true}
 use Rattle.tbr_tagged.proofs.TextAfter.{chars_none}
 use Rattle.tbr_tagged.proofs.edits.put_text_in_front.Goals as goal
 

@@ -1,4 +1,4 @@
-use Rattle.std.proofs.Common.{rules}
+use Rattle.tbr_tagged.proofs.Common.{rules}
 use Rattle.tbr_tagged.proofs.TextAfter.{chars_one}
 use Rattle.tbr_tagged.proofs.element.new_piece.Goals as goal
 

@@ -1,6 +1,4 @@
-use Rattle.std.proofs.Common.{refl}
-use Rattle.std.specs.String.{string_bytes}
-use Rattle.std.proofs.lemmas.Str.{chars-append}
+use Rattle.tbr_tagged.proofs.Common.{refl, string_bytes, chars-append}
 use Rattle.tbr_tagged.proofs.element.prepend.Goals as goal
 
 pub returns-in_ok-insert_str-clause-ok : goal.returns-in_ok-insert_str-clause-ok

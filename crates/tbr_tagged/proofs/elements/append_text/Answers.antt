@@ -1,9 +1,4 @@
-use Rattle.std.proofs.Common.{map, take, append-nil, append_assoc, refl}
-use Rattle.std.specs.String.{string_bytes}
-use Rattle.std.proofs.lemmas.Str.{IsUtf8-string_bytes, chars-append}
-use Rattle.std.proofs.lemmas.List.Concat.{flat_map-append}
-use Rattle.tbr_tagged.specs.Elements.{element_characters}
-use Rattle.tbr_tagged.specs.View.{element_of}
+use Rattle.tbr_tagged.proofs.Common.{map, take, append-nil, append_assoc, refl, string_bytes, IsUtf8-string_bytes, chars-append, flat_map-append, element_characters, element_of}
 use Rattle.tbr_tagged.proofs.ElementLoops.{one_more}
 use Rattle.tbr_tagged.proofs.elements.append_text.Goals as goal
 use Rattle.tbr_tagged.proofs.elements.append_text.Goals.{in-Str+in_ok-push_str, in_default}

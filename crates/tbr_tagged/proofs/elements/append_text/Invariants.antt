@@ -1,7 +1,4 @@
-use Rattle.std.proofs.Common.{◌≡◌, ◌++◌, map, take, chars}
-use Rattle.std.specs.String.{string_bytes}
-use Rattle.tbr_tagged.specs.Elements.{characters}
-use Rattle.tbr_tagged.specs.View.{element_of}
+use Rattle.tbr_tagged.proofs.Common.{◌≡◌, ◌++◌, map, take, chars, string_bytes, characters, element_of}
 use Rattle.tbr_tagged.proofs.elements.append_text.Given as goal
 
 abbrev pub invariant-loop-element : goal.invariant-loop-element

@@ -1,9 +1,5 @@
-use Rattle.std.proofs.Common.{map, take}
-use Rattle.std.proofs.lemmas.List.{map_push}
-use Rattle.std.proofs.lemmas.List.Elements.{AllZip-push}
-use Rattle.tbr_tagged.specs.View.{element_of}
+use Rattle.tbr_tagged.proofs.Common.{map, take, map_push, AllZip-push, element_of, SameElement}
 use Rattle.tbr_tagged.proofs.ElementLoops.{one_more}
-use Rattle.tbr_tagged.specs.Elements.{SameElement}
 use Rattle.tbr_tagged.proofs.elements.clone.Goals as goal
 
 pub loop-element-preserved : goal.loop-element-preserved
@@ -13,5 +9,7 @@ loop-element-preserved g c =
       map_push,
       one_more element_of c.deref-element-items.result.now c.loop-element.element-index c.element-item.result c.loop-element-test.true c.element-item.is,
     )
-    (AllZip-push (SameElement g.T.PartialEq.eq) (map element_of c.loop-element.copy.items) (map element_of (take c.loop-element.element-index c.deref-element-items.result.now)) (element_of c.in_ok-clone.field-0) (element_of c.element-item.result)
+    (AllZip-push (SameElement g.T.PartialEq.eq) (map element_of c.loop-element.copy.items)
+    (map element_of (take c.loop-element.element-index c.deref-element-items.result.now))
+    (element_of c.in_ok-clone.field-0) (element_of c.element-item.result)
     c.loop-element.invariant c.in_ok-clone.ensures.same)

@@ -1,6 +1,4 @@
-use Rattle.std.proofs.Common.{map, take}
-use Rattle.tbr_tagged.specs.Elements.{SameElements}
-use Rattle.tbr_tagged.specs.View.{element_of}
+use Rattle.tbr_tagged.proofs.Common.{map, take, SameElements, element_of}
 use Rattle.tbr_tagged.proofs.elements.clone.Given as goal
 
 abbrev pub invariant-loop-element : goal.invariant-loop-element

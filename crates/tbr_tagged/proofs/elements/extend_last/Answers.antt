@@ -1,8 +1,4 @@
-use Rattle.std.proofs.Common.{◌-◌, ◌∙◌, ap, rules}
-use Rattle.std.proofs.Math.Seq.{map-set_same}
-use Rattle.std.proofs.lemmas.Bool.Decides.{nat_tests}
-use Rattle.std.proofs.lemmas.Result.{on_err_weaker}
-use Rattle.tbr_tagged.specs.View.{element_of}
+use Rattle.tbr_tagged.proofs.Common.{◌-◌, ◌∙◌, ap, rules, map-set_same, nat_tests, on_err_weaker, element_of}
 use Rattle.tbr_tagged.proofs.TextAfter.{extended_at}
 use Rattle.tbr_tagged.proofs.elements.extend_last.Goals as goal
 
@@ -11,4 +7,6 @@ returns-clause-ok g c = search (rules, extended_at, nat_tests, c.len-end.ensures
 
 pub returns-clause-err : goal.returns-clause-err
 returns-clause-err g c =
-    on_err_weaker c.extend.result (λ h. map-set_same element_of c.args.elements.now.items (c.len-end.result - 1) c.extend.new.element c.index_mut.result.now (h ∙ ap element_of c.index_mut.ensures.value)) c.extend.ensures.err
+    on_err_weaker c.extend.result
+    (λ h. map-set_same element_of c.args.elements.now.items (c.len-end.result - 1) c.extend.new.element
+    c.index_mut.result.now (h ∙ ap element_of c.index_mut.ensures.value)) c.extend.ensures.err

@@ -1,5 +1,4 @@
-use Rattle.std.proofs.Common.{rules}
-use Rattle.std.proofs.lemmas.List.{map_push}
+use Rattle.tbr_tagged.proofs.Common.{rules, map_push}
 use Rattle.std.proofs.lemmas.Slice.Zip.{all_zipped_more}
 use Rattle.tbr_tagged.proofs.elements.map_tag.Goals as goal
 

@@ -1,6 +1,4 @@
-use Rattle.std.proofs.Common.{map}
-use Rattle.tbr_tagged.specs.Mapped.{MapsElements}
-use Rattle.tbr_tagged.specs.View.{element_of}
+use Rattle.tbr_tagged.proofs.Common.{map, MapsElements, element_of}
 use Rattle.tbr_tagged.proofs.elements.map_tag.Given as goal
 
 abbrev pub invariant-loop-element : goal.invariant-loop-element

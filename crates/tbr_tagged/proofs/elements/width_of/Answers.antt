@@ -1,8 +1,6 @@
-use Rattle.std.proofs.Common.{ap, arith}
+use Rattle.tbr_tagged.proofs.Common.{ap, arith, width_of_text, element_of}
 use Rattle.std.specs.Str.{chars}
 use Rattle.std.proofs.lemmas.Result.{err_from_is_err_and}
-use Rattle.tbr_model.specs.Width.{width_of_text}
-use Rattle.tbr_tagged.specs.View.{element_of}
 use Rattle.tbr_tagged.proofs.ElementLoops.{one_more, one_and_rest, items_width-piece, items_width-marker}
 use Rattle.tbr_tagged.proofs.elements.width_of.Goals as goal
 use Rattle.tbr_tagged.proofs.elements.width_of.Goals.{in-Str+in_ok-more+in-Some, in_default}

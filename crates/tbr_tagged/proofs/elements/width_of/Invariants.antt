@@ -1,7 +1,4 @@
-use Rattle.std.proofs.Common.{◌≡◌, map, take}
-use Rattle.tbr_model.specs.Run.{items_width}
-use Rattle.tbr_tagged.specs.Elements.{items_of}
-use Rattle.tbr_tagged.specs.View.{element_of}
+use Rattle.tbr_tagged.proofs.Common.{◌≡◌, map, take, items_width, items_of, element_of}
 use Rattle.tbr_tagged.proofs.elements.width_of.Given as goal
 
 abbrev pub invariant-loop-element : goal.invariant-loop-element

@@ -1,8 +1,4 @@
-use Rattle.std.proofs.Common.{◌<◌, arith, map, ap, ◌∙◌}
-use Rattle.tbr_tagged.specs.Elements.{SameElements, push_text, insert_text}
-use Rattle.tbr_tagged.specs.Padding.{spaces}
-use Rattle.tbr_tagged.specs.Stored.{stored}
-use Rattle.tbr_tagged.specs.View.{element_of}
+use Rattle.tbr_tagged.proofs.Common.{◌<◌, arith, map, ap, ◌∙◌, SameElements, push_text, insert_text, spaces, stored, element_of}
 use Rattle.tbr_tagged.proofs.PaddedLines.{same_elements_trans, same_push, same_insert, spaces_before_some}
 use Rattle.tbr_tagged.proofs.padding.pad.Goals as goal
 

@@ -1,12 +1,5 @@
-use Rattle.std.proofs.Common.{◌<◌, sym, ◌∙◌, ap, length, arith, map}
-use Rattle.std.proofs.lemmas.List.{map_push, length-replicate}
-use Rattle.std.proofs.lemmas.List.Elements.{AllZip-push}
-use Rattle.std.proofs.lemmas.Result.{on_ok_weaker}
-use Rattle.tbr_tagged.specs.declared.element.TaggedLineElement.TheVariants.{Str}
-use Rattle.tbr_tagged.specs.Elements.{SameElement, piece}
-use Rattle.tbr_tagged.specs.Padding.{spaces}
-use Rattle.tbr_tagged.specs.Stored.{stored}
-use Rattle.tbr_tagged.specs.View.{element_of}
+use Rattle.tbr_tagged.proofs.Common.{◌<◌, sym, ◌∙◌, ap, length, arith, map, map_push, AllZip-push, on_ok_weaker, Str, SameElement, piece, spaces, stored, element_of}
+use Rattle.std.proofs.lemmas.List.{length-replicate}
 use Rattle.tbr_tagged.proofs.TextAfter.{push_extends, push_after, same_elements}
 use Rattle.tbr_tagged.proofs.padding.push_spaces.Goals as goal
 

@@ -1,6 +1,5 @@
-use Rattle.std.proofs.Common.{ℕ, ◌≡◌, ◌<◌, ◌≤◌, ◌-◌, ◌+◌, List, ◌++◌, append_assoc, arith, replicate, refl, rules}
+use Rattle.tbr_tagged.proofs.Common.{ℕ, ◌≡◌, ◌<◌, ◌≤◌, ◌-◌, ◌+◌, List, ◌++◌, append_assoc, arith, replicate, refl, rules, string_bytes}
 use Rattle.std.specs.List.{slice_index, slice_range}
-use Rattle.std.specs.String.{string_bytes}
 use Rattle.std.proofs.lemmas.List.{get_or-replicate, take-replicate, replicate-append-replicate}
 use Rattle.tbr_tagged.proofs.space.append_spaces.Goals as goal
 

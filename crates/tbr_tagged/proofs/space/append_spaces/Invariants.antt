@@ -1,5 +1,5 @@
-use Rattle.std.proofs.Common.{◌≡◌, ◌++◌, ◌+◌, ◌-◌, ◌≤◌, replicate}
-use Rattle.std.specs.String.{string_bytes, string_len, string_capacity}
+use Rattle.tbr_tagged.proofs.Common.{◌≡◌, ◌++◌, ◌+◌, ◌-◌, ◌≤◌, replicate, string_bytes, string_len}
+use Rattle.std.specs.String.{string_capacity}
 use Rattle.tbr_tagged.proofs.space.append_spaces.Given as goal
 
 abbrev pub invariant-loop-left : goal.invariant-loop-left

@@ -1,6 +1,4 @@
-use Rattle.std.proofs.Common.{IsTrue, false, ◌∙◌, ap, sym, take}
-use Rattle.std.specs.String.{string_bytes}
-use Rattle.std.proofs.lemmas.Str.{IsUtf8-string_bytes}
+use Rattle.tbr_tagged.proofs.Common.{IsTrue, false, ◌∙◌, ap, sym, take, string_bytes, IsUtf8-string_bytes}
 use Rattle.tbr_tagged.proofs.GrownLines.{cut_place, cut_chars}
 use Rattle.tbr_tagged.proofs.space.cut.Goals as goal
 

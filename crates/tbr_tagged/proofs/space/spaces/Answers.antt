@@ -1,5 +1,4 @@
-use Rattle.std.proofs.lemmas.Str.{chars-IsAscii}
-use Rattle.tbr_tagged.specs.Padding.{spaces}
+use Rattle.tbr_tagged.proofs.Common.{chars-IsAscii, spaces}
 use Rattle.tbr_tagged.proofs.TextAfter.{spaces_ascii}
 use Rattle.tbr_tagged.proofs.space.spaces.Goals as goal
 

@@ -1,5 +1,4 @@
-use Rattle.std.proofs.Common.{◌≤◌, ◌-◌, take}
-use Rattle.tbr_tagged.specs.Narrow.{AreNarrow}
+use Rattle.tbr_tagged.proofs.Common.{◌≤◌, ◌-◌, take, AreNarrow}
 use Rattle.tbr_tagged.proofs.width.narrow_in_front.Given as goal
 
 abbrev pub invariant-loop-count : goal.invariant-loop-count

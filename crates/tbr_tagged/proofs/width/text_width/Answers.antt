@@ -1,7 +1,5 @@
-use Rattle.std.proofs.Common.{◌≡◌, unwrap_or, sym, ◌∙◌, ap, map-id, chars, arith, rules}
+use Rattle.tbr_tagged.proofs.Common.{◌≡◌, unwrap_or, sym, ◌∙◌, ap, map-id, chars, arith, rules, YieldsList-end, width_of_text}
 use Rattle.std.proofs.lemmas.Iterator.{YieldsList-from_chars}
-use Rattle.std.proofs.lemmas.Iterator.Consumers.{YieldsList-end}
-use Rattle.tbr_model.specs.Width.{width_of_text}
 use Rattle.tbr_tagged.proofs.NarrowText.{narrow_boundary, narrow_columns}
 use Rattle.tbr_tagged.proofs.TextColumns.{turn_and_rest, width_of_text-append, width_of_text-beginning}
 use Rattle.tbr_tagged.proofs.width.text_width.Goals as goal

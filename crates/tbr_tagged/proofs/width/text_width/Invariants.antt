@@ -1,4 +1,4 @@
-use Rattle.std.proofs.Common.{◌≡◌, ◌+◌}
+use Rattle.tbr_tagged.proofs.Common.{◌≡◌, ◌+◌}
 use Rattle.tbr_model.specs.Width as fixed
 use Rattle.tbr_tagged.proofs.width.text_width.Given as goal
 

@@ -1,9 +1,5 @@
-use Rattle.std.proofs.Common.{ap, ◌∙◌, append-nil, rules}
+use Rattle.tbr_wrap.proofs.Common.{ap, ◌∙◌, append-nil, rules, string_bytes, eqb-true, nil_from_length, chars-append, chars-nil, IsUtf8-string_bytes}
 use Rattle.std.specs.Prelude.{chars}
-use Rattle.std.specs.String.{string_bytes}
-use Rattle.std.proofs.lemmas.Bool.{eqb-true}
-use Rattle.std.proofs.lemmas.List.{nil_from_length}
-use Rattle.std.proofs.lemmas.Str.{chars-append, chars-nil, IsUtf8-string_bytes}
 use Rattle.tbr_wrap.proofs.ended_lines.append_prefix.Goals as goal
 
 pub returns : goal.returns

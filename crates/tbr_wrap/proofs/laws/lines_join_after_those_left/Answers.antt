@@ -1,5 +1,4 @@
-use Rattle.std.proofs.Common.{ap, ◌∙◌}
-use Rattle.tbr_wrap.specs.Block.{lines, left, text_events}
+use Rattle.tbr_wrap.proofs.Common.{ap, ◌∙◌, lines, left, text_events}
 use Rattle.tbr_wrap.proofs.runs.BlockLaws.{text_leaves, flush_leaves, lines_grown, left_grown, left_ended, flush_none, marker_lines}
 use Rattle.tbr_wrap.proofs.laws.lines_join_after_those_left.Goals as goal
 

@@ -1,4 +1,4 @@
-use Rattle.tbr_model.proofs.lines.NormalItems.{normal_keeps}
+use Rattle.tbr_wrap.proofs.Common.{normal_keeps}
 use Rattle.tbr_wrap.proofs.laws.words_keep_their_tags.Goals as goal
 
 pub returns : goal.returns

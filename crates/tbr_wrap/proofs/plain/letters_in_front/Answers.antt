@@ -1,8 +1,8 @@
-use Rattle.std.proofs.Common.{◌≡◌, ◌+◌, Some, [], sym, ◌∙◌, map-id, append-nil, arith}
+use Rattle.tbr_wrap.proofs.Common.{◌≡◌, ◌+◌, Some, [], sym, ◌∙◌, append-nil, arith, kept_width}
+use Rattle.std.proofs.Common.{map-id}
 use Rattle.std.proofs.lemmas.Iterator.{YieldsList-from_chars}
 use Rattle.std.proofs.lemmas.Iterator.Consumers.{YieldsList-end}
 use Rattle.tbr_tagged.proofs.TextColumns.{turn_and_rest}
-use Rattle.tbr_wrap.specs.Plain.{kept_width}
 use Rattle.tbr_wrap.proofs.words.Letters.{seen_letters, seen_more, next_short}
 use Rattle.tbr_wrap.proofs.plain.letters_in_front.Goals as goal
 
@@ -26,7 +26,9 @@ loop-c-preserved g c =
     let columns = g.W.CharWidth.columns in
     let is : kept_width columns c.in-Some.c ≡ Some c.in-Some-kept_width.width = sym c.kept_width.ensures ∙ c.in-Some-kept_width.is in
     seen_more columns c.args.room c.loop-c.yielded c.in-Some.c c.in-Some-kept_width.width c.loop-c.front _ c.loop-c.invariant is
-    (omega (arith, c.if-width-room.false, c.loop-c.invariant.fits)) (λ i. record { bytes = c.loop-c.front.bytes + c.len_utf8.ensures.value i; count = c.loop-c.front.count + 1; columns = c.loop-c.front.columns + c.in-Some-kept_width.width })
+    (omega (arith, c.if-width-room.false, c.loop-c.invariant.fits))
+    (λ i.
+    record { bytes = c.loop-c.front.bytes + c.len_utf8.ensures.value i; count = c.loop-c.front.count + 1; columns = c.loop-c.front.columns + c.in-Some-kept_width.width })
 
 pub returns-clause-letters : goal.returns-clause-letters
 returns-clause-letters g c =

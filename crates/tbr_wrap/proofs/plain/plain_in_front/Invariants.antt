@@ -1,5 +1,4 @@
-use Rattle.std.proofs.Common.{◌≤◌, ◌-◌, take}
-use Rattle.tbr_wrap.specs.Plain.{ArePlain}
+use Rattle.tbr_wrap.proofs.Common.{◌≤◌, ◌-◌, take, ArePlain}
 use Rattle.tbr_wrap.proofs.plain.plain_in_front.Given as goal
 
 abbrev pub invariant-loop-count : goal.invariant-loop-count

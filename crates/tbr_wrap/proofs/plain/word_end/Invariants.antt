@@ -1,5 +1,4 @@
-use Rattle.std.proofs.Common.{◌≡◌, ◌≤◌, ◌-◌, false, nat_lt, Some, take, fold}
-use Rattle.tbr_wrap.specs.Plain.{ArePlain, reads}
+use Rattle.tbr_wrap.proofs.Common.{◌≡◌, ◌≤◌, ◌-◌, false, nat_lt, Some, take, fold, ArePlain, reads}
 use Rattle.tbr_wrap.proofs.plain.word_end.Given as goal
 
 abbrev pub invariant-loop-at : goal.invariant-loop-at

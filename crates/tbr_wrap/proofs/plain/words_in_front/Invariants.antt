@@ -1,5 +1,4 @@
-use Rattle.std.proofs.Common.{◌≡◌, ◌≤◌, ◌<◌, ◌-◌, false, Some, take, fold}
-use Rattle.tbr_wrap.specs.Plain.{reads, AreWords}
+use Rattle.tbr_wrap.proofs.Common.{◌≡◌, ◌≤◌, ◌<◌, ◌-◌, false, Some, take, fold, reads, AreWords}
 use Rattle.tbr_wrap.proofs.plain.words_in_front.Given as goal
 
 abbrev pub invariant-loop-end : goal.invariant-loop-end

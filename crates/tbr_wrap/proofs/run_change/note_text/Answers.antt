@@ -1,14 +1,12 @@
-use Rattle.std.proofs.Common.{◌≡◌, ◌++◌, ◌∷◌, [], ℕ, List, ap, ◌∙◌, arith, append_assoc, rules}
-use Rattle.std.proofs.lemmas.List.{map-append}
-use Rattle.tbr_model.specs.declared.white_space.WhiteSpace.{WhiteSpace}
-use Rattle.tbr_wrap.specs.Story.{text_changes}
-use Rattle.tbr_wrap.specs.declared.run_change.RunChange.{RunChange}
+use Rattle.tbr_wrap.proofs.Common.{◌≡◌, ◌++◌, ◌∷◌, [], ℕ, List, ap, ◌∙◌, arith, append_assoc, rules, map-append, WhiteSpace, text_changes, RunChange}
 use Rattle.tbr_wrap.specs.declared.run_change.RunChange.TheVariants.{Character}
 use Rattle.tbr_flat.proofs.TextBytes.{read_more, all_read}
 use Rattle.tbr_wrap.proofs.run_change.note_text.Goals as goal
 use Rattle.tbr_wrap.proofs.run_change.note_text.Goals.{in-Some+in-Marker-1, in-Some+in-Called-1, in_default}
 
-noted_more : {A : Type 0} (before seen now : List (RunChange × A × A)) (cs ds : List ℕ) (c : ℕ) (a b : A) (mode : WhiteSpace) → seen ≡ before ++ text_changes cs a b mode → now ≡ seen ++ (Character c mode, a, b) ∷ [] → ds ≡ cs ++ c ∷ [] → now ≡ before ++ text_changes ds a b mode
+noted_more : {A : Type 0} (before seen now : List (RunChange × A × A)) (cs ds : List ℕ) (c : ℕ) (a b : A)
+    (mode : WhiteSpace) → seen ≡ before ++ text_changes cs a b mode → now ≡ seen ++ (Character c mode, a, b) ∷ [] →
+    ds ≡ cs ++ c ∷ [] → now ≡ before ++ text_changes ds a b mode
 noted_more before seen now cs ds c a b mode e f h = search (rules, append_assoc, map-append)
 
 pub loop-preserved : goal.loop-preserved

@@ -1,5 +1,4 @@
-use Rattle.std.proofs.Common.{◌≡◌, ◌++◌, take, chars}
-use Rattle.tbr_wrap.specs.Story.{text_changes}
+use Rattle.tbr_wrap.proofs.Common.{◌≡◌, ◌++◌, take, chars, text_changes}
 use Rattle.tbr_flat.proofs.TextBytes.{IsRead}
 use Rattle.tbr_wrap.proofs.run_change.note_text.Given as goal
 

@@ -1,8 +1,6 @@
-use Rattle.std.proofs.Common.{ap, ◌∙◌}
-use Rattle.std.proofs.lemmas.Result.{on_ok_weaker}
+use Rattle.callers.proofs.Common.{ap, ◌∙◌, on_ok_weaker, with_more}
 use Rattle.std.proofs.lemmas.Iterator.{YieldsList-from_chars}
 use Rattle.std.proofs.lemmas.Iterator.Consumers.{count_from_yields_List}
-use Rattle.callers.specs.Counted.{with_more}
 use Rattle.callers.proofs.counter.Counter.count_text.Goals as goal
 
 pub returns-clause-ok : goal.returns-clause-ok

@@ -1,4 +1,4 @@
-use Rattle.callers.specs.Counted.{Counted}
+use Rattle.callers.proofs.Common.{Counted}
 use Rattle.callers.proofs.Counts.{HasTaken}
 use Rattle.callers.proofs.counter.Counter.take_all.Given as goal
 

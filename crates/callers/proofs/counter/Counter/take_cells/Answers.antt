@@ -1,9 +1,4 @@
-use Rattle.std.proofs.Common.{◌≡◌, ℕ, true, false, ◌∙◌, sym, subst}
-use Rattle.std.proofs.lemmas.List.{map-id}
-use Rattle.std.proofs.lemmas.Result.{err_from_is_err_and}
-use Rattle.std.proofs.lemmas.Iterator.Adapters.{YieldsList-from_vec}
-use Rattle.std.proofs.lemmas.Iterator.Consumers.{YieldsList-end}
-use Rattle.callers.specs.Counted.{Counted}
+use Rattle.callers.proofs.Common.{◌≡◌, ℕ, true, false, ◌∙◌, sym, subst, map-id, err_from_is_err_and, YieldsList-from_vec, YieldsList-end, Counted}
 use Rattle.callers.proofs.Counts.{HasTaken, goes_on, none_taken, one_more, stopped}
 use Rattle.callers.proofs.counter.Counter.take_cells.Goals as goal
 

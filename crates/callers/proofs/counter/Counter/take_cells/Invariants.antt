@@ -1,5 +1,4 @@
-use Rattle.std.proofs.Common.{ℕ}
-use Rattle.callers.specs.Counted.{Counted}
+use Rattle.callers.proofs.Common.{ℕ, Counted}
 use Rattle.callers.proofs.Counts.{HasTaken}
 use Rattle.callers.proofs.counter.Counter.take_cells.Given as goal
 

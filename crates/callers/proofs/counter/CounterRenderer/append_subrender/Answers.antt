@@ -1,8 +1,5 @@
-use Rattle.std.proofs.Common.{◌≡◌, Bool, if◌then◌else◌, is_some, ap, sym, ◌∙◌}
-use Rattle.std.proofs.lemmas.Result.{on_ok_weaker}
-use Rattle.tbr_tagged.specs.Outcome.{done}
-use Rattle.callers.specs.Counted.{Counted, with_more, one_line}
-use Rattle.callers.proofs.Counts.{one_prefixed, handed}
+use Rattle.callers.proofs.Common.{◌≡◌, Bool, if◌then◌else◌, is_some, ap, sym, ◌∙◌, on_ok_weaker, done, live_goes, Counted, with_more, one_line, failure}
+use Rattle.callers.proofs.Counts.{one_prefixed, handed, unfailed}
 use Rattle.callers.proofs.counter.CounterRenderer.append_subrender.Goals.{then-is_none, else-is_none}
 use Rattle.callers.proofs.counter.CounterRenderer.append_subrender.Goals as goal
 
@@ -26,5 +23,6 @@ returns-clause-ok g c =
       given,
       handed c.args.other (sym shown.0 ∙ h.1),
       gives,
-      ap (λ n. done (with_more n c.args.self.now)) (count ∙ sym shown.1) ∙ ap (λ (d : Counted). done d) (sym h.2),
+      live_goes (failure c.args.self.now) _ (unfailed c.args.self.now h.0)
+          ∙ ap (λ n. done (with_more n c.args.self.now)) (count ∙ sym shown.1) ∙ ap (λ (d : Counted). done d) (sym h.2),
     )) c.take.ensures.ok

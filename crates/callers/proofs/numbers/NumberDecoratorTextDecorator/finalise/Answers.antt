@@ -1,6 +1,4 @@
-use Rattle.std.proofs.Common.{◌≡◌}
-use Rattle.std.proofs.lemmas.Result.{IfOk-weaker}
-use Rattle.tbr_decor.proofs.Footnotes.{footnotes_meant}
+use Rattle.callers.proofs.Common.{◌≡◌, IfOk-weaker, footnotes_meant}
 use Rattle.callers.proofs.numbers.NumberDecoratorTextDecorator.finalise.Goals as goal
 
 pub returns-clause-lines : goal.returns-clause-lines

@@ -1,7 +1,5 @@
-use Rattle.std.proofs.Common.{refl}
+use Rattle.callers.proofs.Common.{refl, IfOk-weaker, footnotes_meant}
 use Rattle.std.specs.Prelude.{⊤}
-use Rattle.std.proofs.lemmas.Result.{IfOk-weaker}
-use Rattle.tbr_decor.proofs.Footnotes.{footnotes_meant}
 use Rattle.callers.proofs.stars.StarDecoratorTextDecorator.finalise.Goals as goal
 
 pub returns-clause-lines : goal.returns-clause-lines

@@ -1,4 +1,4 @@
-use Rattle.std.proofs.Common.{◌∙◌}
+use Rattle.column_widths.proofs.Common.{◌∙◌}
 use Rattle.column_widths.proofs.Cases.{widths_is}
 use Rattle.column_widths.proofs.columns.Columns.widths.Goals as goal
 

@@ -1,33 +1,31 @@
-use Rattle.tbr_tagged.specs.Elements.{element_characters}
-use Rattle.std.proofs.Common.{◌≡◌, ◌∷◌, [], ◌++◌, map, take, length, chars, ap, ◌∙◌, arith, append_assoc, append-nil, refl}
-use Rattle.std.specs.String.{string_bytes}
-use Rattle.std.proofs.lemmas.Str.{chars-append, IsUtf8-string_bytes}
-use Rattle.std.proofs.lemmas.List.{take_all}
-use Rattle.std.proofs.lemmas.Result.{on_ok_weaker}
-use Rattle.tbr_tagged.specs.Walks.{item_characters}
-use Rattle.tbr_border.specs.Cell.{cell_of}
-use Rattle.tbr_border.specs.Border.{shown_from}
-use Rattle.tbr_border.specs.BorderView.{hole_of}
-use Rattle.tbr_tagged.proofs.ElementLoops.{one_more}
+use Rattle.tbr_border.proofs.Common.{element_characters, ◌≡◌, ◌∷◌, [], ◌++◌, map, take, length, chars, ap, ◌∙◌, arith, append_assoc, append-nil, refl, string_bytes, chars-append, IsUtf8-string_bytes}
+use Rattle.tbr_border.proofs.Common.{take_all, on_ok_weaker, item_characters, cell_of, shown_from, hole_of, one_more}
 use Rattle.tbr_border.proofs.BorderText.{in_order_within, hole_at, map-slice, cells_from, text_step, text_end}
 use Rattle.tbr_border.proofs.border.BorderHoriz.append_to.Goals as goal
 
 pub slice_bounds-draw-end : goal.slice_bounds-draw-end
 slice_bounds-draw-end g c =
-    let here = hole_at hole_of c.deref-span-items.result.now c.loop-span.span-index c.span-item.result c.loop-span.at (length c.as_slice-cells.result.now) c.loop-span-test.true c.span-item.is c.loop-span.invariant.fit in
+    let here =
+    hole_at hole_of c.deref-span-items.result.now c.loop-span.span-index c.span-item.result c.loop-span.at
+    (length c.as_slice-cells.result.now) c.loop-span-test.true c.span-item.is c.loop-span.invariant.fit in
     omega (arith, here.0, in_order_within _ _ _ here.1)
 
 pub overflow_add-at : goal.overflow_add-at
 overflow_add-at g c =
-    let here = hole_at hole_of c.deref-span-items.result.now c.loop-span.span-index c.span-item.result c.loop-span.at (length c.as_slice-cells.result.now) c.loop-span-test.true c.span-item.is c.loop-span.invariant.fit in
-    omega (arith, in_order_within _ _ _ here.1, ap length c.as_slice-cells.ensures.value, c.self.inside.shape.value.segments.ok.0, c.self.inside.shape.value.segments.ok.1, c.self.inside.shape.value.segments.small)
+    let here =
+    hole_at hole_of c.deref-span-items.result.now c.loop-span.span-index c.span-item.result c.loop-span.at
+    (length c.as_slice-cells.result.now) c.loop-span-test.true c.span-item.is c.loop-span.invariant.fit in
+    omega
+    (arith, in_order_within _ _ _ here.1, ap length c.as_slice-cells.ensures.value, c.self.inside.shape.value.segments.ok.0, c.self.inside.shape.value.segments.ok.1, c.self.inside.shape.value.segments.small)
 
 pub loop-span-preserved : goal.loop-span-preserved
 loop-span-preserved g c =
     let tag = c.args.self.now.tag in
     let cells = map cell_of c.as_slice-cells.result.now in
     let hole = hole_of c.span-item.result in
-    let here = hole_at hole_of c.deref-span-items.result.now c.loop-span.span-index c.span-item.result c.loop-span.at (length c.as_slice-cells.result.now) c.loop-span-test.true c.span-item.is c.loop-span.invariant.fit in
+    let here =
+    hole_at hole_of c.deref-span-items.result.now c.loop-span.span-index c.span-item.result c.loop-span.at
+    (length c.as_slice-cells.result.now) c.loop-span-test.true c.span-item.is c.loop-span.invariant.fit in
     let drew = rw map-slice at c.in_ok-draw.ensures in
     let pushed : chars (string_bytes c.push_str.new.self) ≡ chars (string_bytes c.draw.new.text) ++ element_characters hole.element =
     rw (c.in_ok-push_str.ensures.bytes, chars-append (string_bytes c.draw.new.text) c.as_str.result.now (IsUtf8-string_bytes c.draw.new.text), c.as_str.ensures) refl in

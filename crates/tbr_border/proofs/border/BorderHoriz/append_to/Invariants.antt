@@ -1,9 +1,4 @@
-use Rattle.std.proofs.Common.{◌≡◌, List, ◌++◌, map, take, drop, length, chars}
-use Rattle.std.specs.String.{string_bytes}
-use Rattle.tbr_tagged.specs.Walks.{item_characters}
-use Rattle.tbr_border.specs.Cell.{cell_of}
-use Rattle.tbr_border.specs.Border.{Hole, AreInOrder, shown_from}
-use Rattle.tbr_border.specs.BorderView.{hole_of}
+use Rattle.tbr_border.proofs.Common.{◌≡◌, List, ◌++◌, map, take, drop, length, chars, string_bytes, item_characters, cell_of, Hole, AreInOrder, shown_from, hole_of}
 use Rattle.tbr_border.proofs.border.BorderHoriz.append_to.Given as goal
 
 abbrev pub invariant-loop-span : goal.invariant-loop-span

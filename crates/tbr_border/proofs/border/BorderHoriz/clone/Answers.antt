@@ -1,5 +1,4 @@
-use Rattle.std.proofs.Common.{◌≤◌, map, length, ap, arith}
-use Rattle.tbr_border.specs.BorderView.{hole_of}
+use Rattle.tbr_border.proofs.Common.{◌≤◌, map, length, ap, arith, hole_of}
 use Rattle.tbr_border.proofs.HolesInOrder.{same_order, in_order_longer}
 use Rattle.tbr_border.proofs.border.BorderHoriz.clone.Goals as goal
 

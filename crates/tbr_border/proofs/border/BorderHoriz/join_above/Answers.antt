@@ -1,4 +1,4 @@
-use Rattle.std.proofs.Common.{rules}
+use Rattle.tbr_border.proofs.Common.{rules}
 use Rattle.tbr_border.proofs.HolesInOrder.{in_order_longer}
 use Rattle.tbr_border.proofs.border.BorderHoriz.join_above.Goals as goal
 

@@ -1,5 +1,5 @@
-use Rattle.std.proofs.Common.{vec_len, rules}
-use Rattle.std.proofs.lemmas.List.{take_all}
+use Rattle.tbr_border.proofs.Common.{rules, take_all}
+use Rattle.std.proofs.Common.{vec_len}
 use Rattle.tbr_border.proofs.BorderText.{map-copies}
 use Rattle.tbr_border.proofs.border.BorderHoriz.new_type.Goals as goal
 

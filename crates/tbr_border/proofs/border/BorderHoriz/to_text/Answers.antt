@@ -1,4 +1,4 @@
-use Rattle.std.proofs.lemmas.Str.{chars-nil}
+use Rattle.tbr_border.proofs.Common.{chars-nil}
 use Rattle.tbr_border.proofs.border.BorderHoriz.to_text.Goals as goal
 
 pub returns : goal.returns

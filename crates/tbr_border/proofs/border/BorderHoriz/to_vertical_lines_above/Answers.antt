@@ -1,11 +1,4 @@
-use Rattle.std.proofs.Common.{get_or, refl}
-use Rattle.std.specs.String.{string_bytes}
-use Rattle.std.proofs.lemmas.Str.{chars-nil, IsUtf8-string_bytes}
-use Rattle.std.proofs.lemmas.List.{map_push}
-use Rattle.tbr_border.specs.declared.border.cell.BorderSegHoriz.TheVariants.{Horiz}
-use Rattle.tbr_border.specs.Cell.{cell_of}
-use Rattle.tbr_tagged.proofs.TextAfter.{chars_push}
-use Rattle.tbr_tagged.proofs.ElementLoops.{one_more_at}
+use Rattle.tbr_border.proofs.Common.{get_or, refl, string_bytes, chars-nil, IsUtf8-string_bytes, map_push, Horiz, cell_of, chars_push, one_more_at}
 use Rattle.tbr_border.proofs.BorderText.{line_above_scalar}
 use Rattle.tbr_border.proofs.border.BorderHoriz.to_vertical_lines_above.Goals as goal
 

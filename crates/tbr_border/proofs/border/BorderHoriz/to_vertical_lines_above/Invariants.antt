@@ -1,6 +1,4 @@
-use Rattle.std.proofs.Common.{◌≡◌, map, take, chars}
-use Rattle.std.specs.String.{string_bytes}
-use Rattle.tbr_border.specs.Cell.{cell_of, line_above}
+use Rattle.tbr_border.proofs.Common.{◌≡◌, map, take, chars, string_bytes, cell_of, line_above}
 use Rattle.tbr_border.proofs.border.BorderHoriz.to_vertical_lines_above.Given as goal
 
 abbrev pub invariant-loop-cell : goal.invariant-loop-cell

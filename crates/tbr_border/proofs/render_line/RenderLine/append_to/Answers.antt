@@ -1,4 +1,4 @@
-use Rattle.tbr_tagged.proofs.LineWalks.{items_have_characters}
+use Rattle.tbr_border.proofs.Common.{items_have_characters}
 use Rattle.tbr_border.proofs.render_line.RenderLine.append_to.Goals as goal
 
 pub returns-in-Text : goal.returns-in-Text

@@ -1,5 +1,4 @@
-use Rattle.tbr_tagged.specs.Elements.{items_of}
-use Rattle.tbr_tagged.proofs.SameItems.{same_items}
+use Rattle.tbr_border.proofs.Common.{items_of, same_items}
 use Rattle.tbr_border.proofs.render_line.RenderLine.into_tagged_line.Goals as goal
 
 pub returns-in-Text-clause-items : goal.returns-in-Text-clause-items

@@ -1,6 +1,5 @@
-use Rattle.std.proofs.Common.{sym, ◌∙◌}
+use Rattle.tbr_border.proofs.Common.{sym, ◌∙◌, items_have_characters}
 use Rattle.std.proofs.lemmas.Result.{IfOk-weaker}
-use Rattle.tbr_tagged.proofs.LineWalks.{items_have_characters}
 use Rattle.tbr_border.proofs.render_line.RenderLine.to_text.Goals as goal
 
 pub returns-in-Text : goal.returns-in-Text

@@ -7,5 +7,7 @@ pub returns : goal.returns
 returns g c =
     let es = c.in_ok-tagged.tagged in
     let shown = g.A.Annotation.shown in
-    let seen = whole_line shown c.in_ok-to_text.field-0 c.in_ok-width.field-0 c.is_border-is_border.result c.in_ok-placed.field-0.items es c.in_ok-to_text.ensures c.in_ok-width.ensures c.in_ok-placed.ensures in
+    let seen =
+    whole_line shown c.in_ok-to_text.field-0 c.in_ok-width.field-0 c.is_border-is_border.result
+    c.in_ok-placed.field-0.items es c.in_ok-to_text.ensures c.in_ok-width.ensures c.in_ok-placed.ensures in
     (es, c.in_ok-tagged.ensures.text, c.in_ok-tagged.ensures.items, seen ∙ ap (λ b. line_of shown b es) c.is_border-is_border.ensures)

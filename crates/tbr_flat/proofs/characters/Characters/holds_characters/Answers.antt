@@ -1,4 +1,4 @@
-use Rattle.std.proofs.Common.{drop, length}
+use Rattle.tbr_flat.proofs.Common.{drop, length}
 use Rattle.tbr_flat.proofs.TrimmedCharacters.{all_glyphs}
 use Rattle.tbr_flat.proofs.characters.Characters.holds_characters.Goals as goal
 

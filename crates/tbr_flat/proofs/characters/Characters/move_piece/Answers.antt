@@ -1,6 +1,4 @@
-use Rattle.std.proofs.Common.{◌≤◌, length, arith}
-use Rattle.tbr_tagged.specs.Elements.{items_of}
-use Rattle.tbr_tagged.proofs.GrownLines.{grown_same}
+use Rattle.tbr_flat.proofs.Common.{◌≤◌, length, arith, items_of, grown_same}
 use Rattle.tbr_flat.proofs.TaggedCharacters.{placed_len, taken_fits, flat_take, piece_moved}
 use Rattle.tbr_flat.proofs.characters.Characters.move_piece.Goals as goal
 
@@ -20,7 +18,9 @@ returns-in-Ok-clause-items g c =
     let within : c.in_ok-count.count ≤ length c.self.inside.placed = omega (arith, placed_len _ _ _ _ c.self.invariant c.self.view_is, c.requires.placed, c.in_ok-count.ensures.count.1) in
     let t = c.in_ok-count.ensures.tags in
     rw (← c.self.view_is)
-    (piece_moved g.T.PartialEq.eq g.met.T.Eq.laws (items_of c.args.line.now) (items_of c.move_under.new.line) c.self.inside.placed c.self.inside.tags c.in_ok-count.count t.0 c.in_ok-count.tag t.2 t.1 within c.in-Ok.ensures.items)
+    (piece_moved g.T.PartialEq.eq g.met.T.Eq.laws (items_of c.args.line.now) (items_of c.move_under.new.line)
+    c.self.inside.placed c.self.inside.tags c.in_ok-count.count t.0 c.in_ok-count.tag t.2 t.1 within
+    c.in-Ok.ensures.items)
 
 pub returns-in-Ok-clause-rest : goal.returns-in-Ok-clause-rest
 returns-in-Ok-clause-rest g c =

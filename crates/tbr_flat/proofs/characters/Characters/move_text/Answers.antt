@@ -1,4 +1,4 @@
-use Rattle.std.proofs.Common.{◌≤◌, length, arith, rules}
+use Rattle.tbr_flat.proofs.Common.{◌≤◌, length, arith, rules}
 use Rattle.tbr_flat.proofs.TaggedCharacters.{placed_len, taken_fits, flat_take, taken_characters}
 use Rattle.tbr_flat.proofs.characters.Characters.move_text.Goals as goal
 

@@ -1,4 +1,4 @@
-use Rattle.std.proofs.Common.{◌∙◌, arith}
+use Rattle.tbr_flat.proofs.Common.{◌∙◌, arith}
 use Rattle.tbr_flat.proofs.TaggedCharacters.{flat_front, flat_word_len}
 use Rattle.tbr_flat.proofs.TrimmedCharacters.{front_columns}
 use Rattle.tbr_flat.proofs.characters.Characters.place_fitting.Goals as goal
@@ -13,4 +13,6 @@ returns-clause-columns g c =
 
 pub returns-clause-placed : goal.returns-clause-placed
 returns-clause-placed g c =
-    rw (← c.self.view_is, c.in_ok-count.ensures.text, c.in_ok-count.ensures.rest) (flat_front c.self.inside.placed c.self.inside.word c.self.inside.tags c.in_ok-count.count c.in_ok-count.ensures.within)
+    rw (← c.self.view_is, c.in_ok-count.ensures.text, c.in_ok-count.ensures.rest)
+    (flat_front c.self.inside.placed c.self.inside.word c.self.inside.tags c.in_ok-count.count
+    c.in_ok-count.ensures.within)

@@ -1,4 +1,4 @@
-use Rattle.std.proofs.Common.{rules}
+use Rattle.tbr_flat.proofs.Common.{rules}
 use Rattle.tbr_flat.proofs.TaggedCharacters.{flat_placed_text}
 use Rattle.tbr_flat.proofs.characters.Characters.place_text.Goals as goal
 

@@ -1,5 +1,4 @@
-use Rattle.std.proofs.Common.{ap, sym, ◌∙◌, arith}
-use Rattle.tbr_tagged.specs.Walks.{item_characters}
+use Rattle.tbr_flat.proofs.Common.{ap, sym, ◌∙◌, arith, item_characters}
 use Rattle.tbr_flat.proofs.TaggedCharacters.{glyphs_characters}
 use Rattle.tbr_flat.proofs.characters.Characters.placed_text.Goals as goal
 

@@ -1,4 +1,4 @@
-use Rattle.std.proofs.Common.{◌∷◌, [], refl}
+use Rattle.tbr_flat.proofs.Common.{◌∷◌, [], refl}
 use Rattle.tbr_flat.proofs.TaggedCharacters.{flat_push}
 use Rattle.tbr_flat.proofs.characters.Characters.push.Goals as goal
 

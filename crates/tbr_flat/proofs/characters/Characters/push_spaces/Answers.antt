@@ -1,4 +1,4 @@
-use Rattle.std.proofs.Common.{rules}
+use Rattle.tbr_flat.proofs.Common.{rules}
 use Rattle.tbr_flat.proofs.TaggedCharacters.{space_placed, space_word}
 use Rattle.tbr_flat.proofs.characters.Characters.push_spaces.Goals as goal
 

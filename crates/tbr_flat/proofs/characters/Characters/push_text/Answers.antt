@@ -1,4 +1,4 @@
-use Rattle.std.proofs.Common.{rules}
+use Rattle.tbr_flat.proofs.Common.{rules}
 use Rattle.tbr_flat.proofs.TaggedCharacters.{flat_push}
 use Rattle.tbr_flat.proofs.characters.Characters.push_text.Goals as goal
 

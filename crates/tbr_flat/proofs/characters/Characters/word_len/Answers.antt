@@ -1,4 +1,4 @@
-use Rattle.std.proofs.Common.{◌∙◌, sym}
+use Rattle.tbr_flat.proofs.Common.{◌∙◌, sym}
 use Rattle.tbr_flat.proofs.TaggedCharacters.{flat_word_len}
 use Rattle.tbr_flat.proofs.characters.Characters.word_len.Goals as goal
 

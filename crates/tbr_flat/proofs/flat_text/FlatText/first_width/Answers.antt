@@ -1,7 +1,4 @@
-use Rattle.std.proofs.Common.{length, unwrap_or, ap, ◌∙◌, sym, refl, arith}
-use Rattle.std.proofs.lemmas.Bool.{false≢true}
-use Rattle.tbr_model.specs.Run.{glyph, marker}
-use Rattle.tbr_flat.specs.Flat.{marked, shortened}
+use Rattle.tbr_flat.proofs.Common.{length, unwrap_or, ap, ◌∙◌, sym, refl, arith, false≢true, glyph, marker, marked, shortened}
 use Rattle.tbr_flat.proofs.MarkedItems.{first_marked}
 use Rattle.tbr_flat.proofs.MarkerPlaces.{some_before, no_marks}
 use Rattle.tbr_flat.proofs.flat_text.FlatText.first_width.Goals as goal

@@ -1,6 +1,4 @@
-use Rattle.std.proofs.lemmas.List.{nil_from_length}
-use Rattle.std.proofs.Common.{rules}
-use Rattle.std.proofs.lemmas.Bool.{eqb-true, eq-eqb, true≢false}
+use Rattle.tbr_flat.proofs.Common.{nil_from_length, rules, eqb-true, eq-eqb, true≢false}
 use Rattle.tbr_flat.proofs.MarkedText.{unmarked}
 use Rattle.tbr_flat.proofs.flat_text.FlatText.is_word_empty.Goals as goal
 

@@ -1,4 +1,4 @@
-use Rattle.std.proofs.Common.{rules}
+use Rattle.tbr_flat.proofs.Common.{rules}
 use Rattle.tbr_flat.proofs.WalkedItems.{marked_given}
 use Rattle.tbr_flat.proofs.flat_text.FlatText.items.Goals as goal
 

@@ -1,10 +1,6 @@
-use Rattle.std.proofs.Common.{◌≤◌, ◌++◌, sym, subst, ap, ◌∙◌, refl, arith}
-use Rattle.tbr_tagged.specs.Elements.{items_of, SameItems}
-use Rattle.tbr_tagged.specs.Grown.{HasGrown}
+use Rattle.tbr_flat.proofs.Common.{◌≤◌, ◌++◌, sym, subst, ap, ◌∙◌, refl, arith, items_of, SameItems, HasGrown, element_of, grown_same, MarkerPlaces, before_first, shortened}
 use Rattle.tbr_tagged.specs.declared.element.TaggedLineElement.TheVariants.{FragmentStart}
-use Rattle.tbr_tagged.specs.View.{element_of}
-use Rattle.tbr_tagged.proofs.GrownLines.{grown_same, grown_by_element}
-use Rattle.tbr_flat.specs.Flat.{MarkerPlaces, before_first, shortened}
+use Rattle.tbr_tagged.proofs.GrownLines.{grown_by_element}
 use Rattle.tbr_flat.proofs.MarkedItems.{marked_shortened, taken_front}
 use Rattle.tbr_flat.proofs.MarkedText.{character_first}
 use Rattle.tbr_flat.proofs.flat_text.FlatText.move_element.Goals as goal
@@ -19,7 +15,9 @@ returns-in-Ok-clause-items g c =
     let count = c.in-Ok.count in
     let within : count ≤ before_first c.self.inside.placed = omega (arith, c.in-Ok.ensures.some.1, c.min.ensures, c.before-2.ensures, ap before_first c.in_default.ensures.0) in
     rw (← c.self.view_is)
-    (subst (λ is. SameItems g.T.PartialEq.eq (items_of c.move_piece.new.line) (items_of c.args.line.now ++ is)) (sym (taken_front c.self.inside.text.placed c.self.inside.placed count within c.self.invariant.0)) c.in-Ok.ensures.items)
+    (subst (λ is. SameItems g.T.PartialEq.eq (items_of c.move_piece.new.line) (items_of c.args.line.now ++ is))
+    (sym (taken_front c.self.inside.text.placed c.self.inside.placed count within c.self.invariant.0))
+    c.in-Ok.ensures.items)
 
 pub returns-in-Ok-clause-rest : goal.returns-in-Ok-clause-rest
 returns-in-Ok-clause-rest g c =

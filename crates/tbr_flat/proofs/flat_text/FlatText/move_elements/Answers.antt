@@ -1,10 +1,6 @@
-use Rattle.std.proofs.Common.{◌≡◌, ◌+◌, ◌-◌, ap, refl, arith, append-nil}
+use Rattle.tbr_flat.proofs.Common.{◌≡◌, ◌+◌, ◌-◌, ap, refl, arith, append-nil, drop-drop, items_of, IsMerged, same_items, grown_same, Flat}
 use Rattle.std.proofs.lemmas.Result.{IfOk-at_ok}
-use Rattle.std.proofs.lemmas.List.{drop-drop}
-use Rattle.tbr_tagged.specs.Elements.{items_of, IsMerged}
-use Rattle.tbr_tagged.proofs.SameItems.{same_items}
-use Rattle.tbr_tagged.proofs.GrownLines.{grown_same, grown_more}
-use Rattle.tbr_flat.specs.Flat.{Flat}
+use Rattle.tbr_tagged.proofs.GrownLines.{grown_more}
 use Rattle.tbr_flat.proofs.TaggedCharacters.{line_turn}
 use Rattle.tbr_flat.proofs.flat_text.FlatText.move_elements.Goals as goal
 

@@ -1,6 +1,4 @@
-use Rattle.std.proofs.Common.{◌≡◌, ◌≤◌, ◌-◌, ◌++◌, take, drop}
-use Rattle.tbr_tagged.specs.Elements.{SameItems, IsMerged, items_of}
-use Rattle.tbr_tagged.specs.Grown.{HasGrown}
+use Rattle.tbr_flat.proofs.Common.{◌≡◌, ◌≤◌, ◌-◌, ◌++◌, take, drop, SameItems, IsMerged, items_of, HasGrown}
 use Rattle.tbr_flat.proofs.flat_text.FlatText.move_elements.Given as goal
 
 abbrev pub invariant-loop-left : goal.invariant-loop-left

@@ -1,5 +1,4 @@
-use Rattle.std.proofs.Common.{◌≤◌, ap, ◌∙◌, refl, arith}
-use Rattle.tbr_flat.specs.Flat.{MarkerPlaces, before_first, shortened}
+use Rattle.tbr_flat.proofs.Common.{◌≤◌, ap, ◌∙◌, refl, arith, MarkerPlaces, before_first, shortened}
 use Rattle.tbr_flat.proofs.MarkedItems.{marked_shortened}
 use Rattle.tbr_flat.proofs.MarkedText.{character_first}
 use Rattle.tbr_flat.proofs.flat_text.FlatText.move_piece.Goals as goal

@@ -1,6 +1,5 @@
-use Rattle.std.proofs.Common.{◌≡◌, ◌≤◌, ◌-◌, ◌++◌, take, drop}
+use Rattle.tbr_flat.proofs.Common.{◌≡◌, ◌≤◌, ◌-◌, ◌++◌, take, drop, item_characters}
 use Rattle.tbr_tagged.specs.View.{chars_of}
-use Rattle.tbr_tagged.specs.Walks.{item_characters}
 use Rattle.tbr_flat.proofs.flat_text.FlatText.move_text.Given as goal
 
 abbrev pub invariant-loop-left : goal.invariant-loop-left

@@ -1,8 +1,4 @@
-use Rattle.std.proofs.Common.{◌≤◌, take, ap, ◌∙◌, drop, sym, refl, arith, rules}
-use Rattle.std.proofs.lemmas.List.{take-append-drop}
-use Rattle.tbr_model.proofs.lists.Each.{each_front}
-use Rattle.tbr_model.specs.Run.{items_width}
-use Rattle.tbr_flat.specs.Flat.{MarkerPlaces, before_first, shortened}
+use Rattle.tbr_flat.proofs.Common.{◌≤◌, take, ap, ◌∙◌, drop, sym, refl, arith, rules, take-append-drop, each_front, items_width, MarkerPlaces, before_first, shortened}
 use Rattle.tbr_flat.proofs.MarkerPlaces.{first_within}
 use Rattle.tbr_flat.proofs.MarkedItems.{characters_alone, marked_more, marked_push, marked_shortened, taken_front}
 use Rattle.tbr_flat.proofs.MarkedText.{covered_pushed, character_first}

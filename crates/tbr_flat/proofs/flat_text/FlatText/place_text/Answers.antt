@@ -1,7 +1,4 @@
-use Rattle.std.proofs.Common.{chars, length, ap, arith, rules}
-use Rattle.std.proofs.lemmas.List.{length-append, length-map}
-use Rattle.tbr_model.specs.Run.{glyph}
-use Rattle.tbr_tagged.specs.Elements.{text_items}
+use Rattle.tbr_flat.proofs.Common.{chars, length, ap, arith, rules, length-append, length-map, glyph, text_items}
 use Rattle.tbr_flat.proofs.MarkedItems.{marked_more}
 use Rattle.tbr_flat.proofs.MarkedText.{unmarked}
 use Rattle.tbr_flat.proofs.flat_text.FlatText.place_text.Goals as goal

@@ -1,4 +1,4 @@
-use Rattle.std.proofs.Common.{chars}
+use Rattle.tbr_flat.proofs.Common.{chars}
 use Rattle.tbr_flat.proofs.MarkedItems.{text_markers}
 use Rattle.tbr_flat.proofs.flat_text.FlatText.place_with.Goals as goal
 

@@ -1,5 +1,4 @@
-use Rattle.std.proofs.Common.{rules}
-use Rattle.std.proofs.lemmas.List.{length-append}
+use Rattle.tbr_flat.proofs.Common.{rules, length-append}
 use Rattle.tbr_flat.proofs.MarkedItems.{marked_count, marked_followed}
 use Rattle.tbr_flat.proofs.MarkerPlaces.{covered_followed}
 use Rattle.tbr_flat.proofs.flat_text.FlatText.place_word.Goals as goal

@@ -1,4 +1,4 @@
-use Rattle.std.proofs.Common.{rules}
+use Rattle.tbr_flat.proofs.Common.{rules}
 use Rattle.tbr_flat.proofs.MarkedItems.{marked_more}
 use Rattle.tbr_flat.proofs.flat_text.FlatText.push.Goals as goal
 

@@ -1,6 +1,4 @@
-use Rattle.std.specs.String.{string_bytes}
-use Rattle.std.proofs.Common.{◌∙◌, rules}
-use Rattle.std.proofs.lemmas.Result.{on_ok_weaker}
+use Rattle.tbr_flat.proofs.Common.{string_bytes, ◌∙◌, rules, on_ok_weaker}
 use Rattle.tbr_flat.proofs.MarkedItems.{marked_push}
 use Rattle.tbr_flat.proofs.MarkedText.{covered_pushed}
 use Rattle.tbr_flat.proofs.flat_text.FlatText.push_marker.Goals as goal

@@ -1,4 +1,4 @@
-use Rattle.std.proofs.Common.{rules}
+use Rattle.tbr_flat.proofs.Common.{rules}
 use Rattle.tbr_flat.proofs.MarkedItems.{marked_more, same_marked}
 use Rattle.tbr_flat.proofs.flat_text.FlatText.push_spaces.Goals as goal
 

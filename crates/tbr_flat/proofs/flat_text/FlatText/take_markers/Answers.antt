@@ -1,4 +1,4 @@
-use Rattle.std.proofs.Common.{append-nil, rules}
+use Rattle.tbr_flat.proofs.Common.{append-nil, rules}
 use Rattle.tbr_flat.proofs.MarkedText.{nothing_left}
 use Rattle.tbr_flat.proofs.flat_text.FlatText.take_markers.Goals as goal
 

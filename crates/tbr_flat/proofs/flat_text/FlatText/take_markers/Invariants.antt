@@ -1,9 +1,5 @@
-use Rattle.std.proofs.Common.{◌≡◌, ◌++◌, false, length, map}
-use Rattle.tbr_model.specs.Run.{has_character}
-use Rattle.tbr_model.specs.Markers.{names_in_items}
+use Rattle.tbr_flat.proofs.Common.{◌≡◌, ◌++◌, false, length, map, has_character, names_in_items, marked, covered, element_of}
 use Rattle.tbr_tagged.specs.Elements.{marker_element}
-use Rattle.tbr_flat.specs.Flat.{marked, covered}
-use Rattle.tbr_tagged.specs.View.{element_of}
 use Rattle.tbr_flat.proofs.flat_text.FlatText.take_markers.Given as goal
 
 abbrev pub invariant-loop-name : goal.invariant-loop-name

@@ -1,4 +1,4 @@
-use Rattle.std.proofs.Common.{arith, ◌∙◌, sym, rules}
+use Rattle.tbr_flat.proofs.Common.{arith, ◌∙◌, sym, rules}
 use Rattle.tbr_flat.proofs.TrimmedItems.{trimmed_within, trimmed_covers, trimmed_line, led_within, led_covers, led_word}
 use Rattle.tbr_flat.proofs.flat_text.FlatText.trim.Goals as goal
 

@@ -1,6 +1,4 @@
-use Rattle.std.proofs.Common.{ap, ◌∙◌, arith, rules}
-use Rattle.std.specs.String.{string_bytes}
-use Rattle.tbr_flat.specs.Flat.{covered}
+use Rattle.tbr_flat.proofs.Common.{ap, ◌∙◌, arith, rules, string_bytes, covered}
 use Rattle.tbr_flat.proofs.MarkedText.{marker_back, marker_left, line_back}
 use Rattle.tbr_flat.proofs.flat_text.FlatText.unplace.Goals as goal
 

@@ -1,5 +1,4 @@
-use Rattle.std.proofs.Common.{◌≡◌, ◌+◌, ◌++◌, length}
-use Rattle.tbr_flat.specs.Flat.{marked, covered}
+use Rattle.tbr_flat.proofs.Common.{◌≡◌, ◌+◌, ◌++◌, length, marked, covered}
 use Rattle.tbr_flat.proofs.flat_text.FlatText.unplace.Given as goal
 
 abbrev pub invariant-loop : goal.invariant-loop

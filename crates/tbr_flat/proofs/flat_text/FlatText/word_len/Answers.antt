@@ -1,4 +1,4 @@
-use Rattle.std.proofs.Common.{arith}
+use Rattle.tbr_flat.proofs.Common.{arith}
 use Rattle.tbr_flat.proofs.MarkedItems.{length-marked}
 use Rattle.tbr_flat.proofs.flat_text.FlatText.word_len.Goals as goal
 

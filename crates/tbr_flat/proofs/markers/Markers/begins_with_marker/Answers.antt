@@ -1,6 +1,4 @@
-use Rattle.std.proofs.Common.{◌∙◌, sym, ap, map, drop}
-use Rattle.std.specs.String.{string_bytes}
-use Rattle.tbr_flat.specs.Flat.{MarkerPlaces}
+use Rattle.tbr_flat.proofs.Common.{◌∙◌, sym, ap, map, drop, string_bytes, MarkerPlaces}
 use Rattle.tbr_flat.proofs.MarkerPlaces.{mark_of, map_first, begins_with_marker}
 use Rattle.tbr_flat.proofs.markers.Markers.begins_with_marker.Goals as goal
 

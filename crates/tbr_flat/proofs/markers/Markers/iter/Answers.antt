@@ -1,6 +1,4 @@
-use Rattle.std.proofs.Common.{ℕ, List, map, ap, ◌∙◌}
-use Rattle.tbr_flat.specs.Flat.{MarkerPlaces}
-use Rattle.tbr_flat.specs.Walk.{places_of}
+use Rattle.tbr_flat.proofs.Common.{ℕ, List, map, ap, ◌∙◌, MarkerPlaces, places_of}
 use Rattle.tbr_flat.proofs.WalkedItems.{places_seen}
 use Rattle.tbr_flat.proofs.markers.Markers.iter.Goals as goal
 

@@ -1,6 +1,4 @@
-use Rattle.std.proofs.Common.{ap, ◌∙◌}
-use Rattle.std.specs.Str.{is_utf8}
-use Rattle.std.proofs.lemmas.Str.{is_utf8-from_IsUtf8}
+use Rattle.tbr_flat.proofs.Common.{ap, ◌∙◌, is_utf8, is_utf8-from_IsUtf8}
 use Rattle.tbr_flat.proofs.placed_items.PlacedItems.new.Goals as goal
 
 pub invariant_of-result : goal.invariant_of-result

@@ -1,7 +1,4 @@
-use Rattle.std.proofs.Common.{◌≡◌, ◌-◌, ℕ, Some, refl, List, chars}
-use Rattle.std.specs.Str.Iter.{chars_rest}
-use Rattle.std.specs.VecDeque.Iter.{deque_iter_rest}
-use Rattle.tbr_flat.specs.Walk.{given, places_left}
+use Rattle.tbr_flat.proofs.Common.{◌≡◌, ◌-◌, ℕ, Some, refl, List, chars, chars_rest, deque_iter_rest, given, places_left}
 use Rattle.tbr_flat.proofs.WalkedItems.{IsNext, is_next, Gives, Passes, passes_before, passes_after}
 use Rattle.tbr_flat.specs.declared.placed_items.PlacedItems.TheInside.{Inside}
 use Rattle.tbr_flat.proofs.placed_items.PlacedItems.next_character.Goals as goal

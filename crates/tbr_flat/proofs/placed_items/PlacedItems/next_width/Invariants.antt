@@ -1,5 +1,5 @@
-use Rattle.std.proofs.Common.{◌≡◌, ◌-◌, ◌^◌, min, take, drop}
-use Rattle.tbr_flat.specs.Walk.{given_width}
+use Rattle.tbr_flat.proofs.Common.{◌≡◌, ◌-◌, min, take, drop, given_width}
+use Rattle.std.proofs.Common.{◌^◌}
 use Rattle.tbr_flat.proofs.placed_items.PlacedItems.next_width.Given as goal
 
 abbrev pub invariant-loop : goal.invariant-loop

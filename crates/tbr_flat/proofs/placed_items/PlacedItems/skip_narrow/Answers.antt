@@ -1,9 +1,5 @@
-use Rattle.std.proofs.Common.{take, drop, chars, ap, sym, ◌∙◌, arith}
-use Rattle.std.specs.Str.{is_utf8}
-use Rattle.std.specs.VecDeque.Iter.{deque_iter_rest}
-use Rattle.std.proofs.lemmas.Str.{is_utf8-from_IsUtf8}
+use Rattle.tbr_flat.proofs.Common.{take, drop, chars, ap, sym, ◌∙◌, arith, is_utf8, deque_iter_rest, is_utf8-from_IsUtf8, given, given_width, places_left}
 use Rattle.tbr_tagged.proofs.NarrowText.{narrow_boundary}
-use Rattle.tbr_flat.specs.Walk.{given, given_width, places_left}
 use Rattle.tbr_flat.proofs.WalkedItems.{before_marker, narrow_rest, narrow_columns}
 use Rattle.tbr_flat.proofs.placed_items.PlacedItems.skip_narrow.Goals as goal
 

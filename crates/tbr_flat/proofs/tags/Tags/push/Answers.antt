@@ -1,13 +1,11 @@
-use Rattle.std.proofs.Common.{◌≡◌, ℕ, List, get_or, set, ◌-◌, ◌+◌, ◌++◌, suc, length, take, drop, replicate, refl, ap, ◌∙◌, sym, arith, append-nil}
-use Rattle.std.proofs.lemmas.List.{get_or_read, take_all, drop_all}
-use Rattle.std.proofs.lemmas.Result.{on_ok_weaker}
-use Rattle.tbr_flat.specs.declared.tags.RepeatedTag.{RepeatedTag}
-use Rattle.tbr_flat.specs.Tags.{tags_of}
+use Rattle.tbr_flat.proofs.Common.{◌≡◌, ℕ, List, get_or, set, ◌-◌, ◌+◌, ◌++◌, suc, length, take, drop, replicate, refl, ap, ◌∙◌, sym, arith, append-nil, get_or_read, take_all, drop_all, on_ok_weaker}
+use Rattle.tbr_flat.proofs.Common.{RepeatedTag, tags_of}
 use Rattle.tbr_flat.proofs.RepeatedTags.{split_tags, resized, stored_len, tags_of-append, none_left}
 use Rattle.tbr_flat.proofs.tags.Tags.push.Goals as goal
 
 -- the last stored tag is repeated more
-push_last : {A : Type 0} (xs : List (RepeatedTag A)) (i n : ℕ) (s y : RepeatedTag A) → suc i ≡ length xs → s ≡ get_or xs i s → y ≡ record s { more = s.more + n } → tags_of (set xs i y) ≡ tags_of xs ++ replicate n s.tag
+push_last : {A : Type 0} (xs : List (RepeatedTag A)) (i n : ℕ) (s y : RepeatedTag A) → suc i ≡ length xs →
+    s ≡ get_or xs i s → y ≡ record s { more = s.more + n } → tags_of (set xs i y) ≡ tags_of xs ++ replicate n s.tag
 push_last xs i n s y last is e =
     let len = stored_len xs i (suc i) s refl (omega arith) is in
     resized xs i (suc s.more) 0 n s y (omega arith) is (omega arith) (omega (arith, ap (λ z. z.more) e)) (ap (λ z. z.tag) e)
@@ -30,5 +28,6 @@ returns-clause-ok g c =
     let a = c.in_ok-tag.tag in let n : suc (c.args.count - 1) ≡ c.args.count = omega (arith, c.requires.some) in (
       a,
       g.met.T.Eq.laws.symm _ _ ∙ g.met.T.Tag.copies_equal _ _ c.in_ok-tag.ensures.cases,
-      ap tags_of c.in_ok-push_back.ensures.items ∙ tags_of-append c.self.inside.stored.items _ ∙ (λ k. c.self.view_is k ++ (append-nil (replicate (suc (c.args.count - 1)) a) ∙ ap (λ j. replicate j a) n) k),
+      ap tags_of c.in_ok-push_back.ensures.items ∙ tags_of-append c.self.inside.stored.items _
+          ∙ (λ k. c.self.view_is k ++ (append-nil (replicate (suc (c.args.count - 1)) a) ∙ ap (λ j. replicate j a) n) k),
     )

@@ -1,6 +1,4 @@
-use Rattle.std.proofs.Common.{◌≡◌, ◌<◌, ◌≤◌, ◌+◌, ◌-◌, ◌++◌, suc, length, take, drop, get_or, refl, ap, ◌∙◌, sym, arith, ℕ}
-use Rattle.std.proofs.lemmas.List.{take-take}
-use Rattle.tbr_flat.specs.Tags.{tags_of}
+use Rattle.tbr_flat.proofs.Common.{◌≡◌, ◌<◌, ◌≤◌, ◌+◌, ◌-◌, ◌++◌, suc, length, take, drop, get_or, refl, ap, ◌∙◌, sym, arith, ℕ, take-take, tags_of}
 use Rattle.tbr_flat.proofs.RepeatedTags.{cut, drop_on, has_stored, in_order, offset_in, parted, resized, stored_at, tags_of-append}
 use Rattle.tbr_flat.proofs.tags.Tags.remove_before.Goals as goal
 use Rattle.tbr_flat.proofs.tags.Tags.remove_before.Goals.{After-index_mut, After-end_at-first}
@@ -23,14 +21,20 @@ returns-then-from-to g c =
     let o = offsets g (goal.at.returns-then-from-to g c).After-index_mut in let from = c.place_before-from.ensures.tags in
     let in_xs : i < length xs = has_stored xs i (omega (arith, from, c.if-count-eq0.false)) in
     let front = sym (cut xs tags i a (last + c.args.count) c.self.view_is from).0 in
-    let after = sym ((cut xs tags i b last c.self.view_is (omega (arith, from, o.0))).1 ∙ (parted (drop i xs) (drop (suc i) xs) s b (suc s.more - b) (stored_at xs i s in_xs c.index_mut.ensures.value) (omega (arith, o.1))).1) in
+    let after =
+    sym
+    ((cut xs tags i b last c.self.view_is (omega (arith, from, o.0))).1
+    ∙
+    (parted (drop i xs) (drop (suc i) xs) s b (suc s.more - b) (stored_at xs i s in_xs c.index_mut.ensures.value) (omega (arith, o.1))).1) in
     resized xs i a (suc s.more - a) (suc s.more - b) s _ in_xs c.index_mut.ensures.value (omega (arith, o.0, o.1)) (omega (arith, o.0, o.1)) refl ∙ (λ k. front k ++ after k)
 
 -- the places are in two stored tags
 next : (g : _) (c : After-end_at-first g) → c.place_before-from.result.nth < c.place_before-to.result.nth
 next g c =
     let p = c.place_before-from.result in let q = c.place_before-to.result in
-    let order = in_order c.self.inside.stored.items p.nth q.nth p.offset q.offset c.args.last c.args.count (omega (arith, c.if-count-eq0.false)) c.place_before-from.ensures c.place_before-to.ensures in
+    let order =
+    in_order c.self.inside.stored.items p.nth q.nth p.offset q.offset c.args.last c.args.count
+    (omega (arith, c.if-count-eq0.false)) c.place_before-from.ensures c.place_before-to.ensures in
     omega (arith, order, c.if-from-to.false)
 
 pub begin_at-requires : goal.begin_at-requires
@@ -54,7 +58,11 @@ returns g c =
     let xs = c.self.inside.stored.items in let one = c.end_at-first.new.stored.items in let two = c.begin_at.new.stored.items in let tags = c.args.self.now in
     let p = c.place_before-from.result in let q = c.place_before-to.result in let first = c.end_at-first.result in let e = c.end_at-first.ensures in
     let less = next g (goal.at.returns g c).After-end_at-first in
-    let same : take first two ≡ take first one = sym (take-take first q.nth two (omega (arith, e.next.1, less))) ∙ ap (take first) c.begin_at.ensures.front ∙ take-take first q.nth one (omega (arith, e.next.1, less)) in
+    let same : take first two ≡ take first one =
+    sym (take-take first q.nth two (omega (arith, e.next.1, less))) ∙ ap (take first) c.begin_at.ensures.front
+    ∙ take-take first q.nth one (omega (arith, e.next.1, less)) in
     let front = ap tags_of same ∙ e.front ∙ sym (cut xs tags p.nth p.offset (c.args.last + c.args.count) c.self.view_is c.place_before-from.ensures.tags).0 in
-    let after = c.begin_at.ensures.tags ∙ ap (λ ys. drop q.offset (tags_of ys)) (drop_on (suc p.nth) q.nth one xs less e.after) ∙ sym (cut xs tags q.nth q.offset c.args.last c.self.view_is c.place_before-to.ensures.tags).1 in
+    let after =
+    c.begin_at.ensures.tags ∙ ap (λ ys. drop q.offset (tags_of ys)) (drop_on (suc p.nth) q.nth one xs less e.after)
+    ∙ sym (cut xs tags q.nth q.offset c.args.last c.self.view_is c.place_before-to.ensures.tags).1 in
     ap tags_of (c.drop-drain.ensures.items ∙ c.drain.ensures.kept) ∙ tags_of-append (take first two) (drop q.nth two) ∙ (λ k. front k ++ after k)

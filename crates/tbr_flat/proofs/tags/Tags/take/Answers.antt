@@ -1,5 +1,4 @@
-use Rattle.std.proofs.Common.{◌+◌, ◌≤◌, length, take, drop, refl, ap, ◌∙◌, sym, arith, zero}
-use Rattle.tbr_flat.specs.Tags.{tags_of}
+use Rattle.tbr_flat.proofs.Common.{◌+◌, ◌≤◌, length, take, drop, refl, ap, ◌∙◌, sym, arith, zero, tags_of}
 use Rattle.tbr_flat.proofs.RepeatedTags.{skip_part, parted}
 use Rattle.tbr_flat.proofs.tags.Tags.take.Goals as goal
 
@@ -16,9 +15,15 @@ returns-then-most-index-clause-tags g c =
 pub returns-then-most-index-clause-rest : goal.returns-then-most-index-clause-rest
 returns-then-most-index-clause-rest g c =
     let within : c.args.most ≤ length (tags_of c.self.inside.stored.items) = omega (arith, ap length c.self.view_is, c.requires.within) in
-    (skip_part c.self.inside.stored.items zero c.args.most c.index.result.now c.index_mut-first.result.now _ c.requires.some within c.index.ensures c.index_mut-first.ensures.value c.if-most-index.true refl).1 ∙ ap (drop c.args.most) c.self.view_is
+    (skip_part c.self.inside.stored.items zero c.args.most c.index.result.now c.index_mut-first.result.now _ c.requires.some within c.index.ensures c.index_mut-first.ensures.value c.if-most-index.true refl).1
+    ∙ ap (drop c.args.most) c.self.view_is
 
 pub returns-clause-tags : goal.returns-clause-tags
 returns-clause-tags g c =
-    let s = c.in-Some.first in
-    (s.tag, g.met.T.Eq.laws.refl s.tag, ap (take (s.more + 1)) (sym c.self.view_is) ∙ (parted c.self.inside.stored.items c.pop_front.new.self.items s (s.more + 1) zero c.in-Some.ensures.items (omega arith)).0)
+    let s = c.in-Some.first in (
+      s.tag,
+      g.met.T.Eq.laws.refl s.tag,
+      ap (take (s.more + 1)) (sym c.self.view_is)
+          ∙
+          (parted c.self.inside.stored.items c.pop_front.new.self.items s (s.more + 1) zero c.in-Some.ensures.items (omega arith)).0,
+    )

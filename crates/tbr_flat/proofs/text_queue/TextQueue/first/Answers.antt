@@ -1,4 +1,4 @@
-use Rattle.std.proofs.Common.{ap, ◌∙◌, sym}
+use Rattle.tbr_flat.proofs.Common.{ap, ◌∙◌, sym}
 use Rattle.std.specs.Str.{chars}
 use Rattle.tbr_flat.proofs.TextBytes.{first_letter}
 use Rattle.tbr_flat.proofs.text_queue.TextQueue.first.Goals as goal

@@ -1,4 +1,4 @@
-use Rattle.std.proofs.Common.{◌∙◌, arith}
+use Rattle.tbr_flat.proofs.Common.{◌∙◌, arith}
 use Rattle.tbr_flat.proofs.TextBytes.{forgotten}
 use Rattle.tbr_flat.proofs.text_queue.TextQueue.forget.Goals as goal
 

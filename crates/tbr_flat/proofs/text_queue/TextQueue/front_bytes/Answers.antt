@@ -1,5 +1,4 @@
-use Rattle.std.proofs.Common.{rules}
-use Rattle.std.proofs.lemmas.Str.{encodes-chars}
+use Rattle.tbr_flat.proofs.Common.{rules, encodes-chars}
 use Rattle.tbr_flat.proofs.TextBytes.{bytes_each, left_count}
 use Rattle.tbr_flat.proofs.text_queue.TextQueue.front_bytes.Goals as goal
 

@@ -1,6 +1,5 @@
-use Rattle.std.proofs.Common.{refl}
-use Rattle.std.specs.String.{string_bytes}
-use Rattle.std.proofs.lemmas.Str.{chars-append, IsUtf8-string_bytes}
+use Rattle.tbr_flat.proofs.Common.{refl, string_bytes, chars-append}
+use Rattle.std.proofs.lemmas.Str.{IsUtf8-string_bytes}
 use Rattle.tbr_flat.proofs.text_queue.TextQueue.move_to.Goals as goal
 
 pub returns-clause-text : goal.returns-clause-text

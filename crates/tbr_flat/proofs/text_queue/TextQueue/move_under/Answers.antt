@@ -1,6 +1,5 @@
-use Rattle.std.proofs.Common.{chars, sym, subst}
-use Rattle.tbr_tagged.specs.Grown.{HasGrown}
-use Rattle.tbr_tagged.proofs.GrownLines.{grown_same, grown_by_text}
+use Rattle.tbr_flat.proofs.Common.{chars, sym, subst, HasGrown, grown_same}
+use Rattle.tbr_tagged.proofs.GrownLines.{grown_by_text}
 use Rattle.tbr_flat.proofs.text_queue.TextQueue.move_under.Goals as goal
 
 pub returns-in_err-push_text-clause-grown : goal.returns-in_err-push_text-clause-grown

@@ -1,4 +1,4 @@
-use Rattle.std.proofs.Common.{drop, ap, sym, ◌∙◌}
+use Rattle.tbr_flat.proofs.Common.{drop, ap, sym, ◌∙◌}
 use Rattle.tbr_flat.proofs.text_queue.TextQueue.pop_blanks.Goals as goal
 
 pub returns-clause-all : goal.returns-clause-all

@@ -1,5 +1,4 @@
-use Rattle.std.proofs.Common.{◌≡◌, ◌-◌, ◌++◌, replicate, length, ap, sym, ◌∙◌, arith, refl}
-use Rattle.std.specs.String.{string_bytes}
+use Rattle.tbr_flat.proofs.Common.{◌≡◌, ◌-◌, ◌++◌, replicate, length, ap, sym, ◌∙◌, arith, refl, string_bytes}
 use Rattle.tbr_flat.proofs.TextEnds.{spaces_within, spaces_boundary, spaces_gone}
 use Rattle.tbr_flat.proofs.text_queue.TextQueue.pop_spaces.Goals as goal
 

@@ -1,4 +1,4 @@
-use Rattle.std.proofs.Common.{rules}
+use Rattle.tbr_flat.proofs.Common.{rules}
 use Rattle.tbr_flat.proofs.TextBytes.{char_joined, left_short}
 use Rattle.tbr_flat.proofs.text_queue.TextQueue.push.Goals as goal
 

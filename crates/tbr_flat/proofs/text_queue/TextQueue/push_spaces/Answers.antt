@@ -1,4 +1,4 @@
-use Rattle.std.proofs.Common.{rules}
+use Rattle.tbr_flat.proofs.Common.{rules}
 use Rattle.tbr_flat.proofs.TextBytes.{spaces_joined, left_short}
 use Rattle.tbr_flat.proofs.text_queue.TextQueue.push_spaces.Goals as goal
 

@@ -1,4 +1,4 @@
-use Rattle.std.proofs.Common.{arith}
+use Rattle.tbr_flat.proofs.Common.{arith}
 use Rattle.tbr_flat.proofs.TextBytes.{joined, left_short}
 use Rattle.tbr_flat.proofs.text_queue.TextQueue.push_str.Goals as goal
 

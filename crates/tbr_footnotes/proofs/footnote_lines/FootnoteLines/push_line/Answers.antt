@@ -15,4 +15,5 @@ returns g c =
     let given = c.into_iter-element-iterator.ensures.into_iter_gives in
     let list = YieldsList-from_first (λ x. x) elements_to_come (elements_to_come walk) refl in
     let end = YieldsList-end list c.loop-element.yielded c.loop-element.element-iterator c.loop-element.yielded_by c.next.result c.next.new.self c.in-None.is c.next.ensures.steps in
-    elements_end f g.W.CharWidth.columns c.args.self.now c.loop-element.self c.loop-element.yielded c.args.line c.loop-element.invariant (ap (map element_of) (sym (map-id c.loop-element.yielded) ∙ end.0) ∙ given.0)
+    elements_end f g.W.CharWidth.columns c.args.self.now c.loop-element.self c.loop-element.yielded c.args.line
+    c.loop-element.invariant (ap (map element_of) (sym (map-id c.loop-element.yielded) ∙ end.0) ∙ given.0)

@@ -5,7 +5,9 @@ use Rattle.tbr_footnotes.proofs.CutLines.{text_goes_on, text_ends}
 use Rattle.tbr_footnotes.proofs.footnote_lines.FootnoteLines.push_text.Goals as goal
 
 pub loop-c-preserved : goal.loop-c-preserved
-loop-c-preserved g c = text_goes_on g.W.CharWidth.columns c.args.self.now c.loop-c.self c.push.new.self c.args.tag.now c.loop-c.yielded c.in-Some.c c.unbroken.result c.loop-c.invariant c.unbroken.ensures c.in_ok-push.ensures
+loop-c-preserved g c =
+    text_goes_on g.W.CharWidth.columns c.args.self.now c.loop-c.self c.push.new.self c.args.tag.now c.loop-c.yielded
+    c.in-Some.c c.unbroken.result c.loop-c.invariant c.unbroken.ensures c.in_ok-push.ensures
 
 pub returns : goal.returns
 returns g c =

@@ -1,8 +1,4 @@
-use Rattle.std.proofs.Common.{◌≡◌, false, true, ap, sym, ◌∙◌, rules}
-use Rattle.std.specs.Prelude.{chars}
-use Rattle.std.proofs.lemmas.Result.{on_ok_weaker}
-use Rattle.std.proofs.Common.{map}
-use Rattle.tbr_kept_lines.specs.Line.{line_seen}
+use Rattle.tbr_kept_lines.proofs.Common.{◌≡◌, false, true, ap, sym, ◌∙◌, rules, chars, on_ok_weaker, map, line_seen}
 use Rattle.tbr_kept_lines.proofs.Prefixes.{next_prefix, prefix_if_none, texts_more, some_shown}
 use Rattle.tbr_kept_lines.proofs.kept_lines.KeptLines.append_part.Goals as goal
 use Rattle.tbr_kept_lines.proofs.kept_lines.KeptLines.append_part.Goals.{then-is_empty, else-is_empty}
@@ -23,5 +19,7 @@ returns g c =
       | else-is_empty w ↦ ap (λ n. chars n.now) w.next-is ∙ prefix_if_none eq tag first others before.items before.len false before.ok.0 (sym w.if-is_empty.false ∙ c.is_empty.ensures)
     ] in
     on_ok_weaker c.push_part.result
-    (texts_more eq tag first others (map line_seen before.items) c.args.self.now c.extend_prefixed.new.self c.push_part.new.self c.args.part.ended c.in_ok-ended.ended (chars c.if-is_empty.next.now) next c.in_ok-extend_prefixed.ensures c.in_ok-ended.ensures)
+    (texts_more eq tag first others (map line_seen before.items) c.args.self.now c.extend_prefixed.new.self
+    c.push_part.new.self c.args.part.ended c.in_ok-ended.ended (chars c.if-is_empty.next.now) next
+    c.in_ok-extend_prefixed.ensures c.in_ok-ended.ensures)
     c.push_part.ensures

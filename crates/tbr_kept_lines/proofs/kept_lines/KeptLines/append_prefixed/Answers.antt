@@ -1,10 +1,4 @@
-use Rattle.std.proofs.Common.{◌++◌, refl, ap, sym, ◌∙◌, subst, map}
-use Rattle.std.specs.Prelude.{chars}
-use Rattle.std.specs.List.{AllByRecursion as Each}
-use Rattle.std.proofs.lemmas.Result.{on_ok_weaker}
-use Rattle.tbr_kept_lines.specs.Line.{line_seen}
-use Rattle.tbr_kept_lines.specs.KeptLines.{parts_seen, HoldsPart}
-use Rattle.tbr_kept_lines.specs.Prefixed.{prefixed_lines, Appends}
+use Rattle.tbr_kept_lines.proofs.Common.{◌++◌, refl, ap, sym, ◌∙◌, subst, map, chars, Each, on_ok_weaker, line_seen, parts_seen, HoldsPart, prefixed_lines, Appends}
 use Rattle.tbr_kept_lines.proofs.KeptParts.{each_at}
 use Rattle.tbr_kept_lines.proofs.ItemsLeft.{items_left, items_taken}
 use Rattle.tbr_kept_lines.proofs.Prefixes.{part_more, prefixed_more}
@@ -14,7 +8,10 @@ use Rattle.tbr_kept_lines.proofs.kept_lines.KeptLines.append_prefixed.Goals.{In-
 holds : (g : _) (c : In-Some g) → HoldsPart g.T.PartialEq.eq c.in-Some.part
 holds g c =
     let start = c.into_iter-part-iterator.result in
-    let whole = sym c.into_iter-part-iterator.ensures.into_iter_gives.0 ∙ items_left start start c.loop-part.part-iterator c.next.new.self c.loop-part.yielded c.in-Some.part refl c.loop-part.yielded_by c.in-Some.ensures.steps.0 in
+    let whole =
+    sym c.into_iter-part-iterator.ensures.into_iter_gives.0
+    ∙ items_left start start c.loop-part.part-iterator c.next.new.self c.loop-part.yielded c.in-Some.part refl
+    c.loop-part.yielded_by c.in-Some.ensures.steps.0 in
     each_at (HoldsPart g.T.PartialEq.eq) c.loop-part.yielded c.in-Some.part _ (subst (Each (HoldsPart g.T.PartialEq.eq)) whole c.other.invariant.parts)
 
 pub append_part-requires : goal.append_part-requires
@@ -39,7 +36,10 @@ returns g c =
     let others = chars c.args.others.now in
     let start = c.into_iter-part-iterator.result in
     let inv = c.loop-part.invariant in
-    let all = sym (items_taken start start c.loop-part.part-iterator c.next.new.self c.loop-part.yielded refl c.loop-part.yielded_by c.in-None.ensures.steps) ∙ c.into_iter-part-iterator.ensures.into_iter_gives.0 in
+    let all =
+    sym
+    (items_taken start start c.loop-part.part-iterator c.next.new.self c.loop-part.yielded refl
+    c.loop-part.yielded_by c.in-None.ensures.steps) ∙ c.into_iter-part-iterator.ensures.into_iter_gives.0 in
     let last = map line_seen c.other.inside.last.items in
     on_ok_weaker c.extend_prefixed.result
     (λ h. subst (λ ls. Appends eq c.args.self.now (prefixed_lines tag first others ls) c.extend_prefixed.new.self) (ap (λ ps. parts_seen ps ++ last) all ∙ c.other.view_is)

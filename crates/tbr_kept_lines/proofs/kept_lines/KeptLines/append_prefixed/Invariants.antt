@@ -1,9 +1,6 @@
-use Rattle.std.proofs.Common.{◌≡◌}
-use Rattle.std.specs.Prelude.{chars}
+use Rattle.tbr_kept_lines.proofs.Common.{◌≡◌, chars, parts_seen, prefixed_lines, Appends}
 use denote.Text.{Utf8}
 use denote.Shadow.{shadow}
-use Rattle.tbr_kept_lines.specs.KeptLines.{parts_seen}
-use Rattle.tbr_kept_lines.specs.Prefixed.{prefixed_lines, Appends}
 use Rattle.tbr_kept_lines.proofs.Prefixes.{next_prefix}
 use Rattle.tbr_kept_lines.proofs.kept_lines.KeptLines.append_prefixed.Given as goal
 

@@ -1,8 +1,5 @@
-use Rattle.std.proofs.Common.{◌+◌, map, ap, sym, ◌∙◌, subst}
-use Rattle.std.specs.Prelude.{length, filter}
-use Rattle.std.specs.List.{AllByRecursion as Each}
-use Rattle.tbr_border.specs.RenderLine.{IsMergedText}
-use Rattle.tbr_kept_lines.specs.Line.{line_seen, line_has_content}
+use Rattle.tbr_kept_lines.proofs.Common.{◌+◌, map, ap, sym, ◌∙◌, subst, filter, Each, IsMergedText, line_seen, line_has_content}
+use Rattle.std.specs.Prelude.{length}
 use Rattle.tbr_kept_lines.proofs.KeptParts.{each_append, content_appended}
 use Rattle.tbr_kept_lines.proofs.kept_lines.KeptLines.extend.Goals as goal
 

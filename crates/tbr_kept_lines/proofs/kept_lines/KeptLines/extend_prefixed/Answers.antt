@@ -1,9 +1,4 @@
-use Rattle.std.proofs.Common.{◌∙◌, map, length, ap, sym, subst}
-use Rattle.std.specs.Prelude.{chars}
-use Rattle.std.specs.List.{AllZip}
-use Rattle.std.proofs.lemmas.Result.{on_ok_weaker}
-use Rattle.tbr_kept_lines.specs.Line.{line_seen, SameSeen}
-use Rattle.tbr_kept_lines.specs.Prefixed.{prefixed_lines}
+use Rattle.tbr_kept_lines.proofs.Common.{◌∙◌, map, length, ap, sym, subst, chars, AllZip, on_ok_weaker, line_seen, SameSeen, prefixed_lines}
 use Rattle.tbr_kept_lines.proofs.Prefixes.{written_over}
 use Rattle.tbr_kept_lines.proofs.kept_lines.KeptLines.extend_prefixed.Goals as goal
 

@@ -1,7 +1,4 @@
-use Rattle.std.proofs.Common.{◌||◌, ap, sym, ◌∙◌}
-use Rattle.std.specs.Prelude.{nat_lt}
-use Rattle.std.specs.List.{list_any}
-use Rattle.tbr_kept_lines.specs.Line.{line_has_content}
+use Rattle.tbr_kept_lines.proofs.Common.{◌||◌, ap, sym, ◌∙◌, nat_lt, list_any, line_has_content}
 use Rattle.tbr_kept_lines.proofs.KeptParts.{content_of_both}
 use Rattle.tbr_kept_lines.proofs.kept_lines.KeptLines.has_content.Goals as goal
 

@@ -1,6 +1,4 @@
-use Rattle.std.proofs.Common.{rules}
-use Rattle.std.proofs.lemmas.List.Concat.{flat_map-append}
-use Rattle.std.proofs.lemmas.Str.{chars-nil}
+use Rattle.tbr_kept_lines.proofs.Common.{rules, flat_map-append, chars-nil}
 use Rattle.tbr_kept_lines.proofs.kept_lines.KeptLines.into_text.Goals as goal
 
 pub returns : goal.returns

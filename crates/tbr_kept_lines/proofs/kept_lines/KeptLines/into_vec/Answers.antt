@@ -1,9 +1,4 @@
-use Rattle.std.proofs.Common.{◌≡◌, ◌++◌, [], map, ap, sym, ◌∙◌, subst}
-use Rattle.std.specs.List.{AllZip}
-use Rattle.std.proofs.lemmas.Bool.{eqb-true}
-use Rattle.std.proofs.lemmas.List.{nil_from_length}
-use Rattle.tbr_kept_lines.specs.KeptLines.{parts_seen}
-use Rattle.tbr_kept_lines.specs.Line.{line_seen, SameSeen}
+use Rattle.tbr_kept_lines.proofs.Common.{◌≡◌, ◌++◌, [], map, ap, sym, ◌∙◌, subst, AllZip, eqb-true, nil_from_length, parts_seen, line_seen, SameSeen}
 use Rattle.tbr_kept_lines.proofs.KeptParts.{same_lines, lines_after}
 use Rattle.tbr_kept_lines.proofs.kept_lines.KeptLines.into_vec.Goals as goal
 

@@ -1,5 +1,4 @@
-use Rattle.std.proofs.Common.{not, ap, ◌∙◌}
-use Rattle.tbr_wrap.specs.Runs.{is_some_list}
+use Rattle.tbr_kept_lines.proofs.Common.{not, ap, ◌∙◌, is_some_list}
 use Rattle.tbr_kept_lines.proofs.KeptParts.{none_there, some_in_parts}
 use Rattle.tbr_kept_lines.proofs.kept_lines.KeptLines.is_empty.Goals as goal
 

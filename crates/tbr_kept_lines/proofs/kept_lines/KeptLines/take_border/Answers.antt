@@ -1,16 +1,9 @@
-use Rattle.std.proofs.Common.{◌≡◌, ℕ, Bool, [], ◌∷◌, ◌++◌, if◌then◌else◌, map, length, refl, ap, sym, subst, ◌∙◌, append_assoc, rules}
+use Rattle.tbr_kept_lines.proofs.Common.{◌≡◌, ℕ, Bool, [], ◌∷◌, ◌++◌, if◌then◌else◌, map, length, refl, ap, sym, subst, ◌∙◌, append_assoc, rules, filter, Each, map-append, IsMergedText, Border}
+use Rattle.tbr_kept_lines.proofs.Common.{RenderLine, Rule, parts_seen, line_seen, line_has_content, without_last, last_border}
 use Rattle.std.specs.Global.{Vec}
-use Rattle.std.specs.Prelude.{is_some, filter}
-use Rattle.std.specs.List.{AllByRecursion as Each}
-use Rattle.std.proofs.lemmas.List.{map-append}
-use Rattle.tbr_border.specs.RenderLine.{IsMergedText}
-use Rattle.tbr_border.specs.Border.{Border}
-use Rattle.tbr_border.specs.declared.RenderLine.{RenderLine}
-use Rattle.tbr_border.specs.declared.RenderLine.TheVariants.{Line as Rule}
-use Rattle.tbr_kept_lines.specs.KeptLines.{parts_seen, HoldsKept}
-use Rattle.tbr_kept_lines.specs.Line.{line_seen, line_has_content}
+use Rattle.std.specs.Prelude.{is_some}
+use Rattle.tbr_kept_lines.specs.KeptLines.{HoldsKept}
 use Rattle.tbr_kept_lines.specs.declared.kept_lines.KeptLines.TheInside.{Inside}
-use Rattle.tbr_kept_lines.specs.LastBorder.{without_last, last_border}
 use Rattle.tbr_kept_lines.proofs.KeptParts.{each_front, some_counted, one_less, none_less, no_border}
 use Rattle.tbr_kept_lines.proofs.LastBorder.{border_is, front_is}
 use Rattle.tbr_kept_lines.proofs.kept_lines.KeptLines.take_border.Goals as goal
@@ -32,7 +25,9 @@ returns-in_err-border-clause-rest g c =
 
 pub overflow_sub-self : goal.overflow_sub-self
 overflow_sub-self g c =
-    some_counted c.in_ok-border.border c.self.inside.last.items c.take_last_border.new.lines.items c.in_ok-border.ensures.some c.self.inside.with_content c.self.invariant.content (sym c.has_holes.ensures ∙ c.if-not-has_holes.true)
+    some_counted c.in_ok-border.border c.self.inside.last.items c.take_last_border.new.lines.items
+    c.in_ok-border.ensures.some c.self.inside.with_content c.self.invariant.content
+    (sym c.has_holes.ensures ∙ c.if-not-has_holes.true)
 
 pub invariant_of-self : goal.invariant_of-self
 invariant_of-self g c = subst (λ lines. HoldsKept g.T.PartialEq.eq (record c.self.inside { last = lines })) (sym (c.in_err-border.ensures.none refl).0) c.self.invariant

@@ -1,6 +1,4 @@
-use Rattle.std.proofs.Common.{arith}
-use Rattle.std.proofs.lemmas.Bool.{eqb-true}
-use Rattle.std.proofs.lemmas.List.{nil_from_length}
+use Rattle.tbr_kept_lines.proofs.Common.{arith, eqb-true, nil_from_length}
 use Rattle.tbr_kept_lines.proofs.kept_lines.Part.into_ended.Goals as goal
 
 pub returns-in-Ok-clause-ended : goal.returns-in-Ok-clause-ended

@@ -1,8 +1,4 @@
-use Rattle.std.proofs.Common.{◌++◌, ap, ◌∙◌}
-use Rattle.std.specs.Prelude.{chars}
-use Rattle.std.proofs.lemmas.Result.{on_ok_weaker}
-use Rattle.tbr_tagged.specs.View.{chars_of}
-use Rattle.tbr_wrap.specs.EndedLines.{lines_characters, prefixed_characters}
+use Rattle.tbr_kept_lines.proofs.Common.{◌++◌, ap, ◌∙◌, chars, on_ok_weaker, chars_of, lines_characters, prefixed_characters}
 use Rattle.tbr_kept_lines.proofs.Prefixes.{shown_with}
 use Rattle.tbr_kept_lines.proofs.prefixed_lines.PrefixedLines.append_to.Goals as goal
 

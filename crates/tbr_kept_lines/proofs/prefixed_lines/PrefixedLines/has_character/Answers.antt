@@ -1,4 +1,4 @@
-use Rattle.std.proofs.Common.{rules}
+use Rattle.tbr_kept_lines.proofs.Common.{rules}
 use Rattle.tbr_kept_lines.proofs.Prefixes.{any_shown}
 use Rattle.tbr_kept_lines.proofs.prefixed_lines.PrefixedLines.has_character.Goals as goal
 

@@ -1,6 +1,4 @@
-use Rattle.std.proofs.Common.{◌∙◌, subst}
-use Rattle.std.proofs.lemmas.Result.{on_ok_weaker}
-use Rattle.tbr_kept_lines.specs.Prefixed.{Pushes}
+use Rattle.tbr_kept_lines.proofs.Common.{◌∙◌, subst, on_ok_weaker, Pushes}
 use Rattle.tbr_kept_lines.proofs.Prefixes.{texts_with, merged_with}
 use Rattle.tbr_kept_lines.proofs.prefixed_lines.PrefixedLines.push_to.Goals as goal
 

@@ -1,5 +1,4 @@
-use Rattle.std.specs.Prelude.{chars}
-use Rattle.tbr_tagged.specs.Elements.{text_items}
+use Rattle.tbr_kept_lines.proofs.Common.{chars, text_items}
 use Rattle.tbr_kept_lines.proofs.Prefixes.{in_front_of}
 use Rattle.tbr_kept_lines.proofs.prefixed_lines.PrefixedLines.put_in_front.Goals as goal
 

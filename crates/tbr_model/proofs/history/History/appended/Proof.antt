@@ -1,5 +1,5 @@
 -- `appended` makes the empty struct, with the items that its clause names. Assumes `Logic`.
-use Rattle.std.proofs.Common.{List, [], ◌∷◌, ◌++◌, refl}
+use Rattle.tbr_model.proofs.Common.{List, [], ◌∷◌, ◌++◌, refl}
 use seplogic.Ra.Ura.{Ura}
 use mir.Syntax.{Fn, Args, a_type}
 use mir.Val.{Val, vptr}
@@ -81,7 +81,8 @@ module _ (A B D : RattleType) where
           record { of = record {}; items = a.0.now.items ++ (a.1.0.now, a.1.1.0.now, a.1.1.1.0.now) ∷ [] } in
           qed 𝓛 ((raw toks ⊛ ‵ (owns (types_at ended.signature.params z.0.0) a vss)) ∷ raw ((held z.0.0 a).requires z.1) ∷ []) ∵
           keep ! (0 ∷ []) $ split ! $ move ! (1 ∷ []) $
-          fsplit ! $ fsplit ! $ feq_l ! (λ is₀. drop ! $ fsplit ! $ fsplit ! $ feq_l ! (λ is₁. drop ! $ fsplit ! $ fsplit ! $ feq_l ! (λ is₂. drop ! $ fsplit ! $ fsplit ! $ feq_l ! (λ is₃. drop ! $ drop ! $
+          fsplit ! $ fsplit ! $ feq_l !
+          (λ is₀. drop ! $ fsplit ! $ fsplit ! $ feq_l ! (λ is₁. drop ! $ fsplit ! $ fsplit ! $ feq_l ! (λ is₂. drop ! $ fsplit ! $ fsplit ! $ feq_l ! (λ is₃. drop ! $ drop ! $
           let p = vptr a.0.ref_ptr.0 a.0.ref_ptr.1 in
           let q = vptr a.1.0.ref_ptr.0 a.1.0.ref_ptr.1 in
           let r = vptr a.1.1.0.ref_ptr.0 a.1.1.0.ref_ptr.1 in

@@ -1,6 +1,5 @@
 use Rattle.std.proofs.Common.{◌++◌, map}
 use Rattle.std.proofs.lemmas.Result.{on_ok_weaker}
-use Rattle.tbr_annotations.specs.Annotations.{same_annotations}
 use Rattle.tbr_tagged.specs.Elements.{items_of}
 use Rattle.tbr_tagged.specs.View.{element_of}
 use Rattle.tbr_annotations.proofs.Told.{items_told}

@@ -1,10 +1,9 @@
-use Rattle.std.proofs.Common.{ℕ, unwrap_or, ◌++◌, ◌∷◌, [], refl, sym, subst, ap, ◌∙◌, map, rules}
+use Rattle.std.proofs.Common.{ℕ, unwrap_or, ◌++◌, ◌∷◌, [], refl, sym, subst, ap, ◌∙◌, rules}
 use Rattle.std.specs.List.{AllZip, AllByRecursion as Each}
 use Rattle.std.specs.Vec.Iter.{into_iter_items}
 use Rattle.tbr_tagged.specs.declared.Error.TheVariants.{TooNarrow}
 use Rattle.tbr_rows.specs.Filled.{cell_after}
 use Rattle.tbr_tagged.specs.declared.CellAlign.TheVariants.{Left}
-use Rattle.tbr_rows.specs.Meant.{map_line as map_row_line}
 use Rattle.tbr_renderer.specs.Rows.{LeavesFree, FillsCell, cells_handed_out}
 use Rattle.tbr_renderer.specs.Appended.{handed_out}
 use Rattle.tbr_renderer.specs.Flush.{EndsBest}

@@ -1,7 +1,6 @@
 use Rattle.std.proofs.Common.{◌∙◌, ◌++◌, ap, sym}
 use Rattle.std.specs.Prelude.{chars}
 use Rattle.std.proofs.lemmas.Result.{on_ok_weaker}
-use Rattle.tbr_annotations.specs.Annotations.{same_annotations}
 use Rattle.tbr_tagged.specs.Elements.{items_of, text_items}
 use Rattle.tbr_annotations.proofs.Told.{items_told}
 use Rattle.tbr_kept_lines.proofs.Prefixes.{no_prefix}

@@ -1,9 +1,7 @@
-use Rattle.std.proofs.Common.{◌≡◌, [], ◌∷◌, List, refl, ap, sym, ◌∙◌, subst}
+use Rattle.std.proofs.Common.{[], ◌∷◌, List, refl, ap, sym, ◌∙◌, subst}
 use Rattle.std.specs.String.{string_bytes}
 use Rattle.tbr_model.specs.Rule.{entry}
 use Rattle.tbr_model.specs.Run.{marker_entry}
-use Rattle.tbr_wrap.specs.Block.{Block, after_marker}
-use Rattle.tbr_tagged.specs.Outcome.{done}
 use Rattle.tbr_renderer.specs.Renderer.{Renderer, with_events, block_width, may_overflow}
 use Rattle.tbr_renderer.specs.View.{IsFresh}
 use Rattle.tbr_renderer.proofs.JoinedTexts.{fresh_marked, marked, block_grown}

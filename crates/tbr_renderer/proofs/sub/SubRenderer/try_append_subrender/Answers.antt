@@ -1,8 +1,8 @@
-use Rattle.std.proofs.Common.{◌∙◌, ap, sym, subst, map, fold}
+use Rattle.std.proofs.Common.{◌∙◌, ap, sym, fold}
 use Rattle.tbr_tagged.specs.Outcome.{done}
 use Rattle.tbr_renderer.specs.Renderer.{Settings, with_line}
 use Rattle.tbr_renderer.specs.Outcomes.{changed}
-use Rattle.tbr_renderer.specs.Appended.{GivesFirst, texts_of, prefixed}
+use Rattle.tbr_renderer.specs.Appended.{texts_of, prefixed}
 use Rattle.tbr_renderer.proofs.sub.SubRenderer.try_append_subrender.Goals as goal
 
 pub returns-clause-ok : goal.returns-clause-ok

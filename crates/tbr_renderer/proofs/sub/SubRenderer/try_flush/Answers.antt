@@ -1,9 +1,8 @@
-use Rattle.std.proofs.Common.{List, ◌≡◌, None, Some, Err, map, refl, arith, ap, sym, ◌∙◌, subst, rules}
+use Rattle.std.proofs.Common.{List, ◌≡◌, None, Err, map, refl, arith, ap, ◌∙◌, rules}
 use Rattle.tbr_wrap.specs.Block.{Block, loose}
 use Rattle.tbr_tagged.specs.View.{element_of}
 use Rattle.tbr_wrap.proofs.runs.BlockLaws.{flush_in_two, flush_leaves, none_open_taken}
-use Rattle.tbr_renderer.specs.Renderer.{block_width, may_overflow}
-use Rattle.tbr_renderer.specs.View.{block_seen, names_of, IsFresh}
+use Rattle.tbr_renderer.specs.View.{names_of}
 use Rattle.tbr_renderer.proofs.OutcomeParts.{passed_on, never_narrow, tries_ok, tries_err}
 use Rattle.tbr_renderer.proofs.BlockEnds.{markers_named, are_markers, block_flushed, block_best, block_refused}
 use Rattle.tbr_renderer.proofs.sub.SubRenderer.try_flush.Given.{Over}

@@ -28,4 +28,8 @@ returns-clause-left g c unfailed =
     let is = (c.in_ok-keep.ensures).ok ∙ if_ok c.open_link-done.result (c.in_ok-keep.ensures).result c.open_link-done.ensures.ok in
     let top = sym (top_linked (chars c.args.target.now) c.args.self.now) ∙ sym (ap (λ s. top_of s) is) ∙ c.top_mut.ensures.top in
     let live = sym (failure_of_top c.args.self.now c.top_mut.result.now top) ∙ unfailed in
-    on_err_weaker c.start_link.result (λ h. inr (changes_linked (λ r q. kept_of q ≡ kept_of r) (chars c.args.target.now) c.args.self.now c.keep.new.self c.top_mut.result.now c.start_link.new.self is c.top_mut.ensures.top h)) c.start_link.ensures.answers.fails.kept
+    on_err_weaker c.start_link.result
+    (λ h. inr
+    (changes_linked (λ r q. kept_of q ≡ kept_of r) (chars c.args.target.now) c.args.self.now c.keep.new.self
+    c.top_mut.result.now c.start_link.new.self is c.top_mut.ensures.top h))
+    c.start_link.ensures.answers.fails.kept

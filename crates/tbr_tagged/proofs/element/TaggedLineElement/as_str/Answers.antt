@@ -1,4 +1,4 @@
-use Rattle.std.proofs.lemmas.Str.{chars-nil}
+use Rattle.tbr_tagged.proofs.Common.{chars-nil}
 use Rattle.tbr_tagged.proofs.element.TaggedLineElement.as_str.Goals as goal
 
 pub returns-in-FragmentStart : goal.returns-in-FragmentStart

@@ -1,4 +1,4 @@
-use Rattle.std.proofs.Common.{rules}
+use Rattle.tbr_tagged.proofs.Common.{rules}
 use Rattle.tbr_tagged.proofs.TextColumns.{items_width-text}
 use Rattle.tbr_tagged.proofs.element.TaggedLineElement.map_tag.Goals as goal
 

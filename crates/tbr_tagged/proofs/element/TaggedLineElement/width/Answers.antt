@@ -1,4 +1,4 @@
-use Rattle.std.specs.String.{string_bytes}
+use Rattle.tbr_tagged.proofs.Common.{string_bytes}
 use Rattle.std.specs.Str.{chars}
 use Rattle.tbr_tagged.proofs.TextColumns.{items_width-text}
 use Rattle.tbr_tagged.proofs.element.TaggedLineElement.width.Goals as goal

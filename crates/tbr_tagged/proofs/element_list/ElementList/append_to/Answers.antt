@@ -1,6 +1,4 @@
-use Rattle.std.proofs.Common.{append-nil, refl}
-use Rattle.std.specs.String.{string_bytes}
-use Rattle.std.proofs.lemmas.Str.{IsUtf8-string_bytes, chars-append}
+use Rattle.tbr_tagged.proofs.Common.{append-nil, refl, string_bytes, IsUtf8-string_bytes, chars-append}
 use Rattle.tbr_tagged.proofs.element_list.ElementList.append_to.Goals as goal
 
 pub returns-in_ok-push_str-in-Alone : goal.returns-in_ok-push_str-in-Alone

@@ -1,5 +1,4 @@
-use Rattle.std.proofs.Common.{◌<◌, arith}
-use Rattle.tbr_tagged.specs.View.{element_of}
+use Rattle.tbr_tagged.proofs.Common.{◌<◌, arith, element_of}
 use Rattle.tbr_tagged.proofs.GrownLines.{alone_cut}
 use Rattle.tbr_tagged.proofs.element_list.ElementList.cut_back.Goals as goal
 

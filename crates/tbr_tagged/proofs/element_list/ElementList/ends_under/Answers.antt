@@ -1,5 +1,4 @@
-use Rattle.std.proofs.Common.{refl}
-use Rattle.tbr_tagged.specs.View.{element_of}
+use Rattle.tbr_tagged.proofs.Common.{refl, element_of}
 use Rattle.tbr_tagged.proofs.TextAfter.{last_of-map}
 use Rattle.tbr_tagged.proofs.element_list.ElementList.ends_under.Goals as goal
 

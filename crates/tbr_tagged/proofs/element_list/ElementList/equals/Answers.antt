@@ -1,4 +1,4 @@
-use Rattle.std.proofs.Common.{refl, sym, ◌∙◌}
+use Rattle.tbr_tagged.proofs.Common.{refl, sym, ◌∙◌}
 use Rattle.tbr_tagged.specs.contracts.element.TaggedLineElementPartialEq.TheImpl as elements
 use Rattle.tbr_tagged.proofs.EqualLines.{same_alone, same_before_one, one_before_same, same_lines}
 use Rattle.tbr_tagged.proofs.element_list.ElementList.equals.Goals as goal

@@ -1,6 +1,5 @@
-use Rattle.std.proofs.Common.{◌≡◌, rules, chars, [], refl}
+use Rattle.tbr_tagged.proofs.Common.{◌≡◌, rules, chars, [], refl, characters_left}
 use Rattle.std.specs.Str.Iter.{chars_rest}
-use Rattle.tbr_tagged.specs.Walks.{characters_left}
 use Rattle.tbr_tagged.proofs.TextAfter.{chars_none}
 use Rattle.tbr_tagged.proofs.LineWalks.{chars_first}
 use Rattle.tbr_tagged.proofs.iterators.CharsIterator.next.Goals as goal

@@ -1,5 +1,4 @@
-use Rattle.std.proofs.Common.{◌≡◌, length}
-use Rattle.tbr_tagged.specs.Walks.{elements_left, characters_left}
+use Rattle.tbr_tagged.proofs.Common.{◌≡◌, length, elements_left, characters_left}
 use Rattle.tbr_tagged.proofs.iterators.CharsIterator.next.Given as goal
 
 abbrev pub invariant-loop-c : goal.invariant-loop-c

@@ -1,5 +1,5 @@
-use Rattle.std.proofs.Common.{◌≡◌, length}
-use Rattle.tbr_tagged.specs.Walks.{elements_left, strings_left}
+use Rattle.tbr_tagged.proofs.Common.{◌≡◌, length, elements_left}
+use Rattle.tbr_tagged.specs.Walks.{strings_left}
 use Rattle.tbr_tagged.proofs.iterators.TaggedStringsIterator.next.Given as goal
 
 abbrev pub invariant-loop-element : goal.invariant-loop-element

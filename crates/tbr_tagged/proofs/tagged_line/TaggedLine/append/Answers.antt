@@ -1,7 +1,5 @@
-use Rattle.std.proofs.Common.{◌≡◌, ap, sym, map-id, ◌∙◌, map, fold, length, refl}
-use Rattle.std.proofs.lemmas.Iterator.Consumers.{YieldsList-from_first, YieldsList-turn, YieldsList-end}
-use Rattle.tbr_tagged.specs.Elements.{push_element}
-use Rattle.tbr_tagged.specs.View.{element_of}
+use Rattle.tbr_tagged.proofs.Common.{◌≡◌, ap, sym, map-id, ◌∙◌, map, fold, length, refl, YieldsList-turn, YieldsList-end, push_element, element_of}
+use Rattle.std.proofs.lemmas.Iterator.Consumers.{YieldsList-from_first}
 use Rattle.tbr_tagged.specs.Walks.{elements_to_come}
 use Rattle.tbr_tagged.proofs.GrownLines.{grown_by_elements, line_has_items}
 use Rattle.tbr_tagged.proofs.AppendedLines.{appended_items, appended_merged}
@@ -36,6 +34,8 @@ pub returns-in-Err-clause-some : goal.returns-in-Err-clause-some
 returns-in-Err-clause-some g c =
     let all = elements_to_come c.into_iter-element-iterator.result in
     let list = YieldsList-from_first (λ x. x) elements_to_come all refl in
-    let turn = YieldsList-turn list c.loop-element.yielded c.loop-element.element-iterator c.loop-element.yielded_by c.next.result c.next.new.self c.in-Some.element c.in-Some.is c.next.ensures.steps in
+    let turn =
+    YieldsList-turn list c.loop-element.yielded c.loop-element.element-iterator c.loop-element.yielded_by
+    c.next.result c.next.new.self c.in-Some.element c.in-Some.is c.next.ensures.steps in
     rw (← c.into_iter-element-iterator.ensures.into_iter_gives.0)
     (line_has_items element_of all (length c.loop-element.yielded) c.in-Some.element turn.0 turn.1 c.in-Err.ensures.some)

@@ -1,6 +1,4 @@
-use Rattle.std.proofs.Common.{◌≡◌, fold, map}
-use Rattle.tbr_tagged.specs.Elements.{push_element}
-use Rattle.tbr_tagged.specs.View.{element_of}
+use Rattle.tbr_tagged.proofs.Common.{◌≡◌, fold, map, push_element, element_of}
 use Rattle.tbr_tagged.proofs.tagged_line.TaggedLine.append.Given as goal
 
 abbrev pub invariant-loop-element : goal.invariant-loop-element

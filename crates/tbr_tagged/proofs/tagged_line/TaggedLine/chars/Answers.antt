@@ -1,5 +1,4 @@
-use Rattle.std.proofs.Common.{sym, ◌∙◌, refl}
-use Rattle.std.proofs.lemmas.Str.{chars-nil}
+use Rattle.tbr_tagged.proofs.Common.{sym, ◌∙◌, refl, chars-nil}
 use Rattle.tbr_tagged.proofs.LineWalks.{items_have_characters}
 use Rattle.tbr_tagged.proofs.tagged_line.TaggedLine.chars.Goals as goal
 

@@ -1,6 +1,4 @@
-use Rattle.std.proofs.Common.{map}
-use Rattle.tbr_tagged.specs.Stored.{stored}
-use Rattle.tbr_tagged.specs.View.{element_of}
+use Rattle.tbr_tagged.proofs.Common.{map, stored, element_of}
 use Rattle.tbr_tagged.proofs.EqualLines.{same_lines_equal}
 use Rattle.tbr_tagged.proofs.tagged_line.TaggedLine.clone.Goals as goal
 

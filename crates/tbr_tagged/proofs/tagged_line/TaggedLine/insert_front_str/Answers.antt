@@ -1,7 +1,5 @@
-use Rattle.std.proofs.Common.{map, rules}
+use Rattle.tbr_tagged.proofs.Common.{map, rules, stored, element_of}
 use Rattle.std.specs.Str.{chars}
-use Rattle.tbr_tagged.specs.Stored.{stored}
-use Rattle.tbr_tagged.specs.View.{element_of}
 use Rattle.tbr_tagged.proofs.TextAfter.{chars_some}
 use Rattle.tbr_tagged.proofs.TextInFront.{items_inserted, merged_inserted}
 use Rattle.tbr_tagged.proofs.tagged_line.TaggedLine.insert_front_str.Goals as goal

@@ -1,10 +1,5 @@
-use Rattle.std.proofs.Common.{◌-◌, rules, map, refl, ◌++◌, arith}
-use Rattle.std.proofs.lemmas.Result.{on_ok_weaker}
-use Rattle.tbr_model.specs.Run.{items_width}
-use Rattle.tbr_tagged.specs.Elements.{text_items, items_of}
-use Rattle.tbr_tagged.specs.Padding.{spaces, columns_in_front, aligned}
-use Rattle.tbr_tagged.specs.Stored.{stored}
-use Rattle.tbr_tagged.specs.View.{element_of}
+use Rattle.tbr_tagged.proofs.Common.{◌-◌, rules, map, refl, ◌++◌, arith, on_ok_weaker, items_width, text_items, items_of, spaces, columns_in_front, stored, element_of}
+use Rattle.tbr_tagged.specs.Padding.{aligned}
 use Rattle.tbr_tagged.proofs.SameItems.{same_items_trans, same_items_of}
 use Rattle.tbr_tagged.proofs.PaddedLines.{front_within, padded_items, padded_merged, padded_columns}
 use Rattle.tbr_tagged.proofs.tagged_line.TaggedLine.pad_aligned.Goals as goal
@@ -30,7 +25,10 @@ returns-clause-width g c =
     let missing = c.args.width - items_width columns (items_of c.args.self.now) in
     let front = columns_in_front c.args.align missing in
     on_ok_weaker c.pad.result (λ same.
-    let sum = padded_columns g.T.PartialEq.eq g.met.T.Eq.laws columns (items_of (map element_of (stored c.pad.new.elements))) (items_of c.args.self.now) front (missing - front) c.args.tag.now (g.met.W.CharWidth.drawn_in_one 32 refl) same in
+    let sum =
+    padded_columns g.T.PartialEq.eq g.met.T.Eq.laws columns (items_of (map element_of (stored c.pad.new.elements)))
+    (items_of c.args.self.now) front (missing - front) c.args.tag.now (g.met.W.CharWidth.drawn_in_one 32 refl)
+    same in
     omega (arith, sum, front_within c.args.align missing)) (returns-clause-items g c)
 
 pub returns-clause-merged : goal.returns-clause-merged

@@ -1,11 +1,4 @@
-use Rattle.std.proofs.Common.{◌∙◌, ap, map}
-use Rattle.std.proofs.lemmas.List.{map_push}
-use Rattle.std.proofs.lemmas.Result.{on_ok_weaker, on_err_weaker}
-use Rattle.std.specs.String.{string_bytes}
-use Rattle.tbr_tagged.specs.declared.element.TaggedLineElement.TheVariants.{FragmentStart}
-use Rattle.tbr_tagged.specs.Elements.{marker_element}
-use Rattle.tbr_tagged.specs.Stored.{stored}
-use Rattle.tbr_tagged.specs.View.{element_of}
+use Rattle.tbr_tagged.proofs.Common.{◌∙◌, ap, map, map_push, on_ok_weaker, on_err_weaker, string_bytes, FragmentStart, marker_element, stored, element_of}
 use Rattle.tbr_tagged.proofs.GrownLines.{text_has_items}
 use Rattle.tbr_tagged.proofs.TextAfter.{merged_element}
 use Rattle.tbr_tagged.proofs.SameItems.{element_pushed}

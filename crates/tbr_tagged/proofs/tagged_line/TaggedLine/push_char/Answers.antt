@@ -1,7 +1,4 @@
-use Rattle.std.proofs.Common.{map, [], ◌∷◌}
-use Rattle.std.proofs.lemmas.Result.{on_ok_weaker}
-use Rattle.tbr_tagged.specs.Stored.{stored}
-use Rattle.tbr_tagged.specs.View.{element_of}
+use Rattle.tbr_tagged.proofs.Common.{map, [], ◌∷◌, on_ok_weaker, stored, element_of}
 use Rattle.tbr_tagged.proofs.SameItems.{push_items}
 use Rattle.tbr_tagged.proofs.TextAfter.{pushed_merged}
 use Rattle.tbr_tagged.proofs.tagged_line.TaggedLine.push_char.Goals as goal

@@ -1,8 +1,4 @@
-use Rattle.std.proofs.Common.{map, rules}
-use Rattle.std.proofs.lemmas.Result.{on_ok_weaker}
-use Rattle.tbr_tagged.specs.Padding.{spaces}
-use Rattle.tbr_tagged.specs.Stored.{stored}
-use Rattle.tbr_tagged.specs.View.{element_of}
+use Rattle.tbr_tagged.proofs.Common.{map, rules, on_ok_weaker, spaces, stored, element_of}
 use Rattle.tbr_tagged.proofs.SameItems.{push_items}
 use Rattle.tbr_tagged.proofs.TextAfter.{pushed_merged}
 use Rattle.tbr_tagged.proofs.tagged_line.TaggedLine.push_spaces.Goals as goal

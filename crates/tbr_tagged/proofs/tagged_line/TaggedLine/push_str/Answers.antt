@@ -1,8 +1,4 @@
-use Rattle.std.proofs.Common.{◌≡◌, [], sym, arith, append-nil, chars, rules}
-use Rattle.std.specs.String.{string_bytes, string_len}
-use Rattle.std.proofs.lemmas.Bool.{eqb-true}
-use Rattle.std.proofs.lemmas.Result.{on_ok_weaker}
-use Rattle.tbr_tagged.specs.Elements.{items_of}
+use Rattle.tbr_tagged.proofs.Common.{◌≡◌, [], sym, arith, append-nil, chars, rules, string_bytes, string_len, eqb-true, on_ok_weaker, items_of}
 use Rattle.tbr_tagged.proofs.TextAfter.{chars_none, merged_push}
 use Rattle.tbr_tagged.proofs.SameItems.{items_push, same_items}
 use Rattle.tbr_tagged.proofs.tagged_line.TaggedLine.push_str.Goals as goal

@@ -1,7 +1,4 @@
-use Rattle.std.proofs.Common.{◌≡◌, length, [], sym, arith, append-nil, chars, rules}
-use Rattle.std.proofs.lemmas.Bool.{eqb-true}
-use Rattle.std.proofs.lemmas.Result.{on_ok_weaker}
-use Rattle.tbr_tagged.specs.Elements.{items_of}
+use Rattle.tbr_tagged.proofs.Common.{◌≡◌, length, [], sym, arith, append-nil, chars, rules, eqb-true, on_ok_weaker, items_of}
 use Rattle.tbr_tagged.proofs.TextAfter.{chars_none, merged_push}
 use Rattle.tbr_tagged.proofs.SameItems.{items_push, same_items}
 use Rattle.tbr_tagged.proofs.tagged_line.TaggedLine.push_text.Goals as goal

@@ -1,6 +1,4 @@
-use Rattle.std.proofs.Common.{ap, length, sym, ◌∙◌, rules}
-use Rattle.std.proofs.lemmas.List.{length-map}
-use Rattle.tbr_tagged.specs.Walks.{elements_left, strings_of, piece_of}
+use Rattle.tbr_tagged.proofs.Common.{ap, length, sym, ◌∙◌, rules, length-map, elements_left, strings_of, piece_of}
 use Rattle.tbr_tagged.proofs.LineWalks.{few_stored, strings_are_pieces, pieces_among}
 use Rattle.tbr_tagged.proofs.tagged_line.TaggedLine.tagged_strings.Goals as goal
 

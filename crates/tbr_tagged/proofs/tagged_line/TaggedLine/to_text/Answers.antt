@@ -1,6 +1,5 @@
-use Rattle.std.proofs.Common.{◌++◌, ap, ◌∙◌}
+use Rattle.tbr_tagged.proofs.Common.{◌++◌, ap, ◌∙◌, characters}
 use Rattle.std.specs.Str.{chars}
-use Rattle.tbr_tagged.specs.Elements.{characters}
 use Rattle.tbr_tagged.proofs.tagged_line.TaggedLine.to_text.Goals as goal
 
 pub returns : goal.returns

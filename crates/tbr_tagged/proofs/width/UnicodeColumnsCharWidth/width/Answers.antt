@@ -1,4 +1,4 @@
-use Rattle.std.proofs.Common.{sym, ◌∙◌}
+use Rattle.tbr_tagged.proofs.Common.{sym, ◌∙◌}
 use Rattle.tbr_tagged.proofs.TextColumns.{ascii_in_one}
 use Rattle.tbr_tagged.proofs.WideBlocks.{wide_in_two}
 use Rattle.tbr_tagged.proofs.width.UnicodeColumnsCharWidth.width.Goals as goal

@@ -1,7 +1,7 @@
 use Rattle.std.proofs.Common.{◌≡◌, map, ap, subst}
 use Rattle.tbr_decor.specs.Decoration.{decoration_of}
-use Rattle.text_block_renderer.specs.Top.{OfTop}
-use Rattle.text_block_renderer.specs.Line.{line_seen}
+use Rattle.tbr_stack.specs.Top.{OfTop}
+use Rattle.tbr_kept_lines.specs.Line.{line_seen}
 use Rattle.tbr_tagged.specs.Outcome.{done}
 use Rattle.tbr_program.specs.Closing.{closed}
 use Rattle.tbr_view.specs.Session.{openers}

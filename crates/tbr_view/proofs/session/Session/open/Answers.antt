@@ -2,7 +2,7 @@ use Rattle.std.proofs.Common.{◌≡◌, ◌-◌, [], ◌∷◌, ◌++◌, chars
 use Rattle.tbr_model.specs.Width.{width_of_text}
 use Rattle.tbr_tagged.specs.View.{chars_of}
 use Rattle.tbr_decor.specs.Decoration.{decoration_of}
-use Rattle.text_block_renderer.specs.Stack.{top_of}
+use Rattle.tbr_stack.specs.Stack.{top_of}
 use Rattle.tbr_commands.specs.declared.request.layout.Layout.TheVariants.{StartBlock}
 use Rattle.tbr_commands.specs.Request.{layout}
 use Rattle.tbr_commands.specs.Command.{ask}

@@ -1,6 +1,4 @@
-use Rattle.std.proofs.Common.{ap, ◌∙◌, sym}
-use Rattle.tbr_tagged.proofs.Outcomes.{answers_ok}
-use Rattle.tbr_wrap.specs.Block.{settings_of, settled, lines, allows}
+use Rattle.tbr_wrap.proofs.Common.{ap, ◌∙◌, sym, answers_ok, settings_of, settled, lines, allows}
 use Rattle.tbr_wrap.proofs.runs.Blocks.{if_allowed}
 use Rattle.tbr_wrap.proofs.block.WrappedBlock.add_empty_text.Goals as goal
 

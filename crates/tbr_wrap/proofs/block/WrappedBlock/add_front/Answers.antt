@@ -1,13 +1,7 @@
-use Rattle.std.proofs.Common.{◌≡◌, true, List, ◌++◌, map, chars, take, drop, refl, ap, ◌∙◌, sym, subst, take-append-drop, Err, rules}
-use Rattle.std.proofs.lemmas.Result.{err_from_is_err_and}
-use Rattle.std.proofs.lemmas.Str.{chars-append, IsCharBoundary-from_take}
-use Rattle.tbr_model.specs.Run.{Entry}
-use Rattle.tbr_model.specs.Rule.{entry}
+use Rattle.tbr_wrap.proofs.Common.{◌≡◌, true, List, ◌++◌, map, chars, take, drop, refl, ap, ◌∙◌, sym, subst, Err, rules, err_from_is_err_and, chars-append, IsCharBoundary-from_take, Entry, entry}
+use Rattle.tbr_wrap.proofs.Common.{text_entries, Block, lines, allows, grown, settled, HoldsRun, block_of, IsAtProgress}
+use Rattle.std.proofs.Common.{take-append-drop}
 use Rattle.tbr_tagged.specs.declared.error.Error.TheVariants as E
-use Rattle.tbr_wrap.specs.Runs.{text_entries}
-use Rattle.tbr_wrap.specs.Block.{Block, lines, allows, grown, settled}
-use Rattle.tbr_wrap.specs.Held.{HoldsRun, block_of}
-use Rattle.tbr_wrap.specs.Wrapper.{IsAtProgress}
 use Rattle.tbr_wrap.proofs.runs.HeldRuns.{holds_grown, given}
 use Rattle.tbr_wrap.proofs.runs.Blocks.{led_on, entries_entered, text_grown, refused_text, entered_allows}
 use Rattle.tbr_wrap.proofs.block.WrappedBlock.add_front.Goals as goal

@@ -1,9 +1,5 @@
-use Rattle.std.proofs.Common.{[], ◌∷◌, refl, ap, ◌∙◌, sym, subst, string_bytes}
-use Rattle.tbr_model.specs.Run.{marker_entry}
-use Rattle.tbr_model.specs.Rule.{entry, enter}
-use Rattle.tbr_wrap.specs.Block.{progress_of}
-use Rattle.tbr_wrap.specs.Held.{HoldsRun, block_of}
-use Rattle.tbr_wrap.specs.Wrapper.{IsAtProgress}
+use Rattle.tbr_wrap.proofs.Common.{[], ◌∷◌, refl, ap, ◌∙◌, sym, subst, marker_entry, entry, enter, progress_of, HoldsRun, block_of, IsAtProgress}
+use Rattle.std.proofs.Common.{string_bytes}
 use Rattle.tbr_wrap.proofs.runs.HeldRuns.{holds_grown, given}
 use Rattle.tbr_wrap.proofs.runs.Blocks.{led_on}
 use Rattle.tbr_wrap.proofs.block.WrappedBlock.add_marker.Goals as goal

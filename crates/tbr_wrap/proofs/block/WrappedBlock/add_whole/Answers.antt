@@ -1,6 +1,4 @@
-use Rattle.std.proofs.Common.{[], refl, ap, ◌∙◌, sym, rules}
-use Rattle.tbr_tagged.proofs.Outcomes.{answers_ok}
-use Rattle.tbr_wrap.specs.Block.{settings_of}
+use Rattle.tbr_wrap.proofs.Common.{[], refl, ap, ◌∙◌, sym, rules, answers_ok, settings_of}
 use Rattle.tbr_wrap.proofs.runs.Blocks.{grown_on, text_done}
 use Rattle.tbr_wrap.proofs.block.WrappedBlock.add_whole.Goals as goal
 

@@ -1,8 +1,6 @@
-use Rattle.std.proofs.Common.{◌≡◌, true, length, [], ◌∷◌}
+use Rattle.tbr_wrap.proofs.Common.{◌≡◌, true, length, [], ◌∷◌, call, HasGrown, lines, allows}
 use denote.Shadow.{shadow}
 use denote.Text.{Utf8}
-use Rattle.tbr_model.specs.Rule.{call}
-use Rattle.tbr_wrap.specs.Block.{HasGrown, lines, allows}
 use Rattle.tbr_wrap.proofs.block.WrappedBlock.add_whole.Given as goal
 
 abbrev pub invariant-loop-rest : goal.invariant-loop-rest

@@ -1,10 +1,7 @@
-use Rattle.std.proofs.Common.{◌≡◌, ◌<◌, Err, refl, ap, ◌∙◌, sym, subst, rules}
-use Rattle.std.proofs.lemmas.Result.{err_from_is_err_and}
+use Rattle.tbr_wrap.proofs.Common.{◌≡◌, ◌<◌, Err, refl, ap, ◌∙◌, sym, subst, rules, err_from_is_err_and, done, refused, answers_ok, live_goes, Block, all_lines, allows, flushed, after_flush}
+use Rattle.tbr_wrap.proofs.Common.{settings_of, HoldsRun, block_of}
 use Rattle.tbr_tagged.specs.declared.error.Error.TheVariants as E
-use Rattle.tbr_tagged.specs.Outcome.{done, refused}
-use Rattle.tbr_tagged.proofs.Outcomes.{answers_ok, answers_err, live_goes}
-use Rattle.tbr_wrap.specs.Block.{Block, all_lines, allows, flushed, after_flush, settings_of}
-use Rattle.tbr_wrap.specs.Held.{HoldsRun, block_of}
+use Rattle.tbr_tagged.proofs.Outcomes.{answers_err}
 use Rattle.tbr_wrap.proofs.runs.HeldRuns.{holds_flushed}
 use Rattle.tbr_wrap.proofs.runs.Blocks.{led_on, settings_kept, fit_allows, if_allowed, if_not_allowed, not_allowed}
 use Rattle.tbr_wrap.proofs.runs.BlockLaws.{flush_best}
@@ -38,7 +35,10 @@ invariant_of-self-2 g c = λ live.
     (holds_flushed _ _ _ _ _ k refl t.wrapper.value (rw was.0 at (rw c.deref_mut.ensures.value at c.finish.ensures.finished _ _ _ k.stands)))
 
 -- where it doesn't, the block ends the run
-done_end : (g : Over) (c : goal.After-self-2-1 g) → after_flush g.W.CharWidth.columns c.args.self.now ≡ done (block_of g.W.CharWidth.columns (record c.self.inside { wrapper = record c.self.inside.wrapper { value = c.finish.new.self }; failure = c.keep.new.failure; changes = c.appended-self-inside.result }))
+done_end : (g : Over) (c : goal.After-self-2-1 g) →
+    after_flush g.W.CharWidth.columns c.args.self.now ≡ done
+    (block_of g.W.CharWidth.columns
+    (record c.self.inside { wrapper = record c.self.inside.wrapper { value = c.finish.new.self }; failure = c.keep.new.failure; changes = c.appended-self-inside.result }))
 done_end g c =
     let columns = g.W.CharWidth.columns in let r = c.self.inside in let s = block_of columns r in
     let t = record r { wrapper = record r.wrapper { value = c.finish.new.self }; failure = c.keep.new.failure; changes = c.appended-self-inside.result } in
@@ -62,6 +62,7 @@ returns-in_err-keep-clause-answers g c =
     let t = record r { wrapper = record r.wrapper { value = c.finish.new.self }; failure = c.keep.new.failure } in
     let p = err_from_is_err_and c.from_residual-in_err-keep.result c.from_residual-in_err-keep.ensures.1 in
     answers_err _ _ _ _ p.0 _ _ p.1 c.in_ok-refusal.ensures
-    (λ narrow. sym (live_goes c.args.self.now.failure _ c.in_ok-refusal.ensures) ∙ refused_end g (goal.at.returns-in_err-keep-clause-answers g c).After-keep (cc (p.2, narrow, c.in_err-keep.ensures.failed.0)))
+    (λ narrow. sym (live_goes c.args.self.now.failure _ c.in_ok-refusal.ensures) ∙ refused_end g
+    (goal.at.returns-in_err-keep-clause-answers g c).After-keep (cc (p.2, narrow, c.in_err-keep.ensures.failed.0)))
     (cc (p.2, c.in_err-keep.ensures.failed.1))
     (settings_kept g.W.CharWidth.columns r t (rw c.deref_mut.ensures.value at c.finish.ensures.limits) refl ∙ ap settings_of c.self.view_is)

@@ -1,4 +1,4 @@
-use Rattle.std.proofs.Common.{refl}
+use Rattle.tbr_wrap.proofs.Common.{refl}
 use Rattle.tbr_wrap.proofs.runs.BlockLaws.{flush_in_two}
 use Rattle.tbr_wrap.proofs.block.WrappedBlock.flush.Goals as goal
 

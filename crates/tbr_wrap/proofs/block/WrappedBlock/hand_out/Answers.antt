@@ -1,9 +1,6 @@
-use Rattle.std.proofs.Common.{[], ◌∷◌, ◌++◌, drop, ap, ◌∙◌, sym, subst, arith, append_assoc, append-nil, refl, rules}
-use Rattle.tbr_wrap.specs.Block.{Block, Settings, left}
-use Rattle.tbr_wrap.specs.Wrapped.{ShowsText}
+use Rattle.tbr_wrap.proofs.Common.{[], ◌∷◌, ◌++◌, drop, ap, ◌∙◌, sym, subst, arith, append_assoc, append-nil, refl, rules, Block, Settings, left, ShowsText, all_zip_append}
 use Rattle.tbr_wrap.proofs.runs.LinesLeft.{handed_keeps, left_after}
 use Rattle.tbr_wrap.proofs.runs.BlockLaws.{HandsOne, one_handed, none_handed}
-use Rattle.tbr_tagged.proofs.SameItems.{all_zip_append}
 use Rattle.tbr_wrap.proofs.block.WrappedBlock.hand_out.Given.{Over}
 use Rattle.tbr_wrap.proofs.block.WrappedBlock.hand_out.Goals.{In-Some}
 use Rattle.tbr_wrap.proofs.block.WrappedBlock.hand_out.Goals as goal

@@ -1,5 +1,4 @@
-use Rattle.std.proofs.Common.{ap, sym, ◌∙◌, refl}
-use Rattle.tbr_wrap.specs.Block.{Block}
+use Rattle.tbr_wrap.proofs.Common.{ap, sym, ◌∙◌, refl, Block}
 use Rattle.tbr_wrap.proofs.runs.HeldRuns.{line_held, word_held}
 use Rattle.tbr_wrap.proofs.block.WrappedBlock.has_no_character.Goals as goal
 

@@ -1,7 +1,4 @@
-use Rattle.std.proofs.Common.{◌++◌, ◌<◌, ap, ◌∙◌, refl, subst}
-use Rattle.std.specs.List.{AllZip}
-use Rattle.tbr_tagged.specs.Elements.{SameItems}
-use Rattle.tbr_wrap.specs.Block.{Block, left, has_no_character}
+use Rattle.tbr_wrap.proofs.Common.{◌++◌, ◌<◌, ap, ◌∙◌, refl, subst, AllZip, SameItems, Block, left, has_no_character}
 use Rattle.tbr_wrap.proofs.runs.BlockLaws.{flush_best, flush_leaves, left_flushed}
 use Rattle.tbr_wrap.proofs.runs.HeldRuns.{laid, left_shown, ended_held}
 use Rattle.tbr_wrap.proofs.block.WrappedBlock.into_ended.Goals as goal

@@ -1,10 +1,5 @@
-use Rattle.std.proofs.Common.{◌≡◌, ap}
-use Rattle.std.specs.List.{AllZip}
+use Rattle.tbr_wrap.proofs.Common.{◌≡◌, ap, AllZip, done, run_of, Block, Settings, left, all_lines, after_flush, HasBestLines, ShowsText}
 use Rattle.std.proofs.lemmas.Result.{IfOk-weaker}
-use Rattle.tbr_tagged.specs.Outcome.{done}
-use Rattle.tbr_model.specs.Rule.{run_of}
-use Rattle.tbr_wrap.specs.Block.{Block, Settings, left, all_lines, after_flush}
-use Rattle.tbr_wrap.specs.Wrapped.{HasBestLines, ShowsText}
 use Rattle.tbr_wrap.proofs.runs.BlockLaws.{flush_leaves, left_flushed}
 use Rattle.tbr_wrap.proofs.block.WrappedBlock.into_lines.Goals as goal
 
@@ -22,4 +17,7 @@ returns-clause-gives g c =
 
 pub returns-clause-best : goal.returns-clause-best
 returns-clause-best g c = λ h.
-    IfOk-weaker c.hand_out.result _ (λ _. HasBestLines g.W.CharWidth.columns c.args.self.width (run_of c.args.self.events) (all_lines g.W.CharWidth.columns c.args.self)) (λ _ _. c.in_ok-flush.ensures.best h) c.hand_out.ensures.lines
+    IfOk-weaker c.hand_out.result _
+    (λ _. HasBestLines g.W.CharWidth.columns c.args.self.width (run_of c.args.self.events)
+    (all_lines g.W.CharWidth.columns c.args.self)) (λ _ _. c.in_ok-flush.ensures.best h)
+    c.hand_out.ensures.lines

@@ -1,6 +1,4 @@
-use Rattle.std.proofs.Common.{◌≡◌, None, [], refl, ap}
-use Rattle.tbr_tagged.proofs.Outcomes.{answers_ok}
-use Rattle.tbr_wrap.specs.Block.{Settings, left}
+use Rattle.tbr_wrap.proofs.Common.{◌≡◌, None, [], refl, ap, answers_ok, Settings, left}
 use Rattle.tbr_wrap.proofs.runs.LinesLeft.{none_of, shows_padded}
 use Rattle.tbr_wrap.proofs.runs.Blocks.{no_line, hands_first}
 use Rattle.tbr_wrap.proofs.block.WrappedBlock.next_line.Goals as goal

@@ -1,5 +1,4 @@
-use Rattle.std.proofs.Common.{◌≡◌, None, append-nil, refl}
-use Rattle.tbr_tagged.specs.Elements.{items_of}
+use Rattle.tbr_wrap.proofs.Common.{◌≡◌, None, append-nil, refl, items_of}
 use Rattle.tbr_tagged.proofs.SameItems.{same_items}
 use Rattle.tbr_wrap.proofs.block.WrappedBlock.pad.Goals as goal
 

@@ -1,8 +1,4 @@
-use Rattle.std.proofs.Common.{◌≡◌, ◌<◌, Ok, true, [], length, refl, ap, ◌∙◌, sym, subst, IfSome, rules}
-use Rattle.tbr_tagged.specs.Elements.{items_of, SameItems, IsMerged}
-use Rattle.tbr_tagged.proofs.SameItems.{same_items_trans}
-use Rattle.tbr_wrap.specs.Block.{Block, left}
-use Rattle.tbr_wrap.specs.Held.{HoldsRun, block_of}
+use Rattle.tbr_wrap.proofs.Common.{◌≡◌, ◌<◌, Ok, true, [], length, refl, ap, ◌∙◌, sym, subst, IfSome, rules, items_of, SameItems, IsMerged, same_items_trans, Block, left, HoldsRun, block_of}
 use Rattle.std.proofs.lemmas.Result.{IfOk-at_ok}
 use Rattle.tbr_wrap.proofs.runs.HeldRuns.{no_lines, holds_handed, first_shown, left_shown, some_left, none_left, none_held, some_held, laid}
 use Rattle.tbr_wrap.proofs.runs.Blocks.{led_on}
@@ -32,7 +28,8 @@ returns-in_default-clause-some g c = λ text rest e.
 pub invariant_of-self-2 : goal.invariant_of-self-2
 invariant_of-self-2 g c = λ live.
     let columns = g.W.CharWidth.columns in let r = c.self.inside in
-    let t = record r { wrapper = record r.wrapper { value = record r.wrapper.value { lines = c.take_line-taken.new.self } }; failure = c.keep_want.new.failure; begun = true; changes = c.appended-self-inside.result } in
+    let t =
+    record r { wrapper = record r.wrapper { value = record r.wrapper.value { lines = c.take_line-taken.new.self } }; failure = c.keep_want.new.failure; begun = true; changes = c.appended-self-inside.result } in
     let before = sym c.in_ok-line.ensures.ok.1 ∙ live in
     let k = c.self.invariant before in
     let was = c.in_ok-line.ensures.ok.0 ∙ ap Ok c.in-Some.is in
@@ -47,7 +44,10 @@ pub returns-clause-some : goal.returns-clause-some
 returns-clause-some g c = λ text rest e.
     let k = c.self.invariant (ap (λ (s : Block g.row.T.Denot). s.failure) c.self.view_is ∙ c.requires.unfailed) in
     let f = first_shown (SameItems g.T.PartialEq.eq) _ _ text rest (ap (left g.W.CharWidth.columns) c.self.view_is ∙ e) (left_shown _ _ _ _ _ k) in
-    let t = IfOk-at_ok _ (c.in_ok-line.ensures.ok.0 ∙ ap Ok c.in-Some.is) (rw c.deref_mut.ensures.value at c.take_line-taken.ensures.taken k.before (laid _ _ _ _ _ k) f.0 f.1 k.stands.lays.holds f.2) in
+    let t =
+    IfOk-at_ok _ (c.in_ok-line.ensures.ok.0 ∙ ap Ok c.in-Some.is)
+    (rw c.deref_mut.ensures.value at c.take_line-taken.ensures.taken k.before (laid _ _ _ _ _ k) f.0 f.1
+    k.stands.lays.holds f.2) in
     same_items_trans g.T.PartialEq.eq g.met.T.Eq.laws (items_of c.in-Some.line) f.0 text t.0 f.3
 
 pub returns-clause-merged : goal.returns-clause-merged

@@ -1,8 +1,4 @@
-use Rattle.std.proofs.Common.{refl, ap, ◌∙◌, sym, subst, arith}
-use Rattle.tbr_tagged.specs.Outcome.{done}
-use Rattle.tbr_tagged.proofs.Outcomes.{answers_ok}
-use Rattle.tbr_wrap.specs.Block.{Block, without_loose, settings_of}
-use Rattle.tbr_wrap.specs.Held.{HoldsRun, block_of}
+use Rattle.tbr_wrap.proofs.Common.{refl, ap, ◌∙◌, sym, subst, arith, done, answers_ok, Block, without_loose, settings_of, HoldsRun, block_of}
 use Rattle.tbr_wrap.proofs.runs.HeldRuns.{holds_taken, word_held, word_names_held}
 use Rattle.tbr_wrap.proofs.runs.Blocks.{led_on, settings_kept, none_taken}
 use Rattle.tbr_wrap.proofs.block.WrappedBlock.take_trailing_fragments.Given.{Over}

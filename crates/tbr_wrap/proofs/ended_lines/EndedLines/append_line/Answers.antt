@@ -1,17 +1,17 @@
-use Rattle.std.proofs.Common.{[], ◌∷◌, ◌++◌, refl, ap, ◌∙◌, arith, append_assoc}
+use Rattle.tbr_wrap.proofs.Common.{[], ◌∷◌, ◌++◌, refl, ap, ◌∙◌, arith, append_assoc, string_bytes, IsUtf8-string_bytes, chars_of, cut}
 use Rattle.std.specs.Str.{chars}
-use Rattle.std.specs.String.{string_bytes}
-use Rattle.std.proofs.lemmas.Str.{IsUtf8-string_bytes}
-use Rattle.tbr_tagged.specs.View.{chars_of}
 use Rattle.tbr_tagged.specs.Walks.{item_characters}
 use Rattle.tbr_tagged.proofs.TextAfter.{chars_push}
-use Rattle.tbr_wrap.specs.EndedLines.{cut}
 use Rattle.tbr_wrap.proofs.lines.CutLines.{none_cut, first_cut}
 use Rattle.tbr_wrap.proofs.ended_lines.EndedLines.append_line.Goals as goal
 
 pub returns-in_default : goal.returns-in_default
 returns-in_default g c = λ is rest e.
-    absurd (none_cut c.self.inside.laid.value.lines.ended.items c.self.inside.laid.value.lines.flat.placed is c.args.self.now rest (omega (arith, c.self.invariant.0, rw c.deref_mut.ensures.value at c.in_default.ensures.cases.0)) c.self.view_is e)
+    absurd
+    (none_cut c.self.inside.laid.value.lines.ended.items c.self.inside.laid.value.lines.flat.placed is
+    c.args.self.now rest
+    (omega (arith, c.self.invariant.0, rw c.deref_mut.ensures.value at c.in_default.ensures.cases.0))
+    c.self.view_is e)
 
 pub returns : goal.returns
 returns g c = λ is rest e.

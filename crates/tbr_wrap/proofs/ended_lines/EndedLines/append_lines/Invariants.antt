@@ -1,9 +1,7 @@
-use Rattle.std.proofs.Common.{◌≡◌, ◌++◌, length}
+use Rattle.tbr_wrap.proofs.Common.{◌≡◌, ◌++◌, length, chars_of, prefixed_characters}
 use Rattle.std.specs.Prelude.{chars}
 use denote.Text.{Utf8}
 use denote.Shadow.{shadow}
-use Rattle.tbr_tagged.specs.View.{chars_of}
-use Rattle.tbr_wrap.specs.EndedLines.{prefixed_characters}
 use Rattle.tbr_wrap.proofs.ended_lines.EndedLines.append_lines.Given as goal
 
 abbrev pub invariant-loop-prefix : goal.invariant-loop-prefix

@@ -1,6 +1,4 @@
-use Rattle.std.proofs.Common.{◌∙◌, ap}
-use Rattle.std.specs.List.{list_any}
-use Rattle.tbr_model.specs.Run.{has_character}
+use Rattle.tbr_wrap.proofs.Common.{◌∙◌, ap, list_any, has_character}
 use Rattle.tbr_wrap.proofs.lines.CutLines.{lines_any}
 use Rattle.tbr_wrap.proofs.ended_lines.EndedLines.has_character.Goals as goal
 

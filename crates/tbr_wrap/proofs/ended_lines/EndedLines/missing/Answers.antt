@@ -1,6 +1,5 @@
-use Rattle.std.proofs.Common.{◌-◌, ◌∷◌, [], length, ap, arith, rules}
-use Rattle.std.proofs.lemmas.List.{length-append, length-map}
-use Rattle.tbr_model.specs.Run.{items_width}
+use Rattle.tbr_wrap.proofs.Common.{◌-◌, ◌∷◌, [], length, ap, arith, rules, length-map, items_width}
+use Rattle.std.proofs.lemmas.List.{length-append}
 use Rattle.tbr_wrap.proofs.lines.LackingColumns.{lacking_first, lacking_next, lacking_last}
 use Rattle.tbr_wrap.proofs.ended_lines.EndedLines.missing.Goals as goal
 
@@ -11,7 +10,10 @@ pub loop-len-preserved : goal.loop-len-preserved
 loop-len-preserved g c =
     let last = c.saturating_sub.result in let items = c.in_ok-push_back.ensures.items in
     record {
-      found = lacking_next g.W.CharWidth.columns c.args.width _ _ _ _ _ _ _ c.in-Some.len.now c.next_width.result last c.loop-len.invariant.found c.in-Some.ensures.steps c.next_width.ensures.width c.ranges.width.fits c.saturating_sub.ensures
+      found =
+          lacking_next g.W.CharWidth.columns c.args.width _ _ _ _ _ _ _ c.in-Some.len.now c.next_width.result last
+          c.loop-len.invariant.found c.in-Some.ensures.steps c.next_width.ensures.width c.ranges.width.fits
+          c.saturating_sub.ensures
           c.next_width.ensures.rest items;
       counted = omega (arith, c.loop-len.invariant.counted, c.in_ok-push_back.ensures.len, ap length items, length-append c.loop-len.missing.items (last ∷ []));
     }

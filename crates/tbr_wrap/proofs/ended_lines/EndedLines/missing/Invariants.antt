@@ -1,4 +1,4 @@
-use Rattle.std.proofs.Common.{◌≡◌, ◌++◌, length}
+use Rattle.tbr_wrap.proofs.Common.{◌≡◌, ◌++◌, length}
 use Rattle.std.specs.VecDeque.{deque_len}
 use Rattle.std.specs.VecDeque.Iter.{deque_iter_rest}
 use Rattle.tbr_wrap.proofs.lines.LackingColumns.{lacking, lines_lacking}

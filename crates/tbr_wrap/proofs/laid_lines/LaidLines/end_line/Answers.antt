@@ -1,4 +1,4 @@
-use Rattle.std.proofs.Common.{refl}
+use Rattle.tbr_wrap.proofs.Common.{refl}
 use Rattle.tbr_wrap.proofs.lines.HeldLines.{holds_end}
 use Rattle.tbr_wrap.proofs.lines.LaidByRule.{lays_ended}
 use Rattle.tbr_wrap.proofs.laid_lines.LaidLines.end_line.Goals as goal

@@ -1,4 +1,4 @@
-use Rattle.std.proofs.Common.{nat_lt, ◌∙◌}
+use Rattle.tbr_wrap.proofs.Common.{nat_lt, ◌∙◌}
 use Rattle.tbr_wrap.proofs.lines.CountedMarkers.{has_from_counts}
 use Rattle.tbr_wrap.proofs.laid_lines.LaidLines.has_line.Goals as goal
 

@@ -1,5 +1,4 @@
-use Rattle.std.proofs.Common.{[], refl, ap, arith}
-use Rattle.tbr_model.specs.Laid.{nothing_laid}
+use Rattle.tbr_wrap.proofs.Common.{[], refl, ap, arith, nothing_laid}
 use Rattle.tbr_wrap.proofs.laid_lines.LaidLines.new.Goals as goal
 
 pub returns-clause-holds : goal.returns-clause-holds

@@ -1,9 +1,5 @@
-use Rattle.std.proofs.Common.{◌≡◌, ◌≤◌, ◌+◌, take, refl, ap, ◌∙◌, arith, length-take-le, rules}
-use Rattle.tbr_model.specs.Run.{items_width}
-use Rattle.tbr_tagged.specs.Elements.{SameItems}
-use Rattle.tbr_tagged.proofs.SameItems.{same_width}
+use Rattle.tbr_wrap.proofs.Common.{◌≡◌, ◌≤◌, ◌+◌, take, refl, ap, ◌∙◌, arith, length-take-le, rules, items_width, SameItems, same_width, same_take}
 use Rattle.tbr_wrap.proofs.lines.CountedMarkers.{markers_within}
-use Rattle.tbr_flat.proofs.MarkedItems.{same_take}
 use Rattle.tbr_wrap.proofs.lines.HeldLines.{holds_more}
 use Rattle.tbr_wrap.proofs.lines.LaidByRule.{lays_extended}
 use Rattle.tbr_wrap.proofs.words.WordsLaid.{put_fitting}
@@ -28,6 +24,8 @@ returns-clause-put g c =
           let wide : c.in_ok-front.front.columns ≡ items_width columns (take n js) = e.columns ∙ same_width columns eq (take n old.flat.word) (take n js) front in
           let fits : r.width + items_width columns (take n js) ≤ old.width = omega (arith, wide, e.room, h.holds.width, h.shows.width, old.fits) in
           rw (put_fitting columns old.width r (take n js) fits)
-          (lays_extended columns eq laws old _ (record { width = refl; may_overflow = refl }) before given r h (take n old.flat.word) (take n js) (items_width columns (take n js)) front refl (omega (arith, wide, e.room, old.fits))
+          (lays_extended columns eq laws old _ (record { width = refl; may_overflow = refl }) before given r h
+          (take n old.flat.word) (take n js) (items_width columns (take n js)) front refl
+          (omega (arith, wide, e.room, old.fits))
           (holds_more old _ before h.laid (take n old.flat.word) (items_width columns (take n js)) h.holds (ap (λ f. f.placed) e.placed) refl (omega (arith, c.in-Some.ensures, length-take-le n old.flat.word e.within)) (ap (λ m. old.line_markers + m) e.markers) (omega (arith, wide))));
     }

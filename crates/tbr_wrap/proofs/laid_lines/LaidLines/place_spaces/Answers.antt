@@ -1,5 +1,4 @@
-use Rattle.std.proofs.Common.{refl, ◌∙◌, sym, arith}
-use Rattle.tbr_model.specs.Rule.{spaces}
+use Rattle.tbr_wrap.proofs.Common.{refl, ◌∙◌, sym, arith, spaces}
 use Rattle.tbr_wrap.proofs.lines.HeldLines.{holds_more}
 use Rattle.tbr_wrap.proofs.lines.CountedMarkers.{spaces_markers}
 use Rattle.tbr_wrap.proofs.lines.LaidByRule.{lays_extended, same_spaces, spaces_width, spaces_length}

@@ -1,5 +1,4 @@
-use Rattle.std.proofs.Common.{◌≡◌, ◌++◌, take, refl, ap, ◌∙◌, arith}
-use Rattle.tbr_model.specs.Run.{item_width}
+use Rattle.tbr_wrap.proofs.Common.{◌≡◌, ◌++◌, take, refl, ap, ◌∙◌, arith, item_width}
 use Rattle.tbr_wrap.proofs.lines.HeldLines.{holds_wide}
 use Rattle.tbr_wrap.proofs.lines.LaidByRule.{lays_wide, same_first}
 use Rattle.tbr_wrap.proofs.laid_lines.LaidLines.place_wide.Goals as goal

@@ -1,5 +1,4 @@
-use Rattle.std.proofs.Common.{◌+◌, refl, ap, arith}
-use Rattle.tbr_model.specs.Run.{items_width}
+use Rattle.tbr_wrap.proofs.Common.{◌+◌, refl, ap, arith, items_width}
 use Rattle.tbr_wrap.proofs.lines.CountedMarkers.{markers_within}
 use Rattle.tbr_wrap.proofs.lines.HeldLines.{holds_more}
 use Rattle.tbr_wrap.proofs.lines.LaidByRule.{lays_extended}
@@ -15,5 +14,10 @@ invariant_of-self-2-clause-marked g c =
 
 pub returns-clause-placed : goal.returns-clause-placed
 returns-clause-placed g c = λ columns js word e before given r h.
-    lays_extended columns g.T.PartialEq.eq g.met.T.Eq.laws c.args.self.now _ (record { width = refl; may_overflow = refl }) before given r h c.args.self.now.flat.word js (items_width columns js) word refl (omega (arith, e, c.requires.room))
-    (holds_more c.args.self.now _ before h.laid c.args.self.now.flat.word (items_width columns js) h.holds (ap (λ f. f.placed) c.in_ok-markers.ensures.placed) refl (omega (arith, c.in-Some.ensures, c.in-Some.is, c.in_ok-items.ensures)) (ap (λ n. c.args.self.now.line_markers + n) c.in_ok-markers.ensures.markers) (omega (arith, e)))
+    lays_extended columns g.T.PartialEq.eq g.met.T.Eq.laws c.args.self.now _
+    (record { width = refl; may_overflow = refl }) before given r h c.args.self.now.flat.word js
+    (items_width columns js) word refl (omega (arith, e, c.requires.room))
+    (holds_more c.args.self.now _ before h.laid c.args.self.now.flat.word (items_width columns js) h.holds
+    (ap (λ f. f.placed) c.in_ok-markers.ensures.placed) refl
+    (omega (arith, c.in-Some.ensures, c.in-Some.is, c.in_ok-items.ensures))
+    (ap (λ n. c.args.self.now.line_markers + n) c.in_ok-markers.ensures.markers) (omega (arith, e)))

@@ -1,5 +1,5 @@
 use Rattle.std.specs.Bool.{⊤}
-use Rattle.std.proofs.Common.{arith}
+use Rattle.tbr_wrap.proofs.Common.{arith}
 use Rattle.tbr_wrap.proofs.lines.LaidByRule.{put_here, put_next}
 use Rattle.tbr_wrap.proofs.laid_lines.LaidLines.put_front.Goals.{then-width-self-2+in_ok-end_line, else-width-self-2}
 use Rattle.tbr_wrap.proofs.laid_lines.LaidLines.put_front.Goals as goal

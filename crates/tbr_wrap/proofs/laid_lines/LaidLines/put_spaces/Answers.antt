@@ -1,5 +1,4 @@
-use Rattle.std.proofs.Common.{◌≡◌, ◌+◌, ◌-◌, ap, ◌∙◌, arith}
-use Rattle.tbr_model.specs.Rule.{spaces, put_spaces}
+use Rattle.tbr_wrap.proofs.Common.{◌≡◌, ◌+◌, ◌-◌, ap, ◌∙◌, arith, spaces, put_spaces}
 use Rattle.tbr_wrap.proofs.lines.ManySpaces.{put_more}
 use Rattle.tbr_wrap.proofs.lines.HeldLines.{keeps_trans}
 use Rattle.tbr_wrap.proofs.lines.ReservedSpaces.{spaces_more}

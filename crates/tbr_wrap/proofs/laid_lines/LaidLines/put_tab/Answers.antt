@@ -1,7 +1,5 @@
-use Rattle.std.proofs.Common.{◌≡◌, true, ◌-◌, ◌%◌, false, nat_le, ◌∙◌}
+use Rattle.tbr_wrap.proofs.Common.{◌≡◌, true, ◌-◌, ◌%◌, false, nat_le, ◌∙◌, extended, spaces}
 use borrow.Author.Tests.{lt-leb}
-use Rattle.tbr_model.specs.Laid.{extended}
-use Rattle.tbr_model.specs.Rule.{spaces}
 use Rattle.tbr_wrap.proofs.laid_lines.LaidLines.put_tab.Goals as goal
 
 pub returns-clause-put : goal.returns-clause-put

@@ -1,10 +1,4 @@
-use Rattle.std.proofs.Common.{◌<◌, take, drop, ap, sym, ◌∙◌, subst, arith}
-use Rattle.tbr_model.specs.Run.{item_width, items_width}
-use Rattle.tbr_model.specs.Laid.{end_if_columns}
-use Rattle.tbr_tagged.specs.Elements.{SameItems}
-use Rattle.tbr_tagged.proofs.SameItems.{same_width}
-use Rattle.tbr_wrap.specs.LaidLines.{HoldsRule}
-use Rattle.tbr_flat.proofs.MarkedItems.{same_take}
+use Rattle.tbr_wrap.proofs.Common.{◌<◌, take, drop, ap, sym, ◌∙◌, subst, arith, item_width, items_width, end_if_columns, SameItems, same_width, HoldsRule, same_take}
 use Rattle.tbr_wrap.proofs.lines.LaidByRule.{item_wide, some_same}
 use Rattle.tbr_wrap.proofs.laid_lines.LaidLines.put_wide.Goals as goal
 

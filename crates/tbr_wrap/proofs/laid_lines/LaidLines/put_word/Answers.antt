@@ -1,6 +1,4 @@
-use Rattle.std.proofs.Common.{◌≡◌, ◌<◌, false, List, [], take, drop, ap, ◌∙◌, arith}
-use Rattle.tbr_model.specs.Run.{Item, items_width}
-use Rattle.tbr_model.specs.Laid.{put_items}
+use Rattle.tbr_wrap.proofs.Common.{◌≡◌, ◌<◌, false, List, [], take, drop, ap, ◌∙◌, arith, Item, items_width, put_items}
 use Rattle.tbr_flat.proofs.MarkedItems.{same_drop}
 use Rattle.tbr_wrap.proofs.lines.HeldLines.{keeps_trans}
 use Rattle.tbr_wrap.proofs.lines.LaidByRule.{none_same, put_parts, narrow_rest, none_first, first_columns}

@@ -1,4 +1,4 @@
-use Rattle.std.proofs.Common.{rules}
+use Rattle.tbr_wrap.proofs.Common.{rules}
 use Rattle.tbr_wrap.proofs.lines.ManySpaces.{put_room, put_full}
 use Rattle.tbr_wrap.proofs.lines.ReservedSpaces.{taken_here, taken_full}
 use Rattle.tbr_wrap.proofs.laid_lines.LaidLines.take_spaces.Goals as goal

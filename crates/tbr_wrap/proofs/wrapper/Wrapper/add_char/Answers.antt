@@ -1,9 +1,5 @@
-use Rattle.std.proofs.Common.{◌≡◌, ◌∙◌, sym, Err, rules}
-use Rattle.std.proofs.lemmas.Result.{err_from_is_err_and}
-use Rattle.tbr_model.specs.declared.white_space.WhiteSpace.TheVariants.{PreWrap}
-use Rattle.tbr_model.specs.Rule.{break_word, tag_of}
+use Rattle.tbr_wrap.proofs.Common.{◌≡◌, ◌∙◌, sym, Err, rules, err_from_is_err_and, PreWrap, break_word, tag_of, unfit_by}
 use Rattle.tbr_tagged.specs.declared.error.Error.TheVariants as E
-use Rattle.tbr_model.proofs.rule.WiderLines.{unfit_by}
 use Rattle.tbr_model.proofs.rule.DoneLines.{preserve_after}
 use Rattle.tbr_wrap.proofs.wrapper.Wrapper.add_char.Goals as goal
 

@@ -1,15 +1,9 @@
-use Rattle.std.proofs.Common.{◌≡◌, ℕ, false, [], ◌∷◌, subst, fold, chars, take, ap, sym, ◌∙◌, arith, length-take-le, Err, rules}
-use Rattle.std.proofs.lemmas.Result.{err_from_is_err_and}
-use Rattle.std.proofs.lemmas.Str.{IsUtf8-from_ascii, IsCharBoundary-from_take}
+use Rattle.tbr_wrap.proofs.Common.{◌≡◌, ℕ, false, [], ◌∷◌, subst, fold, chars, take, ap, sym, ◌∙◌, arith, length-take-le, Err, rules, err_from_is_err_and, IsUtf8-from_ascii, IsCharBoundary-from_take}
+use Rattle.tbr_wrap.proofs.Common.{lines_fit, Progress, enter, character, text_entries, IsAtProgress}
 use Rattle.tbr_tagged.specs.declared.error.Error.TheVariants as E
 use Rattle.tbr_flat.proofs.TextBytes.{chars_within}
 use Rattle.tbr_wrap.proofs.words.Letters.{ascii_front, next_letter, entered_on, unfit_on}
 use Rattle.tbr_wrap.proofs.words.PlainWords.{all_ascii}
-use Rattle.tbr_model.specs.Fits.{lines_fit}
-use Rattle.tbr_model.specs.Rule.{Progress, enter}
-use Rattle.tbr_model.specs.Run.{character}
-use Rattle.tbr_wrap.specs.Runs.{text_entries}
-use Rattle.tbr_wrap.specs.Wrapper.{IsAtProgress}
 use Rattle.tbr_wrap.proofs.wrapper.Wrapper.add_front.Goals as goal
 
 pub range-requires-clause-end_boundary : goal.range-requires-clause-end_boundary
@@ -65,7 +59,8 @@ overflow_add-result-2 g c =
 pub returns-clause-front : goal.returns-clause-front
 returns-clause-front g c =
     let is = sym c.range_from.ensures.value ∙ sym c.chars.ensures.rest ∙ c.in-Some.ensures.steps.0 in
-    rw c.len_utf8.ensures.value ((next_letter c.args.text.now c.next.new.self.rest.now c.fitting_stretch-s.result.bytes c.fitting_stretch-s.result.count c.in-Some.c c.utf8.text c.fitting_stretch-s.ensures.stretch.front is).front)
+    rw c.len_utf8.ensures.value
+    ((next_letter c.args.text.now c.next.new.self.rest.now c.fitting_stretch-s.result.bytes c.fitting_stretch-s.result.count c.in-Some.c c.utf8.text c.fitting_stretch-s.ensures.stretch.front is).front)
 
 pub returns-clause-entered : goal.returns-clause-entered
 returns-clause-entered g c = λ before given p s.
@@ -78,7 +73,11 @@ returns-clause-entered g c = λ before given p s.
     let front : c.range-front.result.now ≡ take n text = c.range-front.ensures.value ∙ ap (λ m. take m text) (omega arith) in
     let r = c.in_ok-add_stretch.ensures in
     let t : IsAtProgress columns g.T.PartialEq.eq c.add_stretch.new.self before given q = rw front at (r.entered before given p s) in
-    let added = subst (λ (w : ℕ). IsAtProgress columns g.T.PartialEq.eq c.add_char.new.self before given (enter columns w q (character c.in-Some.c main wrap mode))) r.limits.width (c.in_ok-add_char.ensures.entered before given q t) in
+    let added =
+    subst
+    (λ (w : ℕ). IsAtProgress columns g.T.PartialEq.eq c.add_char.new.self before given
+    (enter columns w q (character c.in-Some.c main wrap mode))) r.limits.width
+    (c.in_ok-add_char.ensures.entered before given q t) in
     rw (c.len_utf8.ensures.value, k.letters, entered_on columns width main wrap mode (chars (take n text)) (c.in-Some.c ∷ []) p) added
 
 pub returns-in_err-add_char-clause-wider : goal.returns-in_err-add_char-clause-wider

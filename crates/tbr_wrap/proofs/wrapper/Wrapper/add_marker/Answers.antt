@@ -1,5 +1,4 @@
-use Rattle.std.proofs.Common.{rules}
-use Rattle.std.proofs.lemmas.Result.{on_ok_weaker}
+use Rattle.tbr_wrap.proofs.Common.{rules, on_ok_weaker}
 use Rattle.tbr_wrap.proofs.words.RunEnds.{marked_stands}
 use Rattle.tbr_wrap.proofs.wrapper.Wrapper.add_marker.Goals as goal
 

@@ -1,7 +1,4 @@
-use Rattle.std.proofs.Common.{chars, refl, sym, ◌∙◌, arith}
-use Rattle.std.proofs.lemmas.List.{nil_from_length}
-use Rattle.tbr_model.specs.Rule.{tag_of}
-use Rattle.tbr_tagged.proofs.SameItems.{same_has}
+use Rattle.tbr_wrap.proofs.Common.{chars, refl, sym, ◌∙◌, arith, nil_from_length, tag_of, same_has}
 use Rattle.tbr_wrap.proofs.words.PlainText.{all_join}
 use Rattle.tbr_wrap.proofs.words.TagRoom.{stays_under}
 use Rattle.tbr_wrap.proofs.wrapper.Wrapper.add_stretch.Goals as goal

@@ -1,13 +1,7 @@
-use Rattle.std.proofs.Common.{◌≡◌, ◌≤◌, ◌+◌, ◌++◌, ◌∷◌, [], ◌∙◌, sym, ap, chars, length, arith, refl, length-append, rules}
-use Rattle.std.proofs.lemmas.Str.{chars-IsAscii}
-use Rattle.tbr_model.specs.declared.white_space.WhiteSpace.TheVariants.{Normal}
-use Rattle.tbr_model.specs.Rule.{tag_of, pending_width, lay_here}
-use Rattle.tbr_model.specs.Run.{items_width}
-use Rattle.tbr_model.specs.Width.{width_of_text}
-use Rattle.tbr_wrap.specs.Wrapper.{join_all}
+use Rattle.tbr_wrap.proofs.Common.{◌≡◌, ◌≤◌, ◌+◌, ◌++◌, ◌∷◌, [], ◌∙◌, sym, ap, chars, length, arith, refl, length-append, rules, chars-IsAscii, Normal, tag_of, pending_width, lay_here, items_width}
+use Rattle.tbr_wrap.proofs.Common.{width_of_text, join_all, same_has}
 use Rattle.tbr_wrap.proofs.words.PlainWords.{words_laid, words_ascii, words_width, words_front, all_ascii}
 use Rattle.tbr_wrap.proofs.words.WordsLaid.{same_held_width}
-use Rattle.tbr_tagged.proofs.SameItems.{same_has}
 use Rattle.tbr_wrap.proofs.wrapper.Wrapper.add_words.Goals as goal
 
 pub lay_with-requires-clause-count : goal.lay_with-requires-clause-count
@@ -21,7 +15,9 @@ returns-clause-entered g c = λ before given p s.
     let is = c.range-words.ensures.value ∙ words_front columns text w in
     let words : chars c.range-words.result.now ≡ w.front = ap chars is ∙ chars-IsAscii w.front (words_ascii columns _ w.front _ w.read) in
     let whole : chars text ≡ w.front ++ 32 ∷ [] = chars-IsAscii text (all_ascii columns text w) ∙ w.is in
-    let wide : length c.range-words.result.now ≡ width_of_text columns (chars c.range-words.result.now) = ap length is ∙ sym (words_width columns (g.met.W.CharWidth.drawn_in_one 32 refl) _ w.front _ w.read) ∙ sym (ap (width_of_text columns) words) in
+    let wide : length c.range-words.result.now ≡ width_of_text columns (chars c.range-words.result.now) =
+    ap length is ∙ sym (words_width columns (g.met.W.CharWidth.drawn_in_one 32 refl) _ w.front _ w.read)
+    ∙ sym (ap (width_of_text columns) words) in
     let same = c.call_tag-tag.ensures columns before given p s in
     let laid = c.in_ok-lay_with.ensures.laid t wide same before given p s in
     let collapsed = c.collapse.ensures.after_change columns t same before given (lay_here columns (join_all (chars c.range-words.result.now) t Normal p)) laid in

@@ -1,5 +1,4 @@
-use Rattle.std.proofs.Common.{◌≡◌, true, nat_lt, arith, lt-ltb}
-use Rattle.tbr_model.specs.Run.{items_width}
+use Rattle.tbr_wrap.proofs.Common.{◌≡◌, true, nat_lt, arith, lt-ltb, items_width}
 use Rattle.tbr_wrap.proofs.wrapper.Wrapper.break_word.Goals as goal
 
 pub returns-clause-wider : goal.returns-clause-wider

@@ -1,9 +1,6 @@
-use Rattle.std.proofs.Common.{◌≡◌, ◌∙◌, sym, Err}
-use Rattle.std.proofs.lemmas.Result.{err_from_is_err_and}
-use Rattle.tbr_model.specs.Rule.{break_word, collapse}
+use Rattle.tbr_wrap.proofs.Common.{◌≡◌, ◌∙◌, sym, Err, err_from_is_err_and, break_word, collapse, unfit_by}
 use Rattle.tbr_tagged.specs.declared.error.Error.TheVariants as E
 use Rattle.tbr_wrap.proofs.words.ModeCases.{normal_break, normal_kept}
-use Rattle.tbr_model.proofs.rule.WiderLines.{unfit_by}
 use Rattle.tbr_model.proofs.rule.DoneLines.{collapse_after}
 use Rattle.tbr_wrap.proofs.wrapper.Wrapper.enter_normal.Goals as goal
 

@@ -1,7 +1,4 @@
-use Rattle.std.proofs.Common.{refl, subst, take, arith}
-use Rattle.tbr_model.specs.Run.{has_character}
-use Rattle.tbr_model.specs.Rule.{is_pre}
-use Rattle.tbr_wrap.specs.Plain.{ArePlain}
+use Rattle.tbr_wrap.proofs.Common.{refl, subst, take, arith, has_character, is_pre, ArePlain}
 use Rattle.tbr_wrap.proofs.words.Letters.{plain_stretch}
 use Rattle.tbr_wrap.proofs.wrapper.Wrapper.fitting_stretch.Goals as goal
 

@@ -1,4 +1,4 @@
-use Rattle.tbr_tagged.proofs.SameItems.{same_has}
+use Rattle.tbr_wrap.proofs.Common.{same_has}
 use Rattle.tbr_wrap.proofs.wrapper.Wrapper.flush_word.Goals as goal
 
 pub returns-then-not-has_word-clause-laid : goal.returns-then-not-has_word-clause-laid

@@ -1,9 +1,4 @@
-use Rattle.std.proofs.Common.{◌<◌, if◌then◌else◌, chars, length, refl, ap, ◌∙◌, arith}
-use Rattle.tbr_model.specs.Run.{has_character}
-use Rattle.tbr_model.proofs.words.Items.{items_width-append}
-use Rattle.tbr_tagged.specs.Elements.{text_items}
-use Rattle.tbr_tagged.proofs.SameItems.{same_items_append, same_texts}
-use Rattle.tbr_tagged.proofs.TextColumns.{items_width-text}
+use Rattle.tbr_wrap.proofs.Common.{◌<◌, if◌then◌else◌, chars, length, refl, ap, ◌∙◌, arith, has_character, items_width-append, text_items, same_items_append, same_texts, items_width-text}
 use Rattle.tbr_wrap.proofs.lines.HeldLines.{holds_same}
 use Rattle.tbr_wrap.proofs.lines.LaidByRule.{lays_same}
 use Rattle.tbr_wrap.proofs.words.PlainText.{joined_text}

@@ -1,8 +1,5 @@
-use Rattle.std.proofs.Common.{◌≡◌, ◌<◌, ◌+◌, true, false, nat_le, sym, ◌∙◌, arith, rules}
+use Rattle.tbr_wrap.proofs.Common.{◌≡◌, ◌<◌, ◌+◌, true, false, nat_le, sym, ◌∙◌, arith, rules, items_width, pending_width, wrap_space, held_width}
 use borrow.Author.Tests.{le-leb, lt-leb}
-use Rattle.tbr_model.specs.Run.{items_width}
-use Rattle.tbr_model.specs.Rule.{pending_width, wrap_space}
-use Rattle.tbr_wrap.specs.Wrapper.{held_width}
 use Rattle.tbr_wrap.proofs.words.WordsLaid.{same_held_width, no_room}
 use Rattle.tbr_model.proofs.rule.WiderLines.{lay_wider}
 use Rattle.tbr_wrap.proofs.wrapper.Wrapper.lay.Goals as goal

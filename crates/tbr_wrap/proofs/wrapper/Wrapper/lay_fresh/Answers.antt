@@ -1,8 +1,4 @@
-use Rattle.std.proofs.Common.{◌≡◌, true, false, sym, ap, ◌∙◌, arith}
-use Rattle.tbr_model.specs.Run.{has_character}
-use Rattle.tbr_model.specs.Laid.{end_if_character}
-use Rattle.tbr_model.specs.Rule.{is_pre}
-use Rattle.tbr_tagged.proofs.SameItems.{same_has}
+use Rattle.tbr_wrap.proofs.Common.{◌≡◌, true, false, sym, ap, ◌∙◌, arith, has_character, end_if_character, is_pre, same_has}
 use Rattle.tbr_wrap.proofs.words.WordsLaid.{stands_laid, flagged_stands, lay_fresh_some, lay_fresh_none}
 use Rattle.tbr_wrap.proofs.wrapper.Wrapper.lay_fresh.Goals as goal
 

@@ -1,9 +1,4 @@
-use Rattle.std.proofs.Common.{refl, sym, ◌∙◌, rules, []}
-use Rattle.tbr_model.specs.Run.{items_width}
-use Rattle.tbr_model.specs.Laid.{extended}
-use Rattle.tbr_model.specs.Rule.{space_text, pending_width}
-use Rattle.tbr_tagged.specs.Elements.{SameItems}
-use Rattle.tbr_model.proofs.rule.Walk.{extended_twice}
+use Rattle.tbr_wrap.proofs.Common.{refl, sym, ◌∙◌, rules, [], items_width, extended, space_text, pending_width, SameItems, extended_twice}
 use Rattle.tbr_wrap.proofs.wrapper.Wrapper.lay_here.Goals as goal
 
 pub returns-clause-laid : goal.returns-clause-laid

@@ -1,12 +1,5 @@
-use Rattle.std.proofs.Common.{◌≡◌, ◌<◌, ◌++◌, if◌then◌else◌, chars, length, refl, ap, ◌∙◌, arith}
-use Rattle.tbr_model.specs.Run.{has_character, items_width}
-use Rattle.tbr_model.specs.Laid.{extended}
-use Rattle.tbr_model.specs.Rule.{space_text, pending_width}
-use Rattle.tbr_model.specs.declared.white_space.WhiteSpace.TheVariants.{Normal}
-use Rattle.tbr_model.proofs.rule.Walk.{extended_twice}
-use Rattle.tbr_model.proofs.words.Items.{items_width-append}
-use Rattle.tbr_tagged.specs.Elements.{text_items}
-use Rattle.tbr_tagged.proofs.TextColumns.{items_width-text}
+use Rattle.tbr_wrap.proofs.Common.{◌≡◌, ◌<◌, ◌++◌, if◌then◌else◌, chars, length, refl, ap, ◌∙◌, arith, has_character, items_width, extended, space_text, pending_width, Normal, extended_twice}
+use Rattle.tbr_wrap.proofs.Common.{items_width-append, text_items, items_width-text}
 use Rattle.tbr_wrap.proofs.words.PlainText.{joined_text}
 use Rattle.tbr_wrap.proofs.wrapper.Wrapper.lay_with.Goals as goal
 

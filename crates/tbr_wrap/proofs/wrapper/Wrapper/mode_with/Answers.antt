@@ -1,5 +1,4 @@
-use Rattle.std.proofs.Common.{refl}
-use Rattle.tbr_tagged.proofs.SameItems.{same_has}
+use Rattle.tbr_wrap.proofs.Common.{refl, same_has}
 use Rattle.tbr_wrap.proofs.wrapper.Wrapper.mode_with.Goals as goal
 
 pub returns-then-has_word : goal.returns-then-has_word

@@ -1,7 +1,4 @@
-use Rattle.std.proofs.Common.{◌≡◌, ◌++◌, ◌∷◌, [], None, false, ◌∙◌, sym, ap, chars, length, arith, refl, length-append}
-use Rattle.std.proofs.lemmas.Str.{chars-IsAscii}
-use Rattle.tbr_model.specs.Laid.{end_if_character}
-use Rattle.tbr_tagged.proofs.SameItems.{same_has}
+use Rattle.tbr_wrap.proofs.Common.{◌≡◌, ◌++◌, ◌∷◌, [], None, false, ◌∙◌, sym, ap, chars, length, arith, refl, length-append, chars-IsAscii, end_if_character, same_has}
 use Rattle.tbr_wrap.proofs.words.PlainWords.{words_moved, all_ascii}
 use Rattle.tbr_wrap.proofs.words.WordsLaid.{same_held_width, drops_pending, spaced_stands, stands_laid}
 use Rattle.tbr_wrap.proofs.wrapper.Wrapper.move_words.Goals as goal
@@ -18,7 +15,10 @@ returns-clause-entered g c = λ before given p s.
     let b = c.args.self.now in let m = c.requires.moved in let w = m.words in
     let k = c.in_ok-end_if_character.ensures in let q = record p { laid = end_if_character p.laid; space = None } in
     let e = k.ended columns before given p.laid s.lays in
-    let t = stands_laid columns eq (record b { space = None }) c.end_if_character.new.self before given (record p { space = None }) (end_if_character p.laid) (spaced_stands columns eq b None before given p None s tt) e.0 (rw k.flat s.word) in
+    let t =
+    stands_laid columns eq (record b { space = None }) c.end_if_character.new.self before given
+    (record p { space = None }) (end_if_character p.laid)
+    (spaced_stands columns eq b None before given p None s tt) e.0 (rw k.flat s.word) in
     let none = sym (same_has eq b.lines.flat.word p.word s.word) ∙ c.requires.word in
     let same = words_moved columns (g.met.W.CharWidth.drawn_in_one 32 refl) b.lines.width a d false w.front m.first p w.read none (drops_pending eq b.space p.space s.space m.space) (omega (arith, e.1, e.0.holds.width, e.0.shows.width))
     (rw w.is at m.letters)

@@ -1,4 +1,5 @@
-use Rattle.std.proofs.Common.{false, refl, arith, length-take}
+use Rattle.tbr_wrap.proofs.Common.{false, refl, arith}
+use Rattle.std.proofs.Common.{length-take}
 use Rattle.tbr_wrap.proofs.words.PlainWords.{fewer_join}
 use Rattle.tbr_wrap.proofs.words.PlainText.{plain_parts}
 use Rattle.tbr_wrap.proofs.wrapper.Wrapper.moved_words.Goals as goal

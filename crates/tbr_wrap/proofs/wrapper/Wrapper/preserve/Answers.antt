@@ -1,10 +1,7 @@
-use Rattle.std.proofs.Common.{◌≡◌, refl, ◌∙◌, sym, Err, rules}
-use Rattle.std.proofs.lemmas.Result.{err_from_is_err_and}
-use Rattle.tbr_model.specs.Rule.{tag_of, flush_word, newline, tab}
+use Rattle.tbr_wrap.proofs.Common.{◌≡◌, refl, ◌∙◌, sym, Err, rules, err_from_is_err_and, tag_of, flush_word, newline, tab, unfit_by}
 use Rattle.tbr_tagged.specs.declared.error.Error.TheVariants as E
 use Rattle.tbr_wrap.proofs.words.ModeCases.{preserve_newline, preserve_tab, preserve_space, preserve_kept, preserve_none}
 use Rattle.tbr_wrap.proofs.runs.LinesLeft.{unfailed}
-use Rattle.tbr_model.proofs.rule.WiderLines.{unfit_by}
 use Rattle.tbr_model.proofs.rule.DoneLines.{newline_after, tab_after}
 use Rattle.tbr_wrap.proofs.wrapper.Wrapper.preserve.Goals as goal
 
@@ -37,7 +34,10 @@ pub returns-then-always_takes_space-clause-preserved : goal.returns-then-always_
 returns-then-always_takes_space-clause-preserved g c = λ before given p s.
     let columns = g.W.CharWidth.columns in
     let is = sym c.width.ensures ∙ c.in-Some.is in
-    rw (preserve_kept columns c.args.self.now.lines.width c.args.c c.args.main_tag.now c.args.wrap_tag.now c.args.mode p c.if-c-eq-ZERO_WIDTH_SPACE.false c.if-c-eq10.false c.if-c-eq9.false c.in-Some.width (sym c.always_takes_space.ensures ∙ c.if-always_takes_space.true) is)
+    rw
+    (preserve_kept columns c.args.self.now.lines.width c.args.c c.args.main_tag.now c.args.wrap_tag.now c.args.mode
+    p c.if-c-eq-ZERO_WIDTH_SPACE.false c.if-c-eq10.false c.if-c-eq9.false c.in-Some.width
+    (sym c.always_takes_space.ensures ∙ c.if-always_takes_space.true) is)
     (c.in_ok-keep_character.ensures.kept columns is before given p s)
 
 pub returns-clause-preserved : goal.returns-clause-preserved
@@ -46,7 +46,10 @@ returns-clause-preserved g c = λ before given p s.
     let a = c.args.main_tag.now in let b = c.args.wrap_tag.now in
     let is = sym c.width.ensures ∙ c.in-Some.is in
     let same = c.call_tag-tag.ensures columns before given p s in
-    rw (preserve_space columns c.args.self.now.lines.width c.args.c a b c.args.mode p c.if-c-eq-ZERO_WIDTH_SPACE.false c.if-c-eq10.false c.if-c-eq9.false c.in-Some.width (sym c.always_takes_space.ensures ∙ c.if-always_takes_space.false) is)
+    rw
+    (preserve_space columns c.args.self.now.lines.width c.args.c a b c.args.mode p c.if-c-eq-ZERO_WIDTH_SPACE.false
+    c.if-c-eq10.false c.if-c-eq9.false c.in-Some.width
+    (sym c.always_takes_space.ensures ∙ c.if-always_takes_space.false) is)
     (c.in_ok-keep_space.ensures.kept columns (tag_of p a b) is same before given p s)
 
 pub returns-in_err-flush_word-clause-wider : goal.returns-in_err-flush_word-clause-wider

@@ -1,6 +1,4 @@
-use Rattle.std.proofs.Common.{rules, []}
-use Rattle.std.proofs.lemmas.Result.{on_ok_weaker}
-use Rattle.tbr_tagged.specs.Elements.{SameItems}
+use Rattle.tbr_wrap.proofs.Common.{rules, [], on_ok_weaker, SameItems}
 use Rattle.tbr_wrap.proofs.words.WordsLaid.{put_fitting, same_narrow, on_ok_both}
 use Rattle.tbr_wrap.proofs.wrapper.Wrapper.put_fresh.Goals as goal
 

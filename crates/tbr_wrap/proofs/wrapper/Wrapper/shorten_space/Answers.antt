@@ -1,7 +1,5 @@
-use Rattle.std.proofs.Common.{◌≡◌, ◌-◌, false, nat_le, refl, arith, rules}
+use Rattle.tbr_wrap.proofs.Common.{◌≡◌, ◌-◌, false, nat_le, refl, arith, rules, on_ok_weaker, same_items_trans}
 use borrow.Author.Tests.{lt-leb}
-use Rattle.std.proofs.lemmas.Result.{on_ok_weaker}
-use Rattle.tbr_tagged.proofs.SameItems.{same_items_trans}
 use Rattle.tbr_wrap.proofs.words.WordsLaid.{on_ok_both}
 use Rattle.tbr_wrap.proofs.wrapper.Wrapper.shorten_space.Goals as goal
 

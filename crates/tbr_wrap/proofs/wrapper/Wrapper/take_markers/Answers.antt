@@ -1,5 +1,4 @@
-use Rattle.std.proofs.Common.{arith}
-use Rattle.std.proofs.lemmas.Result.{on_ok_weaker}
+use Rattle.tbr_wrap.proofs.Common.{arith, on_ok_weaker}
 use Rattle.tbr_wrap.proofs.words.RunEnds.{unmarked_stands}
 use Rattle.tbr_wrap.proofs.wrapper.Wrapper.take_markers.Goals as goal
 

@@ -1,6 +1,4 @@
-use Rattle.std.proofs.Common.{refl, ◌∙◌, rules}
-use Rattle.tbr_model.specs.Rule.{without_leading}
-use Rattle.tbr_tagged.proofs.SameItems.{same_width}
+use Rattle.tbr_wrap.proofs.Common.{refl, ◌∙◌, rules, without_leading, same_width}
 use Rattle.tbr_wrap.proofs.wrapper.Wrapper.trim_word.Goals as goal
 
 pub returns-clause-trimmed : goal.returns-clause-trimmed

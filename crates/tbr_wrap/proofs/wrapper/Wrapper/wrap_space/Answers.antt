@@ -1,4 +1,4 @@
-use Rattle.std.proofs.Common.{None, sym, ◌∙◌}
+use Rattle.tbr_wrap.proofs.Common.{None, sym, ◌∙◌}
 use Rattle.tbr_wrap.proofs.words.WordsLaid.{held_some, spaced_stands}
 use Rattle.tbr_wrap.proofs.wrapper.Wrapper.wrap_space.Goals as goal
 

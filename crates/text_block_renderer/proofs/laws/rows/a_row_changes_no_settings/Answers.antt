@@ -1,5 +1,5 @@
 use Rattle.text_block_renderer.proofs.Common.{pointwise}
-use Rattle.text_block_renderer.proofs.RowsOfCells.{row_laid, settings_stay}
+use Rattle.tbr_renderer.proofs.RowsOfCells.{row_laid, settings_stay}
 use Rattle.text_block_renderer.proofs.laws.rows.a_row_changes_no_settings.Goals as goal
 
 pub returns : goal.returns

@@ -1,7 +1,14 @@
-use Rattle.std.proofs.Common.{rules}
-use Rattle.tbr_tagged.proofs.Outcomes.{live_goes}
+use Rattle.tbr_decor.specs.Decoration.{decoration_of}
+use Rattle.tbr_renderer.specs.Appended.{handed_out, after_cells}
+use Rattle.tbr_renderer.specs.Outcomes.{gathered}
 use Rattle.tbr_renderer.proofs.KeptRefusals.{settled_takes}
 use Rattle.tbr_renderer.proofs.sub.calls.SubRendererRenderer.append_vert_row.Goals as goal
 
 pub returns-clause-takes : goal.returns-clause-takes
-returns-clause-takes g c = search (rules, settled_takes, live_goes, c.keep.ensures, c.try_append_vert_row-done.ensures, c.in_ok-refusal.ensures)
+returns-clause-takes g c =
+    let columns = g.W.CharWidth.columns in
+    let tried = c.try_append_vert_row-done.ensures in
+    settled_takes columns (decoration_of g.D.TextDecorator g.D.Annotation.Tag.tells) c.try_append_vert_row-done.new.self
+    c.in_ok-refusal.ensures c.keep.ensures.result c.keep.ensures.ok c.keep.ensures.failed
+    (gathered (λ col. handed_out columns col) c.args.cols.items) (after_cells columns)
+    tried.ok tried.too_narrow tried.two_columns tried.settings

@@ -1,0 +1,13 @@
+pub mod Common
+pub mod RenderedLines
+pub mod StackCalls
+pub mod LedRenderers
+pub mod TwoColumns
+pub mod ShownTexts
+pub mod CameToRenderers
+pub mod KeptTexts
+pub mod OneRowCells
+pub mod TextsOfCommands
+pub mod Controls
+pub mod BlocksOfLines
+pub mod LinesOnStack

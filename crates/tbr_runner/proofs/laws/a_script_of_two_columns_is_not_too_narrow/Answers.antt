@@ -1,5 +1,0 @@
-use Rattle.tbr_runner.proofs.TwoColumns.{not_too_narrow}
-use Rattle.tbr_runner.proofs.laws.a_script_of_two_columns_is_not_too_narrow.Goals as goal
-
-pub returns : goal.returns
-returns g c = not_too_narrow
