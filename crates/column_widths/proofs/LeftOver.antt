@@ -75,8 +75,12 @@ widths_sum : (extra all i : ℕ) (g : ℕ × Need → Bool) (ns : List Need) →
 widths_sum extra all i g [] = refl
 widths_sum extra all i g (n ∷ ns) =
     let rest = widths_sum extra all (i + 1) g ns in
-    rw
-    (sum_by-cons (λ p. p.1.least + share extra all p.1 + cond (g p) 1 0) (i, n) (enumerate_from (i + 1) ns), sum_by-cons (width_of Least) n ns, sum_by-cons (share extra all) n ns, count_cons g (i, n) (enumerate_from (i + 1) ns))
+    rw (
+      sum_by-cons (λ p. p.1.least + share extra all p.1 + cond (g p) 1 0) (i, n) (enumerate_from (i + 1) ns),
+      sum_by-cons (width_of Least) n ns,
+      sum_by-cons (share extra all) n ns,
+      count_cons g (i, n) (enumerate_from (i + 1) ns),
+    )
     (omega arith)
 
 -- what is left beside the least widths is given out to the last column of text

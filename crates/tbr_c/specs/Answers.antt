@@ -13,7 +13,7 @@ use Rattle.tbr_c_tables.specs.declared.table_call.TableCall.{TableCall}
 use Rattle.tbr_c.specs.declared.state.State.{State}
 use Rattle.tbr_c.specs.declared.state.State.TheVariants.{Filled}
 use Rattle.tbr_c.specs.Page.{new_page}
-use Rattle.tbr_c.specs.State.{HasEnded, after_refusal, refused_as, after_command, after_call, end_of, EndsIn, HasText, TakesLine, HasNoNext}
+use Rattle.tbr_c.specs.State.{HasEnded, after_refusal, refused_as, command_made, call_made, end_of, EndsIn, HasText, TakesLine, HasNoNext}
 use Rattle.tbr_c.specs.Questions.{Puts, rest_of, rest_to_show, line_as}
 
 -- what arguments make of a renderer that ask for a call, or for none
@@ -39,10 +39,10 @@ GivesMade make before asked back status =
 
 -- so it is where arguments ask for a command of a script, or for a call of a table
 abbrev pub Gives : State → Result Command Fault → Option State → ℕ → Type 0
-Gives before asked back status = GivesMade after_command before asked back status
+Gives before asked back status = GivesMade command_made before asked back status
 
 abbrev pub GivesTable : State → Result TableCall Fault → Option State → ℕ → Type 0
-GivesTable before asked back status = GivesMade after_call before asked back status
+GivesTable before asked back status = GivesMade call_made before asked back status
 
 -- What is refused at the end, and what the renderer holds then.
 pub record IsEnd {X : Type 0} (before : State) (done : Result X Fault) (after : State) : Type 0 where

@@ -66,12 +66,12 @@ refused_as other why = why
 -- ---- what calls make of it
 
 -- A command, as in a script, whose lines don't count here. In a table it is recorded.
-abbrev pub after_command : Command → State → Result State Fault
-after_command command (Filled p) = result_map_both Filled fault_of_command (page_after command p)
-after_command command (Table t) =
+abbrev pub command_made : Command → State → Result State Fault
+command_made command (Filled p) = result_map_both Filled fault_of_command (page_after command p)
+command_made command (Table t) =
     result_map_both (λ given. Table (record t { given = given })) (λ f. f) (command_given command t.given)
-after_command command (Finished lines) = Err fault.Finished
-after_command command (Refused e) = Err (fault_of e)
+command_made command (Finished lines) = Err fault.Finished
+command_made command (Refused e) = Err (fault_of e)
 
 -- a table begins, or why it can't
 abbrev pub begun_in : Page → Option Fault → Result State Fault
@@ -96,11 +96,11 @@ after_given p (Ok given) = after_parts given.parts p given
 after_given p (Err f) = Err f
 
 -- a call of a table
-abbrev pub after_call : TableCall → State → Result State Fault
-after_call asked (Filled p) = begun_in p (misplaced (page_facts p) asked)
-after_call asked (Table t) = after_given t.page (call_given asked t.given)
-after_call asked (Finished lines) = Err fault.Finished
-after_call asked (Refused e) = Err (fault_of e)
+abbrev pub call_made : TableCall → State → Result State Fault
+call_made asked (Filled p) = begun_in p (misplaced (page_facts p) asked)
+call_made asked (Table t) = after_given t.page (call_given asked t.given)
+call_made asked (Finished lines) = Err fault.Finished
+call_made asked (Refused e) = Err (fault_of e)
 
 -- What its end gives, as that of a script, whose lines don't count here.
 abbrev pub end_of : State → Result (List ℕ) Fault

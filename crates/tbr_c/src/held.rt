@@ -2,7 +2,7 @@
 ghost use Rattle.std.specs.Prelude.{◌≡◌, ◌≢◌, ◌<◌, ℕ, List, None, Some, Result, Ok, Err, IfOk, IfErr, IfSome, OnOk, MatchResult, string_bytes};
 ghost use Rattle.tbr_c.specs.Answers.{IsAnswer, IsEnd, HasLength, IsNext};
 ghost use Rattle.tbr_c.specs.Arguments.{Reads};
-ghost use Rattle.tbr_c.specs.State.{CanGoOn, MayFinish, EndsIn, after_command, after_call, after_refusal};
+ghost use Rattle.tbr_c.specs.State.{CanGoOn, MayFinish, EndsIn, command_made, call_made, after_refusal};
 ghost use Rattle.tbr_c.specs.Page.{new_page};
 ghost use Rattle.tbr_c.specs.Questions.{facts_of, levels_of, room_in, width_left, prefix_of, Needs, refusal_of, line_taken, rest_of, rest_to_show, line_as};
 ghost use Rattle.tbr_c.specs.declared.state.State.TheVariants as S;
@@ -64,7 +64,7 @@ impl Held {
     pub fn run(&mut self, read: Result<Command, Fault>) -> Result<(), Fault>
         requires { IfOk read (λ command. IsSized (command_of command)) }
         ensures { (asked : Result Asked Refusal) → Reads command_of asked read →
-            IsAnswer after_command self.old asked result self.new }
+            IsAnswer command_made self.old asked result self.new }
     {
         let done = match read {
             Ok(command) => self.state.run(self.alloc, command),
@@ -75,7 +75,7 @@ impl Held {
 
     /// Does the call of a table that arguments ask for, or refuses those that are none. It refuses as `run` does.
     pub fn call_table(&mut self, read: Result<TableCall, Fault>) -> Result<(), Fault>
-        ensures { IsAnswer after_call self.old read result self.new }
+        ensures { IsAnswer call_made self.old read result self.new }
     {
         let done = match read {
             Ok(call) => self.state.call_table(self.alloc, call),

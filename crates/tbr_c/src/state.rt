@@ -7,7 +7,7 @@ ghost use Rattle.tbr_c_lines.specs.Copied.{CopiesMade};
 ghost use Rattle.tbr_c_lines.specs.Formats.{CopiesShown};
 ghost use Rattle.tbr_c_lines.specs.Status.{status_of};
 ghost use Rattle.tbr_c.specs.Page.{new_page};
-ghost use Rattle.tbr_c.specs.State.{CanGoOn, MayFinish, kept, after_refusal, HasEnded, refused_as, after_command, after_call, drawn_in, IsFilled, IsTable, end_of, EndsIn, lines_in, TakesLine, HasNoNext};
+ghost use Rattle.tbr_c.specs.State.{CanGoOn, MayFinish, kept, after_refusal, HasEnded, refused_as, command_made, call_made, drawn_in, IsFilled, IsTable, end_of, EndsIn, lines_in, TakesLine, HasNoNext};
 ghost use Rattle.tbr_c.specs.Questions.{facts_of, levels_of, room_in, width_left, prefix_of, Needs, rest_of, rest_to_show, line_as};
 ghost use Rattle.tbr_c.specs.declared.state.State.TheVariants as S;
 ghost use Rattle.tbr_c_lines.specs.declared.fault.Fault.TheVariants as F;
@@ -54,9 +54,9 @@ impl State {
         requires goes_on { CanGoOn self.old }
         requires sized { IsSized (command_of command) }
         ensures goes_on { OnOk result (CanGoOn self.new) }
-        ensures done { OnOk result (after_command (command_of command) self.old ≡ Ok self.new) }
+        ensures done { OnOk result (command_made (command_of command) self.old ≡ Ok self.new) }
         ensures refused { IfErr result (λ fault. fault ≢ F.OutOfMemory →
-            after_command (command_of command) self.old ≡ Err fault) }
+            command_made (command_of command) self.old ≡ Err fault) }
         ensures left { IfErr result (λ fault. kept fault ≡ None → self.new ≡ self.old) }
         ensures ended { HasEnded self.old result }
     {
@@ -75,8 +75,8 @@ impl State {
     pub fn call_table(&mut self, alloc: Global, call: TableCall) -> Result<(), Fault>
         requires { CanGoOn self.old }
         ensures goes_on { OnOk result (CanGoOn self.new) }
-        ensures done { OnOk result (after_call call self.old ≡ Ok self.new) }
-        ensures refused { IfErr result (λ fault. fault ≢ F.OutOfMemory → after_call call self.old ≡ Err fault) }
+        ensures done { OnOk result (call_made call self.old ≡ Ok self.new) }
+        ensures refused { IfErr result (λ fault. fault ≢ F.OutOfMemory → call_made call self.old ≡ Err fault) }
         ensures left { IfErr result (λ fault. kept fault ≡ None → self.new ≡ self.old) }
         ensures ended { HasEnded self.old result }
     {
@@ -96,8 +96,8 @@ impl State {
         requires filled { IsFilled self.old }
         requires goes_on { CanGoOn self.old }
         ensures goes_on { OnOk result (CanGoOn self.new) }
-        ensures done { OnOk result (after_call call self.old ≡ Ok self.new) }
-        ensures refused { IfErr result (λ fault. fault ≢ F.OutOfMemory → after_call call self.old ≡ Err fault) }
+        ensures done { OnOk result (call_made call self.old ≡ Ok self.new) }
+        ensures refused { IfErr result (λ fault. fault ≢ F.OutOfMemory → call_made call self.old ≡ Err fault) }
         ensures left { IfErr result (λ fault. kept fault ≡ None → self.new ≡ self.old) }
     {
         let facts = self.facts()?;

@@ -78,8 +78,13 @@ module _ {A : Type 0} where
   pub fewer : (xs : List (RepeatedTag A)) (i j : ℕ) → i ≤ j → length (tags_of (drop j xs)) ≤ length (tags_of (drop i xs))
   fewer xs i j h =
       let n : i + (j - i) ≡ j = omega arith in
-      omega
-      (arith, ap length (split_tags (drop i xs) (j - i)), length-append (tags_of (take (j - i) (drop i xs))) (tags_of (drop (j - i) (drop i xs))), ap (λ ys. length (tags_of ys)) (drop-drop (j - i) i xs ∙ ap (λ m. drop m xs) n))
+      omega (
+        arith,
+        ap length (split_tags (drop i xs) (j - i)),
+        length-append (tags_of (take (j - i) (drop i xs)))
+            (tags_of (drop (j - i) (drop i xs))),
+        ap (λ ys. length (tags_of ys)) (drop-drop (j - i) i xs ∙ ap (λ m. drop m xs) n),
+      )
 
   pub offset_in : (xs : List (RepeatedTag A)) (i o last : ℕ) (s : RepeatedTag A) → IsPlace xs i o last → s ≡ get_or xs i s → o ≤ s.more
   offset_in xs i o last s p is = grind (arith, p.tags, p.inside, none_left xs i, λ (h : suc i ≤ length xs). stored_len xs i (suc i) s refl h is)

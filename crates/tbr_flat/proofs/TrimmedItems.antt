@@ -113,8 +113,15 @@ module _ {A : Type 0} where
 
     pub led_covers : covered (shortened n m) ≡ length new
     led_covers =
-        omega
-        (arith, covered_shortened m n led_within, opened.2, ap length opened.1, length-append (without_leading (take (before_first m) is)) (drop (before_first m) is), length-drop (before_first m) is, first_within m)
+        omega (
+          arith,
+          covered_shortened m n led_within,
+          opened.2,
+          ap length opened.1,
+          length-append (without_leading (take (before_first m) is)) (drop (before_first m) is),
+          length-drop (before_first m) is,
+          first_within m,
+        )
 
     pub led_word : marked new (shortened n m).markers ≡ without_leading (marked is m.markers)
     led_word = go m.markers m.after covers opened.1 opened.2

@@ -33,7 +33,9 @@ module _ {T : Type 0} (ls front : List (Line T)) (b : Border T) (is : ls ≡ fro
 -- no border where the last line in memory is none
 pub no_last_border : {T : Type 0} (ls : List (RenderLine T)) (x : RenderLine T) → x ≡ get_or ls (length ls - 1) x → last_border (line_seen x ∷ []) ≡ None → last_border (map line_seen ls) ≡ None
 no_last_border [] x is none = refl
-no_last_border (l ∷ []) x is none = let same : x ≡ l = is ∙ ap (λ n. get_or (l ∷ []) n x) (let zeroth : length (l ∷ []) - 1 ≡ 0 = omega arith in zeroth) in ap (λ k. last_border (line_seen k ∷ [])) (sym same) ∙ none
+no_last_border (l ∷ []) x is none = let same : x ≡ l =
+    is ∙ ap (λ n. get_or (l ∷ []) n x) (let zeroth : length (l ∷ []) - 1 ≡ 0 = omega arith in zeroth) in
+    ap (λ k. last_border (line_seen k ∷ [])) (sym same) ∙ none
 no_last_border (l ∷ m ∷ ls) x is none =
     let next : length (l ∷ m ∷ ls) - 1 ≡ suc (length (m ∷ ls) - 1) = omega arith in
     no_last_border (m ∷ ls) x (is ∙ ap (λ n. get_or (l ∷ m ∷ ls) n x) next) none

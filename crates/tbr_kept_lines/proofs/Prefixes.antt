@@ -193,7 +193,8 @@ module _ {T : Type 0} (eq : T → T → Bool) where
     more ++ later,
     was ∙ ap (λ ls. ls ++ later) is ∙ append_assoc a more later,
     subst (λ ls. AllZip (SameSeen eq) ls (text_lines (xs ++ ys))) (sym (map-append line_seen more later))
-        (subst (AllZip (SameSeen eq) (map line_seen more ++ map line_seen later)) (sym (text_lines_append xs ys)) (all_zip_append (SameSeen eq) (map line_seen more) (map line_seen later) (text_lines xs) (text_lines ys) same alike)),
+        (subst (AllZip (SameSeen eq) (map line_seen more ++ map line_seen later)) (sym (text_lines_append xs ys))
+        (all_zip_append (SameSeen eq) (map line_seen more) (map line_seen later) (text_lines xs) (text_lines ys) same alike)),
     each_append (IsMergedText eq) more later merged whole,
   )
 
@@ -273,8 +274,13 @@ module _ {T : Type 0} (eq : T → T → Bool) (tag : T) (first others : List ℕ
   pub texts_more : (before old mid new : List (Line T)) (ended shown : List (List (Item T))) (next : List ℕ) → next ≡ next_prefix before → Appends eq old (prefixed before) mid →
       AllZip (SameItems eq) shown (after_prefixes (text_items next tag) (text_items others tag) ended) → new ≡ mid ++ text_lines shown → Appends eq old (prefixed (before ++ text_lines ended)) new
   texts_more before old mid new ended shown next is h alike pushed =
-      prefixed_more before (text_lines ended) old mid new next is h
-      (text_lines shown, pushed, subst (AllZip (SameSeen eq) (text_lines shown)) (sym (prefixed_texts tag next others ended)) (same_text_lines eq shown (after_prefixes (text_items next tag) (text_items others tag) ended) alike))
+      prefixed_more before (text_lines ended) old mid new next is h (
+        text_lines shown,
+        pushed,
+        subst (AllZip (SameSeen eq) (text_lines shown))
+            (sym (prefixed_texts tag next others ended))
+            (same_text_lines eq shown (after_prefixes (text_items next tag) (text_items others tag) ended) alike),
+      )
 
   -- So many lines have their prefixes, and the others are as they were.
   pub record HasPut (lines now : List (RenderLine T)) (count : ℕ) (next : List ℕ) : Type 0 where
@@ -334,8 +340,19 @@ lines_counted ps i p n m k before ended below is count front more tail sum =
     ap parts_seen (take_more ps i p below ∙ ap (λ q. take i ps ++ q ∷ []) (sym is))
     ∙ flat_map-append part_seen (take i ps) (p ∷ [])
     ∙ ap (λ ls. parts_seen (take i ps) ++ ls) (append-nil (part_seen p)) in
-    omega
-    (arith, count, front, more, tail, sum, ap length whole, length-append (parts_seen (take i ps)) (part_seen p), length-append (map line_seen p.before.items) (text_lines p.ended), length-map p.before.items line_seen, length_lines p.ended)
+    omega (
+      arith,
+      count,
+      front,
+      more,
+      tail,
+      sum,
+      ap length whole,
+      length-append (parts_seen (take i ps)) (part_seen p),
+      length-append (map line_seen p.before.items) (text_lines p.ended),
+      length-map p.before.items line_seen,
+      length_lines p.ended,
+    )
 
 -- what is written over all of a vector is what it holds
 pub written_over : {X : Type 0} (items new : List X) (len : ℕ) → len ≡ length items → length new ≡ length items → take len (new ++ drop (length new) items) ≡ new

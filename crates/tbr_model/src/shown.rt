@@ -10,7 +10,8 @@ ghost use Rattle.tbr_model.specs.Rule.{Event, run_of, Progress, enter, progress,
 ghost use Rattle.tbr_model.specs.declared.white_space.WhiteSpace.{WhiteSpace};
 ghost use Rattle.tbr_model.specs.declared.white_space.WhiteSpace.TheVariants.{Normal};
 ghost use Rattle.tbr_model.specs.Hard.{AllHaveMode, entry_letters, is_visible, ShowsVisible};
-ghost use Rattle.tbr_model.specs.Shown.{without_spaces, names_waiting, InventsNothing, ComesWithRun, ShowsInOrder, IsNotPre, ShowsOwn, run_shows_columns, HasColumns, columns_so_far, next_stop, is_newline_or_tab, HasOneMore, EndWhereFull, word_lines};
+ghost use Rattle.tbr_model.specs.Shown.{without_spaces, names_waiting, InventsNothing, ComesWithRun, ShowsInOrder, IsNotPre, ShowsOwn, run_shows_columns, HasColumns, columns_so_far};
+ghost use Rattle.tbr_model.specs.Shown.{next_stop, is_newline_or_tab, HasOneMore, EndWhereFull, word_lines};
 
 /// The visible characters of a run are on its lines once, in order, each under an annotation of its call. Its markers
 /// are on the lines once, in order, or wait.

@@ -5,13 +5,15 @@ use Rattle.std.specs.List.{enumerate_from}
 use Rattle.tbr_tables.specs.declared.grid.Spot.{Spot}
 use Rattle.tbr_tables.specs.declared.shape.Shape.{Shape}
 use Rattle.tbr_tables.specs.declared.step.Step.{Step}
-use Rattle.tbr_tables.specs.declared.step.Step.TheVariants.{Text, BeginMode, EndMode, EndLine, Border, Inside, Sub, Append, GivenCell, EndGivenCell, GivenRow, VerticalRow, Table, Cell, EndCell, Row, EndTable}
+use Rattle.tbr_tables.specs.declared.step.Step.TheVariants.{Text, BeginMode, EndMode, EndLine, Border, Inside, Sub, Append, GivenCell, EndGivenCell, GivenRow, VerticalRow, Table, Cell}
+use Rattle.tbr_tables.specs.declared.step.Step.TheVariants.{EndCell, Row, EndTable}
 use Rattle.tbr_tables.specs.declared.drawn.Call.{Call}
 use Rattle.tbr_tables.specs.declared.drawn.Call.TheVariants as call
 use Rattle.tbr_tables.specs.declared.drawn.DrawnCell.{DrawnCell}
 use Rattle.tbr_tables.specs.declared.drawn.Drawn.{Drawn}
 use Rattle.tbr_tables.specs.Grid.{next_from_above, rest_of_row, spot_for}
-use Rattle.tbr_tables.specs.Drawn.{DrawnTable, Drawing, call_at, call_if, empty_cells, before_cell, row_end, table_start, table_end, table_of, table_left, width_in, columns_inside, cell_at, drawn_after, above_passed}
+use Rattle.tbr_tables.specs.Drawn.{DrawnTable, Drawing, call_at, call_if, empty_cells, before_cell, row_end, table_start, table_end, table_of, table_left, width_in, columns_inside, cell_at}
+use Rattle.tbr_tables.specs.Drawn.{drawn_after, above_passed}
 use Rattle.tbr_tables.proofs.Cases.{by_bool}
 use Rattle.tbr_tables.specs.Laws.{given_of, is_given, is_kept, kept_from}
 

@@ -5,7 +5,8 @@ use Rattle.std.specs.List.{AllByRecursion as Each}
 use Rattle.std.proofs.lemmas.Bool.{eqb-true, eqb-false}
 use Rattle.tbr_tables.specs.declared.grid.Spot.{Spot}
 use Rattle.tbr_tables.specs.declared.step.TableCell.{TableCell}
-use Rattle.tbr_tables.specs.Grid.{Grid, first_row, adjacent, end_of, next_from_above, passed, before_first, spot_for, placed, most_columns, singles, between, rest_of_row, carried, spans_more, one_row_less}
+use Rattle.tbr_tables.specs.Grid.{Grid, first_row, adjacent, end_of, next_from_above, passed, before_first, spot_for, placed, most_columns, singles, between, rest_of_row, carried}
+use Rattle.tbr_tables.specs.Grid.{spans_more, one_row_less}
 use Rattle.tbr_tables.specs.Laws.{Tiles, EndsBy, moved, grid_of, full_row}
 use Rattle.tbr_tables.proofs.Cases.{by_bool}
 

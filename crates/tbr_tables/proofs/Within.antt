@@ -12,7 +12,8 @@ use Rattle.tbr_tables.specs.declared.grid.Spot.{Spot}
 use Rattle.tbr_tables.specs.declared.shape.Shape.{Shape}
 use Rattle.tbr_tables.specs.declared.measured_table.MeasuredTable.{MeasuredTable}
 use Rattle.tbr_tables.specs.declared.step.Step.{Step}
-use Rattle.tbr_tables.specs.declared.step.Step.TheVariants.{Text, BeginMode, EndMode, EndLine, Border, Inside, Sub, Append, GivenCell, EndGivenCell, GivenRow, VerticalRow, Table, Cell, EndCell, Row, EndTable}
+use Rattle.tbr_tables.specs.declared.step.Step.TheVariants.{Text, BeginMode, EndMode, EndLine, Border, Inside, Sub, Append, GivenCell, EndGivenCell, GivenRow, VerticalRow, Table, Cell}
+use Rattle.tbr_tables.specs.declared.step.Step.TheVariants.{EndCell, Row, EndTable}
 use Rattle.tbr_tables.specs.Ruler.{room_of}
 use Rattle.tbr_tables.specs.Grid.{last_of}
 use Rattle.tbr_tables.specs.Measured.{Measured, no_shape, needing, need_at, cell_needs, table_left, room_or_none, measured_after}

@@ -11,7 +11,8 @@ use Rattle.tbr_tables.specs.declared.shape.Shape.{Shape}
 use Rattle.tbr_tables.specs.declared.measured_table.MeasuredTable.{MeasuredTable}
 use Rattle.tbr_tables.specs.declared.step.TableCell.{TableCell}
 use Rattle.tbr_tables.specs.declared.step.Step.{Step}
-use Rattle.tbr_tables.specs.declared.step.Step.TheVariants.{Text, BeginMode, EndMode, EndLine, Border, Inside, Sub, Append, GivenCell, EndGivenCell, GivenRow, VerticalRow, Table, Cell, EndCell, Row, EndTable}
+use Rattle.tbr_tables.specs.declared.step.Step.TheVariants.{Text, BeginMode, EndMode, EndLine, Border, Inside, Sub, Append, GivenCell, EndGivenCell, GivenRow, VerticalRow, Table, Cell}
+use Rattle.tbr_tables.specs.declared.step.Step.TheVariants.{EndCell, Row, EndTable}
 use Rattle.tbr_tables.specs.Numbers.{held, next_of, any_width}
 use Rattle.tbr_tables.specs.Ruler.{room_of, line_ended, with_lines, after_text}
 use Rattle.tbr_tables.specs.Level.{new_level, with_cell, exactly, cells_added}

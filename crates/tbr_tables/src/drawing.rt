@@ -1,7 +1,8 @@
 //! What draws tables, step by step.
 ghost use Rattle.std.specs.Prelude.{◌≡◌, false, [], ◌∷◌, ◌++◌, slice_get, IfOk, OnOk};
 ghost use Rattle.std.specs.Option.{option_copied};
-ghost use Rattle.tbr_tables.specs.Drawn.{nothing_drawn, adding, call_at, entered, left, is_moved, given, columns_inside, empty_cells, before_cell, row_end, row_left, table_start, table_end, table_begun, table_left, cell_begun, drawn_after, drawing_of};
+ghost use Rattle.tbr_tables.specs.Drawn.{nothing_drawn, adding, call_at, entered, left, is_moved, given, columns_inside, empty_cells, before_cell, row_end, row_left, table_start, table_end};
+ghost use Rattle.tbr_tables.specs.Drawn.{table_begun, table_left, cell_begun, drawn_after, drawing_of};
 ghost use Rattle.tbr_tables.specs.Drawn as model;
 
 use crate::drawn::{Call, Drawn, DrawnCell};

@@ -112,6 +112,11 @@ module _ {A : Type 0} (eq : A → A → Bool) (laws : IsEquivalence eq) where
   pub padded_columns : (columns : ℕ → Option ℕ) (is js : List (Item A)) (front after : ℕ) (a : A) → columns 32 ≡ Some 1 →
       SameItems eq is (text_items (spaces front) a ++ js ++ text_items (spaces after) a) → items_width columns is ≡ front + items_width columns js + after
   padded_columns columns is js front after a h same =
-      rw
-      (same_width columns eq is (text_items (spaces front) a ++ js ++ text_items (spaces after) a) same, items_width-append, items_width-append, spaces_columns columns front a h, spaces_columns columns after a h)
+      rw (
+        same_width columns eq is (text_items (spaces front) a ++ js ++ text_items (spaces after) a) same,
+        items_width-append,
+        items_width-append,
+        spaces_columns columns front a h,
+        spaces_columns columns after a h,
+      )
       refl

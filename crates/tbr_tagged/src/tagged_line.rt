@@ -2,7 +2,8 @@
 ghost use Rattle.std.specs.Prelude.{◌≡◌, ℕ, ◌^◌, ◌≤◌, ◌<◌, ◌++◌, ◌∷◌, ◌⊎◌, [], true, false, max, not, List, Option, chars, fold, map, length, string_len, IfOk, OnOk, OnErr};
 ghost use Rattle.tbr_model.specs.Run.{glyph};
 ghost use Rattle.std.specs.List.{slice_get};
-ghost use Rattle.tbr_tagged.specs.Elements.{Element, items_of, line_width, element_items, is_piece_under, last_of, characters, piece, push_text, push_element, insert_text, text_items, SameItems, SameElements, IsMerged};
+ghost use Rattle.tbr_tagged.specs.Elements.{Element, items_of, line_width, element_items, is_piece_under, last_of, characters, piece, push_text, push_element, insert_text, text_items};
+ghost use Rattle.tbr_tagged.specs.Elements.{SameItems, SameElements, IsMerged};
 ghost use Rattle.tbr_tagged.specs.Elements as model;
 ghost use Rattle.tbr_tagged.specs.Equal.{equal_lines};
 ghost use Rattle.tbr_tagged.specs.Grown.{HasGrown, last_bytes};

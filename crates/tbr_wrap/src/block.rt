@@ -1,5 +1,6 @@
 //! A block of wrapped text.
-ghost use Rattle.std.specs.Prelude.{◌≡◌, ◌≢◌, ℕ, ◌≤◌, ◌<◌, ◌++◌, ◌∷◌, [], not, ◌&&◌, nat_lt, is_none, is_some, if◌then◌else◌, None, Some, List, OnOk, IfOk, IfErr, IsErr, IsSomeAnd, MatchResult, Err, Ok, true, chars, string_bytes, length, map, drop, IsTrue};
+ghost use Rattle.std.specs.Prelude.{◌≡◌, ◌≢◌, ℕ, ◌≤◌, ◌<◌, ◌++◌, ◌∷◌, [], not, ◌&&◌, nat_lt, is_none, is_some, if◌then◌else◌, None, Some, List, OnOk, IfOk, IfErr, IsErr, IsSomeAnd};
+ghost use Rattle.std.specs.Prelude.{MatchResult, Err, Ok, true, chars, string_bytes, length, map, drop, IsTrue};
 ghost use Rattle.std.specs.List.{AllZip};
 ghost use Rattle.std.specs.Str.{IsUtf8};
 ghost use Rattle.tbr_model.specs.Run.{Item};
@@ -60,7 +61,8 @@ impl<T: Tag, W: CharWidth> WrappedBlock<T, W> {
     ghost use Rattle.tbr_tagged.specs.Elements.{marker_element};
     ghost use Rattle.tbr_tagged.specs.View.{element_of};
     ghost use Rattle.tbr_tagged.specs.Outcome.{Answers, done, refused};
-    ghost use Rattle.tbr_wrap.specs.Block.{Block, new_block, settings_of, failure_of, lines, all_lines, left, any_line, takes_no_columns, has_no_character, loose, allows, grown, settled, HasGrown, after_text, after_marker, after_taking, after_flush, after_line, line_handed_out, HandsOutFirst, WrapsNormally};
+    ghost use Rattle.tbr_wrap.specs.Block.{Block, new_block, settings_of, failure_of, lines, all_lines, left, any_line, takes_no_columns, has_no_character, loose, allows, grown, settled};
+    ghost use Rattle.tbr_wrap.specs.Block.{HasGrown, after_text, after_marker, after_taking, after_flush, after_line, line_handed_out, HandsOutFirst, WrapsNormally};
 
     /// A block without text. Its lines take at most `width` columns, which must be at least 1. It refuses only where memory
     /// is refused.

@@ -15,7 +15,8 @@ ghost use Rattle.tbr_tagged.specs.Elements.{Element, items_of};
 ghost use Rattle.tbr_tagged.specs.Mapped.{MeansEqual};
 ghost use Rattle.tbr_tagged.specs.Outcome.{done, refused};
 ghost use Rattle.tbr_tagged.specs.declared.error.Error.TheVariants as E;
-ghost use Rattle.tbr_wrap.specs.Block.{Block, new_block, settings_of, lines, all_lines, left, takes_no_columns, has_no_character, loose, waiting_names, after_text, after_marker, after_taking, after_flush, after_line, lines_handed_out, progress_of, IsSound, WrapsNormally, RunDecides};
+ghost use Rattle.tbr_wrap.specs.Block.{Block, new_block, settings_of, lines, all_lines, left, takes_no_columns, has_no_character, loose, waiting_names, after_text, after_marker};
+ghost use Rattle.tbr_wrap.specs.Block.{after_taking, after_flush, after_line, lines_handed_out, progress_of, IsSound, WrapsNormally, RunDecides};
 ghost use Rattle.tbr_wrap.specs.Wrapped.{ShowsText, WordsFit, EndedWordsFit, padding_of};
 ghost use Rattle.tbr_wrap.specs.Runs.{IsNormal, CharactersFit, VisibleFit, AreLastOf, EndsRun, is_some_list, text_entries};
 

@@ -13,7 +13,8 @@
 //! - What fits the open line is *placed* on it (`place_pending`, `place_word`). What may not fit is *put* on it and the
 //!   next ones (`put_pending`, `put_fresh`, `put_tab`).
 //! - Ended lines are *taken*, the first one first ([`LaidLines::take_line`]).
-ghost use Rattle.std.specs.Prelude.{◌≡◌, ◌≤◌, ◌<◌, ◌+◌, ◌&&◌, ◌||◌, ◌↔◌, [], ℕ, List, fold, length, take, map, chars, string_bytes, Bool, not, if◌then◌else◌, IsTrue, Option, None, Some, true, false, OnOk, IfOk, IfSome, Err};
+ghost use Rattle.std.specs.Prelude.{◌≡◌, ◌≤◌, ◌<◌, ◌+◌, ◌&&◌, ◌||◌, ◌↔◌, [], ℕ, List, fold, length, take, map, chars, string_bytes, Bool, not, if◌then◌else◌, IsTrue, Option, None, Some};
+ghost use Rattle.std.specs.Prelude.{true, false, OnOk, IfOk, IfSome, Err};
 ghost use Rattle.tbr_model.specs.Width.{width_of_text};
 ghost use Rattle.tbr_model.specs.Run.{Item, items_width, character, marker_entry, has_character, is_break};
 ghost use Rattle.tbr_model.specs.Laid.{extended, put_items};

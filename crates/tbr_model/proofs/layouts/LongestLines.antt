@@ -112,7 +112,8 @@ pub tells_first : {A : Type 0} (width : ℕ) (slots : List (Slot A)) (solved : L
 tells_first {A} width slots solved e = record {
   long = omega (arith, ap length e);
   at = λ k h. let none : drop (length slots - k) slots ≡ [] = drop_of_length-le slots (omega arith) in
-      let yes : slice_index_or solved k false ≡ true = ap (λ (l : List Bool). slice_index_or l k false) e ∙ (let first : k ≡ 0 = omega arith in ap (λ (i : ℕ). slice_index_or (true ∷ []) i false) first) in
+      let yes : slice_index_or solved k false ≡ true = ap (λ (l : List Bool). slice_index_or l k false) e
+      ∙ (let first : k ≡ 0 = omega arith in ap (λ (i : ℕ). slice_index_or (true ∷ []) i false) first) in
       (λ _. subst (HasLegalLayout width) (sym none) (has_cuts width [] [] (record { whole = refl; each = tt })), λ _. yes);
 }
 
@@ -175,7 +176,8 @@ next_cut {A} width slots cuts from end h line = record {
   legal = rw more (each_append (IsLegalLine width) (lines_after slots 0 h.later) (new ∷ []) h.legal (subst (IsLegalLine width) (sym taken) line.legal, tt));
   full =
       rw more
-      (each_append (λ l. 0 < length l) (lines_after slots 0 h.later) (new ∷ []) h.full (omega (arith, line.some, length-line slots from to (omega arith) (omega (arith, line.within, length-drop from slots, h.within))), tt));
+      (each_append (λ l. 0 < length l) (lines_after slots 0 h.later) (new ∷ []) h.full
+      (omega (arith, line.some, length-line slots from to (omega arith) (omega (arith, line.within, length-drop from slots, h.within))), tt));
   greedy = rw more (greedy_more width (lines_after slots 0 h.later) new (drop to slots)
       (subst (GreedyBefore width (lines_after slots 0 h.later)) (sym (line_and_rest slots from to (omega arith))) h.greedy)
       (subst (λ (l : List (Slot A)). IsLongest width l (drop to slots)) (sym taken) (subst (IsLongest width (take end (drop from slots))) after line.longest)));

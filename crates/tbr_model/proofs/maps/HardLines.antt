@@ -120,7 +120,8 @@ module _ {A B : Type 0} (f : A → B) where
       main = rw (entry_letters-map h, joined_glyphs-map ls, take-map (map_glyph f), take-map (map_entry f))
           (λ printable begins. stand-map (HasMain Same) (HasMain Other) main-map (take width (glyphs_of (joined ls))) (take width h) (s.main (printable_unmap columns h printable) begins));
       continuation = rw (entry_letters-map h, joined_glyphs-map ls, drop-map (map_glyph f), drop-map (map_entry f))
-          (λ printable begins. stand-map (HasContinuation Same) (HasContinuation Other) continuation-map (drop width (glyphs_of (joined ls))) (drop width h) (s.continuation (printable_unmap columns h printable) begins));
+          (λ printable begins. stand-map (HasContinuation Same) (HasContinuation Other) continuation-map
+          (drop width (glyphs_of (joined ls))) (drop width h) (s.continuation (printable_unmap columns h printable) begins));
     }
 
   pub prewrap-map : (columns : ℕ → Option ℕ) (width : ℕ) (more : Bool) (h : List (Entry A)) (ls : List (List (Item A))) →

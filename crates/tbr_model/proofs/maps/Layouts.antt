@@ -102,7 +102,11 @@ lines_from_map {X} {Y} g xs (l ∷ ls) e =
 pub best-map : {A B : Type 0} (f : A → B) (width : ℕ) (slots : List (Slot A)) (lines : List (List (Slot A))) → IsBest width slots lines → IsBest width (map_slots f slots) (map_layout f lines)
 best-map {A} {B} f width slots lines best = record {
   legal =
-      record { whole = joined-map (map_slot f) lines ∙ ap (map_slots f) best.legal.whole; each = each_map (map_slots f) (IsLegalLine width) (IsLegalLine width) (legal_line-map f width) lines best.legal.each };
+      record {
+        whole = joined-map (map_slot f) lines ∙ ap (map_slots f) best.legal.whole;
+        each =
+            each_map (map_slots f) (IsLegalLine width) (IsLegalLine width) (legal_line-map f width) lines best.legal.each;
+      };
   full = full-map f lines best.full;
   ahead = λ others other n.
       let w = lines_from_map (map_slot f) slots others other.whole in

@@ -196,7 +196,8 @@ module _ {A : Type 0} (columns : ℕ → Option ℕ) (width : ℕ) where
       pick full true e = refl
       pick full false e =
           let fits : line_width slots ≤ width = omega (arith, ltb-false _ _ e, slots_width columns wider gap i is) in
-          ap text_of (fill_whole (close lines.done lines.last) [] slots fits ∙ ap (λ (d : List (List (Slot A))). let q : Lines A = record { done = d; last = slots } in q) (sym (closed lines.last full fits)))
+          ap text_of (fill_whole (close lines.done lines.last) [] slots fits
+          ∙ ap (λ (d : List (List (Slot A))). let q : Lines A = record { done = d; last = slots } in q) (sym (closed lines.last full fits)))
 
   -- a word that takes columns leaves an open line that does
   pub place_wide : (lines : Lines A) (gap : Option A) (items : List (Item A)) → line_width lines.last ≤ width → IsNarrow columns width items → 0 < items_width columns items →

@@ -101,7 +101,8 @@ module _ {A : Type 0} (columns : ℕ → Option ℕ) (width : ℕ) where
   word_kept P l gap items h =
       cond_both (nat_le (l.width + (gap_width gap + items_width columns items)) width) _ _ (λ (k : Laid A). AllLaid P k → Each P items)
       (λ _ k. each_back P (gap_text gap) items
-      (laid_after P l (extended l (gap_text gap ++ items) (gap_width gap + items_width columns items)) (gap_text gap ++ items) (text-extended l (gap_text gap ++ items) (gap_width gap + items_width columns items)) k).1)
+      (laid_after P l (extended l (gap_text gap ++ items) (gap_width gap + items_width columns items))
+      (gap_text gap ++ items) (text-extended l (gap_text gap ++ items) (gap_width gap + items_width columns items)) k).1)
       (λ _ k. (laid_after P (end_if_character l) (put_items columns width (end_if_character l) items) items (text-put_items columns width items (end_if_character l)) k).1) h
 
   laid_at : (r : Reading A) → has_character r.items ≡ true →

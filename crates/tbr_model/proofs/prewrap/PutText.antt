@@ -134,7 +134,14 @@ module _ {A : Type 0} (columns : ℕ → Option ℕ) (width : ℕ) (some : 0 < w
       rw (le-leb (l.width + 0) width (omega (arith, fits)))
       (let k = put_text is (extended l (marker name ∷ []) 0) y plain.1 (letters_of-append l.line (marker name ∷ []) ∙ append-nil (letters_of l.line) ∙ letters) nonblank
       (omega (arith, measured)) (omega (arith, fits)) in
-      record { nonblank = k.nonblank; fits = k.fits; columns_are = k.columns_are; measured = k.measured; goes = λ text ls h. (let g = k.goes text ls h in record { all = g.all; are = g.are; goes = g.goes; reach = g.reach }) })
+      record {
+        nonblank = k.nonblank;
+        fits = k.fits;
+        columns_are = k.columns_are;
+        measured = k.measured;
+        goes =
+            λ text ls h. (let g = k.goes text ls h in record { all = g.all; are = g.are; goes = g.goes; reach = g.reach });
+      })
   put_text (glyph c a ∷ is) l y plain letters nonblank measured fits =
       elim (cases_Bool (nat_le (l.width + 1) width)) [
         | inl e ↦ rw (plain.0.one, e) (put_one_here l c a y (letters_of is) _

@@ -111,7 +111,8 @@ place_characters {A} columns width lines gap (i ∷ is) h k some narrow =
     filled : (let r = fill width (close lines.done lines.last) [] slots in Each HasGlyph r.done × LastHas r.last)
     filled =
         let fits : nat_le (line_width ([] ++ first ∷ [])) width ≡ true = le-leb _ _ (omega (arith, narrow.0)) in
-        let both = fill_characters columns width (close lines.done lines.last) (first ∷ []) rest (each_close lines.done lines.last h k) (inner_slots columns width wider is narrow.1) (omega (arith, narrow.0))
+        let both = fill_characters columns width (close lines.done lines.last) (first ∷ []) rest
+        (each_close lines.done lines.last h k) (inner_slots columns width wider is narrow.1) (omega (arith, narrow.0))
         (λ none. omega (arith, one_width columns first refl none)) word_has in
         rw fits (both.0, last_has (fill width (close lines.done lines.last) (first ∷ []) rest).last both.1)
 

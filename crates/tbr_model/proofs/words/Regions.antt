@@ -56,7 +56,12 @@ goes_on {A} columns words before since e h =
     blank = ap (first_of (first_blank (before ++ since))) (sym (first_of_none (blank_of e))) ∙ sym (first_blank-append (before ++ since) (e ∷ [])) ∙ ap first_blank (append_assoc before since (e ∷ []))
 
     same : let r : Reading A =
-        record { words = words; gap = first_of (first_blank (before ++ since)) (blank_of e); items = kept_items columns since ++ items_of columns e } in r ≡ read_since columns words before (since ++ e ∷ [])
+        record {
+          words = words;
+          gap = first_of (first_blank (before ++ since)) (blank_of e);
+          items =
+              kept_items columns since ++ items_of columns e;
+        } in r ≡ read_since columns words before (since ++ e ∷ [])
     same = rw (← kept_more columns since e) (ap (λ (gap : Option A). let r : Reading A = record { words = words; gap = gap; items = kept_items columns (since ++ e ∷ []) } in r) blank)
 
 pub still : {A : Type 0} (columns : ℕ → Option ℕ) (words : List (Word A)) (before since es : List (Entry A)) → NoBreakWorks columns (since ++ es) →
@@ -106,7 +111,8 @@ over_parts : {A : Type 0} (columns : ℕ → Option ℕ) (words : List (Word A))
 over_parts {A} columns words before [] rest each last =
     rw (still columns words before [] rest last) (over_rest columns words before rest)
 over_parts {A} columns words before (r ∷ rs) rest each last =
-    let whole : (region_entries r ++ flat_map region_entries rs) ++ rest ≡ region_entries r ++ (flat_map region_entries rs ++ rest) = append_assoc (region_entries r) (flat_map region_entries rs) rest in
+    let whole : (region_entries r ++ flat_map region_entries rs) ++ rest ≡ region_entries r ++
+    (flat_map region_entries rs ++ rest) = append_assoc (region_entries r) (flat_map region_entries rs) rest in
     let read_all = ap (fold (read columns) (read_since columns words before [])) whole ∙ over_region columns words before r (flat_map region_entries rs ++ rest) each.0 in
     let later = over_parts columns (words ++ word_after columns before r.content ∷ []) (r.break ∷ []) rs rest each.1 last in
     (ap finished read_all ∙ later.0 ∙ append_assoc words (word_after columns before r.content ∷ []) (words_after columns (r.break ∷ []) rs rest), ap left read_all ∙ later.1)

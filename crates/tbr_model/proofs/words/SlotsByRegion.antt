@@ -70,7 +70,8 @@ next_region {A} columns width run slots opening from place le h (break, at, ends
     let split : drop (from + place) run ≡ break ∷ drop (suc (from + place)) run = split_at run (from + place) break (sym (slice_get-drop from place run) ∙ at) in
     let parts : drop from run ≡ content ++ break ∷ drop (suc (from + place)) run = sym (take-append-drop place (drop from run)) ∙ ap (λ (l : List (Entry A)). content ++ l) (back ∙ split) in
     let whole : slice_range run opening (from + place) ≡ slice_range run opening from ++ content = range_add run opening from place le in
-    let one : slice_range run (from + place) (suc (from + place)) ≡ break ∷ [] = ap (λ k. take k (drop (from + place) run)) (let e : suc (from + place) - (from + place) ≡ 1 = omega arith in e) ∙ ap (take 1) split in
+    let one : slice_range run (from + place) (suc (from + place)) ≡ break ∷ [] =
+    ap (λ k. take k (drop (from + place) run)) (let e : suc (from + place) - (from + place) ≡ 1 = omega arith in e) ∙ ap (take 1) split in
     rw (add-one, one, whole) (after_word columns width run slots (slice_range run opening from) content (drop (suc (from + place)) run) break (rw parts at h) ends)
 
 pub all_read : {A : Type 0} (columns : ℕ → Option ℕ) (width : ℕ) (run : List (Entry A)) (slots : List (Slot A)) (opening from : ℕ) → opening ≤ from →

@@ -59,7 +59,9 @@ module _ {A : Type 0} (columns : ℕ → Option ℕ) (eq : A → A → Bool) (la
               (shows_extended eq laws given h.laid r (spaces n x) (spaces n a) n n h.shows (same_spaces eq n x a same) refl);
           measured =
               rw limits.width
-              (rw limits.may_overflow (measured_ended columns b.width b.may_overflow (extended r (spaces n a) n) (measured_extended columns b.width b.may_overflow r (spaces n a) n h.measured (sym (spaces_width columns one n a)) small)));
+              (rw limits.may_overflow
+              (measured_ended columns b.width b.may_overflow (extended r (spaces n a) n)
+              (measured_extended columns b.width b.may_overflow r (spaces n a) n h.measured (sym (spaces_width columns one n a)) small)));
         }
 
 -- nothing is left after what is laid

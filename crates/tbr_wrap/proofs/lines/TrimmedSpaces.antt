@@ -61,8 +61,13 @@ module _ {A : Type 0} (columns : ℕ → Option ℕ) (one : columns 32 ≡ Some 
   left_width : n + items_width columns (without_trailing r.line) ≡ items_width columns r.line
   left_width =
       let k = same_trailing eq h.laid.line r.line h.shows.last in
-      omega
-      (arith, removed, trailing_width columns one r.line, length_all_zip (SameItem eq) h.laid.line r.line h.shows.last, length_all_zip (SameItem eq) (without_trailing h.laid.line) (without_trailing r.line) k)
+      omega (
+        arith,
+        removed,
+        trailing_width columns one r.line,
+        length_all_zip (SameItem eq) h.laid.line r.line h.shows.last,
+        length_all_zip (SameItem eq) (without_trailing h.laid.line) (without_trailing r.line) k,
+      )
 
   pub removed_width : n ≤ b.line_width
   removed_width = omega (arith, left_width, h.measured.line, h.shows.width, h.holds.width)
@@ -76,7 +81,15 @@ module _ {A : Type 0} (columns : ℕ → Option ℕ) (one : columns 32 ≡ Some 
       record {
         laid = record { done = h.laid.done; line = without_trailing h.laid.line; width = b.line_width - n };
         holds =
-            record { placed = placed; lens = ap (λ q. q.items) lines ∙ h.holds.lens; len = omega (arith, len, removed, h.holds.len); markers = omega (arith, markers, h.holds.markers, trailing_markers h.laid.line); width = width };
+            record {
+              placed = placed;
+              lens = ap (λ q. q.items) lines ∙ h.holds.lens;
+              len =
+                  omega (arith, len, removed, h.holds.len);
+              markers =
+                  omega (arith, markers, h.holds.markers, trailing_markers h.laid.line);
+              width = width;
+            };
         shows = record { rest = h.shows.rest; split = h.shows.split; done = h.shows.done; last = same_trailing eq h.laid.line r.line h.shows.last; width = left };
         measured = record { small = omega (arith, left_width, same.width, h.measured.small, h.measured.line); line = refl; done = rw same.width (rw same.may_overflow h.measured.done) };
       }

@@ -313,7 +313,8 @@ module _ {A : Type 0} (columns : ℕ → Option ℕ) where
     text_words_fit t e one wide never normal =
         let fits = run_fits columns s.width true one wide g.events (inl refl) in
         subst (EndedWordsFit columns s.width) text_run
-        (stands columns s.width g.events (subst (λ (es : List (Entry A)). IsNormal es) (sym text_run) normal) (allowed_each columns g (lines columns g) never (text_made s t cs a b mode e).0) fits.small fits.line).0
+        (stands columns s.width g.events (subst (λ (es : List (Entry A)). IsNormal es) (sym text_run) normal)
+        (allowed_each columns g (lines columns g) never (text_made s t cs a b mode e).0) fits.small fits.line).0
 
     module _ (live : s.failure ≡ None) (e : after_text columns cs a b mode s ≡ refused E.TooNarrow) where
       not_ended : allows columns g (lines columns g) ≡ false

@@ -162,8 +162,14 @@ module _ {A : Type 0} (columns : ℕ → Option ℕ) (one : columns 32 ≡ Some 
       words_entered false cs p read none fits
       ∙ sym
       (ap
-      (λ n. record p
-      { laid = extended p.laid (space_text p.space ++ q.word) (pending_width p.space + n); space = Some (record { width = 1; tag = t; mode = Normal }); word = []; mode = Normal; continuation_flag = false })
+      (λ n. record p {
+        laid = extended p.laid (space_text p.space ++ q.word) (pending_width p.space + n);
+        space =
+            Some (record { width = 1; tag = t; mode = Normal });
+        word = [];
+        mode = Normal;
+        continuation_flag = false;
+      })
       wide)
       ∙ sym (collapsed q (omega (arith, wide, some)))
       ∙ ap (λ r. collapse 32 t (lay_here columns r)) (sym joined)

@@ -41,7 +41,8 @@ returns g c =
     elim c.if-has_character.branch [
       | then-has_character+in_ok-push_word-2 w ↦
           let yes : has_character (kept_items columns (drop from run)) ≡ true = sym test ∙ w.if-has_character.true in
-          let pushed : slot_values c.if-has_character.slots.items ≡ done ++ word_slots columns width (word_after columns [] (entry_values (slice_range es opening (length es)))) = rw (w.slots-is) w.in_ok-push_word-2.ensures in
+          let pushed : slot_values c.if-has_character.slots.items ≡ done ++ word_slots columns width
+          (word_after columns [] (entry_values (slice_range es opening (length es)))) = rw (w.slots-is) w.in_ok-push_word-2.ensures in
           pushed ∙ ap (λ (l : List (Entry _)). done ++ word_slots columns width (word_after columns [] l)) (values_rest es opening)
           ∙ sym (all_read columns width run done opening from kept.1 kept.0 last true yes)
       | else-has_character w ↦

@@ -15,8 +15,14 @@ overflow_add-at g c =
     let here =
     hole_at hole_of c.deref-span-items.result.now c.loop-span.span-index c.span-item.result c.loop-span.at
     (length c.as_slice-cells.result.now) c.loop-span-test.true c.span-item.is c.loop-span.invariant.fit in
-    omega
-    (arith, in_order_within _ _ _ here.1, ap length c.as_slice-cells.ensures.value, c.self.inside.shape.value.segments.ok.0, c.self.inside.shape.value.segments.ok.1, c.self.inside.shape.value.segments.small)
+    omega (
+      arith,
+      in_order_within _ _ _ here.1,
+      ap length c.as_slice-cells.ensures.value,
+      c.self.inside.shape.value.segments.ok.0,
+      c.self.inside.shape.value.segments.ok.1,
+      c.self.inside.shape.value.segments.small,
+    )
 
 pub loop-span-preserved : goal.loop-span-preserved
 loop-span-preserved g c =

@@ -10,8 +10,16 @@ loop-preserved g c =
     rw (add-one, c.next_character.ensures.first, c.loop.invariant.rest) (width_more columns old n) in
     record {
       width = elim c.match-next_character.branch [
-        | in-Some w ↦ omega
-            (arith, w.width-is, w.saturating_add-width.ensures, w.unwrap_or.ensures, ap (λ o. unwrap_or o 0) w.width.ensures, more, ap (λ o. given_width columns (o ∷ [])) w.in-Some.is, c.loop.invariant.width)
+        | in-Some w ↦ omega (
+          arith,
+          w.width-is,
+          w.saturating_add-width.ensures,
+          w.unwrap_or.ensures,
+          ap (λ o. unwrap_or o 0) w.width.ensures,
+          more,
+          ap (λ o. given_width columns (o ∷ [])) w.in-Some.is,
+          c.loop.invariant.width,
+        )
         | in_default w ↦ omega (arith, w.width-is, more, ap (λ o. given_width columns (o ∷ [])) w.in_default.is, c.loop.invariant.width)
       ];
       rest = c.next_character.ensures.rest ∙ ap (drop 1) c.loop.invariant.rest ∙ drop-drop 1 n old;

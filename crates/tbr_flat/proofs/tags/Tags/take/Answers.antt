@@ -15,7 +15,8 @@ returns-then-most-index-clause-tags g c =
 pub returns-then-most-index-clause-rest : goal.returns-then-most-index-clause-rest
 returns-then-most-index-clause-rest g c =
     let within : c.args.most ≤ length (tags_of c.self.inside.stored.items) = omega (arith, ap length c.self.view_is, c.requires.within) in
-    (skip_part c.self.inside.stored.items zero c.args.most c.index.result.now c.index_mut-first.result.now _ c.requires.some within c.index.ensures c.index_mut-first.ensures.value c.if-most-index.true refl).1
+    (skip_part c.self.inside.stored.items zero c.args.most c.index.result.now c.index_mut-first.result.now _
+    c.requires.some within c.index.ensures c.index_mut-first.ensures.value c.if-most-index.true refl).1
     ∙ ap (drop c.args.most) c.self.view_is
 
 pub returns-clause-tags : goal.returns-clause-tags

@@ -20,7 +20,9 @@ append_part-requires g c = record { part = holds g (goal.at.append_part-requires
 pub loop-part-preserved : goal.loop-part-preserved
 loop-part-preserved g c =
     let inv = c.loop-part.invariant in
-    let (lines, prefix) = part_more g.T.PartialEq.eq c.args.tag.now (chars c.args.first.now) (chars c.args.others.now) c.loop-part.yielded c.in-Some.part c.args.self.now c.loop-part.self c.append_part.new.self (chars c.loop-part.next.now)
+    let (lines, prefix) =
+    part_more g.T.PartialEq.eq c.args.tag.now (chars c.args.first.now) (chars c.args.others.now)
+    c.loop-part.yielded c.in-Some.part c.args.self.now c.loop-part.self c.append_part.new.self (chars c.loop-part.next.now)
     (holds g (goal.at.loop-part-preserved g c).In-Some) inv.prefix inv.lines c.in_ok-append_part.ensures in
     record {
       lines = lines;

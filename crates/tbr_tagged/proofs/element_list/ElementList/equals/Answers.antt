@@ -12,14 +12,16 @@ pub returns-then-len-eq1 : goal.returns-then-len-eq1
 returns-then-len-eq1 g c =
     let twos = c.in-Alone-Listed.twos in
     rw (c.in-Alone-Listed.is-0, c.in-Alone-Listed.is-1, c.eq-then-len-eq1.ensures)
-    (same_before_one g.T.PartialEq.eq (elements.ghosts g.row.T g.T.PartialEq g.T.PartialEq-dict).eq (λ s t. refl) (λ m n. refl) (λ s n. refl) (λ m t. refl) c.in-Alone-Listed.one c.index.result.now twos.items
+    (same_before_one g.T.PartialEq.eq (elements.ghosts g.row.T g.T.PartialEq g.T.PartialEq-dict).eq (λ s t. refl)
+    (λ m n. refl) (λ s n. refl) (λ m t. refl) c.in-Alone-Listed.one c.index.result.now twos.items
     (sym twos.ok.0 ∙ sym c.len.ensures ∙ c.if-len-eq1.true) c.index.ensures)
 
 pub returns-then-len-eq1-2 : goal.returns-then-len-eq1-2
 returns-then-len-eq1-2 g c =
     let ones = c.in-Listed-Alone.ones in
     rw (c.in-Listed-Alone.is-0, c.in-Listed-Alone.is-1, c.eq-then-len-eq1-2.ensures)
-    (one_before_same g.T.PartialEq.eq (elements.ghosts g.row.T g.T.PartialEq g.T.PartialEq-dict).eq (λ s t. refl) (λ m n. refl) (λ s n. refl) (λ m t. refl) c.index-then-len-eq1-2.result.now c.in-Listed-Alone.two ones.items
+    (one_before_same g.T.PartialEq.eq (elements.ghosts g.row.T g.T.PartialEq g.T.PartialEq-dict).eq (λ s t. refl)
+    (λ m n. refl) (λ s n. refl) (λ m t. refl) c.index-then-len-eq1-2.result.now c.in-Listed-Alone.two ones.items
     (sym ones.ok.0 ∙ sym c.len-in-Listed-Alone.ensures ∙ c.if-len-eq1-2.true) c.index-then-len-eq1-2.ensures)
 
 pub returns-in-Listed-Listed : goal.returns-in-Listed-Listed

@@ -14,7 +14,9 @@ invariant_of-self-2 g c = λ live.
     let k = c.self.invariant was in
     let after = given _ _ _ _ _ k in
     let limits = rw c.deref_mut.ensures.value at c.add_marker-added.ensures.limits in
-    let named = subst (λ n. IsAtProgress columns eq t.wrapper.value k.before after (enter columns r.wrapper.value.lines.width (progress_of columns (block_of columns r)) (marker_entry n))) (ap string_bytes c.with_marker-changes.ensures.name)
+    let named = subst (λ n. IsAtProgress columns eq t.wrapper.value k.before after
+    (enter columns r.wrapper.value.lines.width (progress_of columns (block_of columns r)) (marker_entry n)))
+    (ap string_bytes c.with_marker-changes.ensures.name)
     (rw done.0 at (rw c.deref_mut.ensures.value at (c.add_marker-added.ensures.added columns) k.before after _ k.stands)) in
     subst (HoldsRun columns eq t.wrapper.value r.begun)
     (sym (led_on columns r t _ limits refl c.with_marker-changes.ensures.changes was live))

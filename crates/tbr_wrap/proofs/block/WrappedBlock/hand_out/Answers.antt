@@ -22,7 +22,8 @@ loop-lines-preserved g c =
     let inv = c.loop-lines.invariant in let f = one g (goal.at.loop-lines-preserved g c).In-Some in
     let gone = ap (left columns) f.leaves ∙ left_after block columns ∙ ap (drop 1) f.left_is in
     let line : shows c.in-Some.line f.text =
-    subst (λ o. ShowsText columns g.T.PartialEq.eq o c.args.self.now.width c.in-Some.line f.text) inv.1 (subst (λ n. ShowsText columns g.T.PartialEq.eq block.padding n c.in-Some.line f.text) inv.2 f.shows) in (
+    subst (λ o. ShowsText columns g.T.PartialEq.eq o c.args.self.now.width c.in-Some.line f.text) inv.1
+    (subst (λ n. ShowsText columns g.T.PartialEq.eq block.padding n c.in-Some.line f.text) inv.2 f.shows) in (
       ap (λ (s : Block g.row.T.Denot). s.failure) f.leaves ∙ (handed_keeps block).0 ∙ inv.0,
       ap (λ (s : Block g.row.T.Denot). s.padding) f.leaves ∙ ap (λ (k : Settings g.row.T.Denot). k.padding) (handed_keeps block).1 ∙ inv.1,
       ap (λ (s : Block g.row.T.Denot). s.width) f.leaves ∙ ap (λ (k : Settings g.row.T.Denot). k.width) (handed_keeps block).1 ∙ inv.2,

@@ -29,7 +29,12 @@ pub invariant_of-self-2 : goal.invariant_of-self-2
 invariant_of-self-2 g c = λ live.
     let columns = g.W.CharWidth.columns in let r = c.self.inside in
     let t =
-    record r { wrapper = record r.wrapper { value = record r.wrapper.value { lines = c.take_line-taken.new.self } }; failure = c.keep_want.new.failure; begun = true; changes = c.appended-self-inside.result } in
+    record r {
+      wrapper = record r.wrapper { value = record r.wrapper.value { lines = c.take_line-taken.new.self } };
+      failure = c.keep_want.new.failure;
+      begun = true;
+      changes = c.appended-self-inside.result;
+    } in
     let before = sym c.in_ok-line.ensures.ok.1 ∙ live in
     let k = c.self.invariant before in
     let was = c.in_ok-line.ensures.ok.0 ∙ ap Ok c.in-Some.is in

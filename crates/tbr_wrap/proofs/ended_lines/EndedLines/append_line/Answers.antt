@@ -16,7 +16,9 @@ returns-in_default g c = λ is rest e.
 pub returns : goal.returns
 returns g c = λ is rest e.
     let n = c.in-Some.len in let old = chars_of c.args.text.now in let moved = c.move_text.new.text in
-    let f = first_cut n c.pop_front.new.self.items c.self.inside.laid.value.lines.ended.items c.self.inside.laid.value.lines.flat.placed is c.args.self.now rest (rw c.deref_mut.ensures.value at c.in-Some.ensures.items) c.self.view_is e in (
+    let f = first_cut n c.pop_front.new.self.items c.self.inside.laid.value.lines.ended.items
+    c.self.inside.laid.value.lines.flat.placed is c.args.self.now rest
+    (rw c.deref_mut.ensures.value at c.in-Some.ensures.items) c.self.view_is e in (
       ap chars c.in_ok-push.ensures.bytes ∙ chars_push (string_bytes moved) 10 (IsUtf8-string_bytes moved) refl
           ∙ ap (λ cs. cs ++ 10 ∷ []) (rw c.deref_mut.ensures.value at c.in_default-move_text.ensures.text ∙ ap (λ js. old ++ item_characters js) f.0) ∙ append_assoc old (item_characters is) (10 ∷ []),
       ap (λ fl. cut c.pop_front.new.self.items fl.placed) (rw c.deref_mut.ensures.value at c.in_default-move_text.ensures.rest) ∙ f.1,

@@ -27,5 +27,8 @@ returns-clause-put g c =
           (lays_extended columns eq laws old _ (record { width = refl; may_overflow = refl }) before given r h
           (take n old.flat.word) (take n js) (items_width columns (take n js)) front refl
           (omega (arith, wide, e.room, old.fits))
-          (holds_more old _ before h.laid (take n old.flat.word) (items_width columns (take n js)) h.holds (ap (λ f. f.placed) e.placed) refl (omega (arith, c.in-Some.ensures, length-take-le n old.flat.word e.within)) (ap (λ m. old.line_markers + m) e.markers) (omega (arith, wide))));
+          (holds_more old _ before h.laid (take n old.flat.word) (items_width columns (take n js)) h.holds
+          (ap (λ f. f.placed) e.placed) refl
+          (omega (arith, c.in-Some.ensures, length-take-le n old.flat.word e.within))
+          (ap (λ m. old.line_markers + m) e.markers) (omega (arith, wide))));
     }

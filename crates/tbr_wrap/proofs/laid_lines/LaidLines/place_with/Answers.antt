@@ -24,7 +24,16 @@ returns-clause-placed g c = λ columns a js same word wide before given r h.
     (same_items_append eq laws old.flat.word js (text_items cs p.0) (text_items cs a) word (same_texts eq laws cs p.0 a (laws.congr p.0 c.args.tag.now a p.1 ∙ same)))
     refl (omega (arith, wide, c.requires.room))
     (holds_more old _ before h.laid stored (items_width columns is) h.holds (ap (λ f. f.placed) p.2) refl
-    (omega
-    (arith, c.in-Some.ensures, c.in-Some.is, c.in-Some-checked_add.ensures, c.in-Some-checked_add.is, c.in_ok-items.ensures, length-append old.flat.word (text_items cs p.0), length-map cs (λ ch. glyph ch p.0), c.requires.count))
+    (omega (
+      arith,
+      c.in-Some.ensures,
+      c.in-Some.is,
+      c.in-Some-checked_add.ensures,
+      c.in-Some-checked_add.is,
+      c.in_ok-items.ensures,
+      length-append old.flat.word (text_items cs p.0),
+      length-map cs (λ ch. glyph ch p.0),
+      c.requires.count,
+    ))
     (omega (arith, c.in_ok-markers.ensures.markers, text_markers old.flat.word cs p.0))
     (omega (arith, wide)))

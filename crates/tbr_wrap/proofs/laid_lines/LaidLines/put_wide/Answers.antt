@@ -16,5 +16,7 @@ returns-clause-put g c =
           let wide : old.width < item_width columns s.0 = omega (arith, begins, c.requires.width, c.requires.wide) in
           let word = subst (λ ks. SameItems eq c.end_if_columns.new.self.flat.word ks) s.2 (subst (λ f. SameItems eq f.word js) (sym flat) same) in
           rw s.2 (item_wide columns old.width (HoldsRule columns eq new before given) r s.0 wide
-          (c.in_ok-place_wide.ensures.placed s.0 s.1 word (omega (arith, wide, c.in_ok-end_if_columns.ensures.limits.width)) before given (end_if_columns r) (c.in_ok-end_if_columns.ensures.ended columns before given r h)));
+          (c.in_ok-place_wide.ensures.placed s.0 s.1 word
+          (omega (arith, wide, c.in_ok-end_if_columns.ensures.limits.width)) before given (end_if_columns r)
+          (c.in_ok-end_if_columns.ensures.ended columns before given r h)));
     }

@@ -60,7 +60,8 @@ pub returns-clause-front : goal.returns-clause-front
 returns-clause-front g c =
     let is = sym c.range_from.ensures.value ∙ sym c.chars.ensures.rest ∙ c.in-Some.ensures.steps.0 in
     rw c.len_utf8.ensures.value
-    ((next_letter c.args.text.now c.next.new.self.rest.now c.fitting_stretch-s.result.bytes c.fitting_stretch-s.result.count c.in-Some.c c.utf8.text c.fitting_stretch-s.ensures.stretch.front is).front)
+    ((next_letter c.args.text.now c.next.new.self.rest.now c.fitting_stretch-s.result.bytes
+    c.fitting_stretch-s.result.count c.in-Some.c c.utf8.text c.fitting_stretch-s.ensures.stretch.front is).front)
 
 pub returns-clause-entered : goal.returns-clause-entered
 returns-clause-entered g c = λ before given p s.

@@ -21,6 +21,16 @@ returns-clause-entered g c = λ before given p s.
     let same = c.call_tag-tag.ensures columns before given p s in
     let laid = c.in_ok-lay_with.ensures.laid t wide same before given p s in
     let collapsed = c.collapse.ensures.after_change columns t same before given (lay_here columns (join_all (chars c.range-words.result.now) t Normal p)) laid in
-    let fits : p.laid.width + (pending_width p.space + (items_width columns p.word + length w.front)) ≤ old.lines.width = omega (arith, ap length w.is, length-append w.front (32 ∷ []), c.requires.room, s.word_width, s.lays.holds.width, s.lays.shows.width, same_held_width eq old.space p.space s.space) in
+    let fits : p.laid.width + (pending_width p.space + (items_width columns p.word + length w.front)) ≤
+    old.lines.width = omega (
+      arith,
+      ap length w.is,
+      length-append w.front (32 ∷ []),
+      c.requires.room,
+      s.word_width,
+      s.lays.holds.width,
+      s.lays.shows.width,
+      same_held_width eq old.space p.space s.space,
+    ) in
     let entered = words_laid columns (g.met.W.CharWidth.drawn_in_one 32 refl) old.lines.width a b w.front p w.read (sym (same_has eq old.lines.flat.word p.word s.word) ∙ c.requires.word) fits in
     rw (whole, entered, ← words) collapsed

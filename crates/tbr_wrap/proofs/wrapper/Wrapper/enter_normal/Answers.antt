@@ -22,5 +22,9 @@ returns-in_err-break_word-clause-wider g c = λ a e before given p s.
     let columns = g.W.CharWidth.columns in let width = c.args.self.now.lines.width in
     let q = err_from_is_err_and c.from_residual.result c.from_residual.ensures.1 in
     let is : c.break_word.result ≡ Err E.TooNarrow = cc (q.1, q.2, e, c.in_err-break_word.was) in
-    let k = c.break_word.ensures.wider is before given p s in
-    (k.0, rw (normal_break columns width c.args.c a p (sym c.is_wordbreak_point.ensures ∙ c.if-is_wordbreak_point.true)) (unfit_by columns width (collapse c.args.c a) (collapse_after c.args.c a) (break_word columns width p) k.1))
+    let k = c.break_word.ensures.wider is before given p s in (
+      k.0,
+      rw (normal_break columns width c.args.c a p
+          (sym c.is_wordbreak_point.ensures ∙ c.if-is_wordbreak_point.true))
+          (unfit_by columns width (collapse c.args.c a) (collapse_after c.args.c a) (break_word columns width p) k.1),
+    )

@@ -15,7 +15,8 @@ returns-clause-joined g c = λ columns a wide same before given p s.
           (same_items_append eq laws c.args.self.now.lines.flat.word p.word (glyph c.args.c k.0 ∷ []) (glyph c.args.c a ∷ []) s.word ((refl, laws.congr k.0 c.args.tag.now a k.1 ∙ same), tt));
       word_width = (let e : c.in-Some.word_width ≡ items_width columns p.word + c.args.width = omega (arith, c.in-Some.ensures, s.word_width) in
           e
-          ∙ (let w : items_width columns (glyph c.args.c a ∷ []) ≡ c.args.width = omega (arith, ap (λ o. unwrap_or o 0) wide) in omega (arith, w, items_width-append columns p.word (glyph c.args.c a ∷ []))));
+          ∙ (let w : items_width columns (glyph c.args.c a ∷ []) ≡ c.args.width =
+          omega (arith, ap (λ o. unwrap_or o 0) wide) in omega (arith, w, items_width-append columns p.word (glyph c.args.c a ∷ []))));
       mode = c.mode_with-word_mode.ensures p.word s.word ∙ ap (λ m. if has_character p.word then m else c.args.mode) s.mode;
       continuation_flag = s.continuation_flag;
       in_continuation = s.in_continuation;

@@ -19,7 +19,9 @@ returns-clause-wider g c = λ refused before given p s.
     let columns = g.W.CharWidth.columns in let eq = g.T.PartialEq.eq in let b = c.args.self.now in
     let q = wrap_space columns b.lines.width p p.space in
     let full : nat_le (p.laid.width + (pending_width p.space + items_width columns p.word)) b.lines.width ≡ false =
-    lt-leb _ _ (let past : b.lines.width < b.lines.line_width + (held_width b.space + b.word_width) = no_room _ _ (λ h. let room : c.has_room.result ≡ true = c.has_room.ensures.1 h in let none : c.has_room.result ≡ false = c.if-has_room.false in absurd (let e : true ≡ false = sym room ∙ none in cc)) in
+    lt-leb _ _ (let past : b.lines.width < b.lines.line_width + (held_width b.space + b.word_width) =
+    no_room _ _ (λ h. let room : c.has_room.result ≡ true = c.has_room.ensures.1 h in
+    let none : c.has_room.result ≡ false = c.if-has_room.false in absurd (let e : true ≡ false = sym room ∙ none in cc)) in
     omega (arith, past, same_held_width eq b.space p.space s.space, s.word_width, s.lays.holds.width, s.lays.shows.width)) in
     let n = c.lay_fresh.ensures.too_narrow refused before given q (c.in_ok-wrap_space.ensures.wrapped before given p s) in (
       sym c.in_ok-wrap_space.ensures.limits.may_overflow ∙ n.0,

@@ -20,7 +20,8 @@ returns-clause-entered g c = λ before given p s.
     (record p { space = None }) (end_if_character p.laid)
     (spaced_stands columns eq b None before given p None s tt) e.0 (rw k.flat s.word) in
     let none = sym (same_has eq b.lines.flat.word p.word s.word) ∙ c.requires.word in
-    let same = words_moved columns (g.met.W.CharWidth.drawn_in_one 32 refl) b.lines.width a d false w.front m.first p w.read none (drops_pending eq b.space p.space s.space m.space) (omega (arith, e.1, e.0.holds.width, e.0.shows.width))
+    let same = words_moved columns (g.met.W.CharWidth.drawn_in_one 32 refl) b.lines.width a d false w.front m.first p
+    w.read none (drops_pending eq b.space p.space s.space m.space) (omega (arith, e.1, e.0.holds.width, e.0.shows.width))
     (rw w.is at m.letters)
     (omega (arith, m.wide, s.word_width, s.lays.holds.width, s.lays.shows.width, same_held_width eq b.space p.space s.space))
     (omega (arith, m.fits, s.word_width, ap length w.is, length-append w.front (32 ∷ []))) in

@@ -57,13 +57,20 @@ returns-in_err-flush_word-clause-wider g c = λ e before given p s.
     let columns = g.W.CharWidth.columns in let width = c.args.self.now.lines.width in
     let q = err_from_is_err_and c.from_residual.result c.from_residual.ensures.1 in
     let is : c.flush_word.result ≡ Err E.TooNarrow = cc (q.1, q.2, e, c.in_err-flush_word.was) in
-    let k = c.flush_word.ensures.wider is before given p s in
-    (k.0, rw (preserve_newline columns width c.args.c c.args.main_tag.now c.args.wrap_tag.now c.args.mode p c.if-c-eq10.true) (unfit_by columns width newline newline_after (flush_word columns width p) k.1))
+    let k = c.flush_word.ensures.wider is before given p s in (
+      k.0,
+      rw (preserve_newline columns width c.args.c c.args.main_tag.now c.args.wrap_tag.now c.args.mode p
+          c.if-c-eq10.true) (unfit_by columns width newline newline_after (flush_word columns width p) k.1),
+    )
 
 pub returns-in_err-flush_word-2-clause-wider : goal.returns-in_err-flush_word-2-clause-wider
 returns-in_err-flush_word-2-clause-wider g c = λ e before given p s.
     let columns = g.W.CharWidth.columns in let width = c.args.self.now.lines.width in
     let q = err_from_is_err_and c.from_residual-in_err-flush_word-2.result c.from_residual-in_err-flush_word-2.ensures.1 in
     let is : c.flush_word-then-c-eq9.result ≡ Err E.TooNarrow = cc (q.1, q.2, e, c.in_err-flush_word-2.was) in
-    let k = c.flush_word-then-c-eq9.ensures.wider is before given p s in
-    (k.0, rw (preserve_tab columns width c.args.c c.args.main_tag.now c.args.wrap_tag.now c.args.mode p c.if-c-eq9.true) (let a = tag_of p c.args.main_tag.now c.args.wrap_tag.now in unfit_by columns width (tab width a) (tab_after width a) (flush_word columns width p) k.1))
+    let k = c.flush_word-then-c-eq9.ensures.wider is before given p s in (
+      k.0,
+      rw (preserve_tab columns width c.args.c c.args.main_tag.now c.args.wrap_tag.now c.args.mode p
+          c.if-c-eq9.true) (let a = tag_of p c.args.main_tag.now c.args.wrap_tag.now in
+          unfit_by columns width (tab width a) (tab_after width a) (flush_word columns width p) k.1),
+    )
