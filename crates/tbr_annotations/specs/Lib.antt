@@ -1,3 +1,4 @@
 pub mod Chain
 pub mod Annotations
 pub mod Written
+pub mod Open

@@ -1,5 +1,6 @@
 //! Lists of the annotations that texts are under.
-ghost use Rattle.std.specs.Prelude.{◌≡◌, ◌-◌, ◌++◌, ◌∷◌, [], length, take, map, IfOk};
+ghost use Rattle.std.specs.Prelude.{◌≡◌, ◌-◌, ◌++◌, ◌∷◌, [], length, take, map, IfOk, IsTrue};
+ghost use Rattle.tbr_annotations.specs.Open.{HasLast};
 
 use crate::chain::{Chain, equal_chains};
 use std::alloc::{AllocError, Global};
@@ -56,6 +57,16 @@ impl<A: Tag> Annotations<A> {
     {
         let chain = self.chain.share()?.push(alloc, annotation)?;
         Ok(Annotations { chain })
+    }
+
+    /// Whether the last annotation is equal to this one.
+    pub(crate) fn ends_with(&self, annotation: &A) -> bool
+        ensures { IsTrue result → HasLast self.now (A.meaning annotation.now) }
+    {
+        match &self.chain {
+            Chain::End => false,
+            Chain::Last(node) => node.annotation == *annotation,
+        }
     }
 
     /// These annotations without the last `count`. It takes no memory, and refuses only where the number of lists that

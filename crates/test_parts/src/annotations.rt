@@ -56,6 +56,25 @@ fn what_opens_again_is_an_equal_list(rt: HostRuntime) -> Result<(), Fail> {
 }
 
 #[test]
+fn lists_with_one_more_are_of_what_is_open(rt: HostRuntime) -> Result<(), Fail> {
+    let alloc = rt.alloc();
+    let mut open = OpenAnnotations::new();
+    open.push(alloc, 'a')?;
+    open.push(alloc, 'b')?;
+    let (first, second) = open.with_each(alloc, 'c', 'd')?;
+    expect(&rt, alloc, &first, &['a', 'b', 'c'])?;
+    expect(&rt, alloc, &second, &['a', 'b', 'd'])?;
+    let (first, second) = open.with_each(alloc, 'c', 'e')?;
+    expect(&rt, alloc, &first, &['a', 'b', 'c'])?;
+    expect(&rt, alloc, &second, &['a', 'b', 'e'])?;
+    open.pop();
+    let (first, second) = open.with_each(alloc, 'c', 'e')?;
+    expect(&rt, alloc, &first, &['a', 'c'])?;
+    expect(&rt, alloc, &second, &['a', 'e'])?;
+    Ok(())
+}
+
+#[test]
 fn a_long_list_is_dropped_in_little_stack(rt: HostRuntime) -> Result<(), Fail> {
     let alloc = rt.alloc();
     let mut open = OpenAnnotations::new();

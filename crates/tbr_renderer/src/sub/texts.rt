@@ -77,13 +77,21 @@ impl<D: TextDecorator, W: CharWidth> SubRenderer<D, W> {
         }
     }
 
-    /// The annotations and one more.
-    fn tag_with(&self, annotation: D::Annotation) -> Result<Annotations<D::Annotation>, OutOfMemory>
-        ensures { IfOk result (λ tag. tag
-            ≡ self.now.annotations ++ D.Annotation.meaning annotation ∷ []) }
+    /// The annotations of a text, and those that it has where its hard line goes on.
+    fn text_tags(
+        &mut self,
+    ) -> Result<(Annotations<D::Annotation>, Annotations<D::Annotation>), OutOfMemory>
+        ensures main { IfOk result (λ tags. tags.0 ≡ text_annotations D.preformatted false self.old) }
+        ensures continued { IfOk result (λ tags. tags.1 ≡ text_annotations D.preformatted true self.old) }
+        ensures same { self.new ≡ self.old }
     {
-        let tag = self.tag()?;
-        tag.with(self.alloc, annotation)
+        if self.preformatted == 0 {
+            let tag = self.tag()?;
+            return Ok((tag.clone()?, tag));
+        }
+        let first = self.decorator.decorate_preformat_first(self.alloc)?;
+        let continued = self.decorator.decorate_preformat_cont(self.alloc)?;
+        self.annotations.with_each(self.alloc, first, continued)
     }
 
     /// Writes text into a block, in the mode that was pushed last, under these annotations.
@@ -108,28 +116,6 @@ impl<D: TextDecorator, W: CharWidth> SubRenderer<D, W> {
         block.add_text(text, self.mode(), main, continued)
     }
 
-    /// Writes text without strokes into a block.
-    fn write_plain(
-        &self,
-        block: &mut WrappedBlock<Annotations<D::Annotation>, W>,
-        text: &str,
-    ) -> Result<(), Error>
-        requires fresh { IsFresh W.columns (block_width self.now) (may_overflow self.now) block.old }
-        ensures fresh { OnOk result (IsFresh W.columns (block_width self.now) (may_overflow self.now) block.new) }
-        ensures writes { let r = self.now in
-            let es = entries_under D.preformatted r (chars text.now) in
-            Writes W.columns r (called es) block.old result block.new }
-        ensures two_columns { 2 ≤ block_width self.now → result ≢ Err E.TooNarrow }
-    {
-        if self.preformatted == 0 {
-            let tag = self.tag()?;
-            return self.write_under(block, text, &tag, &tag);
-        }
-        let first = self.tag_with(self.decorator.decorate_preformat_first(self.alloc)?)?;
-        let continued = self.tag_with(self.decorator.decorate_preformat_cont(self.alloc)?)?;
-        self.write_under(block, text, &first, &continued)
-    }
-
     /// Writes the empty text into a block.
     fn write_nothing(
         &self,
@@ -143,13 +129,19 @@ impl<D: TextDecorator, W: CharWidth> SubRenderer<D, W> {
         block.add_empty_text()
     }
 
-    /// Writes text into a block, with strokes inside strikeouts.
+    /// Writes text into a block, with strokes inside strikeouts, under these annotations.
     fn write(
         &self,
         block: &mut WrappedBlock<Annotations<D::Annotation>, W>,
         text: &str,
+        main: &Annotations<D::Annotation>,
+        continued: &Annotations<D::Annotation>,
     ) -> Result<(), Error>
         requires fresh { IsFresh W.columns (block_width self.now) (may_overflow self.now) block.old }
+        requires main { main.now
+            ≡ text_annotations D.preformatted false self.now }
+        requires continued { continued.now
+            ≡ text_annotations D.preformatted true self.now }
         ensures fresh { OnOk result (IsFresh W.columns (block_width self.now) (may_overflow self.now) block.new) }
         ensures writes { let r = self.now in
             let es = entries_of W.columns D.preformatted r (chars text.now) in
@@ -160,10 +152,10 @@ impl<D: TextDecorator, W: CharWidth> SubRenderer<D, W> {
             return self.write_nothing(block);
         }
         if self.strikeouts == 0 {
-            return self.write_plain(block, text);
+            return self.write_under(block, text, main, continued);
         }
         let struck = struck_text::<W>(self.alloc, text, self.strikeouts)?;
-        self.write_plain(block, struck.as_str())
+        self.write_under(block, struck.as_str(), main, continued)
     }
 
     /// Adds text to the open block, or to a new one.
@@ -175,7 +167,8 @@ impl<D: TextDecorator, W: CharWidth> SubRenderer<D, W> {
         ensures settings { KeepsSettings self.old self.new }
     {
         let mut block = self.take_or_new_block()?;
-        self.write(&mut block, text)?;
+        let (main, continued) = self.text_tags()?;
+        self.write(&mut block, text, &main, &continued)?;
         self.put_block(block);
         Ok(())
     }

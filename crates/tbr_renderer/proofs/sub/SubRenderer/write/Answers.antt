@@ -14,4 +14,4 @@ returns-then-is_empty-clause-writes g c =
     subst (λ cs. Writes columns r (called (entries_of columns g.D.TextDecorator.preformatted r cs)) c.args.block.now c.write_nothing.result c.write_nothing.new.block) (sym none) c.write_nothing.ensures.writes
 
 pub returns-then-self-eq0-clause-writes : goal.returns-then-self-eq0-clause-writes
-returns-then-self-eq0-clause-writes g c = search (rules, ℕ, struck_none, c.self.view_is, c.if-self-eq0.true, c.write_plain.ensures.writes)
+returns-then-self-eq0-clause-writes g c = search (rules, ℕ, struck_none, c.self.view_is, c.if-self-eq0.true, c.write_under.ensures.writes)
