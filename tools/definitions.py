@@ -11,10 +11,10 @@ WATCHED = [
         "crates/tbr_renderer/src/renderer.rt",
         "append_columns_aligned",
         ["crates/tbr_renderer/src/sub/calls.rt:" + it for it in ("calls", "handed_out", "has_places_for", "ends_best")],
-        287,
+        289,
     ),
-    ("crates/tbr_runner/src/runner.rt", "run", [], 500),
-    ("crates/text_block_renderer/src/laws/headline.rt", "the_headline", [], 518),
+    ("crates/tbr_runner/src/runner.rt", "run", [], 502),
+    ("crates/text_block_renderer/src/laws/headline.rt", "the_headline", [], 514),
 ]
 WORD = re.compile(r"[^\s(){}\[\],;.]+")
 USE = re.compile(r"^\s*(?:pub |ghost )?use (Rattle[^\s{]*?)(?:\.\{([^}]*)\})?(?: as (\S+?))?;?\s*$", re.M)

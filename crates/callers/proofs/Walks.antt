@@ -43,7 +43,8 @@ one_marker_more {T} first old new names name is after =
     let joined : grown old (entry (marker_entry name) ∷ []) ≡ new = let e = (live_done old.failure _ new after).1 in cc in
     sym joined ∙ ap (λ (s : Block T). grown s (entry (marker_entry name) ∷ [])) is
     ∙ ap (λ (es : List (Event T)). record first { events = es })
-    (append_assoc first.events (map (λ n. entry (marker_entry n)) names) (entry (marker_entry name) ∷ []) ∙ ap (λ (es : List (Event T)). first.events ++ es) (sym (map-append (λ n. let e : Event T = entry (marker_entry n) in e) names (name ∷ []))))
+    (append_assoc first.events (map (λ n. entry (marker_entry n)) names) (entry (marker_entry name) ∷ [])
+    ∙ ap (λ (es : List (Event T)). first.events ++ es) (sym (map-append (λ n. let e : Event T = entry (marker_entry n) in e) names (name ∷ []))))
 
 -- ---- lines that are taken one by one
 

@@ -79,7 +79,9 @@ module _ {A : Type 0} where
     pub a_marker_of_a_moved_word_is_not_left_out :
         Promised 2 (said a (codes "a ") ++ entry (marker_entry (codes "x")) ∷ said a (codes "bc")) (line a (codes "a") ∷ line a (codes "bc") ∷ []) → ⊥
     a_marker_of_a_moved_word_is_not_left_out h =
-        let no : 3 ≡ 4 = ap (placed 2) (only 2 (said a (codes "a ") ++ entry (marker_entry (codes "x")) ∷ said a (codes "bc")) _ (omega arith) refl (refl, (refl, (tt, (refl, (refl, tt))))) h) in omega (arith, no)
+        let no : 3 ≡ 4 = ap (placed 2)
+        (only 2 (said a (codes "a ") ++ entry (marker_entry (codes "x")) ∷ said a (codes "bc")) _
+        (omega arith) refl (refl, (refl, (tt, (refl, (refl, tt))))) h) in omega (arith, no)
 
     pub a_text_is_not_flushed_by_itself :
         Promised 2 (said a (codes "a") ++ said a (codes "b")) (line a (codes "a") ∷ line a (codes "b") ∷ []) → ⊥

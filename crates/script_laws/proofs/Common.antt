@@ -21,7 +21,7 @@ pub use Rattle.text_block_renderer.specs.Calls.{Call, Shows, after, append_subre
 pub use Rattle.text_block_renderer.specs.Decorated.{sub_renderer}
 pub use Rattle.text_block_renderer.specs.Line.{Line}
 pub use Rattle.text_block_renderer.specs.Renderer.{IsSound, Open, Renderer, block_width, has_content, least, open_run, with_line}
-pub use Rattle.text_block_renderer.specs.Rows.{ComesAs, GivenCell, cells_given, spots_of}
+pub use Rattle.text_block_renderer.specs.Rows.{GivenCell, cells_given, spots_of}
 pub use Rattle.text_block_renderer.specs.Taken.{AreTakenIn, IsWrittenSoFar, NothingOverhangs, Takes, TakesIn}
 pub use Rattle.tbr_script.specs.Script.{lines_of}
 pub use Rattle.tbr_script.specs.declared.error.RunError.{RunError}

@@ -1,6 +1,6 @@
 -- Nothing overhangs where cells span one row.
 use Rattle.script_laws.proofs.Common.{◌≡◌, ◌+◌, ◌-◌, ◌⊎◌, inl, inr, ℕ, Bool, if◌then◌else◌, Option, List, [], ◌∷◌, drop, map, refl, ap, sym, ◌∙◌, subst, nat_lt, cond_both, AllZip, Each, done}
-use Rattle.script_laws.proofs.Common.{Decoration, after_flush, Line, Renderer, Call, after, NothingOverhangs, GivenCell, ComesAs, Act, call, row_of_cells, after_act, Opening, Opened, Progress, Level}
+use Rattle.script_laws.proofs.Common.{Decoration, after_flush, Line, Renderer, Call, after, NothingOverhangs, GivenCell, Act, call, row_of_cells, after_act, Opening, Opened, Progress, Level}
 use Rattle.script_laws.proofs.Common.{started, EndsWhole, IsOfOneRow, OverhangsNowhere, LineAsksForOneRow, KeepsAll, LinesDo}
 use Rattle.tbr_model.proofs.lists.Each.{each_append, each_map, each_unmap}
 use Rattle.tbr_tagged.proofs.Outcomes.{live_done}
@@ -14,10 +14,12 @@ use Rattle.tbr_rows.proofs.CellsSeated.{each_seated}
 use Rattle.tbr_renderer.proofs.PutRows.{flush_hangs}
 use Rattle.text_block_renderer.specs.LastBorder.{last_border}
 use Rattle.text_block_renderer.proofs.Moves.{any, path_hanging}
-use Rattle.tbr_renderer.proofs.RowsOfCells.{row_beside}
+use Rattle.tbr_renderer.specs.Rows.{own_cells}
+use Rattle.tbr_renderer.proofs.RowsOfCells.{row_beside, each_own}
 use Rattle.text_block_renderer.proofs.CallMoves.{calls_move}
 use Rattle.text_block_renderer.proofs.ActParts.{alone}
-use Rattle.text_block_renderer.proofs.ActSteps.{act_step}
+use Rattle.text_block_renderer.specs.Acts.{row_shown}
+use Rattle.text_block_renderer.proofs.ActSteps.{row_to_put, act_step}
 use Rattle.tbr_runner.proofs.ScriptLevels.{any_ready, first_led, Fits, fits_walk}
 use Rattle.tbr_runner.proofs.Walks.{At, GivesCell, TakesCells, line_makes}
 
@@ -83,17 +85,14 @@ module _ {D M : Type 0} (columns : ℕ → Option ℕ) (decoration : Decoration 
   row_none : (collapse : Bool) (cells : List (GivenCell (List M))) → Each IsOne cells → (r s : Top) →
       after_act columns decoration (row_of_cells collapse cells) r ≡ done s → NothingOverhangs r → NothingOverhangs s
   row_none collapse cells one r s does none =
-      let (m, flushed, puts, brings, computed) = act_step columns decoration (row_of_cells collapse cells) r s does in
-      let means = puts.means in
+      let (m, flushed, seated, are, is, brings) = act_step columns decoration (row_of_cells collapse cells) r s does in
+      let p = row_to_put columns decoration collapse cells m seated are in
       let before = each_gives HasNone LeavesNone (λ c e. inr e) m.hanging (subst (Each HasNone) (sym (flush_hangs columns r m (live_done r.failure (after_flush columns r) m flushed).1)) none) in
-      let seats =
-      each_seated LeavesNone (λ place width. inl refl) 0 m.hanging puts.own means.cells before
-      (zip_gives IsOne (ComesAs columns m.annotations) LeavesNone (λ g c come span. inl (come.1 ∙ span)) cells
-      puts.own puts.come one) means.seated in
-      let height = row_height (columns_shown collapse (cells_under collapse (last_border m.lines) means.cells)) in
-      subst (Each HasNone) (sym (ap (λ (q : Top). q.hanging) puts.is ∙ ap (λ (q : Top). q.hanging) (row_beside columns m puts.row) ∙ means.rest
-      ∙ ap (λ shown. overhang m.options.draw_borders (cells_left (row_height shown) shown)) means.shown_is))
-      (none_overhang m.options.draw_borders height collapse m.lines means.cells seats)
+      let own = each_own p.same columns m.annotations IsOne LeavesNone (λ g at span. inl span) 0 cells one in
+      let seats = each_seated LeavesNone (λ place width. inl refl) 0 m.hanging (own_cells p.same columns cells m) seated before own are in
+      let height = row_height (columns_shown collapse (cells_under collapse (last_border m.lines) seated)) in
+      subst (Each HasNone) (sym (ap (λ (q : Top). q.hanging) is ∙ ap (λ (q : Top). q.hanging) (row_beside columns m (row_shown p))))
+      (none_overhang m.options.draw_borders height collapse m.lines seated seats)
 
   -- ---- lines
 

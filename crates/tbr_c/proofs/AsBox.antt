@@ -1,8 +1,7 @@
 -- The seal and its parts own what a box at the same types owns.
-use mir.Syntax.{impl, tnil, dnil}
-use mathlib.Core.List.{[]}
-use denote.Signature.{Slot, plain}
-use Rattle.std_alloc.proofs.BoxSteps.Form.{Bx}
+use Rattle.tbr_c.proofs.Common.{dnil, [], plain, Bx}
+use mir.Syntax.{impl, tnil}
+use denote.Signature.{Slot}
 use Rattle.std_heap.specs.contracts.Global as Heap
 use Rattle.std_heap.specs.contracts.GlobalAllocator.TheImpl.{ghosts, dict}
 use Rattle.std_heap.proofs.Global.TheLaws as heap

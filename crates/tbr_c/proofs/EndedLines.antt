@@ -1,5 +1,6 @@
 -- Lines at the end of a program.
-use Rattle.std.proofs.Common.{◌≡◌, ℕ, Bool, Option, List, [], ◌∷◌, ◌++◌, map, flat_map, Ok, Err, encode_utf8_all, refl, ap, ◌∙◌}
+use Rattle.tbr_c.proofs.Common.{◌≡◌, ℕ, Bool, Option, List, Ok, Err, encode_utf8_all, refl, ap, ◌∙◌, TooNarrow, shown_links}
+use Rattle.std.proofs.Common.{[], ◌∷◌, ◌++◌, map, flat_map}
 use Rattle.tbr_model.specs.Codes.{newline_character}
 use Rattle.tbr_border.specs.Border.{shown}
 use Rattle.tbr_border.specs.declared.RenderLine.{RenderLine}
@@ -13,10 +14,8 @@ use Rattle.tbr_kept_lines.specs.Line.{Line, line_seen}
 use Rattle.tbr_renderer.specs.Outcomes.{changed}
 use Rattle.tbr_kept_lines.specs.Text.{lines_text}
 use Rattle.tbr_stack.specs.Top.{OfTop}
-use Rattle.tbr_script.specs.declared.error.RunError.TheVariants.{TooNarrow}
 use Rattle.tbr_program.specs.Progress.{Progress}
 use Rattle.tbr_program.specs.Closing.{closed}
-use Rattle.tbr_program.specs.Safe.{shown_links}
 use Rattle.tbr_program.specs.Commands.{ended, answered}
 use Rattle.tbr_program.proofs.MadeCommands.{text_given}
 use Rattle.tbr_c_lines.specs.Lines.{line_text}
@@ -32,7 +31,9 @@ module _ {D A : Type 0} (columns : ℕ → Option ℕ) (decoration : Decoration 
 
   ends : (given : Outcome (List (Line (List A)))) → Closes given → ended columns decoration 0 (shown_links raw p) ≡ answered (changed (λ lines. encode_utf8_all (lines_text lines)) given)
   ends given (top, is, h) =
-      text_given columns decoration 0 (shown_links raw p) (shown_links raw p) refl (let q = shown_links raw p in let s = q.stack in s.links) refl top is no_level no_cell (changed (λ lines. encode_utf8_all (lines_text lines)) given)
+      text_given columns decoration 0 (shown_links raw p) (shown_links raw p) refl
+      (let q = shown_links raw p in let s = q.stack in s.links) refl top is no_level no_cell
+      (changed (λ lines. encode_utf8_all (lines_text lines)) given)
       (ap (changed (λ lines. encode_utf8_all (lines_text lines))) h)
 
   pub lines_end : (lines : List (RenderLine (List A))) → Closes (done (map line_seen lines)) → ended columns decoration 0 (shown_links raw p) ≡ Ok (encode_utf8_all (flat_map line_text lines))

@@ -1,6 +1,7 @@
 -- What is asked of the renderer on top of a program.
-use Rattle.std.proofs.Common.{◌≡◌, ℕ, ◌<◌, ◌^◌, Option, None, Some, List, [], ◌∷◌, length, unwrap_or, ap, sym, arith}
-use Rattle.std.specs.Prelude.{SomeIff, IfSome, encode_utf8_all}
+use Rattle.tbr_c.proofs.Common.{◌≡◌, ℕ, Option, None, Some, List, length, ap, sym, arith, IfSome, encode_utf8_all}
+use Rattle.std.proofs.Common.{◌<◌, ◌^◌, [], ◌∷◌, unwrap_or}
+use Rattle.std.specs.Prelude.{SomeIff}
 use Rattle.std.specs.Option.{option_map}
 use Rattle.tbr_stack.specs.Stack.{Level, Stack, first_renderer, top_of}
 use Rattle.tbr_c.specs.Facts.{on_top}

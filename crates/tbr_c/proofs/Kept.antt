@@ -1,7 +1,7 @@
 -- Refusals that are kept.
-use Rattle.std.proofs.Common.{◌≡◌, ◌≢◌, None}
+use Rattle.tbr_c.proofs.Common.{◌≡◌, ◌≢◌, None, TooNarrow}
 use Rattle.tbr_script.specs.declared.error.RunError.{RunError}
-use Rattle.tbr_script.specs.declared.error.RunError.TheVariants.{TooNarrow, OutOfMemory, NotACommand, NothingToEnd, RowDoesNotFit, ReadFailed, WriteFailed}
+use Rattle.tbr_script.specs.declared.error.RunError.TheVariants.{OutOfMemory, NotACommand, NothingToEnd, RowDoesNotFit, ReadFailed, WriteFailed}
 use Rattle.tbr_c_lines.specs.Status.{fault_of_command}
 use Rattle.tbr_c.specs.State.{kept}
 

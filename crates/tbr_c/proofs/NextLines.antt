@@ -1,9 +1,9 @@
 -- The next line, as the state of a renderer has it, and as C is answered.
-use Rattle.std.proofs.Common.{◌≡◌, ◌≢◌, Option, None, Some, Result, Ok, Err, IfOk, IfSome, refl, ap}
+use Rattle.tbr_c.proofs.Common.{◌≡◌, ◌≢◌, Option, None, Some, Result, Ok, Err, IfSome, refl, ap, Fault}
+use Rattle.std.proofs.Common.{IfOk}
 use Rattle.tbr_c_lines.specs.Line.{Line, size_of}
 use Rattle.tbr_c_lines.specs.Lines.{Lines, TakesFirst}
 use Rattle.tbr_c_lines.specs.declared.line.LineSize.{LineSize}
-use Rattle.tbr_c_lines.specs.declared.fault.Fault.{Fault}
 use Rattle.tbr_c.specs.declared.state.State.TheVariants.{Finished}
 use Rattle.tbr_c.specs.State.{TakesLine}
 

@@ -1,11 +1,10 @@
 -- What texts are read as.
-use Rattle.std.proofs.Common.{◌≡◌, ℕ, List, Bool, true, false, Result, Ok, Err, IsUtf8, if◌then◌else◌, refl, ap, ◌∙◌}
+use Rattle.tbr_c.proofs.Common.{◌≡◌, ℕ, List, Bool, Result, Ok, Err, refl, ap, ◌∙◌, Fault, NotUtf8}
+use Rattle.std.proofs.Common.{true, false, IsUtf8, if◌then◌else◌}
 use Rattle.std.proofs.lemmas.Str.{IsUtf8-from_is_utf8, is_utf8-from_IsUtf8}
 use Rattle.std.specs.Str.{is_utf8}
 use Rattle.tbr_model.specs.declared.white_space.WhiteSpace.{WhiteSpace}
 use Rattle.tbr_c.specs.Arguments.{and_then, text_read, mode_named, extent_of_text, extent_asked}
-use Rattle.tbr_c_lines.specs.declared.fault.Fault.{Fault}
-use Rattle.tbr_c_lines.specs.declared.fault.Fault.TheVariants.{NotUtf8}
 
 pub read_text : (bytes : List ℕ) → IsUtf8 bytes → text_read bytes ≡ Ok bytes
 read_text bytes well = ap (λ (b : Bool). if b then Ok bytes else Err NotUtf8) (is_utf8-from_IsUtf8 bytes well)

@@ -5,7 +5,8 @@ use Rattle.tbr_tagged.specs.declared.Error.TheVariants as block
 use Rattle.tbr_script.specs.declared.error.RunError.{RunError}
 use Rattle.tbr_script.specs.declared.error.RunError.TheVariants as script
 use Rattle.tbr_c_lines.specs.declared.fault.Fault.{Fault}
-use Rattle.tbr_c_lines.specs.declared.fault.Fault.TheVariants.{OutOfMemory, TooNarrow, NotACommand, NothingToEnd, RowDoesNotFit, NotUtf8, BadWidth, BadArgument, StillOpen, Finished, NotFinished, NoLine, NoPiece, BufferTooSmall, InTable, NoTable}
+use Rattle.tbr_c_lines.specs.declared.fault.Fault.TheVariants.{OutOfMemory, TooNarrow, NotACommand, NothingToEnd, RowDoesNotFit, NotUtf8, BadWidth, BadArgument, StillOpen, Finished}
+use Rattle.tbr_c_lines.specs.declared.fault.Fault.TheVariants.{NotFinished, NoLine, NoPiece, BufferTooSmall, InTable, NoTable}
 
 abbrev pub code_of : Fault → ℕ
 code_of OutOfMemory = 1

@@ -38,7 +38,7 @@ impl GivenTable {
         ensures memory { IfErr result (λ fault. fault ≡ F.OutOfMemory) }
     {
         let mut table = GivenTable {
-            script: TableScript::begun(alloc, texts),
+            script: TableScript::begun(alloc, texts)?,
             parts: OpenParts::none(alloc),
         };
         table.record(TableCall::StartTable)?;

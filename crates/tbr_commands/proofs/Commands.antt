@@ -1,5 +1,6 @@
 -- What the code finds is what is read.
-use Rattle.std.proofs.Common.{◌≡◌, ◌≢◌, ℕ, zero, suc, Bool, true, false, ◌||◌, ◌<◌, ◌==◌, if◌then◌else◌, List, [], ◌∷◌, ◌++◌, length, get_or, Option, Some, None, MatchResult, Result, Ok, Err, IfSome, codes, arith, rules, refl, sym, ap, ◌∙◌, subst, inr}
+use Rattle.std.proofs.Common.{◌≡◌, ◌≢◌, ℕ, zero, suc, Bool, true, false, ◌||◌, ◌<◌, ◌==◌, if◌then◌else◌, List, [], ◌∷◌, ◌++◌, length, get_or, Option, Some, None, MatchResult, Result, Ok}
+use Rattle.std.proofs.Common.{Err, IfSome, codes, arith, rules, refl, sym, ap, ◌∙◌, subst, inr}
 use Rattle.std.specs.Borrow.{Bor}
 use Rattle.std.proofs.lemmas.Bool.{false≢true}
 use Rattle.std.specs.List.{list_any}
@@ -23,8 +24,8 @@ unsplit (b ∷ bs) none =
     if_not (b == 32) _ _ (no_byte b 32 (none 0 (omega arith))) ∙ ap (option_map (λ (p : List ℕ × List ℕ). (b ∷ p.0, p.1))) (unsplit bs (λ i lt. none (suc i) (omega arith)))
 
 -- a line that is UTF-8 is read
-pub read_utf8 : {X : Type 0} (read : List ℕ → Option X) (line bs : List ℕ) → bs ≡ line → IsUtf8 line → read bs ≡ (if is_utf8 line then read line else None)
-read_utf8 read line bs same utf8 = ap read same ∙ sym (if_so (is_utf8 line) (read line) None (is_utf8-from_IsUtf8 line utf8))
+pub read_utf8 : {X : Type 0} (read : List ℕ → Option X) (line : List ℕ) → IsUtf8 line → read line ≡ (if is_utf8 line then read line else None)
+read_utf8 read line utf8 = sym (if_so (is_utf8 line) (read line) None (is_utf8-from_IsUtf8 line utf8))
 
 -- and nothing of one that isn't
 pub unread : {X : Type 0} (read : List ℕ → Option X) (line : List ℕ) → (IsUtf8 line → ⊥) → None ≡ (if is_utf8 line then read line else None)
@@ -51,13 +52,8 @@ pub escaped : (bytes : List ℕ) (i : ℕ) → i < length bytes → get_or bytes
 escaped bytes i lt is = sym (if_so (list_any (λ b. b == backslash) bytes) _ _ (any_backslash bytes i lt is))
 
 -- and one without
-pub as_it_is : {E : Type 0} (bytes : List ℕ) (r : Result (Bor (List ℕ)) E) → ((i : ℕ) → i < length bytes → get_or bytes i 0 ≢ 92) → MatchResult r (λ s. (s.now ≡ bytes) × IsUtf8 bytes) (λ _. IsUtf8 bytes → ⊥) →
-    option_map (λ s. s.now) (result_ok r) ≡ as_written bytes
-as_it_is {E} bytes r none h = go r h ∙ sym (if_not (list_any (λ b. b == backslash) bytes) _ _ (no_backslash bytes none))
-  where
-    go : (r : Result (Bor (List ℕ)) E) → MatchResult r (λ s. (s.now ≡ bytes) × IsUtf8 bytes) (λ _. IsUtf8 bytes → ⊥) → option_map (λ s. s.now) (result_ok r) ≡ (if is_utf8 bytes then Some bytes else None)
-    go (Ok s) h = ap Some h.0 ∙ sym (if_so (is_utf8 bytes) (Some bytes) None (is_utf8-from_IsUtf8 bytes h.1))
-    go (Err e) h = unread Some bytes h
+pub as_it_is : (bytes : List ℕ) → IsUtf8 bytes → ((i : ℕ) → i < length bytes → get_or bytes i 0 ≢ 92) → Some bytes ≡ as_written bytes
+as_it_is bytes utf8 none = read_utf8 Some bytes utf8 ∙ sym (if_not (list_any (λ b. b == backslash) bytes) _ _ (no_backslash bytes none))
 
 -- what is written so is a text of its own
 means_itself : (bytes t : List ℕ) → as_written bytes ≡ Some t → IsUtf8 bytes × IsText bytes t
@@ -71,7 +67,8 @@ means_itself bytes t e =
     (λ not. absurd (no_some t (sym (if_not (is_utf8 bytes) (Some bytes) None not) ∙ sym (if_not _ _ _ none) ∙ e))))
 
 -- what holds of a text that is written so, where there is one
-pub if_written : (P : List ℕ → Type 0) (r : Option (Bor (List ℕ))) (bytes : List ℕ) → option_map (λ s. s.now) r ≡ as_written bytes → ((t : List ℕ) → as_written bytes ≡ Some t → P t) → IfSome r (λ s. P s.now)
+pub if_written : (P : List ℕ → Type 0) (r : Option (Bor (List ℕ))) (bytes : List ℕ) →
+    option_map (λ s. s.now) r ≡ as_written bytes → ((t : List ℕ) → as_written bytes ≡ Some t → P t) → IfSome r (λ s. P s.now)
 if_written P None bytes is holds = tt
 if_written P (Some s) bytes is holds = holds s.now (sym is)
 

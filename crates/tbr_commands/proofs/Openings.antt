@@ -23,6 +23,7 @@ one_more words rest word options setting is reads =
     ∙ ap (λ o. option_map (λ all. fold with_setting options all) (option_and_then (λ s. option_map (λ others. s ∷ others) (settings_read rest)) o)) reads
     ∙ ap (λ ws. option_map (λ all. fold with_setting options all) (settings_read ws)) (sym is)
   where
-    go : (o : Option (List Setting)) → option_map (λ all. fold with_setting (with_setting options setting) all) o ≡ option_map (λ all. fold with_setting options all) (option_map (λ others. setting ∷ others) o)
+    go : (o : Option (List Setting)) → option_map (λ all. fold with_setting (with_setting options setting) all) o ≡
+        option_map (λ all. fold with_setting options all) (option_map (λ others. setting ∷ others) o)
     go None = refl
     go (Some all) = refl

@@ -1,5 +1,6 @@
 -- What is read of a line is the command, or the first command, that it is.
-use Rattle.std.proofs.Common.{◌≡◌, ◌⊎◌, inl, inr, ℕ, ◌<◌, ◌==◌, true, false, Option, None, Some, List, [], ◌∷◌, ◌++◌, codes, fold, refl, sym, ap, ◌∙◌, subst, arith, ◌≢◌, length, get_or, suc, lit≤, IfSome, rules}
+use Rattle.std.proofs.Common.{◌≡◌, ◌⊎◌, inl, inr, ℕ, ◌<◌, ◌==◌, true, false, Option, None, Some, List, [], ◌∷◌, ◌++◌, codes, fold, refl, sym, ap, ◌∙◌, subst, arith, ◌≢◌, length, get_or, suc}
+use Rattle.std.proofs.Common.{lit≤, IfSome, rules}
 use Rattle.std.specs.List.{AllZip, AllByRecursion as Each}
 use Rattle.std.specs.Option.{option_map, option_and_then}
 use Rattle.std.specs.Str.{IsUtf8, bytes_eq, is_utf8}
@@ -17,7 +18,8 @@ use Rattle.tbr_renderer.specs.declared.RenderOptions.{RenderOptions}
 use Rattle.tbr_renderer.specs.declared.ImageRenderMode.TheVariants.{IgnoreEmpty, ShowAlways, Replace, Filename}
 use Rattle.tbr_script.specs.Script.{words_of, IsByte}
 use Rattle.tbr_script.specs.Read.{byte_read, number_read, size_read, text_read, texts_read}
-use Rattle.tbr_script.proofs.Reading.{not_a_digit, some_once, no_some, test, if_so, if_not, mapped, followed, number_written, written_number, size_written, written_size, byte_written, written_byte, text_written, written_text, texts_written, written_texts}
+use Rattle.tbr_script.proofs.Reading.{not_a_digit, some_once, no_some, test, if_so, if_not, mapped, followed, number_written, written_number, size_written, written_size, byte_written}
+use Rattle.tbr_script.proofs.Reading.{written_byte, text_written, written_text, texts_written, written_texts}
 use Rattle.tbr_commands.specs.declared.options.Setting.{Setting}
 use Rattle.tbr_commands.specs.declared.options.Setting.TheVariants.{Wrap, Overflow, Pad, NoBorders, NoWrapLinks, Footnotes, NoStrike, Images}
 use Rattle.tbr_commands.specs.declared.opening.Decorator.{Decorator}
@@ -31,7 +33,9 @@ use Rattle.tbr_commands.specs.Opening.{name_of, AsksFor, IsOpening}
 use Rattle.tbr_commands.specs.Request.{Request, layout, begin, end, text, fragment, image, colour, border}
 use Rattle.tbr_commands.specs.Command.{Command, ask, link, sub, append, cell, row, IsSized}
 use Rattle.tbr_commands.specs.Syntax.{IsAlone, HasArgument, IsColour, IsAlignment, IsNewCell, IsWritten, IsCommand, mode_name, IsRequest}
-use Rattle.tbr_commands.specs.Read.{first_of, looked_up, after_word, names, colour_of, alignment_of, cell_of, argument_read, line_read, command_read, settings, setting_read, settings_read, decorator_read, options_read, asked_for, opening_words, opening_read, split_at_space, endings, name_read, colour_read, modes, request_readers, level_readers, read_by, parts_read}
+use Rattle.tbr_commands.specs.Read.{first_of, looked_up, after_word, names, colour_of, alignment_of, cell_of, argument_read, line_read, command_read, settings, setting_read, settings_read}
+use Rattle.tbr_commands.specs.Read.{decorator_read, options_read, asked_for, opening_words, opening_read, split_at_space, endings, name_read, colour_read, modes, request_readers}
+use Rattle.tbr_commands.specs.Read.{level_readers, read_by, parts_read}
 
 -- ---- choices
 
@@ -41,7 +45,8 @@ module _ {X : Type 0} where
   either (Some y) other x is = inl is
 
   -- what is looked up is an entry
-  found : (P : List ℕ → X → Type 0) (entries : List (List ℕ × X)) → Each (λ (entry : List ℕ × X). P entry.0 entry.1) entries → (writing : List ℕ) (x : X) → looked_up entries writing ≡ Some x → P writing x
+  found : (P : List ℕ → X → Type 0) (entries : List (List ℕ × X)) →
+      Each (λ (entry : List ℕ × X). P entry.0 entry.1) entries → (writing : List ℕ) (x : X) → looked_up entries writing ≡ Some x → P writing x
   found P [] each writing x is = absurd (no_some x is)
   found P (entry ∷ entries) each writing x is =
       test (bytes_eq writing entry.0)
@@ -117,7 +122,9 @@ alignment_written words Centre is = ap alignment_of is
 
 written_alignment : (words : List (List ℕ)) (align : CellAlign) → alignment_of words ≡ Some align → IsAlignment words align
 written_alignment [] align e = subst (IsAlignment []) (sym (some_once Left align e)) (inl refl)
-written_alignment (word ∷ []) align e = found (λ w a. IsAlignment (w ∷ []) a) ((codes "left", Left) ∷ (codes "right", Right) ∷ (codes "centre", Centre) ∷ []) (inr refl, (refl, (refl, tt))) word align e
+written_alignment (word ∷ []) align e =
+    found (λ w a. IsAlignment (w ∷ []) a)
+    ((codes "left", Left) ∷ (codes "right", Right) ∷ (codes "centre", Centre) ∷ []) (inr refl, (refl, (refl, tt))) word align e
 written_alignment (word ∷ other ∷ words) align e = absurd (no_some align e)
 
 cell_written : (writing : List ℕ) (width span : ℕ) (align : CellAlign) → IsNewCell writing width span align → cell_of (words_of writing) ≡ Some (cell width span align)
@@ -204,7 +211,11 @@ requests_read = (
           λ w. from_made (colour ground.background) (colour_read w) _ (λ c e. inr (w, refl, written_colour w c e)),
           (
             λ w. from_made (λ n. border (Some n)) (number_read w) _ (λ n e. inr (w, refl, written_number w n e)),
-            (λ w. from_made (λ m. begin (beginning.Mode m)) (looked_up modes w) _ (λ m e. inl (ap (λ x. codes "ws " ++ x) (found (λ x n. x ≡ mode_name n) modes (refl, (refl, (refl, tt))) w m e))), tt),
+            (
+              λ w. from_made (λ m. begin (beginning.Mode m)) (looked_up modes w) _
+                  (λ m e. inl (ap (λ x. codes "ws " ++ x) (found (λ x n. x ≡ mode_name n) modes (refl, (refl, (refl, tt))) w m e))),
+              tt,
+            ),
           ),
         ),
       ),
@@ -228,7 +239,9 @@ levels_read = (
 )
 
 -- by a word of these
-by_reader : {X : Type 0} (P : List ℕ → X → Type 0) (readers : List (List ℕ × (List ℕ → Option X))) → Each (λ (entry : List ℕ × (List ℕ → Option X)). Reads P entry.0 entry.1) readers → (word w : List ℕ) (x : X) → read_by readers word w ≡ Some x → P (word ++ (codes " " ++ w)) x
+by_reader : {X : Type 0} (P : List ℕ → X → Type 0) (readers : List (List ℕ × (List ℕ → Option X))) →
+    Each (λ (entry : List ℕ × (List ℕ → Option X)). Reads P entry.0 entry.1) readers → (word w : List ℕ) (x : X) →
+    read_by readers word w ≡ Some x → P (word ++ (codes " " ++ w)) x
 by_reader P readers each word w x e =
     let (read, is, reads) = followed (λ read. read w) (looked_up readers word) x e in
     found (Reads P) readers each word read is w x reads
@@ -316,9 +329,12 @@ written_decorator name d e = found (λ w x. w ≡ name_of x) ((codes "plain", Pl
 asked_written : (words : List (List ℕ)) (o : Opening) → AsksFor words o → asked_for words ≡ Some o
 asked_written words o (digits, others, are, size, (settings_are, all, options)) =
     ap asked_for are
-    ∙ ap (option_and_then (λ w. option_and_then (λ d. option_map (λ os. record { width = w; decorator = d; options = os }) (options_read others)) (decorator_read (name_of o.decorator)))) (size_written digits o.width size)
+    ∙ ap (option_and_then (λ w.
+    option_and_then (λ d. option_map (λ os. record { width = w; decorator = d; options = os })
+    (options_read others)) (decorator_read (name_of o.decorator)))) (size_written digits o.width size)
     ∙ ap (option_and_then (λ d. option_map (λ os. record { width = o.width; decorator = d; options = os }) (options_read others))) (decorator_written o.decorator)
-    ∙ ap (λ ss. option_map (λ os. record { width = o.width; decorator = o.decorator; options = os }) (option_map (λ all. fold with_setting default_options all) ss)) (settings_written others settings_are all)
+    ∙ ap (λ ss. option_map (λ os. record { width = o.width; decorator = o.decorator; options = os })
+    (option_map (λ all. fold with_setting default_options all) ss)) (settings_written others settings_are all)
     ∙ ap (λ (os : RenderOptions). Some (record o { options = os })) (sym options)
 
 written_asked : (words : List (List ℕ)) (o : Opening) → asked_for words ≡ Some o → AsksFor words o
@@ -346,7 +362,14 @@ read_opening line o e =
     go [] are utf8 reads = absurd (no_some o reads)
     go (w ∷ ws) are utf8 reads =
         test (bytes_eq w (codes "new"))
-        (λ so. record { utf8 = utf8; words = ws; begins = are ∙ ap (λ x. x ∷ ws) ((bytes_eq-Decides w (codes "new")).0 so); asks = written_asked ws o (sym (if_so (bytes_eq w (codes "new")) (asked_for ws) None so) ∙ reads) })
+        (λ so. record {
+          utf8 = utf8;
+          words = ws;
+          begins =
+              are ∙ ap (λ x. x ∷ ws) ((bytes_eq-Decides w (codes "new")).0 so);
+          asks =
+              written_asked ws o (sym (if_so (bytes_eq w (codes "new")) (asked_for ws) None so) ∙ reads);
+        })
         (λ so. absurd (no_some o (sym (if_not (bytes_eq w (codes "new")) (asked_for ws) None so) ∙ reads)))
 
 -- no wrap width is 0
@@ -360,7 +383,8 @@ wrap_width_kept word Footnotes options k h e = h e
 wrap_width_kept word NoStrike options k h e = h e
 wrap_width_kept word (Images mode) options k h e = h e
 
-wrap_width_told : (words : List (List ℕ)) (all : List Setting) (options : RenderOptions) → AllZip IsSetting words all → options.wrap_width ≢ Some 0 → (fold with_setting options all).wrap_width ≢ Some 0
+wrap_width_told : (words : List (List ℕ)) (all : List Setting) (options : RenderOptions) →
+    AllZip IsSetting words all → options.wrap_width ≢ Some 0 → (fold with_setting options all).wrap_width ≢ Some 0
 wrap_width_told [] [] options is h = h
 wrap_width_told [] (s ∷ ss) options is h = absurd is
 wrap_width_told (w ∷ ws) [] options is h = absurd is

@@ -13,7 +13,6 @@ use crate::request::kind::Kind;
 use crate::request::layout::Layout;
 use crate::spaces::split_at_space;
 use memchr::memchr;
-use simdutf8::basic::from_utf8;
 use std::alloc::{AllocError, Global};
 use tbr_script::{TextPair, parse_size, unescape};
 
@@ -49,36 +48,26 @@ pub enum Command {
 impl Command {
     /// The text that a line asks for, where it is written without a backslash: what follows the word and a space.
     /// `None` for any other line. It takes no memory.
-    pub fn plain_text(line: &[u8]) -> Option<&str>
+    pub fn plain_text(line: &str) -> Option<&str>
         ensures value { option_map (λ text. text.now) result ≡ plain_read (codes "text ") line.now }
         ensures asked { IfSome result (λ text. command_read line.now ≡ Some (asked.ask (requests.text text.now))) }
     {
-        as_written(line.strip_prefix(b"text ")?)
+        as_written(line.strip_prefix("text ")?)
     }
 
     /// The target of the link that a line begins, where it is written so too. `None` for any other line. It takes no
     /// memory.
-    pub fn plain_link(line: &[u8]) -> Option<&str>
+    pub fn plain_link(line: &str) -> Option<&str>
         ensures value { option_map (λ target. target.now) result ≡ plain_read (codes "link ") line.now }
         ensures asked { IfSome result (λ target. command_read line.now ≡ Some (asked.link target.now)) }
     {
-        as_written(line.strip_prefix(b"link ")?)
+        as_written(line.strip_prefix("link ")?)
     }
 
     /// What a line asks for, without its newline. `Ok(None)` where it is no command. It refuses only where memory is
     /// refused.
-    pub fn parse(alloc: Global, line: &[u8]) -> Result<Option<Command>, AllocError>
+    pub fn parse(alloc: Global, line: &str) -> Result<Option<Command>, AllocError>
         ensures { IfOk result (λ found. option_map command_of found ≡ command_read line.now) }
-    {
-        let Ok(line) = from_utf8(line) else {
-            return Ok(None);
-        };
-        Command::of_line(alloc, line)
-    }
-
-    /// What a line that is UTF-8 asks for.
-    fn of_line(alloc: Global, line: &str) -> Result<Option<Command>, AllocError>
-        ensures { IfOk result (λ found. option_map command_of found ≡ line_read line.now) }
     {
         match split_at_space(line) {
             Some((word, argument)) => Command::with_argument(alloc, word, argument),
@@ -169,12 +158,12 @@ impl Command {
     }
 }
 
-/// A writing in UTF-8, as it is, where it has no backslash.
-fn as_written(writing: &[u8]) -> Option<&str>
+/// A writing, as it is, where it has no backslash.
+fn as_written(writing: &str) -> Option<&str>
     ensures { option_map (λ text. text.now) result ≡ as_written writing.now }
 {
-    match memchr(b'\\', writing) {
+    match memchr(b'\\', writing.as_bytes()) {
         Some(_) => None,
-        None => from_utf8(writing).ok(),
+        None => Some(writing),
     }
 }

@@ -44,14 +44,11 @@ impl Decorator {
 
 impl Opening {
     /// The first command that a line without its newline is. `None` where it is none.
-    pub fn parse(line: &[u8]) -> Option<Opening>
+    pub fn parse(line: &str) -> Option<Opening>
         ensures read { result ≡ opening_read line.now }
         ensures width { IfSome result (λ opening. 0 < opening.width) }
         ensures wrap_width { IfSome result (λ opening. opening.options.wrap_width ≢ Some 0) }
     {
-        let Ok(line) = str::from_utf8(line) else {
-            return None;
-        };
         let mut words = Words::of(line);
         if words.next()? != "new" {
             return None;

@@ -1,5 +1,8 @@
 -- Of what commands are made that are done, or for which something is too narrow.
-use Rattle.tbr_program.proofs.Common.{◌≡◌, ℕ, Bool, true, false, if◌then◌else◌, Option, None, Some, Result, Ok, Err, List, [], ◌∷◌, refl, sym, ap, subst, arith, CellAlign, Outcome, done, refused, Decoration, sub_renderer, RunError, OutOfMemory, NotACommand, NothingToEnd, Stack, top_of, pushed, below, Opener, Sub, Cell, open_links, Command, ask, link, end_link, sub, append, cell, end_cell, row, vertical_row, Pending, Opened, nothing_pending, with_cell, answered, on_top, if_some_are, with_stack, level_opened, ended_as, level_ended, Top, Place, Made, block_joined, joins, waits, after_command}
+use Rattle.tbr_program.proofs.Common.{◌≡◌, ℕ, Bool, true, false, if◌then◌else◌, Option, None, Some, Result, Ok, Err, List, [], ◌∷◌, refl, sym, ap, subst, arith, CellAlign, Outcome, done}
+use Rattle.tbr_program.proofs.Common.{refused, Decoration, sub_renderer, RunError, OutOfMemory, NotACommand, NothingToEnd, Stack, top_of, pushed, below, Opener, Sub, Cell, open_links}
+use Rattle.tbr_program.proofs.Common.{Command, ask, link, end_link, sub, append, cell, end_cell, row, vertical_row, Pending, Opened, nothing_pending, with_cell, answered, on_top}
+use Rattle.tbr_program.proofs.Common.{if_some_are, with_stack, level_opened, ended_as, level_ended, Top, Place, Made, block_joined, joins, waits, after_command}
 use Rattle.tbr_script.specs.declared.error.RunError.TheVariants.{TooNarrow}
 
 -- It is done, or something is too narrow for it. What a command asks for first holds then.
@@ -49,7 +52,9 @@ module _ {X : Type 0} where
 module _ {D M : Type 0} (columns : ℕ → Option ℕ) (decoration : Decoration D M) where
   -- ---- the stack
 
-  pub stack_done : (p : Place columns decoration) (made : Outcome (Stack (Top columns decoration))) (q : Place columns decoration) → with_stack columns decoration p made ≡ Ok q → (s : Stack (Top columns decoration)) × (made ≡ done s) × (q ≡ record p { stack = s })
+  pub stack_done : (p : Place columns decoration) (made : Outcome (Stack (Top columns decoration)))
+      (q : Place columns decoration) → with_stack columns decoration p made ≡ Ok q →
+      (s : Stack (Top columns decoration)) × (made ≡ done s) × (q ≡ record p { stack = s })
   stack_done p (done s) q is = (s, refl, one_ok (record p { stack = s }) q is)
   stack_done p (refused e) q is = absurd (let no : ⊥ = cc in no)
 
@@ -62,7 +67,8 @@ module _ {D M : Type 0} (columns : ℕ → Option ℕ) (decoration : Decoration 
       (r, top, one_ok _ q made)
 
   -- A level ends by what is made of its renderer and of what is left.
-  pub record Ends (make : Top columns decoration → Place columns decoration → Made columns decoration) (p : Place columns decoration) (by : Opener) (levels : List (Opened D M (List M))) (m : Made columns decoration) : Type 0 where
+  pub record Ends (make : Top columns decoration → Place columns decoration → Made columns decoration)
+      (p : Place columns decoration) (by : Opener) (levels : List (Opened D M (List M))) (m : Made columns decoration) : Type 0 where
     pub pending : Pending D M (List M)
     pub others : List (Opened D M (List M))
     pub opened : levels ≡ record { by = by; below = pending } ∷ others
@@ -71,7 +77,9 @@ module _ {D M : Type 0} (columns : ℕ → Option ℕ) (decoration : Decoration 
     pub top : top_of p.stack ≡ Some inside
     pub makes : make inside (record { stack = below p.stack; pending = pending; opened = others }) ≡ m
 
-  ends_as : (number : ℕ) (end : Option (Top columns decoration → Place columns decoration → Made columns decoration)) (p : Place columns decoration) (by : Opener) (pending : Pending D M (List M)) (others : List (Opened D M (List M))) (m : Made columns decoration) → IsLate m → ended_as columns decoration number end p pending others ≡ m →
+  ends_as : (number : ℕ) (end : Option (Top columns decoration → Place columns decoration → Made columns decoration))
+      (p : Place columns decoration) (by : Opener) (pending : Pending D M (List M))
+      (others : List (Opened D M (List M))) (m : Made columns decoration) → IsLate m → ended_as columns decoration number end p pending others ≡ m →
       (make : Top columns decoration → Place columns decoration → Made columns decoration) × (end ≡ Some make) × Ends make p by (record { by = by; below = pending } ∷ others) m
   ends_as number None p by pending others m late is = absurd (late_as (Err (NothingToEnd number)) m late is)
   ends_as number (Some make) p by pending others m late is =
@@ -79,7 +87,10 @@ module _ {D M : Type 0} (columns : ℕ → Option ℕ) (decoration : Decoration 
       let (inside, top, makes) = of_top (top_of p.stack) _ m late after in
       (make, refl, record { pending = pending; others = others; opened = refl; none_wait = none; inside = inside; top = top; makes = makes })
 
-  level_ends : (number : ℕ) (end : Opener → Option (Top columns decoration → Place columns decoration → Made columns decoration)) (p : Place columns decoration) (levels : List (Opened D M (List M))) (m : Made columns decoration) → IsLate m → level_ended columns decoration number end p levels ≡ m →
+  level_ends : (number : ℕ)
+      (end : Opener → Option (Top columns decoration → Place columns decoration → Made columns decoration))
+      (p : Place columns decoration) (levels : List (Opened D M (List M))) (m : Made columns decoration) → IsLate m →
+      level_ended columns decoration number end p levels ≡ m →
       (by : Opener) × (make : Top columns decoration → Place columns decoration → Made columns decoration) × (end by ≡ Some make) × Ends make p by levels m
   level_ends number end p [] m late is = absurd (late_as (Err (NothingToEnd number)) m late is)
   level_ends number end p (level ∷ levels) m late is =
@@ -87,7 +98,9 @@ module _ {D M : Type 0} (columns : ℕ → Option ℕ) (decoration : Decoration 
       (level.by, make, ends, parts)
 
   module _ (number : ℕ) (p : Place columns decoration) (levels : List (Opened D M (List M))) (m : Made columns decoration) (late : IsLate m) where
-    pub block_ends : (first others : List ℕ) → level_ended columns decoration number (joins columns decoration first others) p levels ≡ m → Ends (block_joined columns decoration first others) p Sub levels m
+    pub block_ends : (first others : List ℕ) →
+        level_ended columns decoration number (joins columns decoration first others) p levels ≡ m →
+        Ends (block_joined columns decoration first others) p Sub levels m
     block_ends first others is = grind (arith, level_ends)
 
     -- the cell that waits then
@@ -101,11 +114,16 @@ module _ {D M : Type 0} (columns : ℕ → Option ℕ) (decoration : Decoration 
 
   -- it tells early refusals alone
   module _ (one other : ℕ) (p : Place columns decoration) (m : Made columns decoration) (late : IsLate m) where
-    ends_again : (end : Option (Top columns decoration → Place columns decoration → Made columns decoration)) (pending : Pending D M (List M)) (others : List (Opened D M (List M))) → ended_as columns decoration one end p pending others ≡ m → ended_as columns decoration other end p pending others ≡ m
+    ends_again : (end : Option (Top columns decoration → Place columns decoration → Made columns decoration))
+        (pending : Pending D M (List M)) (others : List (Opened D M (List M))) →
+        ended_as columns decoration one end p pending others ≡ m → ended_as columns decoration other end p pending others ≡ m
     ends_again None pending others is = absurd (late_as (Err (NothingToEnd one)) m late is)
     ends_again (Some make) pending others is = grind (arith, none_are)
 
-    level_again : (end : Opener → Option (Top columns decoration → Place columns decoration → Made columns decoration)) (levels : List (Opened D M (List M))) → level_ended columns decoration one end p levels ≡ m → level_ended columns decoration other end p levels ≡ m
+    level_again : (end : Opener →
+        Option (Top columns decoration → Place columns decoration → Made columns decoration))
+        (levels : List (Opened D M (List M))) → level_ended columns decoration one end p levels ≡ m →
+        level_ended columns decoration other end p levels ≡ m
     level_again end [] is = absurd (late_as (Err (NothingToEnd one)) m late is)
     level_again end (level ∷ levels) is = ends_again (end level.by) level.below levels is
 

@@ -1,5 +1,7 @@
 -- The names that most proofs here cite, passed on from one place. It declares nothing.
-pub use Rattle.std.proofs.Common.{Bool, Err, IfErr, IfOk, List, None, Ok, Option, Result, Some, ap, arith, chars, drop, encode_utf8_all, false, flat_map, fold, if◌then◌else◌, inl, inr, length, length-append, map, refl, replicate, reverse, rules, string_bytes, subst, suc, sym, take, true, zero, ℕ, [], ◌++◌, ◌+◌, ◌-◌, ◌<◌, ◌==◌, ◌∙◌, ◌∷◌, ◌≡◌, ◌≢◌, ◌⊎◌}
+pub use Rattle.std.proofs.Common.{Bool, Err, IfErr, IfOk, List, None, Ok, Option, Result, Some, ap, arith, chars, drop, encode_utf8_all, false, flat_map, fold, if◌then◌else◌, inl, inr}
+pub use Rattle.std.proofs.Common.{length, length-append, map, refl, replicate, reverse, rules, string_bytes, subst, suc, sym, take, true, zero, ℕ, [], ◌++◌, ◌+◌, ◌-◌, ◌<◌, ◌==◌, ◌∙◌, ◌∷◌}
+pub use Rattle.std.proofs.Common.{◌≡◌, ◌≢◌, ◌⊎◌}
 pub use Rattle.std.proofs.lemmas.Bool.{eqb-true, false≢true}
 pub use Rattle.std.proofs.lemmas.Iterator.Consumers.{YieldsList-at, YieldsList-end, YieldsList-from_chain, YieldsList-so_far}
 pub use Rattle.std.proofs.lemmas.List.{map-append, map-id, nil_from_length, reverse-append, take-map, take_all}
@@ -18,7 +20,8 @@ pub use Rattle.tbr_stack.specs.Links.{after_end_with, after_link_end, after_link
 pub use Rattle.tbr_stack.specs.Stack.{Level, Stack, below, first_renderer, in_first, pushed, top_of, with_top}
 pub use Rattle.tbr_stack.specs.Top.{in_top}
 pub use Rattle.tbr_renderer.specs.Appended.{GivesFirst, handed_out, texts_of}
-pub use Rattle.tbr_renderer.specs.Calls.{Call, Does, IsTooNarrow, add_image, add_inline_text, after, append_subrender, append_vert_row, end_strikeout, finish, new_line, pop_colour, push_colour, start_block, start_strikeout}
+pub use Rattle.tbr_renderer.specs.Calls.{Call, Does, IsTooNarrow, add_image, add_inline_text, after, append_subrender, append_vert_row, end_strikeout, finish, new_line, pop_colour}
+pub use Rattle.tbr_renderer.specs.Calls.{push_colour, start_block, start_strikeout}
 pub use Rattle.tbr_renderer.specs.Decorated.{coloured, sub_renderer, uncoloured}
 pub use Rattle.tbr_kept_lines.specs.Line.{Line, line_seen}
 pub use Rattle.tbr_renderer.specs.Renderer.{Open, Renderer, Settings, settings_of, with_line}
@@ -31,7 +34,8 @@ pub use Rattle.tbr_commands.specs.Command.{Command, append, ask, cell, command_o
 pub use Rattle.tbr_commands.specs.Request.{Request, border, call_of, colour, end, image, layout, request_of, text}
 pub use Rattle.tbr_commands.specs.declared.begun.Begun.{Begun}
 pub use Rattle.tbr_program.specs.Closing.{closed_text, finalised, footnotes_of, with_notes}
-pub use Rattle.tbr_program.specs.Commands.{Made, Place, Runs, Top, after_command, after_line, after_read, answered, block_joined, block_made, cells_waiting, ended, ended_as, if_some_are, joins, level_ended, level_opened, on_top, request_made, row_made, vertical_made, waits, with_stack}
+pub use Rattle.tbr_program.specs.Commands.{Made, Place, Runs, Top, after_command, after_line, after_read, answered, block_joined, block_made, cells_waiting, ended, ended_as, if_some_are}
+pub use Rattle.tbr_program.specs.Commands.{joins, level_ended, level_opened, on_top, request_made, row_made, vertical_made, waits, with_stack}
 pub use Rattle.tbr_program.specs.Prefixes.{prefixes}
 pub use Rattle.tbr_program.specs.Progress.{AreLive, Closes, GoesOn, IsLive, Opened, Pending, Progress, begun_on_each, nothing_pending, opener, renderers_of, with_cell, without_cells}
 pub use Rattle.tbr_program.specs.declared.opened.Opener.{Opener}

@@ -1,5 +1,6 @@
 -- Levels that come and go.
-use Rattle.tbr_program.proofs.Common.{◌≡◌, ◌<◌, List, [], ◌∷◌, length, drop, Some, refl, arith, AllZip, Renderer, Stack, Level, top_of, with_top, below, first_renderer, in_first, Begun, Opener, Pending, Opened, IsLive, AreLive}
+use Rattle.tbr_program.proofs.Common.{◌≡◌, ◌<◌, List, [], ◌∷◌, length, drop, Some, refl, arith, AllZip, Renderer, Stack, Level, top_of, with_top, below, first_renderer, in_first, Begun}
+use Rattle.tbr_program.proofs.Common.{Opener, Pending, Opened, IsLive, AreLive}
 
 abbrev pub with_first : {R : Type 0} → List (Level R) → R → List (Level R)
 with_first levels r = in_first (λ level. record level { renderer = r }) levels
@@ -11,11 +12,13 @@ module _ {D A T : Type 0} where
   abbrev pub Zipped : List (Level (Renderer D A T)) → List Begun → Type 0
   Zipped levels begun = AllZip (λ level begun. IsLive level.renderer begun) levels begun
 
-  pub first_live : (levels : List (Level (Renderer D A T))) (r : Renderer D A T) (begun : Begun) (others : List Begun) → Zipped levels (begun ∷ others) → first_renderer levels ≡ Some r → IsLive r begun
+  pub first_live : (levels : List (Level (Renderer D A T))) (r : Renderer D A T) (begun : Begun) (others : List Begun)
+      → Zipped levels (begun ∷ others) → first_renderer levels ≡ Some r → IsLive r begun
   first_live [] r begun others live is = absurd live
   first_live (level ∷ levels) r begun others live is = grind arith
 
-  pub with_first_live : (levels : List (Level (Renderer D A T))) (s : Renderer D A T) (begun next : Begun) (others : List Begun) → Zipped levels (begun ∷ others) → IsLive s next → Zipped (with_first levels s) (next ∷ others)
+  pub with_first_live : (levels : List (Level (Renderer D A T))) (s : Renderer D A T) (begun next : Begun)
+      (others : List Begun) → Zipped levels (begun ∷ others) → IsLive s next → Zipped (with_first levels s) (next ∷ others)
   with_first_live [] s begun next others live is = absurd live
   with_first_live (level ∷ levels) s begun next others live is = (is, live.1)
 
@@ -42,7 +45,8 @@ module _ {D A T : Type 0} where
     pub with_top_live : (next : Stack (Renderer D A T)) (s : Renderer D A T) (left : Pending D A T) → next ≡ with_top stack s → IsLive s left.begun → AreLive next left opened
     with_top_live next s left is live_here = grind (arith, with_first_live)
 
-    pub below_live : (next : Stack (Renderer D A T)) (left : Pending D A T) (others : List (Opened D A T)) → next ≡ below stack → ((by : Opener) × (opened ≡ record { by = by; below = left } ∷ others)) → AreLive next left others
+    pub below_live : (next : Stack (Renderer D A T)) (left : Pending D A T) (others : List (Opened D A T)) →
+        next ≡ below stack → ((by : Opener) × (opened ≡ record { by = by; below = left } ∷ others)) → AreLive next left others
     below_live next left others is closed = grind (arith, below_top_live)
 
   pub only_level : (stack : Stack (Renderer D A T)) (pending : Pending D A T) (opened : List (Opened D A T)) → AreLive stack pending opened → opened ≡ [] → length stack.levels ≡ 1

@@ -1,5 +1,7 @@
 -- Links that begin and end where a program goes on.
-use Rattle.tbr_program.proofs.Common.{◌≡◌, ◌+◌, ℕ, Option, None, Some, List, [], ◌∷◌, length, refl, sym, subst, Decoration, Renderer, finish, add_inline_text, after, Outcome, done, Stack, Level, in_first, in_top, opened, with_link, open_links, link_number, shown_number, without_open_link, after_link_start, after_end_with, after_link_end, Begun, IsLive}
+use Rattle.tbr_program.proofs.Common.{◌≡◌, ◌+◌, ℕ, Option, None, Some, List, [], ◌∷◌, length, refl, sym, subst, Decoration, Renderer, finish, add_inline_text, after, Outcome, done, Stack}
+use Rattle.tbr_program.proofs.Common.{Level, in_first, in_top, opened, with_link, open_links, link_number, shown_number, without_open_link, after_link_start, after_end_with, after_link_end}
+use Rattle.tbr_program.proofs.Common.{Begun, IsLive}
 use Rattle.tbr_decor.specs.Start as start
 use Rattle.tbr_decor.specs.End as end_text
 use Rattle.tbr_renderer.specs.Calls.{begin}

@@ -1,5 +1,7 @@
 -- Renderers that go on: what is counted of a script is what they keep.
-use Rattle.tbr_program.proofs.Common.{◌≡◌, ◌<◌, ℕ, zero, suc, ◌-◌, ◌==◌, Bool, true, false, Option, None, Some, List, refl, ap, sym, ◌∙◌, subst, arith, chars, false≢true, pointwise, Outcome, done, taking, Decoration, Renderer, Settings, settings_of, coloured, uncoloured, Call, new_line, start_strikeout, end_strikeout, add_image, push_colour, pop_colour, after, Does, GivenCell, after_row, Begun, Request, layout, end, image, colour, border, call_of, ends_nothing, counted, IsLive}
+use Rattle.tbr_program.proofs.Common.{◌≡◌, ◌<◌, ℕ, zero, suc, ◌-◌, ◌==◌, Bool, true, false, Option, None, Some, List, refl, ap, sym, ◌∙◌, subst, arith, chars, false≢true, pointwise, Outcome}
+use Rattle.tbr_program.proofs.Common.{done, taking, Decoration, Renderer, Settings, settings_of, coloured, uncoloured, Call, new_line, start_strikeout, end_strikeout, add_image, push_colour}
+use Rattle.tbr_program.proofs.Common.{pop_colour, after, Does, GivenCell, after_row, Begun, Request, layout, end, image, colour, border, call_of, ends_nothing, counted, IsLive}
 use Rattle.tbr_renderer.proofs.OutcomeParts.{taken}
 use Rattle.tbr_decor.specs.Ground as ground
 use Rattle.tbr_decor.specs.Ground.{Ground}
@@ -134,7 +136,8 @@ module _ {D M : Type 0} (columns : ℕ → Option ℕ) (decoration : Decoration 
       )
 
   -- a row of cells side by side
-  pub row_live : (collapse : Bool) (cells : List (GivenCell (List M))) (r s : Renderer D M (List M)) (begun : Begun) → IsLive r begun → after_row (pointwise decoration.same) columns collapse cells r ≡ done s → IsLive s begun
+  pub row_live : (collapse : Bool) (cells : List (GivenCell (List M))) (r s : Renderer D M (List M)) (begun : Begun) →
+      IsLive r begun → after_row (pointwise decoration.same) columns collapse cells r ≡ done s → IsLive s begun
   row_live collapse cells r s begun live does =
       let lays = row_laid (pointwise decoration.same) columns collapse cells r s does in
       let same : settings_of s ≡ settings_of r = settings_stay columns r s lays in (
@@ -144,6 +147,8 @@ module _ {D M : Type 0} (columns : ℕ → Option ℕ) (decoration : Decoration 
       )
 
   -- what others give
-  pub taken_live : {X : Type 0} (given : Outcome X) (take : X → Renderer D M (List M) → Outcome (Renderer D M (List M))) (begun : Begun) → ((x : X) (r s : Renderer D M (List M)) → IsLive r begun → take x r ≡ done s → IsLive s begun) →
+  pub taken_live : {X : Type 0} (given : Outcome X)
+      (take : X → Renderer D M (List M) → Outcome (Renderer D M (List M))) (begun : Begun) →
+      ((x : X) (r s : Renderer D M (List M)) → IsLive r begun → take x r ≡ done s → IsLive s begun) →
       (r s : Renderer D M (List M)) → IsLive r begun → taking (after columns decoration new_line) given take r ≡ done s → IsLive s begun
   taken_live given take begun on r s live takes = grind (arith, taken)

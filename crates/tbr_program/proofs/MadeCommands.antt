@@ -1,5 +1,11 @@
 -- What commands make of a program, by what its renderers leave.
-use Rattle.tbr_program.proofs.Common.{◌≡◌, ◌≢◌, ◌⊎◌, ℕ, Bool, true, false, if◌then◌else◌, Option, None, Some, Result, Ok, Err, List, [], ◌∷◌, length, chars, refl, sym, ap, ◌∙◌, arith, rules, pointwise, map-append, nil_from_length, CellAlign, Outcome, done, refused, row_fits, Decoration, taking, gathered, Renderer, Line, sub_renderer, handed_out, new_line, append_vert_row, after, Does, IsTooNarrow, spots_of, GivenCell, cells_handed_out, after_row, RunError, NotACommand, NothingToEnd, RowDoesNotFit, Stack, top_of, with_top, pushed, below, in_top, open_links, after_link_start, after_link_end, Request, call_of, Command, ask, link, end_link, append, end_cell, row, vertical_row, ends_nothing, counted, Opener, Sub, Cell, closed_text, Pending, Opened, Progress, nothing_pending, opener, renderers_of, with_cell, without_cells, Closes, Top, Place, Made, answered, on_top, if_some_are, with_stack, level_opened, ended_as, level_ended, block_made, block_joined, joins, waits, request_made, row_made, vertical_made, after_command, ended}
+use Rattle.tbr_program.proofs.Common.{◌≡◌, ◌≢◌, ◌⊎◌, ℕ, Bool, true, false, if◌then◌else◌, Option, None, Some, Result, Ok, Err, List, [], ◌∷◌, length, chars, refl, sym, ap, ◌∙◌, arith, rules}
+use Rattle.tbr_program.proofs.Common.{pointwise, map-append, nil_from_length, CellAlign, Outcome, done, refused, row_fits, Decoration, taking, gathered, Renderer, Line, sub_renderer}
+use Rattle.tbr_program.proofs.Common.{handed_out, new_line, append_vert_row, after, Does, IsTooNarrow, spots_of, GivenCell, cells_handed_out, after_row, RunError, NotACommand, NothingToEnd}
+use Rattle.tbr_program.proofs.Common.{RowDoesNotFit, Stack, top_of, with_top, pushed, below, in_top, open_links, after_link_start, after_link_end, Request, call_of, Command, ask, link}
+use Rattle.tbr_program.proofs.Common.{end_link, append, end_cell, row, vertical_row, ends_nothing, counted, Opener, Sub, Cell, closed_text, Pending, Opened, Progress, nothing_pending}
+use Rattle.tbr_program.proofs.Common.{opener, renderers_of, with_cell, without_cells, Closes, Top, Place, Made, answered, on_top, if_some_are, with_stack, level_opened, ended_as}
+use Rattle.tbr_program.proofs.Common.{level_ended, block_made, block_joined, joins, waits, request_made, row_made, vertical_made, after_command, ended}
 use Rattle.tbr_tagged.specs.declared.Error.TheVariants as E
 use Rattle.tbr_script.specs.declared.error.RunError.TheVariants.{TooNarrow}
 use Rattle.tbr_stack.proofs.Tops.{done_in, refused_in}
@@ -19,7 +25,8 @@ module _ {X Y : Type 0} where
 pub some_opened : {D A T : Type 0} (i p : Progress D A T) → i ≡ p → (by : Opener) → opener i.opened ≡ Some by → opener p.opened ≢ None
 some_opened {D} {A} {T} i p same by is none = let there : opener p.opened ≡ Some by = ap (λ (q : Progress D A T). opener q.opened) (sym same) ∙ is in cc (there, none)
 
-module _ {D M : Type 0} (columns : ℕ → Option ℕ) (decoration : Decoration D M) (number : ℕ) (end : Opener → Option (Top columns decoration → Place columns decoration → Made columns decoration)) (p : Place columns decoration) where
+module _ {D M : Type 0} (columns : ℕ → Option ℕ) (decoration : Decoration D M) (number : ℕ)
+    (end : Opener → Option (Top columns decoration → Place columns decoration → Made columns decoration)) (p : Place columns decoration) where
   abbrev ends : List (Opened D M (List M)) → Made columns decoration
   ends levels = level_ended columns decoration number end p levels
 
@@ -83,7 +90,8 @@ module _ {D M : Type 0} where
       abbrev in_it : Place columns decoration → (Top columns decoration → Outcome (Top columns decoration)) → Made columns decoration
       in_it q make = with_stack columns decoration q (in_top make i.stack)
 
-      led : (q : Place columns decoration) (make : Top columns decoration → Outcome (Top columns decoration)) (s : Renderer D M (List M)) → make top ≡ done s → in_it q make ≡ Ok (record q { stack = (with_top i.stack s) })
+      led : (q : Place columns decoration) (make : Top columns decoration → Outcome (Top columns decoration))
+          (s : Renderer D M (List M)) → make top ≡ done s → in_it q make ≡ Ok (record q { stack = (with_top i.stack s) })
       led q make s h = ap (with_stack columns decoration q) (done_in make i.stack top s is_top h)
 
       not_led : (q : Place columns decoration) (make : Top columns decoration → Outcome (Top columns decoration)) → make top ≡ refused E.TooNarrow → in_it q make ≡ Err TooNarrow
@@ -101,7 +109,8 @@ module _ {D M : Type 0} where
         asks : makes (ask request) ≡ in_it noting (request_made columns decoration request)
         asks = here (ask request) ∙ ap (λ b. if b then Err (NothingToEnd number) else in_it noting (request_made columns decoration request)) some
 
-        pub request_done : (s : Renderer D M (List M)) (pending : Pending D M (List M)) → pending ≡ noted → Does columns decoration (call_of top.width request) top s → makes (ask request) ≡ after_it (with_top i.stack s) pending
+        pub request_done : (s : Renderer D M (List M)) (pending : Pending D M (List M)) → pending ≡ noted →
+            Does columns decoration (call_of top.width request) top s → makes (ask request) ≡ after_it (with_top i.stack s) pending
         request_done s pending counts does = asks ∙ led noting (request_made columns decoration request) s does ∙ ap (after_it (with_top i.stack s)) (sym counts)
 
         pub request_narrow : IsTooNarrow columns decoration (call_of top.width request) top → makes (ask request) ≡ Err TooNarrow
@@ -122,7 +131,8 @@ module _ {D M : Type 0} where
         stacks : (o : Outcome (Top columns decoration)) → stacked all_given ≡ o → vertical_made columns decoration i.pending top ≡ o
         stacks o h = ap (λ rs. stacked (gathered (handed_out columns) rs)) (sym are) ∙ h
 
-        pub vertical_done : (s : Renderer D M (List M)) (pending : Pending D M (List M)) → pending ≡ without_cells i.pending → stacked all_given ≡ done s → makes vertical_row ≡ after_it (with_top i.stack s) pending
+        pub vertical_done : (s : Renderer D M (List M)) (pending : Pending D M (List M)) →
+            pending ≡ without_cells i.pending → stacked all_given ≡ done s → makes vertical_row ≡ after_it (with_top i.stack s) pending
         vertical_done s pending taken h =
             here vertical_row ∙ led no_cell_waits (vertical_made columns decoration i.pending) s (stacks (done s) h) ∙ ap (after_it (with_top i.stack s)) (sym taken)
 
@@ -143,14 +153,18 @@ module _ {D M : Type 0} where
         pub row_unfit : row_fits seen.hanging (spots_of columns cols) ≡ false → makes (row collapse) ≡ Err (RowDoesNotFit number)
         row_unfit unfit = lays false unfit
 
-        module _ (fit : row_fits seen.hanging (spots_of columns cols) ≡ true) (taken : List (Renderer D M (List M) × ℕ)) (those : taken ≡ i.pending.cells) (aligns : List CellAlign) (these : aligns ≡ i.pending.aligns) where
+        module _ (fit : row_fits seen.hanging (spots_of columns cols) ≡ true)
+            (taken : List (Renderer D M (List M) × ℕ)) (those : taken ≡ i.pending.cells) (aligns : List CellAlign)
+            (these : aligns ≡ i.pending.aligns) where
           abbrev beside : Outcome (List (GivenCell (List M))) → Outcome (Top columns decoration)
           beside given = taking (after columns decoration new_line) given (after_row (pointwise decoration.same) columns collapse) top
 
           besides : (o : Outcome (Top columns decoration)) → beside (cells_handed_out columns taken aligns) ≡ o → row_made columns decoration i.pending collapse top ≡ o
           besides o h = ap beside (λ j. cells_handed_out columns (sym those j) (sym these j)) ∙ h
 
-          pub row_done : (s : Renderer D M (List M)) (pending : Pending D M (List M)) → pending ≡ without_cells i.pending → beside (cells_handed_out columns taken aligns) ≡ done s → makes (row collapse) ≡ after_it (with_top i.stack s) pending
+          pub row_done : (s : Renderer D M (List M)) (pending : Pending D M (List M)) →
+              pending ≡ without_cells i.pending → beside (cells_handed_out columns taken aligns) ≡ done s →
+              makes (row collapse) ≡ after_it (with_top i.stack s) pending
           row_done s pending left h =
               lays true fit ∙ led no_cell_waits (row_made columns decoration i.pending collapse) s (besides (done s) h) ∙ ap (after_it (with_top i.stack s)) (sym left)
 
@@ -190,7 +204,9 @@ module _ {D M : Type 0} where
       pub block_waits : opener i.opened ≡ Some Sub → i.pending.cells ≢ [] → makes (append first others) ≡ Err (NotACommand number)
       block_waits is some = waits_still (joins columns decoration first others) Sub (block_joined columns decoration first others) refl is some
 
-      module _ (is : opener i.opened ≡ Some Sub) (none : i.pending.cells ≡ []) (inside : Renderer D M (List M)) (next j : Progress D M (List M)) (c : Closes p inside next) (left : j ≡ next) (top : Renderer D M (List M)) (is_top : top_of j.stack ≡ Some top) where
+      module _ (is : opener i.opened ≡ Some Sub) (none : i.pending.cells ≡ []) (inside : Renderer D M (List M))
+          (next j : Progress D M (List M)) (c : Closes p inside next) (left : j ≡ next) (top : Renderer D M (List M))
+          (is_top : top_of j.stack ≡ Some top) where
         abbrev joined : Top columns decoration → Outcome (Top columns decoration)
         joined = block_made columns decoration first others inside
 
@@ -216,7 +232,8 @@ module _ {D M : Type 0} where
       pub cell_waits : i.pending.cells ≢ [] → makes end_cell ≡ Err (NotACommand number)
       cell_waits some = waits_still (waits columns decoration) (Cell span align) waiting refl is some
 
-      pub cell_done : i.pending.cells ≡ [] → (inside : Renderer D M (List M)) (next j : Progress D M (List M)) (pending : Pending D M (List M)) → Closes p inside next → j ≡ next → pending ≡ with_cell j.pending inside span align →
+      pub cell_done : i.pending.cells ≡ [] → (inside : Renderer D M (List M)) (next j : Progress D M (List M))
+          (pending : Pending D M (List M)) → Closes p inside next → j ≡ next → pending ≡ with_cell j.pending inside span align →
           makes end_cell ≡ Ok (record { stack = j.stack; pending = pending; opened = j.opened })
       cell_done none inside next j pending c left now = grind (arith, closes, map-append)
 
@@ -231,6 +248,7 @@ module _ {D M : Type 0} where
     pub still_open : (i.opened ≢ []) ⊎ (i.pending.cells ≢ []) → gives ≡ Err (NotACommand number)
     still_open h = grind (arith, gives_here, still_some)
 
-    pub text_given : (targets : List (List ℕ)) → targets ≡ (let s = i.stack in s.links) → (top : Renderer D M (List M)) → top_of i.stack ≡ Some top → i.opened ≡ [] → i.pending.cells ≡ [] → (o : Outcome (List ℕ)) →
+    pub text_given : (targets : List (List ℕ)) → targets ≡ (let s = i.stack in s.links) →
+        (top : Renderer D M (List M)) → top_of i.stack ≡ Some top → i.opened ≡ [] → i.pending.cells ≡ [] → (o : Outcome (List ℕ)) →
         closed_text columns decoration targets top ≡ o → gives ≡ answered o
     text_given targets are top is_top none_open none_wait o h = grind (arith, gives_here, no_more)

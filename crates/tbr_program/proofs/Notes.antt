@@ -1,5 +1,7 @@
 -- The lines at the end of a script.
-use Rattle.tbr_program.proofs.Common.{◌≡◌, ◌==◌, ℕ, true, false, Option, None, List, [], ◌∷◌, fold, flat_map, length, chars, encode_utf8_all, refl, sym, ap, ◌∙◌, arith, false≢true, eqb-true, encodes-chars, Decoration, Renderer, Open, with_line, Line, lines_text, Outcome, done, refused, changed, handed_out, start_block, after, with_notes, footnotes_of, finalised}
+use Rattle.tbr_program.proofs.Common.{◌≡◌, ◌==◌, ℕ, true, false, Option, None, List, [], ◌∷◌, fold, flat_map, length, chars, encode_utf8_all, refl, sym, ap, ◌∙◌, arith, false≢true, eqb-true}
+use Rattle.tbr_program.proofs.Common.{encodes-chars, Decoration, Renderer, Open, with_line, Line, lines_text, Outcome, done, refused, changed, handed_out, start_block, after, with_notes}
+use Rattle.tbr_program.proofs.Common.{footnotes_of, finalised}
 use Rattle.std.specs.Str.{IsUtf8}
 use Rattle.tbr_model.specs.Run.{Item}
 use Rattle.tbr_tagged.specs.Elements.{Element}
@@ -41,7 +43,8 @@ some_lines columns f [] r e = absurd (false≢true (sym e))
 some_lines columns f (line ∷ lines) r e = refl
 
 -- the bytes of lines
-pub text_of_lines : {M : Type 0} (given : Outcome (List (Line (List M)))) (text : List ℕ) → IsUtf8 text → changed lines_text given ≡ done (chars text) → changed (λ lines. encode_utf8_all (lines_text lines)) given ≡ done text
+pub text_of_lines : {M : Type 0} (given : Outcome (List (Line (List M)))) (text : List ℕ) → IsUtf8 text →
+    changed lines_text given ≡ done (chars text) → changed (λ lines. encode_utf8_all (lines_text lines)) given ≡ done text
 text_of_lines (done lines) text is_text h = ap (λ bytes. done bytes) (ap encode_utf8_all (sym (one_done (lines_text lines) (chars text) h)) ∙ encodes-chars text is_text)
 text_of_lines (refused e) text is_text h = absurd (let no : ⊥ = cc in no)
 
@@ -65,7 +68,9 @@ module _ {D M : Type 0} (columns : ℕ → Option ℕ) (decoration : Decoration 
           let (s, flush, begins) = done_before (block_started columns) (after_flush columns asked) begun (live_done r.failure (after_block_start columns asked) begun starts).1 in
           let all : noted ≡ with_footnotes columns (block_started columns s) (lines_meant f lines) = is ∙ ap (λ (q : Renderer D M (List M)). with_footnotes columns q (lines_meant f lines)) begins in
           let texts = flat_map (footnote_lines columns (block_started columns s)) (lines_meant f lines) in
-          let none_open : noted.block ≡ None = ap (λ (q : Renderer D M (List M)). q.block) all ∙ lines_block columns texts (block_started columns s) ∙ begun_block columns s ∙ flushed_none columns asked s (flushes columns asked s flush) in
+          let none_open : noted.block ≡ None = ap (λ (q : Renderer D M (List M)). q.block) all
+          ∙ lines_block columns texts (block_started columns s) ∙ begun_block columns s
+          ∙ flushed_none columns asked s (flushes columns asked s flush) in
           let unfailed : noted.failure ≡ None =
           ap (λ (q : Renderer D M (List M)). q.failure) is ∙ lines_failure columns (flat_map (footnote_lines columns begun) (lines_meant f lines)) begun
           ∙ ap (λ (x : Steady D M). x.failure) (started_alike columns asked begun (live_done r.failure (after_block_start columns asked) begun starts).1) ∙ live in
@@ -76,5 +81,6 @@ module _ {D M : Type 0} (columns : ℕ → Option ℕ) (decoration : Decoration 
           ∙ ap (changed (λ q. let t = with_notes columns (footnotes_of columns decoration targets r) q in t.lines)) (sym flush)
 
 -- nothing has failed
-pub unfailed : {D A M : Type 0} (columns : ℕ → Option ℕ) (f : A → M) (lines : List (List (Element A))) (begun noted : Renderer D M (List M)) → noted ≡ with_footnotes columns begun (lines_meant f lines) → begun.failure ≡ None → noted.failure ≡ None
+pub unfailed : {D A M : Type 0} (columns : ℕ → Option ℕ) (f : A → M) (lines : List (List (Element A)))
+    (begun noted : Renderer D M (List M)) → noted ≡ with_footnotes columns begun (lines_meant f lines) → begun.failure ≡ None → noted.failure ≡ None
 unfailed {D} {A} {M} columns f lines begun noted is live = grind (arith, lines_failure)

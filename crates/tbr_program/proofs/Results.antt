@@ -21,7 +21,8 @@ if_err_then (Ok x) f h = tt
 if_err_then (Err e) f h = f e h
 
 -- where a refusal of a block is passed on
-pub refused_by : {X : Type 0} (P : RunError → Type 0) (r : Result X RunError) (e : Error) → IsErrAnd r (λ x. x ≡ refusal_of e) → (e ≡ block.TooNarrow → P TooNarrow) → IfErr r (λ x. x ≢ OutOfMemory → P x)
+pub refused_by : {X : Type 0} (P : RunError → Type 0) (r : Result X RunError) (e : Error) →
+    IsErrAnd r (λ x. x ≡ refusal_of e) → (e ≡ block.TooNarrow → P TooNarrow) → IfErr r (λ x. x ≢ OutOfMemory → P x)
 refused_by P (Ok x) e is h = tt
 refused_by P (Err x) block.TooNarrow is h = λ _. subst P (sym is) (h refl)
 refused_by P (Err x) block.OutOfMemory is h = λ other. absurd (other is)
@@ -51,6 +52,7 @@ module _ {D A R : Type 0} (make : Progress D A (List A) → Result (Progress D A
   runs_refused (Err x) block.OutOfMemory is h = runs_out (Err x) is
 
 -- what makes the same of a program is run too
-pub runs_as : {D A R : Type 0} (make other : Progress D A (List A) → Result (Progress D A (List A)) RunError) (old new : Progress D A (List A)) (result : Result R RunError) → make old ≡ other old → Runs make old result new → Runs other old result new
+pub runs_as : {D A R : Type 0} (make other : Progress D A (List A) → Result (Progress D A (List A)) RunError)
+    (old new : Progress D A (List A)) (result : Result R RunError) → make old ≡ other old → Runs make old result new → Runs other old result new
 runs_as make other old new (Ok x) same runs = record { ok = sym same ∙ runs.ok; goes_on = runs.goes_on; refused = tt; left = tt }
 runs_as make other old new (Err e) same runs = record { ok = tt; goes_on = tt; refused = λ some. sym same ∙ runs.refused some; left = runs.left }

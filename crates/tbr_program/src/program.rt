@@ -93,7 +93,7 @@ impl<D: TextDecorator, W: CharWidth> Program<D, W> {
         &mut self,
         alloc: Global,
         number: usize,
-        line: &[u8],
+        line: &str,
         raw: bool,
     ) -> Result<(), RunError>
         requires { GoesOn self.old }

@@ -36,7 +36,8 @@ struct Entry {
 pub struct TableScript {
     alloc: Global,
     texts: Texts,
-    recording: Recording,
+    /// In a box, since a script is moved at each line.
+    recording: Box<Recording>,
     /// One for each step.
     entries: Vec<Entry>,
 }
@@ -50,7 +51,7 @@ impl Model for TableScript {
 
     ghost view = { λ t. record {
       texts = t.texts;
-      recorded = t.recording;
+      recorded = t.recording.value;
       commands = map command_in t.entries.items;
     } };
 
@@ -58,17 +59,17 @@ impl Model for TableScript {
 }
 
 impl TableScript {
-    /// Nothing, where this decides what commands write.
-    pub fn begun(alloc: Global, texts: Texts) -> TableScript
-        ensures { result ≡ nothing texts }
+    /// Nothing, where this decides what commands write. It refuses only where memory is refused.
+    pub fn begun(alloc: Global, texts: Texts) -> Result<TableScript, OutOfMemory>
+        ensures { IfOk result (λ script. script ≡ nothing texts) }
     {
         let wrap = texts.options.wrap_width.unwrap_or(usize::MAX);
-        TableScript {
+        Ok(TableScript {
             alloc,
             texts,
-            recording: Recording::begun(alloc, wrap),
+            recording: Box::new(alloc, Recording::begun(alloc, wrap))?,
             entries: Vec::new(alloc),
-        }
+        })
     }
 
     /// A command of a line comes. It refuses where memory is refused, and where a size passes `usize`; what is recorded
@@ -90,7 +91,7 @@ impl TableScript {
     pub fn add_step<W: CharWidth>(&mut self, line: usize, step: Step) -> Result<(), OutOfMemory>
         ensures { OnOk result (self.new ≡ with_bare W.columns step self.old) }
     {
-        self.recording.add::<W>(step, no_text())?;
+        self.record_step::<W>(step, no_text())?;
         self.keep(line, None)
     }
 
@@ -117,18 +118,18 @@ impl TableScript {
             Command::Ask(request) => self.record_request::<W>(step, request),
             Command::Link(_) => {
                 let text = opening_bracket(self.texts.decorator);
-                self.recording.add::<W>(step, text)
+                self.record_step::<W>(step, text)
             }
             Command::EndLink => {
                 let text = self.texts.after_link(self.alloc)?;
-                self.recording.add::<W>(step, text.as_str())
+                self.record_step::<W>(step, text.as_str())
             }
             Command::Sub(_)
             | Command::Append(_)
             | Command::Cell(_)
             | Command::EndCell
             | Command::Row { .. }
-            | Command::VerticalRow => self.recording.add::<W>(step, no_text()),
+            | Command::VerticalRow => self.record_step::<W>(step, no_text()),
         }
     }
 
@@ -144,20 +145,29 @@ impl TableScript {
         }) }
     {
         match request {
-            Request::Text(text) => self.recording.add::<W>(step, text.as_str()),
-            Request::Begin(what) => self.recording.add::<W>(step, text_before(*what)),
-            Request::End(what) => self.recording.add::<W>(step, text_after(*what)),
+            Request::Text(text) => self.record_step::<W>(step, text.as_str()),
+            Request::Begin(what) => self.record_step::<W>(step, text_before(*what)),
+            Request::End(what) => self.record_step::<W>(step, text_after(*what)),
             Request::Image(image) => {
                 let (source, title) = (image.first.as_str(), image.second.as_str());
                 let text = self.texts.image(self.alloc, source, title)?;
-                self.recording.add::<W>(step, text.as_str())
+                self.record_step::<W>(step, text.as_str())
             }
             Request::Layout(_)
             | Request::Fragment(_)
             | Request::Colour(_)
             | Request::Background(_)
-            | Request::Border(_) => self.recording.add::<W>(step, no_text()),
+            | Request::Border(_) => self.record_step::<W>(step, no_text()),
         }
+    }
+
+    /// Records a step with its text.
+    fn record_step<W: CharWidth>(&mut self, step: Step, text: &str) -> Result<(), OutOfMemory>
+        ensures { OnOk result (self.new ≡ record self.old {
+          recorded = with_step W.columns self.old.recorded step (chars text.now);
+        }) }
+    {
+        self.recording.add::<W>(step, text)
     }
 
     /// What decides what commands write.

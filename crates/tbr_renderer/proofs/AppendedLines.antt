@@ -1,21 +1,13 @@
 -- Lines of other renderers, one after another.
-use Rattle.std.proofs.Common.{◌≡◌, ◌↔◌, IsTrue, ℕ, zero, suc, arith, ◌+◌, ◌-◌, ◌<◌, Bool, false, Option, None, Result, Ok, Err, List, [], ◌∷◌, ◌++◌, map, fold, take, get_or, replicate, length, refl, ap, sym, ◌∙◌, append-nil, append_assoc}
-use Rattle.std.specs.Prelude.{chars, OnOk}
-use Rattle.std.proofs.lemmas.List.{map-append, length-append, length-map, length-replicate, replicate_more, take_more}
-use Rattle.std.proofs.lemmas.Grind.{fold-append}
-use Rattle.tbr_model.specs.Run.{Item}
-use Rattle.tbr_tagged.specs.Outcome.{Outcome, done}
-use Rattle.tbr_renderer.specs.Outcomes.{gathered}
+use Rattle.tbr_renderer.proofs.Common.{◌≡◌, ◌↔◌, IsTrue, ℕ, suc, arith, ◌+◌, ◌-◌, ◌<◌, Bool, false, Option, None, Result, Ok, Err, List, [], ◌∷◌, ◌++◌, map, fold, take, replicate, length}
+use Rattle.tbr_renderer.proofs.Common.{refl, ap, sym, ◌∙◌, append-nil, append_assoc, chars, OnOk, map-append, length-append, length-map, replicate_more, fold-append, Item, Outcome, done}
+use Rattle.tbr_renderer.proofs.Common.{gathered, RenderLine, text_items, Line, text, line_seen, same_annotations, Renderer, Settings, KeepsSettings, with_line, slash, AreAlike, alike}
+use Rattle.tbr_renderer.proofs.Common.{texts_of, prefixed, handed_out, with_prefixed, with_divider, with_cell, with_cell_below}
+use Rattle.std.proofs.Common.{zero, get_or}
+use Rattle.std.proofs.lemmas.List.{length-replicate, take_more}
 use Rattle.tbr_renderer.proofs.OutcomeParts.{gathered_last}
-use Rattle.tbr_border.specs.declared.RenderLine.{RenderLine}
-use Rattle.tbr_tagged.specs.Elements.{text_items}
-use Rattle.tbr_kept_lines.specs.Line.{Line, text, line_seen}
 use Rattle.tbr_kept_lines.specs.Prefixed.{as_text, prefixed_lines, Appends}
 use Rattle.tbr_renderer.proofs.JoinedLines.{lines_told, added_at_once}
-use Rattle.tbr_annotations.specs.Annotations.{same_annotations}
-use Rattle.tbr_renderer.specs.Renderer.{Renderer, Settings, KeepsSettings, with_line}
-use Rattle.tbr_border.specs.Cell.{slash}
-use Rattle.tbr_renderer.specs.Appended.{AreAlike, alike, texts_of, prefixed, handed_out, with_prefixed, with_divider, with_cell, with_cell_below}
 
 -- ---- prefixes
 
@@ -51,7 +43,8 @@ module _ {D A : Type 0} (columns : ℕ → Option ℕ) (first : Renderer D A (Li
 -- ---- prefixes that are alike
 
 -- one text more that is alike
-pub all_more : {X : Type 0} (read : X → List ℕ) (xs : List X) (i : ℕ) (x : X) (t : List ℕ) → i < length xs → x ≡ get_or xs i x → read x ≡ t → texts_of read (take i xs) ≡ replicate i (chars t) → texts_of read (take (i + 1) xs) ≡ replicate (i + 1) (chars t)
+pub all_more : {X : Type 0} (read : X → List ℕ) (xs : List X) (i : ℕ) (x : X) (t : List ℕ) → i < length xs →
+    x ≡ get_or xs i x → read x ≡ t → texts_of read (take i xs) ≡ replicate i (chars t) → texts_of read (take (i + 1) xs) ≡ replicate (i + 1) (chars t)
 all_more read xs i x t below is same all =
     ap (texts_of read) (take_more xs i x below ∙ ap (λ y. take i xs ++ y ∷ []) (sym is)) ∙ map-append (λ y. chars (read y)) (take i xs) (x ∷ [])
     ∙ (λ k. all k ++ chars (same k) ∷ []) ∙ one_longer i ∙ ap (λ n. replicate n (chars t)) (let more : suc i ≡ i + 1 = omega arith in more)
@@ -112,7 +105,8 @@ module _ {D A P : Type 0} (columns : ℕ → Option ℕ) (first : Renderer D A (
   same_length : (given : List P) (taken : List (RenderLine (List A))) → length taken ≡ length given → length (texts_of read given) ≡ length (seen taken)
   same_length given taken same = omega (arith, same, length-map given (λ x. chars (read x)), length-seen taken)
 
-  pub after_more : (given : List P) (left rest : List (RenderLine (List A))) (now next : Renderer D A (List A)) (line : RenderLine (List A)) (p : P) (shown : List (Item (List A))) → HasAfter given left now → left ≡ line ∷ rest →
+  pub after_more : (given : List P) (left rest : List (RenderLine (List A))) (now next : Renderer D A (List A))
+      (line : RenderLine (List A)) (p : P) (shown : List (Item (List A))) → HasAfter given left now → left ≡ line ∷ rest →
       shown ≡ text_items (chars (read p)) now.annotations ++ as_text now.annotations (line_seen line) →
       next ≡ with_line columns now shown → KeepsSettings now next → next.failure ≡ None → HasAfter (given ++ p ∷ []) rest next
   after_more given left rest now next line p shown h begins is added kept live =
@@ -128,7 +122,8 @@ module _ {D A P : Type 0} (columns : ℕ → Option ℕ) (first : Renderer D A (
         put = record {
           unfailed = live;
           settings = kept ∙ h.put.settings;
-          lines = added ∙ ap (λ (r : Renderer D A (List A)). with_line columns r shown) h.put.lines ∙ sym (fold-append (with_line columns) first texts (shown ∷ [])) ∙ ap (fold (with_line columns) first) (sym longer);
+          lines = added ∙ ap (λ (r : Renderer D A (List A)). with_line columns r shown) h.put.lines
+              ∙ sym (fold-append (with_line columns) first texts (shown ∷ [])) ∙ ap (fold (with_line columns) first) (sym longer);
         };
       }
 
@@ -189,7 +184,8 @@ module _ {D A : Type 0} (columns : ℕ → Option ℕ) (first : Renderer D A (Li
   pub no_cells : first.failure ≡ None → HasCells [] first
   no_cells live = record { cells = []; hand = refl; unfailed = live; settings = refl; is = refl }
 
-  pub cells_go_on : (cols : List (Renderer D A (List A))) (col : Renderer D A (List A)) (lines : List (Line (List A))) (now divided next : Renderer D A (List A)) → (h : HasCells cols now) → hands col ≡ done lines →
+  pub cells_go_on : (cols : List (Renderer D A (List A))) (col : Renderer D A (List A)) (lines : List (Line (List A)))
+      (now divided next : Renderer D A (List A)) → (h : HasCells cols now) → hands col ≡ done lines →
       divided ≡ with_divider columns slash now → next ≡ with_cell columns divided lines → KeepsSettings now divided → KeepsSettings divided next → next.failure ≡ None →
       HasCells (cols ++ col ∷ []) next
   cells_go_on cols col lines now divided next h given divides puts kept still live = record {

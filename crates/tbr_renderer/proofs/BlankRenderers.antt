@@ -1,18 +1,12 @@
 -- Renderers with nothing in them.
-use Rattle.std.proofs.Common.{◌≡◌, ℕ, not, true, Option, None, Some, List, [], ◌∷◌, refl, ap, arith}
+use Rattle.tbr_renderer.proofs.Common.{◌≡◌, ℕ, not, true, Option, None, Some, List, [], ◌∷◌, refl, ap, arith, lines, Line, Open, Renderer, done, live_done, handed_out, lines_at_end}
+use Rattle.tbr_renderer.proofs.Common.{after_block, is_blank}
 use Rattle.std.proofs.lemmas.Bool.{and_parts}
 use Rattle.tbr_wrap.specs.Runs.{is_some_list}
-use Rattle.tbr_wrap.specs.Block.{lines}
 use Rattle.tbr_wrap.proofs.runs.BlockLaws.{none_ended}
-use Rattle.tbr_kept_lines.specs.Line.{Line}
-use Rattle.tbr_renderer.specs.Renderer.{Open, Renderer}
-use Rattle.tbr_tagged.specs.Outcome.{done}
-use Rattle.tbr_tagged.proofs.Outcomes.{live_done}
-use Rattle.tbr_renderer.specs.Appended.{handed_out}
-use Rattle.tbr_renderer.specs.Flush.{lines_at_end, after_block}
 use Rattle.tbr_renderer.proofs.OutcomeParts.{one_done, done_before}
 use Rattle.tbr_renderer.proofs.FlushedBlocks.{block_ended}
-use Rattle.tbr_renderer.specs.Rows.{block_is_blank, is_blank}
+use Rattle.tbr_renderer.specs.Rows.{block_is_blank}
 
 none_of_not : {X : Type 0} (xs : List X) → not (is_some_list xs) ≡ true → xs ≡ []
 none_of_not [] h = refl

@@ -1,22 +1,14 @@
 -- Lines of a block that join those of a renderer.
-use Rattle.std.proofs.Common.{◌≡◌, ◌↔◌, IsTrue, ℕ, Bool, Option, None, Some, List, [], ◌∷◌, ◌++◌, map, fold, drop, refl, ap, sym, ◌∙◌, subst, append_assoc, arith}
-use Rattle.std.proofs.lemmas.List.{map-append}
-use Rattle.std.proofs.lemmas.Grind.{fold-append}
-use Rattle.tbr_model.specs.Rule.{run_of}
-use Rattle.tbr_model.specs.Run.{Item}
-use Rattle.tbr_tagged.specs.Elements.{Element, marker_element, items_of}
-use Rattle.tbr_wrap.specs.Block.{Block, Settings, WrapsNormally, settings_of as block_settings, all_lines, left, loose, flushed, without_loose, after_flush, after_taking}
-use Rattle.tbr_tagged.specs.Outcome.{done, refused}
-use Rattle.tbr_wrap.specs.Wrapped.{HasBestLines, padding_of}
+use Rattle.tbr_renderer.proofs.Common.{◌≡◌, ◌↔◌, IsTrue, ℕ, Bool, Option, None, Some, List, [], ◌∷◌, ◌++◌, map, fold, drop, refl, ap, sym, ◌∙◌, subst, append_assoc, arith, map-append}
+use Rattle.tbr_renderer.proofs.Common.{fold-append, run_of, Item, Element, marker_element, items_of, Block, all_lines, left, loose, done, refused, padding_of, left_after, HandsOne}
+use Rattle.tbr_renderer.proofs.Common.{flush_leaves, KeepsSettings, settings_of, Open, Renderer, with_line, block_width, may_overflow, block_seen, open_seen, names_of, AreMarkers, IsFresh}
+use Rattle.tbr_renderer.proofs.Common.{EndsBest, filled_line, block_lines, lines_at_end, fits_at_end, after_block, same_annotations, items_told}
+use Rattle.tbr_wrap.specs.Block.{Settings, WrapsNormally, settings_of as block_settings, flushed, without_loose, after_flush, after_taking}
+use Rattle.tbr_wrap.specs.Wrapped.{HasBestLines}
 use Rattle.tbr_tagged.specs.declared.Error.TheVariants as E
-use Rattle.tbr_wrap.proofs.runs.LinesLeft.{handed_keeps, left_after}
-use Rattle.tbr_wrap.proofs.runs.BlockLaws.{HandsOne, flush_allowed, flush_leaves, taking_leaves, left_taken, left_flushed, waiting_loose}
-use Rattle.tbr_renderer.specs.Renderer.{KeepsSettings, settings_of, Open, Renderer, with_line, block_width, may_overflow}
-use Rattle.tbr_renderer.specs.View.{block_seen, open_seen, names_of, AreMarkers, IsFresh}
-use Rattle.tbr_renderer.specs.Flush.{EndsBest, filled_line, block_lines, lines_at_end, fits_at_end, after_block}
+use Rattle.tbr_wrap.proofs.runs.LinesLeft.{handed_keeps}
+use Rattle.tbr_wrap.proofs.runs.BlockLaws.{flush_allowed, taking_leaves, left_taken, left_flushed, waiting_loose}
 use Rattle.tbr_renderer.specs.Flush as flush
-use Rattle.tbr_annotations.specs.Annotations.{same_annotations}
-use Rattle.tbr_annotations.proofs.Told.{items_told}
 use Rattle.tbr_renderer.proofs.OpenBlocks.{lines_seen, names_seen, fits_seen, flush_narrow}
 use Rattle.tbr_renderer.proofs.OutcomeParts.{fitting, not_fitting}
 
@@ -31,7 +23,8 @@ pub record HasLines {D A : Type 0} (columns : ℕ → Option ℕ) (first old : B
   pub settings : KeepsSettings r q
 
 module _ {D A : Type 0} (same : A → A → Bool) (tells : (a b : A) → IsTrue (same a b) ↔ (a ≡ b)) (columns : ℕ → Option ℕ) where
-  pub one_line_more : (first old new : Block (List A)) (r q s : Renderer D A (List A)) (line : List (Element (List A))) → HasLines columns first old r q → HandsOne columns (same_annotations same) old line new →
+  pub one_line_more : (first old new : Block (List A)) (r q s : Renderer D A (List A))
+      (line : List (Element (List A))) → HasLines columns first old r q → HandsOne columns (same_annotations same) old line new →
       s ≡ with_line columns q (items_of line) → HasLines columns first new r s
   one_line_more first old new r q s line h one added =
       let shown : items_of line ≡ filled_line columns first one.text =
@@ -62,7 +55,8 @@ markers_named {T} es names e = ap names_of e ∙ names_of_markers T names
 pub are_markers : {T : Type 0} (es : List (Element T)) (names : List (List ℕ)) → es ≡ map marker_element names → AreMarkers es
 are_markers {T} es names e = ap (map (λ n. let x : Element T = marker_element n in x)) (markers_named es names e) ∙ sym e
 
-module _ {D A : Type 0} (columns : ℕ → Option ℕ) (r : Renderer D A (List A)) (b : Block (List A)) (seen : block_seen (Some b) ≡ r.block) (fresh : IsFresh columns (block_width r) (may_overflow r) b) where
+module _ {D A : Type 0} (columns : ℕ → Option ℕ) (r : Renderer D A (List A)) (b : Block (List A))
+    (seen : block_seen (Some b) ≡ r.block) (fresh : IsFresh columns (block_width r) (may_overflow r) b) where
   -- what a block that was flushed, and that handed its markers out, has left
   module _ (after taken_from : Block (List A)) (e : after_flush columns b ≡ done after) (taken : after_taking columns after ≡ done taken_from) where
     after_is : taken_from ≡ without_loose columns (flushed columns b)
@@ -73,7 +67,8 @@ module _ {D A : Type 0} (columns : ℕ → Option ℕ) (r : Renderer D A (List A
 
     -- a flush where a block is open
     pub block_flushed : (waiting : List (List ℕ)) (s0 s1 s2 : Renderer D A (List A)) → s0 ≡ record r { block = None } →
-        s1 ≡ fold (with_line columns) s0 (map (filled_line columns taken_from) (left columns taken_from)) → waiting ≡ loose columns after → s2 ≡ record s1 { waiting = s1.waiting ++ waiting } → flush.after_flush columns r ≡ done s2
+        s1 ≡ fold (with_line columns) s0 (map (filled_line columns taken_from) (left columns taken_from)) →
+        waiting ≡ loose columns after → s2 ≡ record s1 { waiting = s1.waiting ++ waiting } → flush.after_flush columns r ≡ done s2
     block_flushed waiting s0 s1 s2 emptied lines names_are waits =
         let opened : Open (List A) = open_seen b in
         let kept = ap (λ (s : Block (List A)). block_settings s) after_is ∙ ap (λ (s : Block (List A)). block_settings s) fresh.is in

@@ -1,17 +1,9 @@
 -- What a call that succeeds is made of.
-use Rattle.std.proofs.Common.{◌≡◌, ℕ, Bool, true, false, if◌then◌else◌, Option, None, Some, List}
-use Rattle.tbr_kept_lines.specs.Line.{Line}
+use Rattle.tbr_renderer.proofs.Common.{◌≡◌, ℕ, Bool, true, false, if◌then◌else◌, Option, None, Some, List, Line, End, Decoration, done, live_done, Renderer, without_annotation, open_block}
+use Rattle.tbr_renderer.proofs.Common.{with_events, ignores, changed, fits_grown, after_flush, with_empty_line, after_empty_line, block_started, after_block_start, after_joining}
+use Rattle.tbr_renderer.proofs.Common.{after_first_text, after_text, asked_to_close, annotated, after_end, after_titled, handed_out}
 use Rattle.tbr_decor.specs.Start as start
-use Rattle.tbr_decor.specs.End.{End}
-use Rattle.tbr_decor.specs.Decoration.{Decoration}
-use Rattle.tbr_tagged.specs.Outcome.{done}
-use Rattle.tbr_tagged.proofs.Outcomes.{live_done}
-use Rattle.tbr_renderer.specs.Renderer.{Renderer, without_annotation, open_block, with_events, ignores}
-use Rattle.tbr_renderer.specs.Outcomes.{changed}
-use Rattle.tbr_renderer.specs.Flush.{fits_grown, after_flush}
-use Rattle.tbr_renderer.specs.Steps.{with_empty_line, after_empty_line, block_started, after_block_start, text_brings, after_joining, after_first_text, after_text}
-use Rattle.tbr_renderer.specs.Decorated.{asked_to_close, annotated, after_end, after_titled}
-use Rattle.tbr_renderer.specs.Appended.{handed_out}
+use Rattle.tbr_renderer.specs.Steps.{text_brings}
 use Rattle.tbr_renderer.proofs.OutcomeParts.{one_done, done_first, done_before, if_fits}
 use Rattle.tbr_renderer.proofs.FlushedBlocks.{Flushes, flushes}
 

@@ -1,14 +1,8 @@
 -- What the fields of a renderer hold after they change.
-use Rattle.std.proofs.Common.{◌≡◌, ℕ, Option, None, Some, List, [], ◌∷◌, ◌++◌, map, refl, ap, ◌∙◌, arith}
-use Rattle.std.specs.Global.{Vec}
-use Rattle.tbr_wrap.specs.Block.{Block}
-use Rattle.std.proofs.lemmas.List.{map-append}
-use Rattle.tbr_tagged.specs.Elements.{Element, piece, marker_element}
-use Rattle.tbr_tagged.specs.View.{element_of}
-use Rattle.tbr_tagged.specs.declared.TaggedLineElement.{TaggedLineElement}
+use Rattle.tbr_renderer.proofs.Common.{◌≡◌, ℕ, Option, None, Some, List, [], ◌∷◌, ◌++◌, map, refl, ap, ◌∙◌, arith, Vec, Block, map-append, Element, piece, marker_element, element_of}
+use Rattle.tbr_renderer.proofs.Common.{TaggedLineElement, Renderer, block_width, may_overflow, block_seen, names_of, AreMarkers, IsFresh}
 use Rattle.tbr_renderer.specs.declared.sub.SubRenderer.TheInside.{Inside}
-use Rattle.tbr_renderer.specs.Renderer.{Renderer, block_width, may_overflow}
-use Rattle.tbr_renderer.specs.View.{block_seen, names_of, AreMarkers, IsFresh, renderer_of, HoldsRenderer}
+use Rattle.tbr_renderer.specs.View.{renderer_of, HoldsRenderer}
 
 -- ---- markers
 
@@ -20,7 +14,8 @@ names_append (marker_element name ∷ es) fs = ap (λ ns. name ∷ ns) (names_ap
 pub markers_append : {T : Type 0} (es fs : List (Element T)) → AreMarkers es → AreMarkers fs → AreMarkers (es ++ fs)
 markers_append {T} es fs h k = grind (arith, names_append, map-append)
 
-module _ {D W A M : Type 0} (columns : ℕ → Option ℕ) (r : Inside D W A M) (more : List (TaggedLineElement (List M))) (waiting : Vec (TaggedLineElement (List M))) (is : waiting.items ≡ r.waiting.items ++ more) where
+module _ {D W A M : Type 0} (columns : ℕ → Option ℕ) (r : Inside D W A M) (more : List (TaggedLineElement (List M)))
+    (waiting : Vec (TaggedLineElement (List M))) (is : waiting.items ≡ r.waiting.items ++ more) where
   elements : map element_of waiting.items ≡ map element_of r.waiting.items ++ map element_of more
   elements = ap (map element_of) is ∙ map-append element_of r.waiting.items more
 

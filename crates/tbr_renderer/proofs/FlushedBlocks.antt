@@ -1,11 +1,8 @@
 -- What a flush leaves.
-use Rattle.std.proofs.Common.{◌≡◌, ℕ, true, Option, None, Some, List, [], ◌∷◌, fold, refl, ap, ◌∙◌, arith}
-use Rattle.tbr_model.specs.Rule.{run_of}
-use Rattle.tbr_model.specs.Run.{Item}
-use Rattle.tbr_wrap.specs.Runs.{EndsRun}
-use Rattle.tbr_tagged.specs.Outcome.{done}
-use Rattle.tbr_renderer.specs.Renderer.{Open, Renderer, block_width, may_overflow, with_line, IsSound}
-use Rattle.tbr_renderer.specs.Flush.{block_lines, lines_at_end, names_at_end, fits_at_end, flushed, after_block, after_flush}
+use Rattle.tbr_renderer.proofs.Common.{◌≡◌, ℕ, true, Option, None, Some, List, [], ◌∷◌, fold, refl, ap, ◌∙◌, arith, run_of, Item, EndsRun, done, Open, Renderer, block_width, may_overflow}
+use Rattle.tbr_renderer.proofs.Common.{with_line, block_lines, lines_at_end, names_at_end, fits_at_end, after_block, after_flush}
+use Rattle.tbr_renderer.specs.Renderer.{IsSound}
+use Rattle.tbr_renderer.specs.Flush.{flushed}
 use Rattle.tbr_renderer.proofs.OutcomeParts.{one_done, if_fits}
 use Rattle.tbr_renderer.proofs.OpenBlocks.{end_promised}
 
@@ -38,7 +35,9 @@ module _ {D A : Type 0} (columns : ℕ → Option ℕ) (r s : Renderer D A (List
   flushes e = block_flushed r.block e
 
   -- What neither the lines nor the open block tell stays.
-  pub flush_keeps : {X : Type 0} (look : Renderer D A (List A) → X) → ((texts : List (List (Item (List A)))) (names : List (List ℕ)) → look (flushed columns r texts names) ≡ look r) → after_flush columns r ≡ done s → look s ≡ look r
+  pub flush_keeps : {X : Type 0} (look : Renderer D A (List A) → X) →
+      ((texts : List (List (Item (List A)))) (names : List (List ℕ)) → look (flushed columns r texts names) ≡ look r)
+      → after_flush columns r ≡ done s → look s ≡ look r
   flush_keeps {X} look same e = go r.block e
     where
       go : (o : Option (Open (List A))) → after_block columns r o ≡ done s → look s ≡ look r

@@ -1,12 +1,7 @@
 -- The cells that renderers give.
-use Rattle.std.proofs.Common.{◌≡◌, ℕ, ◌+◌, arith, List, [], ◌∷◌, ◌++◌, drop, length, refl, ap, sym, ◌∙◌}
-use Rattle.std.proofs.lemmas.List.{drop-drop}
-use Rattle.tbr_tagged.specs.declared.CellAlign.{CellAlign}
-use Rattle.tbr_tagged.specs.declared.Error.{Error}
-use Rattle.tbr_tagged.specs.Outcome.{Outcome, done, refused}
-use Rattle.tbr_kept_lines.specs.Line.{Line}
-use Rattle.tbr_renderer.specs.Outcomes.{and_then, changed, gathered}
-use Rattle.tbr_renderer.specs.Rows.{GivenCell, next_align, cell_given, cells_given}
+use Rattle.tbr_renderer.proofs.Common.{◌≡◌, ℕ, ◌+◌, arith, List, [], ◌∷◌, ◌++◌, drop, length, refl, ap, sym, ◌∙◌, drop-drop, CellAlign, Error, Outcome, done, refused, Line, and_then}
+use Rattle.tbr_renderer.proofs.Common.{changed, gathered, GivenCell, next_align}
+use Rattle.tbr_renderer.specs.Rows.{cell_given, cells_given}
 use Rattle.tbr_renderer.proofs.OutcomeParts.{gathered_last, gathered_stops}
 
 -- each with the alignment that is next

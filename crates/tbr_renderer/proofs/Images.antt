@@ -1,15 +1,17 @@
 -- The title that is shown for an image.
-use Rattle.std.proofs.Common.{◌≡◌, ℕ, ◌==◌, Bool, true, false, ◌||◌, List, [], ◌∷◌, ◌++◌, length, take, drop, chars, Some, refl, sym, ap, ◌∙◌, subst, lit<, arith, eqb-true, encode_utf8_all}
+use Rattle.tbr_renderer.proofs.Common.{◌≡◌, ℕ, Bool, true, false, List, [], ◌∷◌, ◌++◌, length, take, drop, chars, Some, refl, sym, ap, ◌∙◌, subst, arith, chars-nil, shown_title}
+use Rattle.tbr_renderer.proofs.Common.{title_by_mode}
+use Rattle.std.proofs.Common.{◌==◌, ◌||◌, lit<, eqb-true, encode_utf8_all}
 use Rattle.std.specs.List.{list_any}
 use Rattle.std.specs.Str.{IsUtf8, IsCharBoundary, NonePass, NoCharPasses}
 use Rattle.std.specs.Str.Pattern.{RFindsChar}
 use Rattle.std.proofs.lemmas.Bool.{false≢true, or_right}
 use Rattle.std.proofs.lemmas.List.{take-append-drop}
 use Rattle.std.proofs.Math.Seq.{take-append_seam}
-use Rattle.std.proofs.lemmas.Str.{chars_from_encodes, chars-append, chars_past_char, chars-nil, encodes-chars, encode_ascii, IsUtf8-drop, IsUtf8-take, IsCharBoundary-at_seam}
+use Rattle.std.proofs.lemmas.Str.{chars_from_encodes, chars-append, chars_past_char, encodes-chars, encode_ascii, IsUtf8-drop, IsUtf8-take, IsCharBoundary-at_seam}
 use Rattle.std.proofs.lemmas.Str.Pattern.{drop_at_char}
 use Rattle.tbr_renderer.specs.declared.options.ImageRenderMode.{ImageRenderMode}
-use Rattle.tbr_renderer.specs.Image.{is_slash, file_name, shown_title, title_by_mode}
+use Rattle.tbr_renderer.specs.Image.{is_slash, file_name}
 
 -- ---- the name of a file
 

@@ -1,29 +1,17 @@
 -- Lines that join those of a renderer.
-use Rattle.std.proofs.Common.{◌≡◌, ◌↔◌, IsTrue, arith, ℕ, ◌-◌, suc, length, slice_get, Bool, true, false, if◌then◌else◌, Option, None, Some, List, [], ◌∷◌, ◌++◌, map, refl, ap, sym, ◌∙◌, fold, append_assoc, append-nil}
-use Rattle.std.specs.List.{AllZip}
-use Rattle.tbr_border.specs.Border.{Hole, Border, MapsHole, MapsBorder, shown}
-use Rattle.tbr_model.specs.Run.{Item, marker, items_width}
+use Rattle.tbr_renderer.proofs.Common.{◌≡◌, ◌↔◌, IsTrue, arith, ℕ, ◌-◌, suc, length, Bool, true, false, if◌then◌else◌, Option, None, Some, List, [], ◌∷◌, ◌++◌, map, refl, ap, sym, ◌∙◌, fold}
+use Rattle.tbr_renderer.proofs.Common.{append_assoc, append-nil, AllZip, Border, shown, Item, items_width, Element, marker_element, items_of, text_items, piece, SameItems, spaces}
+use Rattle.tbr_renderer.proofs.Common.{WhiteSpace, Block, Line, text, border, SameSeen, line_seen, text_lines, Renderer, has_content, with_line, last_mode, with_empty_line, block_started}
+use Rattle.tbr_renderer.proofs.Common.{names_of, AreMarkers, same_annotations, WritesOut, items_told, Vec, RenderLine, Text, Rule, with_border, padding_of, filled_line}
+use Rattle.std.proofs.Common.{slice_get}
+use Rattle.tbr_border.specs.Border.{Hole, MapsHole, MapsBorder}
+use Rattle.tbr_model.specs.Run.{marker}
 use Rattle.tbr_model.specs.Markers.{marker_items}
-use Rattle.tbr_tagged.specs.Elements.{Element, marker_element, items_of, text_items, piece, SameItems}
-use Rattle.tbr_tagged.specs.Padding.{spaces}
-use Rattle.tbr_model.specs.declared.white_space.WhiteSpace.{WhiteSpace}
-use Rattle.tbr_wrap.specs.Block.{Block}
-use Rattle.tbr_kept_lines.specs.Line.{Line, text, border, SameSeen, line_seen, text_lines}
-use Rattle.tbr_renderer.specs.Renderer.{Renderer, has_content, line_padding, with_filled, with_line, last_mode}
-use Rattle.tbr_renderer.specs.Steps.{with_empty_line, block_started}
+use Rattle.tbr_renderer.specs.Renderer.{line_padding, with_filled}
 use Rattle.tbr_rows.specs.Meant.{map_hole, map_border}
-use Rattle.tbr_renderer.specs.View.{names_of, AreMarkers}
 use Rattle.tbr_renderer.specs.Mapped.{map_line}
-use Rattle.tbr_annotations.specs.Annotations.{same_annotations}
-use Rattle.tbr_annotations.specs.Written.{vector_meant, Holds, WritesOut}
-use Rattle.tbr_annotations.proofs.Told.{items_told}
-use Rattle.std.specs.Global.{Vec}
+use Rattle.tbr_annotations.specs.Written.{vector_meant, Holds}
 use Rattle.tbr_tagged.specs.Mapped.{MapsElement, map_element}
-use Rattle.tbr_border.specs.declared.RenderLine.{RenderLine}
-use Rattle.tbr_border.specs.declared.RenderLine.TheVariants.{Text, Line as Rule}
-use Rattle.tbr_renderer.specs.Appended.{with_border}
-use Rattle.tbr_wrap.specs.Wrapped.{padding_of}
-use Rattle.tbr_renderer.specs.Flush.{filled_line}
 
 -- ---- padding
 
@@ -47,11 +35,13 @@ module _ {T : Type 0} where
 
 module _ {D A : Type 0} (columns : ℕ → Option ℕ) where
   -- a line that is filled
-  pub filled_added : (r b : Renderer D A (List A)) (full line : List (Item (List A))) → full ≡ line ++ line_padding columns r line → b ≡ record r { lines = r.lines ++ text full ∷ [] } → b ≡ with_filled columns r line
+  pub filled_added : (r b : Renderer D A (List A)) (full line : List (Item (List A))) →
+      full ≡ line ++ line_padding columns r line → b ≡ record r { lines = r.lines ++ text full ∷ [] } → b ≡ with_filled columns r line
   filled_added r b full line fills pushed = pushed ∙ ap (λ (is : List (Item (List A))). record r { lines = r.lines ++ text is ∷ [] }) fills
 
   -- after the markers that waited
-  pub line_after : (r a b : Renderer D A (List A)) (es : List (Element (List A))) (whole line : List (Item (List A))) → AreMarkers es → names_of es ≡ r.waiting → a ≡ record r { waiting = [] } → whole ≡ items_of es ++ line →
+  pub line_after : (r a b : Renderer D A (List A)) (es : List (Element (List A))) (whole line : List (Item (List A)))
+      → AreMarkers es → names_of es ≡ r.waiting → a ≡ record r { waiting = [] } → whole ≡ items_of es ++ line →
       b ≡ with_filled columns a whole → b ≡ with_line columns r line
   line_after r a b es whole line are names emptied same added = added ∙ (λ i. with_filled columns (emptied i) ((same ∙ marked es r.waiting line are names) i))
 
@@ -123,7 +113,8 @@ module _ {A M : Type 0} (f : A → M) where
 
 module _ {D A : Type 0} (columns : ℕ → Option ℕ) (r s : Renderer D A (List A)) (b : Border (List A)) where
   -- a border joins the lines as text that is filled
-  pub border_drawn : (is full : List (Item (List A))) → r.options.pad_block_width ≡ true → is ≡ shown b.tag b → full ≡ is ++ line_padding columns r is → s ≡ record r { lines = r.lines ++ text full ∷ [] } → s ≡ with_border columns r b
+  pub border_drawn : (is full : List (Item (List A))) → r.options.pad_block_width ≡ true → is ≡ shown b.tag b →
+      full ≡ is ++ line_padding columns r is → s ≡ record r { lines = r.lines ++ text full ∷ [] } → s ≡ with_border columns r b
   border_drawn is full pads same fills pushed =
       filled_added columns r s full is fills pushed ∙ ap (with_filled columns r) same ∙ sym (ap (λ (l : Line (List A)). record r { lines = r.lines ++ l ∷ [] }) (rw pads refl))
 
@@ -146,7 +137,8 @@ module _ {D M : Type 0} (columns : ℕ → Option ℕ) where
 
 -- lines in a block's text are what the block's are
 module _ {M : Type 0} (same : M → M → Bool) (tells : (a b : M) → IsTrue (same a b) ↔ (a ≡ b)) (columns : ℕ → Option ℕ) where
-  pub texts_told : (b : Block (List M)) → b.padding ≡ None → (texts others : List (List (Item (List M)))) → AllZip (SameItems (same_annotations same)) texts others → text_lines texts ≡ map text (map (filled_line columns b) others)
+  pub texts_told : (b : Block (List M)) → b.padding ≡ None → (texts others : List (List (Item (List M)))) →
+      AllZip (SameItems (same_annotations same)) texts others → text_lines texts ≡ map text (map (filled_line columns b) others)
   texts_told b bare [] [] h = refl
   texts_told b bare [] (js ∷ others) h = absurd h
   texts_told b bare (is ∷ texts) [] h = absurd h

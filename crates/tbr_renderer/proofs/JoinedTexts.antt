@@ -1,31 +1,29 @@
 -- Text that joins the run of a block.
-use Rattle.std.proofs.Common.{◌≡◌, ℕ, ◌&&◌, not, Bool, true, false, is_none, Option, None, Some, unwrap_or, Result, Err, List, [], ◌∷◌, ◌++◌, refl, ap, sym, ◌∙◌, subst, arith}
-use Rattle.std.specs.Prelude.{OnOk}
-use Rattle.std.proofs.lemmas.Result.{on_ok_weaker}
-use Rattle.tbr_model.specs.declared.white_space.WhiteSpace.{WhiteSpace}
-use Rattle.tbr_model.specs.Run.{Entry, marker_entry}
-use Rattle.tbr_model.specs.Rule.{Event, entry, run_of}
+use Rattle.tbr_renderer.proofs.Common.{◌≡◌, ℕ, not, Bool, true, false, is_none, Option, None, Some, unwrap_or, Result, Err, List, [], ◌∷◌, ◌++◌, refl, ap, sym, ◌∙◌, subst, arith, OnOk}
+use Rattle.tbr_renderer.proofs.Common.{on_ok_weaker, WhiteSpace, marker_entry, Event, entry, run_of, text_leaves, sound_text, Error, Block, any_line, lines, takes_no_columns, allows}
+use Rattle.tbr_renderer.proofs.Common.{text_events, grown, done, refused, Open, Renderer, open_block, text_annotations, last_mode, called, with_events, block_width, may_overflow, IsFresh}
+use Rattle.tbr_renderer.proofs.Common.{Writes, block_seen, open_seen, fits_grown}
+use Rattle.std.proofs.Common.{◌&&◌}
+use Rattle.tbr_model.specs.Run.{Entry}
 use Rattle.tbr_model.proofs.rule.HardLines.{run_of-append}
-use Rattle.tbr_wrap.proofs.runs.BlockLaws.{text_leaves, marker_leaves, sound_text, sound_marked}
-use Rattle.tbr_tagged.specs.declared.Error.{Error}
+use Rattle.tbr_wrap.proofs.runs.BlockLaws.{marker_leaves, sound_marked}
 use Rattle.tbr_tagged.specs.declared.Error.TheVariants as E
-use Rattle.tbr_wrap.specs.Block.{Block, any_line, lines, takes_no_columns, allows, text_events, grown, after_text, after_marker, IsSound}
-use Rattle.tbr_tagged.specs.Outcome.{done, refused}
-use Rattle.tbr_renderer.specs.Renderer.{Open, Renderer, new_block, open_block, open_run, text_annotations, last_mode, entries_under, called, with_more, with_events, block_width, may_overflow}
-use Rattle.tbr_renderer.specs.View.{IsFresh, Writes, block_seen, open_seen}
-use Rattle.tbr_renderer.specs.Flush.{fits_grown}
+use Rattle.tbr_wrap.specs.Block.{after_text, after_marker, IsSound}
+use Rattle.tbr_renderer.specs.Renderer.{new_block, open_run, entries_under, with_more}
 use Rattle.tbr_renderer.specs.Steps.{at_line_start, block_is_empty}
 use Rattle.tbr_renderer.proofs.OpenBlocks.{fits_grown_seen, line_start_seen, any_line_seen, text_narrow}
 
 -- a fresh block whose run has grown
-pub fresh_grown : {T : Type 0} (columns : ℕ → Option ℕ) (width : ℕ) (overflows : Bool) (old new : Block T) (es : List (Event T)) → new ≡ grown old es → IsSound columns new → IsFresh columns width overflows old → IsFresh columns width overflows new
+pub fresh_grown : {T : Type 0} (columns : ℕ → Option ℕ) (width : ℕ) (overflows : Bool) (old new : Block T)
+    (es : List (Event T)) → new ≡ grown old es → IsSound columns new → IsFresh columns width overflows old → IsFresh columns width overflows new
 fresh_grown {T} columns width overflows old new es is sound fresh = grind arith
 
 -- what the block is then
 grown_seen : {T : Type 0} (old new : Block T) (es : List (Event T)) → new ≡ grown old es → open_seen new ≡ with_more (open_seen old) es
 grown_seen {T} old new es is = grind arith
 
-module _ {D A : Type 0} (columns : ℕ → Option ℕ) (q : Renderer D A (List A)) (old : Block (List A)) (fresh : IsFresh columns (block_width q) (may_overflow q) old) (cs : List ℕ) (v w : List A) (mode : WhiteSpace) (preformatted : D → Bool → A)
+module _ {D A : Type 0} (columns : ℕ → Option ℕ) (q : Renderer D A (List A)) (old : Block (List A))
+    (fresh : IsFresh columns (block_width q) (may_overflow q) old) (cs : List ℕ) (v w : List A) (mode : WhiteSpace) (preformatted : D → Bool → A)
     (main : v ≡ text_annotations preformatted false q) (continued : w ≡ text_annotations preformatted true q) (is_mode : mode ≡ last_mode q.modes) where
   abbrev es : List (Event (List A))
   es = called (entries_under preformatted q cs)

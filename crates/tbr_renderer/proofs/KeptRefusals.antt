@@ -1,15 +1,10 @@
 -- What a call ensures once its refusal is kept.
-use Rattle.std.proofs.Common.{◌≡◌, ◌≢◌, ◌≤◌, ℕ, Option, None, Some, Result, Ok, Err, List, ◌∙◌, sym, subst, arith}
-use Rattle.std.specs.Prelude.{OnOk, OnErr, IfErr}
-use Rattle.std.proofs.lemmas.Result.{on_ok_weaker}
-use Rattle.tbr_tagged.specs.declared.Error.{Error}
+use Rattle.tbr_renderer.proofs.Common.{◌≡◌, ℕ, Option, None, Some, Result, Ok, Err, List, ◌∙◌, sym, subst, arith, OnOk, IfErr, on_ok_weaker, Error, Outcome, done, refused, live_goes}
+use Rattle.tbr_renderer.proofs.Common.{Decoration, after_flush, Renderer, KeepsSettings, block_width, and_then, taking}
+use Rattle.std.proofs.Common.{◌≢◌, ◌≤◌}
+use Rattle.std.specs.Prelude.{OnErr}
 use Rattle.tbr_tagged.specs.declared.Error.TheVariants as E
-use Rattle.tbr_tagged.specs.Outcome.{Outcome, done, refused}
-use Rattle.tbr_tagged.proofs.Outcomes.{live_goes}
-use Rattle.tbr_decor.specs.Decoration.{Decoration}
-use Rattle.tbr_renderer.specs.Flush.{after_flush}
-use Rattle.tbr_renderer.specs.Renderer.{Renderer, KeepsSettings, kept_of, block_width}
-use Rattle.tbr_renderer.specs.Outcomes.{and_then, taking}
+use Rattle.tbr_renderer.specs.Renderer.{kept_of}
 use Rattle.tbr_renderer.specs.Calls.{calls_by, Takes, Fails}
 use Rattle.tbr_renderer.proofs.OutcomeParts.{taking_none, taking_live}
 

@@ -1,3 +1,4 @@
+pub mod Common
 pub mod KeptRefusals
 pub mod OutcomeParts
 pub mod Images
@@ -9,12 +10,10 @@ pub mod AppendedLines
 pub mod Fields
 pub mod BlockEnds
 pub mod BlankRenderers
-pub mod Unmapped
 pub mod PutRows
 pub mod StruckTexts
 pub mod JoinedTexts
 pub mod SettingsStay
 pub mod GivenCells
-pub mod ComputedRows
 pub mod RowsOfCells
 pub mod Settings

@@ -1,17 +1,14 @@
 -- Open blocks of renderers.
-use Rattle.std.proofs.Common.{◌≡◌, ℕ, ◌<◌, true, false, Option, None, Some, List, ◌++◌, refl, ap, sym, arith}
-use Rattle.tbr_model.specs.Rule.{Event, run_of}
-use Rattle.tbr_wrap.specs.Block.{Block, lines, all_lines, waiting_names, allows, grown, text_events, flushed, after_text, after_flush, any_line, takes_no_columns}
-use Rattle.tbr_tagged.specs.Outcome.{refused}
+use Rattle.tbr_renderer.proofs.Common.{◌≡◌, ℕ, ◌<◌, true, false, Option, None, Some, List, ◌++◌, refl, ap, sym, arith, Event, run_of, Block, lines, all_lines, allows, grown, text_events}
+use Rattle.tbr_renderer.proofs.Common.{any_line, takes_no_columns, refused, WhiteSpace, EndsRun, Open, Renderer, block_width, may_overflow, open_seen, IsFresh, fits_grown, lines_at_end}
+use Rattle.tbr_renderer.proofs.Common.{names_at_end, fits_at_end}
+use Rattle.tbr_wrap.specs.Block.{waiting_names, flushed, after_text, after_flush}
 use Rattle.tbr_tagged.proofs.Outcomes.{live_refused}
 use Rattle.tbr_wrap.proofs.runs.Blocks.{if_allowed, if_not_allowed}
 use Rattle.tbr_wrap.proofs.runs.BlockLaws.{flush_ends, flush_wide, text_wide}
 use Rattle.tbr_tagged.specs.declared.Error.TheVariants as E
-use Rattle.tbr_model.specs.declared.white_space.WhiteSpace.{WhiteSpace}
-use Rattle.tbr_wrap.specs.Runs.{text_entries, EndsRun, CharactersFit}
-use Rattle.tbr_renderer.specs.Renderer.{Open, Renderer, block_width, may_overflow}
-use Rattle.tbr_renderer.specs.View.{open_seen, IsFresh}
-use Rattle.tbr_renderer.specs.Flush.{block_in, fits_grown, lines_at_end, names_at_end, fits_at_end}
+use Rattle.tbr_wrap.specs.Runs.{text_entries, CharactersFit}
+use Rattle.tbr_renderer.specs.Flush.{block_in}
 use Rattle.tbr_renderer.proofs.OutcomeParts.{refused_if_not}
 
 -- ---- what refuses
@@ -20,7 +17,9 @@ module _ {A : Type 0} (columns : ℕ → Option ℕ) (s : Block A) (live : s.fai
   pub flush_narrow : after_flush columns s ≡ refused E.TooNarrow → allows columns s (all_lines columns s) ≡ false
   flush_narrow e = refused_if_not (allows columns s (all_lines columns s)) (flushed columns s) (live_refused s.failure _ E.TooNarrow live e)
 
-  pub text_narrow : (cs : List ℕ) (a b : A) (mode : WhiteSpace) → after_text columns cs a b mode s ≡ refused E.TooNarrow → (let g = grown s (text_events cs a b mode) in allows columns g (lines columns g) ≡ false)
+  pub text_narrow : (cs : List ℕ) (a b : A) (mode : WhiteSpace) →
+      after_text columns cs a b mode s ≡ refused E.TooNarrow →
+      (let g = grown s (text_events cs a b mode) in allows columns g (lines columns g) ≡ false)
   text_narrow cs a b mode e = grind (arith, refused_if_not, live_refused)
 
 -- what a block promises of the end of its run
@@ -34,7 +33,9 @@ module _ {D A T : Type 0} (columns : ℕ → Option ℕ) (one : columns 32 ≡ S
   pub end_wide : fits_at_end columns r b ≡ false → ¬ (CharactersFit columns (block_width r) (run_of b.events))
   end_wide narrow = flush_wide columns one s wide refl (if_not_allowed columns (fits_at_end columns r b) (flushed columns s) narrow)
 
-  pub join_wide : (cs : List ℕ) (v w : T) (mode : WhiteSpace) → fits_grown columns r b (text_events cs v w mode) ≡ false → ¬ (CharactersFit columns (block_width r) (run_of b.events ++ text_entries cs v w mode))
+  pub join_wide : (cs : List ℕ) (v w : T) (mode : WhiteSpace) →
+      fits_grown columns r b (text_events cs v w mode) ≡ false →
+      ¬ (CharactersFit columns (block_width r) (run_of b.events ++ text_entries cs v w mode))
   join_wide cs v w mode narrow = text_wide columns s cs v w mode one wide refl (if_not_allowed columns (fits_grown columns r b (text_events cs v w mode)) (grown s (text_events cs v w mode)) narrow)
 
 -- ---- the open block of a renderer

@@ -1,11 +1,10 @@
 -- What the outcome of calls one after another is made of.
-use Rattle.std.proofs.Common.{◌≡◌, ◌⊎◌, inl, inr, Option, None, Some, Result, Ok, Err, Bool, true, false, if◌then◌else◌, List, [], ◌∷◌, ◌++◌, refl, ap, sym, ◌∙◌, subst, arith}
-use Rattle.std.specs.Prelude.{IfErr}
+use Rattle.tbr_renderer.proofs.Common.{◌≡◌, Option, None, Some, Result, Ok, Err, Bool, true, false, if◌then◌else◌, List, [], ◌∷◌, ◌++◌, refl, ap, sym, ◌∙◌, subst, arith, IfErr, Outcome}
+use Rattle.tbr_renderer.proofs.Common.{done, refused, if_live, Error, and_then, changed, taking, gathered}
+use Rattle.std.proofs.Common.{◌⊎◌, inl, inr}
 use Rattle.std.specs.Result.{IsErrAnd}
-use Rattle.tbr_tagged.specs.Outcome.{Outcome, done, refused, if_live}
-use Rattle.tbr_tagged.specs.declared.Error.{Error}
 use Rattle.tbr_tagged.specs.declared.Error.TheVariants as E
-use Rattle.tbr_renderer.specs.Outcomes.{and_then, changed, run, taking, gathered, Tries}
+use Rattle.tbr_renderer.specs.Outcomes.{run, Tries}
 
 pub one_done : {S : Type 0} (s t : S) → done s ≡ done t → t ≡ s
 one_done s t e = cc

@@ -1,20 +1,12 @@
 -- A call changes no settings but its own.
-use Rattle.std.proofs.Common.{◌≡◌, ℕ, suc, ◌-◌, Option, Some, None, List, [], ◌∷◌, map, fold, refl, ap, ◌∙◌, arith}
-use Rattle.std.proofs.lemmas.Bool.{cond_both}
-use Rattle.tbr_decor.specs.Decoration.{Decoration}
-use Rattle.tbr_renderer.specs.Image.{shown_title}
-use Rattle.tbr_renderer.specs.Decorated.{struck_from, struck_until, annotated, after_start, after_titled}
-use Rattle.tbr_kept_lines.specs.Line.{Line}
-use Rattle.tbr_renderer.specs.Renderer.{Renderer, settings_of, without_annotation}
-use Rattle.tbr_tagged.specs.Outcome.{done}
-use Rattle.tbr_renderer.specs.Outcomes.{changed}
-use Rattle.tbr_renderer.specs.Steps.{after_text}
-use Rattle.tbr_renderer.specs.Calls.{Call, add_empty_line, new_line, new_line_hard, start_block, start_table, add_inline_text, push_preformat, pop_preformat, begin, finish, start_strikeout, end_strikeout, add_image, add_border, append_subrender, append_vert_row, Does}
-use Rattle.tbr_renderer.specs.Appended.{with_border, border_of_cells, as_text, with_divider, with_cell, with_cell_below, with_cells}
-use Rattle.tbr_border.specs.Cell.{slash}
+use Rattle.tbr_renderer.proofs.Common.{◌≡◌, ℕ, suc, ◌-◌, Option, Some, None, List, [], ◌∷◌, map, fold, refl, ap, ◌∙◌, arith, cond_both, Decoration, shown_title, annotated, after_titled}
+use Rattle.tbr_renderer.proofs.Common.{Line, Renderer, settings_of, without_annotation, done, changed, after_text, with_border, with_divider, with_cell, with_cell_below, slash, live_done}
+use Rattle.tbr_renderer.specs.Decorated.{struck_from, struck_until, after_start}
+use Rattle.tbr_renderer.specs.Calls.{Call, add_empty_line, new_line, new_line_hard, start_block, start_table, add_inline_text, push_preformat, pop_preformat, begin, finish, start_strikeout}
+use Rattle.tbr_renderer.specs.Calls.{end_strikeout, add_image, add_border, append_subrender, append_vert_row, Does}
+use Rattle.tbr_renderer.specs.Appended.{border_of_cells, as_text, with_cells}
 use Rattle.tbr_decor.specs.Start as start
 use Rattle.tbr_decor.specs.End as end
-use Rattle.tbr_tagged.proofs.Outcomes.{live_done}
 use Rattle.tbr_renderer.proofs.OutcomeParts.{one_done, done_before}
 use Rattle.tbr_renderer.specs.Calls.{made}
 use Rattle.tbr_border.specs.Cell.{Cell}
@@ -43,7 +35,8 @@ module _ {D A : Type 0} (columns : ℕ → Option ℕ) where
         let (m, adds, is) = done_before change (after_text columns decoration.preformatted cs q) s h in
         ap (λ (p : Renderer D A (List A)). steady p) is ∙ same m q (text_added columns decoration.preformatted cs q m adds)
 
-    image_alike : (source : List ℕ) (title : Option (List ℕ)) (r s : Renderer D A (List A)) → after_titled columns decoration source title r ≡ done s → steady s ≡ steady (settled_by_image decoration source title r)
+    image_alike : (source : List ℕ) (title : Option (List ℕ)) (r s : Renderer D A (List A)) →
+        after_titled columns decoration source title r ≡ done s → steady s ≡ steady (settled_by_image decoration source title r)
     image_alike source None r s h = ap (λ (p : Renderer D A (List A)). steady p) (one_done r s h)
     image_alike source (Some title) r s h = opened_alike (start.image source title) (λ (q : Renderer D A (List A)). without_annotation q) (taken columns decoration) r s h
 

@@ -1,16 +1,8 @@
 -- What text and the end of a block leave of the settings and of the kept refusal.
-use Rattle.std.proofs.Common.{◌≡◌, ℕ, Bool, true, false, if◌then◌else◌, Option, None, List, [], ◌∷◌, fold, refl, ap, ◌∙◌, arith}
-use Rattle.std.proofs.lemmas.Bool.{cond_both}
-use Rattle.tbr_model.specs.Run.{Item}
-use Rattle.tbr_decor.specs.End.{End}
-use Rattle.tbr_decor.specs.Decoration.{Decoration}
-use Rattle.tbr_tagged.specs.declared.Error.{Error}
-use Rattle.tbr_tagged.specs.Outcome.{done}
-use Rattle.tbr_renderer.specs.Decorated.{asked_to_close, after_end}
-use Rattle.tbr_renderer.specs.Renderer.{Renderer, Settings, settings_of, has_content, with_line, without_annotation, ignores}
+use Rattle.tbr_renderer.proofs.Common.{◌≡◌, ℕ, Bool, true, false, if◌then◌else◌, Option, None, List, [], ◌∷◌, fold, refl, ap, ◌∙◌, arith, cond_both, Item, End, Decoration, Error, done}
+use Rattle.tbr_renderer.proofs.Common.{asked_to_close, after_end, Renderer, Settings, settings_of, has_content, with_line, without_annotation, ignores, after_flush, after_empty_line}
+use Rattle.tbr_renderer.proofs.Common.{block_started, after_block_start, after_joining, after_first_text, after_text}
 use Rattle.tbr_kept_lines.specs.LastBorder.{without_last}
-use Rattle.tbr_renderer.specs.Flush.{after_flush}
-use Rattle.tbr_renderer.specs.Steps.{after_empty_line, block_started, after_block_start, after_joining, after_first_text, after_text}
 use Rattle.tbr_renderer.proofs.OutcomeParts.{one_done, done_first, done_before, if_fits}
 use Rattle.tbr_renderer.proofs.FlushedBlocks.{flush_keeps}
 

@@ -1,7 +1,8 @@
 -- Texts with strokes.
-use Rattle.std.proofs.Common.{◌≡◌, ℕ, if◌then◌else◌, nat_lt, Option, unwrap_or, List, [], ◌∷◌, ◌++◌, replicate, refl, ap, sym, ◌∙◌, arith, append_assoc}
-use Rattle.std.proofs.lemmas.Bool.{lt-ltb, cond_both}
-use Rattle.tbr_renderer.specs.Renderer.{stroke, struck_character, struck}
+use Rattle.tbr_renderer.proofs.Common.{◌≡◌, ℕ, if◌then◌else◌, Option, unwrap_or, List, [], ◌∷◌, ◌++◌, replicate, refl, ap, sym, ◌∙◌, arith, append_assoc, cond_both, stroke, struck}
+use Rattle.std.proofs.Common.{nat_lt}
+use Rattle.std.proofs.lemmas.Bool.{lt-ltb}
+use Rattle.tbr_renderer.specs.Renderer.{struck_character}
 
 module _ (columns : ℕ → Option ℕ) (depth c : ℕ) (old mid new : List ℕ) (n : ℕ) (is : n ≡ unwrap_or (columns c) 0) (pushed : mid ≡ old ++ c ∷ []) where
   -- a character that takes no columns has no strokes

@@ -1,7 +1,6 @@
 -- Rows of cells side by side: what comes into them, and what they add to a renderer.
-use Rattle.std.specs.Prelude.{◌≡◌, ℕ, ◌+◌, ◌-◌, Bool, true, not, ◌&&◌, is_none, Option, None, Some, List, [], ◌∷◌, ◌++◌, map, fold, drop}
+use Rattle.std.specs.Prelude.{◌≡◌, ℕ, ◌+◌, ◌-◌, Bool, true, not, ◌&&◌, is_none, Option, None, Some, List, [], ◌∷◌, ◌++◌, map, fold, drop, refl}
 use Rattle.std.specs.Option.{option_map}
-use Rattle.std.specs.List.{AllZip}
 use Rattle.tbr_model.specs.Run.{items_width}
 use Rattle.tbr_wrap.specs.Block.{any_line, has_no_character}
 use Rattle.tbr_border.specs.Border.{Border, with_cells, stretched}
@@ -13,11 +12,9 @@ use Rattle.tbr_tagged.specs.declared.CellAlign.TheVariants.{Left}
 use Rattle.tbr_border.specs.declared.RenderLine.{RenderLine}
 use Rattle.tbr_border.specs.declared.RenderLine.TheVariants.{Text, Line as Rule}
 use Rattle.tbr_rows.specs.Cells.{AreSideBySide, Spot, spots_from}
-use Rattle.tbr_rows.specs.Meant.{AreLongest, SeenRow, MeansRow}
-use Rattle.tbr_rows.specs.Computed.{row_of}
+use Rattle.tbr_rows.specs.Rows.{SeenRow, row_under, row_of}
 use Rattle.tbr_rows.specs.Stretches.{longest}
 use Rattle.tbr_rows.specs.declared.LineSet.{LineSet as Cell}
-use Rattle.tbr_rows.specs.declared.Row.{Row}
 use Rattle.tbr_rows.specs.declared.RowStyle.{RowStyle}
 use Rattle.tbr_kept_lines.specs.LastBorder.{last_border, before_border}
 use Rattle.tbr_kept_lines.specs.Line.{Line, text, border}
@@ -71,15 +68,6 @@ FillsKept columns eq align width a (border b) (Rule filled) = filled ≡ with_ce
 FillsKept columns eq align width a (text is) (Rule filled) = ⊥
 FillsKept columns eq align width a (border b) (Text es) = ⊥
 
--- A line of a cell is filled up to its width. A text is filled with spaces as the alignment says, in pieces that are
--- the longest stretches under one annotation, and a border with `─`.
-abbrev pub FillsCell : {A : Type 0} → (ℕ → Option ℕ) → CellAlign → ℕ → A → Line A → RenderLine A → Type 0
-FillsCell columns align width a (text is) (Text es) =
-    (items_of es ≡ aligned_items align is (width - items_width columns is) a) × AreLongest es
-FillsCell columns align width a (border b) (Rule filled) = filled ≡ with_cells (stretched width b.cells) b
-FillsCell columns align width a (text is) (Rule filled) = ⊥
-FillsCell columns align width a (border b) (Text es) = ⊥
-
 -- the alignment that is next: at the left where none is given
 abbrev pub next_align : List CellAlign → CellAlign
 next_align [] = Left
@@ -103,11 +91,37 @@ abbrev pub cells_handed_out : {D A : Type 0} → (ℕ → Option ℕ) → List (
     Outcome (List (GivenCell (List A)))
 cells_handed_out columns cols aligns = cells_given (λ r. r.width) (λ r. handed_out columns r) cols aligns
 
--- the cell in the row
-abbrev pub ComesAs : {A : Type 0} → (ℕ → Option ℕ) → A → GivenCell A → Cell A → Type 0
-ComesAs columns a given cell =
-    (cell.width ≡ given.width) × (cell.span ≡ given.span)
-    × AllZip (FillsCell columns given.align given.width a) given.lines cell.lines
+-- ---- the cells in the row
+
+module _ {A : Type 0} (same : A → A → Bool) (columns : ℕ → Option ℕ) where
+  -- A line of a cell, filled up to its width: a text with spaces as the alignment says, in pieces that are the longest
+  -- stretches under one annotation, and a border with `─`.
+  abbrev pub filled : CellAlign → ℕ → A → Line A → RenderLine A
+  filled align width a (text is) = Text (longest same (aligned_items align is (width - items_width columns is) a))
+  filled align width a (border b) = Rule (with_cells (stretched width b.cells) b)
+
+  -- a cell that comes, at its place in the row
+  abbrev pub cell_from : A → ℕ → GivenCell A → Cell A
+  cell_from a at given = record {
+    place = at;
+    width = given.width;
+    span = given.span;
+    lines = map (filled given.align given.width a) given.lines;
+  }
+
+  -- the cells of a row that come, side by side from a column on
+  abbrev pub cells_from : A → ℕ → List (GivenCell A) → List (Cell A)
+  cells_from a at [] = []
+  cells_from a at (given ∷ more) = cell_from a at given ∷ cells_from a (at + given.width + 1) more
+
+  pub are_side_by_side : (a : A) (at : ℕ) (cells : List (GivenCell A)) → AreSideBySide at (cells_from a at cells)
+  are_side_by_side a at [] = tt
+  are_side_by_side a at (given ∷ more) = (refl, are_side_by_side a (at + given.width + 1) more)
+
+-- the cells that come to a renderer, as they are in the row
+abbrev pub own_cells : {D A : Type 0} →
+    (List A → List A → Bool) → (ℕ → Option ℕ) → List (GivenCell (List A)) → Renderer D A (List A) → List (Cell (List A))
+own_cells same columns cells r = cells_from same columns r.annotations 0 cells
 
 -- ---- the border above
 
@@ -121,15 +135,6 @@ border_lines (Some b) = border b ∷ []
 -- how a renderer draws a row: with borders, if its options say so, and collapsing or not
 abbrev pub style_in : {D A T : Type 0} → Renderer D A T → Bool → RowStyle
 style_in r collapses = record { draws_borders = r.options.draw_borders; collapses = collapses }
-
--- a row as it is seen
-abbrev pub row_seen : {T : Type 0} → Row T → SeenRow T
-row_seen row = record {
-  above = row.above;
-  lines = map items_of row.lines.items;
-  next = row.next;
-  overhang = row.overhang;
-}
 
 -- a border more, if there is one
 abbrev pub with_next : {D A : Type 0} →
@@ -150,62 +155,32 @@ abbrev pub with_row : {D A : Type 0} →
     (ℕ → Option ℕ) → Renderer D A (List A) → SeenRow (List A) → Renderer D A (List A)
 with_row columns r row = with_row_after columns (record r { lines = before_border r.lines }) row
 
--- A row of these cells, and of those that overhang, comes under the last line, if that is a border.
-pub record PutsRow {D A : Type 0} (columns : ℕ → Option ℕ) (collapses : Bool) (cells : List (GivenCell (List A)))
-    (r s : Renderer D A (List A)) : Type 0 where
-  -- the cells that come
-  pub own : List (Cell (List A))
-  pub come : AllZip (ComesAs columns r.annotations) cells own
-  pub side_by_side : AreSideBySide 0 own
-  pub row : SeenRow (List A)
-  pub means : MeansRow columns (style_in r collapses) r.annotations r.hanging own (last_border r.lines) row
-  pub is : s ≡ with_row columns r row
-
--- and so it does after a flush of a renderer that hasn't failed
-abbrev pub AppendsRow : {D A : Type 0} → (ℕ → Option ℕ) → Bool → List (GivenCell (List A))
-    → Renderer D A (List A) → Renderer D A (List A) → Type 0
-AppendsRow {D} {A} columns collapses cells r s =
-    (m : Renderer D A (List A)) × (if_live r.failure (after_flush columns r) ≡ done m)
-    × PutsRow columns collapses cells m s
-
--- ---- the same, computed where annotations can be told apart
-
-module _ {A : Type 0} (same : A → A → Bool) (columns : ℕ → Option ℕ) where
-  -- a line of a cell, filled up to its width
-  abbrev pub filled : CellAlign → ℕ → A → Line A → RenderLine A
-  filled align width a (text is) = Text (longest same (aligned_items align is (width - items_width columns is) a))
-  filled align width a (border b) = Rule (with_cells (stretched width b.cells) b)
-
-  -- the cells of a row that come, side by side from a column on
-  abbrev pub cells_from : A → ℕ → List (GivenCell A) → List (Cell A)
-  cells_from a at [] = []
-  cells_from a at (given ∷ more) =
-      let cell : Cell A = record {
-        place = at;
-        width = given.width;
-        span = given.span;
-        lines = map (filled given.align given.width a) given.lines;
-      } in
-      cell ∷ cells_from a (at + given.width + 1) more
-
 -- What a row left, if it had a place. Nobody may ask for one that hasn't, so only memory can refuse it.
 abbrev pub placed : {S : Type 0} → Option S → Outcome S
 placed None = refused E.OutOfMemory
 placed (Some s) = done s
 
-module _ {D A : Type 0} (same : List A → List A → Bool) (columns : ℕ → Option ℕ) (collapses : Bool)
-    (cells : List (GivenCell (List A))) where
-  -- what a row of these cells leaves, and nothing where a cell that overhangs has no place
-  abbrev pub row_put : Renderer D A (List A) → Option (Renderer D A (List A))
-  row_put r =
-      let own = cells_from same columns r.annotations 0 cells in
-      option_map (with_row columns r)
-      (row_of same columns (style_in r collapses) r.annotations r.hanging own (last_border r.lines))
+module _ {D A : Type 0} (same : List A → List A → Bool) (columns : ℕ → Option ℕ) (collapses : Bool) where
+  -- the row of cells that have their places in a renderer, under the last line, if that is a border
+  abbrev pub row_seated : Renderer D A (List A) → List (Cell (List A)) → SeenRow (List A)
+  row_seated r seated = row_under same columns (style_in r collapses) r.annotations (last_border r.lines) seated
 
-  -- what the row makes of a renderer that hasn't failed: a flush comes first
-  abbrev pub row_made : Renderer D A (List A) → Outcome (Renderer D A (List A))
-  row_made r = and_then (after_flush columns r) (λ m. placed (row_put m))
+  -- The row of own cells, beside those that overhang, and none where one of those has no place.
+  abbrev pub row_in : Renderer D A (List A) → List (Cell (List A)) → Option (SeenRow (List A))
+  row_in r own = row_of same columns (style_in r collapses) r.annotations r.hanging own (last_border r.lines)
+
+  -- what that leaves
+  abbrev pub row_put_of : Renderer D A (List A) → List (Cell (List A)) → Option (Renderer D A (List A))
+  row_put_of r own = option_map (with_row columns r) (row_in r own)
+
+  -- what a row of these cells leaves
+  abbrev pub row_put : List (GivenCell (List A)) → Renderer D A (List A) → Option (Renderer D A (List A))
+  row_put cells r = row_put_of r (own_cells same columns cells r)
+
+  -- what it makes of a renderer that hasn't failed: a flush comes first
+  abbrev pub row_made : List (GivenCell (List A)) → Renderer D A (List A) → Outcome (Renderer D A (List A))
+  row_made cells r = and_then (after_flush columns r) (λ m. placed (row_put cells m))
 
   -- and of any
-  abbrev pub after_row : Renderer D A (List A) → Outcome (Renderer D A (List A))
-  after_row r = if_live r.failure (row_made r)
+  abbrev pub after_row : List (GivenCell (List A)) → Renderer D A (List A) → Outcome (Renderer D A (List A))
+  after_row cells r = if_live r.failure (row_made cells r)

@@ -1,12 +1,6 @@
 -- A block's lines, filled up to a width.
-use Rattle.std.proofs.Common.{◌≡◌, ℕ, ◌-◌, ◌≤◌, suc, Bool, Option, drop, List, [], ◌∷◌, ◌++◌, map, length, refl, ap, sym, ◌∙◌, subst, arith, append_assoc}
-use Rattle.std.specs.Cmp.{IsEquivalence}
-use Rattle.tbr_model.specs.Run.{Item, items_width}
-use Rattle.tbr_tagged.specs.declared.padding.CellAlign.{CellAlign}
-use Rattle.tbr_tagged.specs.Elements.{SameItems}
-use Rattle.tbr_tagged.specs.Padding.{aligned_items}
-use Rattle.tbr_tagged.proofs.SameItems.{same_items, same_items_trans, same_items_append}
-use Rattle.tbr_rows.specs.AlignedLines.{each_aligned}
+use Rattle.tbr_rows.proofs.Common.{◌≡◌, ℕ, ◌-◌, ◌≤◌, suc, Bool, Option, drop, List, [], ◌∷◌, ◌++◌, map, length, refl, ap, sym, ◌∙◌, subst, arith, append_assoc, IsEquivalence, Item}
+use Rattle.tbr_rows.proofs.Common.{items_width, CellAlign, SameItems, aligned_items, same_items, same_items_trans, same_items_append, each_aligned}
 
 module _ {A : Type 0} (align : CellAlign) (a : A) where
   pub length_aligned : (lines : List (List (Item A))) (missing : List ℕ) → length missing ≤ length lines → length missing ≡ length (each_aligned align a lines missing)
@@ -26,7 +20,8 @@ module _ {A : Type 0} (align : CellAlign) (a : A) where
   none_aligned (is ∷ lines) missing e = rw e refl
 
   -- the first one
-  pub first_aligned : (lines : List (List (Item A))) (missing ns : List ℕ) (n : ℕ) (now rest : List (List (Item A))) (is : List (Item A)) → missing ≡ n ∷ ns → each_aligned align a lines missing ≡ now → now ≡ is ∷ rest →
+  pub first_aligned : (lines : List (List (Item A))) (missing ns : List ℕ) (n : ℕ) (now rest : List (List (Item A)))
+      (is : List (Item A)) → missing ≡ n ∷ ns → each_aligned align a lines missing ≡ now → now ≡ is ∷ rest →
       (js : List (Item A)) × (others : List (List (Item A))) × (lines ≡ js ∷ others) × (aligned_items align js n a ≡ is)
   first_aligned [] missing ns n now rest is m seen e = absurd (let none : [] ≡ is ∷ rest = seen ∙ e in cc)
   first_aligned (js ∷ others) missing ns n now rest is m seen e =
@@ -34,12 +29,15 @@ module _ {A : Type 0} (align : CellAlign) (a : A) where
       (js, others, refl, cc)
 
   -- all but the first
-  pub rest_aligned : (lines after : List (List (Item A))) (missing ns : List ℕ) (n : ℕ) → missing ≡ n ∷ ns → length missing ≤ length lines → after ≡ drop 1 lines → each_aligned align a after ns ≡ drop 1 (each_aligned align a lines missing)
+  pub rest_aligned : (lines after : List (List (Item A))) (missing ns : List ℕ) (n : ℕ) → missing ≡ n ∷ ns →
+      length missing ≤ length lines → after ≡ drop 1 lines → each_aligned align a after ns ≡ drop 1 (each_aligned align a lines missing)
   rest_aligned [] after missing ns n m within rest = absurd (omega (arith, within, ap length m))
   rest_aligned (is ∷ lines) after missing ns n m within rest = rw (rest, m) refl
 
 -- spaces, a line and spaces are moved to the end of a line, one after another
-pub aligned_moved : {A : Type 0} (eq : A → A → Bool) (laws : IsEquivalence eq) (old one two three front is after : List (Item A)) → SameItems eq one (old ++ front) → SameItems eq two (one ++ is) → SameItems eq three (two ++ after) →
+pub aligned_moved : {A : Type 0} (eq : A → A → Bool) (laws : IsEquivalence eq)
+    (old one two three front is after : List (Item A)) → SameItems eq one (old ++ front) →
+    SameItems eq two (one ++ is) → SameItems eq three (two ++ after) →
     SameItems eq three (old ++ (front ++ is ++ after))
 aligned_moved eq laws old one two three front is after h j k =
     let same = same_items eq laws in

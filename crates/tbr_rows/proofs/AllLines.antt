@@ -1,20 +1,12 @@
 -- Rows lose no line of a cell.
-use Rattle.std.proofs.Common.{◌≡◌, if◌then◌else◌, ℕ, ◌-◌, ◌≤◌, ◌&&◌, Bool, true, false, Option, None, Some, List, [], ◌∷◌, ◌++◌, map, take, drop, length, fold, max, refl, ap, sym, ◌∙◌, arith, append_assoc, append-nil, nat_lt, is_some, flat_map, take-append-drop, take_all, length-drop}
-use Rattle.std.specs.List.{AllByRecursion as Each}
-use Rattle.std.proofs.lemmas.Bool.{ltb-false, le-leb, cond_both}
+use Rattle.tbr_rows.proofs.Common.{◌≡◌, if◌then◌else◌, ℕ, ◌-◌, ◌≤◌, ◌&&◌, Bool, true, false, Option, None, Some, List, [], ◌∷◌, ◌++◌, map, take, drop, length, fold, max, refl, ap, sym, ◌∙◌}
+use Rattle.tbr_rows.proofs.Common.{arith, append_assoc, append-nil, nat_lt, is_some, flat_map, take_all, Each, le-leb, cond_both, RenderLine, Text, Line, Border, has_holes, Cell, Column}
+use Rattle.tbr_rows.proofs.Common.{cell_height, first_mergeable, last_mergeable, after_mergeable, before_mergeable, without_first_border, row_height, dropped, overhang_of, overhang, cell_in}
+use Rattle.tbr_rows.proofs.Common.{later_of, met, continued, goes_on, meeting, AreItsRows, cells_under, columns_shown, cells_left, map-map}
+use Rattle.std.proofs.Common.{take-append-drop, length-drop}
+use Rattle.std.proofs.lemmas.Bool.{ltb-false}
 use Rattle.tbr_model.specs.Layout.{joined}
-use Rattle.tbr_border.specs.declared.render_line.RenderLine.{RenderLine}
-use Rattle.tbr_border.specs.declared.render_line.RenderLine.TheVariants.{Text, Line}
-use Rattle.tbr_border.specs.Border.{Border, has_holes}
-use Rattle.tbr_rows.specs.declared.line_set.LineSet.{LineSet as Cell}
-use Rattle.tbr_rows.specs.declared.column.Column.{Column}
-use Rattle.tbr_rows.specs.Cells.{cell_height}
-use Rattle.tbr_rows.specs.Borders.{first_mergeable, last_mergeable, after_mergeable, before_mergeable, without_first_border}
-use Rattle.tbr_rows.specs.Texts.{row_height, dropped}
-use Rattle.tbr_rows.specs.Gaps.{overhang_of, overhang, cell_in}
-use Rattle.tbr_rows.specs.Shown.{part_of, later_of, as_lines, Meeting, met, merged_first, merged_last, continued, goes_on, parts_of, parts_and_merged, meeting, AreItsRows, texts_in}
-use Rattle.tbr_rows.specs.Rows.{cells_under, columns_shown, cells_left}
-use Rattle.std.proofs.lemmas.Simd.{map-map}
+use Rattle.tbr_rows.specs.Shown.{part_of, as_lines, Meeting, merged_first, merged_last, parts_of, parts_and_merged, texts_in}
 use Rattle.std.proofs.lemmas.List.Folds.{flat_map-map}
 use Rattle.tbr_rows.proofs.Squares.{if_both}
 use Rattle.tbr_rows.proofs.ColumnsOfRows.{column_of, columns_are}
@@ -115,7 +107,8 @@ all_texts draws (m ∷ ms) c h =
 
 -- ---- the cells of a row
 
-pub cells_meet : {A : Type 0} (collapses : Bool) (top : Option (Border A)) (height : ℕ) (cs : List (Cell A)) → map cell_in (columns_shown collapses (cells_under collapses top cs)) ≡ map (met (meeting collapses top height)) cs
+pub cells_meet : {A : Type 0} (collapses : Bool) (top : Option (Border A)) (height : ℕ) (cs : List (Cell A)) →
+    map cell_in (columns_shown collapses (cells_under collapses top cs)) ≡ map (met (meeting collapses top height)) cs
 cells_meet collapses top height cs = rw (columns_are collapses top cs, map-map) refl
 
 pub rows_go_on : {A : Type 0} (draws collapses : Bool) (top : Option (Border A)) (height : ℕ) (cs : List (Cell A)) →

@@ -1,9 +1,7 @@
 -- What is among the items of a list, and what holds of each of them.
-use Rattle.std.proofs.Common.{◌≡◌, ℕ, ◌⊎◌, inl, inr, List, [], ◌∷◌, ◌++◌, map, take, drop, ap, sym, ◌∙◌, subst}
-use Rattle.std.specs.List.{AllByRecursion as Each}
-use Rattle.std.proofs.lemmas.List.{take-append-drop, map-append}
-use Rattle.tbr_model.proofs.lists.Each.{each_front, each_back}
-use Rattle.tbr_rows.specs.CellsShown.{StandsAmong}
+use Rattle.tbr_rows.proofs.Common.{◌≡◌, ℕ, inl, inr, List, [], ◌∷◌, ◌++◌, map, take, drop, ap, sym, ◌∙◌, subst, Each, map-append, each_front, each_back, StandsAmong}
+use Rattle.std.proofs.Common.{◌⊎◌}
+use Rattle.std.proofs.lemmas.List.{take-append-drop}
 
 pub among_front : {X : Type 0} (x y : X) (ys : List X) → StandsAmong x ys → StandsAmong x (y ∷ ys)
 among_front x y ys h = (y ∷ h.0, h.1, ap (λ zs. y ∷ zs) h.2)

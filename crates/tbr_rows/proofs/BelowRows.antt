@@ -1,27 +1,18 @@
 -- What is in the border below a row.
-use Rattle.std.proofs.Common.{◌≡◌, ℕ, zero, suc, ◌+◌, ◌-◌, ◌≤◌, max, Bool, true, false, Option, None, Some, List, [], ◌∷◌, ◌++◌, map, fold, drop, length, refl, ap, sym, ◌∙◌, subst, arith, append_assoc, append-nil, take-add}
-use Rattle.std.specs.Prelude.{⊤, slice_range}
-use Rattle.std.specs.List.{AllByRecursion as Each}
-use Rattle.std.proofs.lemmas.List.{map-append, drop-drop}
-use Rattle.std.proofs.lemmas.Bool.{cond_both}
+use Rattle.tbr_rows.proofs.Common.{◌≡◌, ℕ, zero, suc, ◌+◌, ◌-◌, ◌≤◌, max, Bool, true, false, Option, None, Some, List, [], ◌∷◌, ◌++◌, map, fold, drop, length, refl, ap, sym, ◌∙◌, subst}
+use Rattle.tbr_rows.proofs.Common.{arith, append_assoc, append-nil, slice_range, Each, map-append, drop-drop, cond_both, fold-append, Item, items_width, Element, element_items, items_of}
+use Rattle.tbr_rows.proofs.Common.{text_items, Segment, Side, above, character, Hole, Border, span_end, opened, stretched, merged, drawn, shown_from, shown, length-stretched, Cell}
+use Rattle.tbr_rows.proofs.Common.{RenderLine, Text, Line, AreSideBySide, end_of, first_line, row_width, separators, Fills, IsFilled, HasInColumns, joined, last_mergeable, merged_with}
+use Rattle.tbr_rows.proofs.Common.{merged_above, has_gap, with_element, with_elements, gap_of, gap_in, with_gap, TellsApart, cells_under, next_under, next_merged, next_begun, RowStyle}
+use Rattle.tbr_rows.proofs.Common.{DrawsInOne, HolesFill}
+use Rattle.std.proofs.Common.{take-add}
+use Rattle.std.specs.Prelude.{⊤}
 use Rattle.std.proofs.lemmas.List.Folds.{drop_split}
-use Rattle.tbr_model.specs.Run.{Item, items_width}
-use Rattle.tbr_tagged.specs.Elements.{Element, element_items, items_of, text_items}
-use Rattle.tbr_border.specs.Cell.{Cell as Segment, Side, above, joined as joined_cell, character}
-use Rattle.tbr_border.specs.Border.{Hole, Border, span_end, opened, stretched, joined_under, merged, drawn, shown_from, shown}
+use Rattle.tbr_border.specs.Cell.{joined as joined_cell}
+use Rattle.tbr_border.specs.Border.{joined_under}
 use Rattle.tbr_border.proofs.HolesInOrder.{last_end, span_end-is}
-use Rattle.tbr_border.proofs.JoinedCells.{length-changed, length-stretched}
-use Rattle.tbr_rows.specs.declared.line_set.LineSet.{LineSet as Cell}
-use Rattle.tbr_border.specs.declared.render_line.RenderLine.{RenderLine}
-use Rattle.tbr_border.specs.declared.render_line.RenderLine.TheVariants.{Text, Line}
-use Rattle.tbr_rows.specs.Cells.{AreSideBySide, end_of, first_line, row_width, separators}
-use Rattle.tbr_rows.specs.CellsShown.{Fills, IsFilled, HasInColumns}
-use Rattle.tbr_rows.specs.Borders.{joined, last_mergeable, merged_with, merged_above}
-use Rattle.tbr_rows.specs.Gaps.{has_gap, with_element, with_elements}
-use Rattle.tbr_rows.specs.Meant.{IsGapOf, HasGapIf, HasGaps}
-use Rattle.tbr_rows.specs.Rows.{cells_under, next_under, next_merged, next_begun}
-use Rattle.tbr_rows.specs.declared.row.RowStyle.{RowStyle}
-use Rattle.tbr_rows.specs.Shown.{DrawsInOne, HolesFill}
+use Rattle.tbr_border.proofs.JoinedCells.{length-changed}
+use Rattle.tbr_rows.proofs.Stretches.{longest_items}
 use Rattle.tbr_rows.proofs.CellColumns.{width_append}
 use Rattle.tbr_rows.proofs.FilledCells.{spaces_width, fill_later, part_width}
 use Rattle.tbr_rows.proofs.ColumnsOfRows.{takes}
@@ -104,7 +95,8 @@ module _ {A : Type 0} (columns : ℕ → Option ℕ) where
       let width : ℕ = items_width columns (element_items x) in
       (h, refl, in_order_from (at + width) (at + width) es end (omega arith) (omega (arith, e, width_append columns (element_items x) (items_of es))))
 
-  in_order_more : (from : ℕ) (hs : List (Hole A)) (at : ℕ) (es : List (Element A)) (end : ℕ) → HolesFill columns from hs at → end ≡ at + items_width columns (items_of es) → HolesFill columns from (hs ++ holes_from at es) end
+  in_order_more : (from : ℕ) (hs : List (Hole A)) (at : ℕ) (es : List (Element A)) (end : ℕ) →
+      HolesFill columns from hs at → end ≡ at + items_width columns (items_of es) → HolesFill columns from (hs ++ holes_from at es) end
   in_order_more from [] at es end h e = in_order_from from at es end h e
   in_order_more from (g ∷ hs) at es end h e = (h.0, h.1, in_order_more (g.place + g.width) hs at es end h.2 e)
 
@@ -168,7 +160,8 @@ module _ {A : Type 0} (columns : ℕ → Option ℕ) where
         )
 
     -- and what from there on, where elements come one after another
-    pub shown_here : (at : ℕ) (es : List (Element A)) (more : List (Hole A)) → shown_from tag cells at (holes_from at es ++ more) ≡ items_of es ++ shown_from tag cells (at + items_width columns (items_of es)) more
+    pub shown_here : (at : ℕ) (es : List (Element A)) (more : List (Hole A)) →
+        shown_from tag cells at (holes_from at es ++ more) ≡ items_of es ++ shown_from tag cells (at + items_width columns (items_of es)) more
     shown_here at [] more = let same : at ≡ at + 0 = omega arith in ap (λ n. shown_from tag cells n more) same
     shown_here at (e ∷ es) more =
         let width : ℕ = items_width columns (element_items e) in
@@ -186,67 +179,79 @@ module _ {A : Type 0} (columns : ℕ → Option ℕ) where
   from_after p at [] h = tt
   from_after p at (e ∷ es) h = h
 
-  module _ (one : DrawsInOne columns) (draws : Bool) (tag : A) where
-    -- what is in a gap takes its cell's columns
-    gap_width : (width : ℕ) (ls : List (RenderLine A)) (es : List (Element A)) → Each (Fills columns width) ls → IsGapOf tag width (first_line ls) es →
-        items_width columns (items_of es) ≡ width
-    gap_width width [] es h is = grind (arith, append-nil, spaces_width)
-    gap_width width (Text line ∷ ls) es h is = ap (λ xs. items_width columns (items_of xs)) is ∙ h.0
-    gap_width width (Line b ∷ ls) es h is = ap (items_width columns) is.0 ∙ takes columns one b.tag width (Line b) h.0
+  module _ (one : DrawsInOne columns) (same : A → A → Bool) (tells : TellsApart same) (draws : Bool) (tag : A) where
+    abbrev gap : Cell A → List (Element A)
+    gap d = gap_in same draws tag d
 
-    -- what a cell puts in front of a border
-    gap_holes : (g : Bool) (d : Cell A) (b m : Border A) → HasGapIf g columns tag d b m →
-        (es : List (Element A)) × (m.holes ≡ b.holes ++ holes_from (max d.place (span_end b.holes)) es) ×
-        (IsFilled columns d → items_width columns (items_of es) ≤ d.width) × (length b.cells ≤ length m.cells)
-    gap_holes false d b m h = ([], rw h (sym (append-nil b.holes)), λ f. omega arith, omega (arith, ap (λ (x : Border A). length x.cells) h))
-    gap_holes true d b m (es, is, put) = grind (arith, put_holes, gap_width, put_longer)
+    abbrev gapped : Border A → Cell A → Border A
+    gapped b d = with_gap same columns draws tag b d
+
+    -- what is in a gap takes its cell's columns
+    line_takes : (width : ℕ) (ls : List (RenderLine A)) → Each (Fills columns width) ls → items_width columns (items_of (gap_of same tag width (first_line ls))) ≡ width
+    line_takes width [] h = grind (arith, append-nil, spaces_width)
+    line_takes width (Text line ∷ ls) h = h.0
+    line_takes width (Line b ∷ ls) h = ap (items_width columns) (longest_items same tells (shown b.tag b)) ∙ takes columns one b.tag width (Line b) h.0
+
+    gap_width : (d : Cell A) → IsFilled columns d → items_width columns (items_of (gap d)) ≤ d.width
+    gap_width d h =
+        cond_both (has_gap draws d) (gap_of same tag d.width (first_line d.lines)) [] (λ (es : List (Element A)). items_width columns (items_of es) ≤ d.width)
+        (λ _. omega (arith, line_takes d.width d.lines h)) (λ _. omega arith)
 
     -- Up to one of the cells: the border has gaps before its place alone.
-    gaps_in_front : (ds more : List (Cell A)) (at : ℕ) (b full : Border A) → HasGaps draws columns tag (ds ++ more) b full → AreSideBySide at (ds ++ more) →
-        Each (IsFilled columns) ds → HolesFill columns 0 b.holes at →
-        (m : Border A) × (to : ℕ) × HasGaps draws columns tag more m full × AreSideBySide to more × HolesFill columns 0 m.holes to × (length b.cells ≤ length m.cells)
-    gaps_in_front [] more at b full h side fills k = (b, at, h, side, k, omega arith)
-    gaps_in_front (d ∷ ds) more at b full (m, here, past) side fills k =
-        let (es, put, wide, long) = gap_holes (has_gap draws d) d b m here in
+    gaps_in_front : (ds more : List (Cell A)) (at : ℕ) (b : Border A) → AreSideBySide at (ds ++ more) → Each (IsFilled columns) ds → HolesFill columns 0 b.holes at →
+        (to : ℕ) × AreSideBySide to more × HolesFill columns 0 (fold gapped b ds).holes to × (length b.cells ≤ length (fold gapped b ds).cells)
+    gaps_in_front [] more at b side fills k = (at, side, k, omega arith)
+    gaps_in_front (d ∷ ds) more at b side fills k =
         let there : HolesFill columns 0 b.holes d.place = rw side.0 k in
         let far : max d.place (span_end b.holes) ≡ d.place = omega (arith, span_end-is b.holes, ends_before 0 b.holes d.place there) in
-        let end : ℕ = d.place + items_width columns (items_of es) in
-        let order : HolesFill columns 0 m.holes (end_of d + 1) =
-        rw (put, far) (fill_later columns 0 (b.holes ++ holes_from d.place es) end (end_of d + 1) (in_order_more 0 b.holes d.place es end there refl)
-        (omega (arith, wide fills.0))) in
-        let (n, to, more_gaps, more_side, ordered, longer) = gaps_in_front ds more (end_of d + 1) m full past side.1 fills.1 order in
-        (n, to, more_gaps, more_side, ordered, omega (arith, long, longer))
+        let end : ℕ = d.place + items_width columns (items_of (gap d)) in
+        let order : HolesFill columns 0 (gapped b d).holes (end_of d + 1) =
+        rw (put_holes d.place d.place b (gap d) far) (fill_later columns 0 (b.holes ++ holes_from d.place (gap d)) end (end_of d + 1)
+        (in_order_more 0 b.holes d.place (gap d) end there refl) (omega (arith, gap_width d fills.0))) in
+        let (to, more_side, ordered, longer) = gaps_in_front ds more (end_of d + 1) (gapped b d) side.1 fills.1 order in
+        (to, more_side, ordered, omega (arith, put_longer d.place b (gap d), longer))
 
     -- and where no cell begins before a place, none of the gaps does
-    gaps_after : (p : ℕ) (ds : List (Cell A)) (b full : Border A) → HasGaps draws columns tag ds b full → Each (λ (d : Cell A). p ≤ d.place) ds →
-        (hs : List (Hole A)) × (full.holes ≡ b.holes ++ hs) × BeginAfter p hs × (length b.cells ≤ length full.cells)
-    gaps_after p [] b full h far = ([], rw h (sym (append-nil b.holes)), tt, omega (arith, ap (λ (x : Border A). length x.cells) h))
-    gaps_after p (d ∷ ds) b full (m, here, past) far = grind (arith, gap_holes, append_assoc, after_both, from_after, gaps_after p ds m full past far.1)
+    gaps_after : (p : ℕ) (ds : List (Cell A)) (b : Border A) → Each (λ (d : Cell A). p ≤ d.place) ds →
+        (hs : List (Hole A)) × ((fold gapped b ds).holes ≡ b.holes ++ hs) × BeginAfter p hs × (length b.cells ≤ length (fold gapped b ds).cells)
+    gaps_after p [] b far = ([], sym (append-nil b.holes), tt, omega arith)
+    gaps_after p (d ∷ ds) b far =
+        let at : ℕ = max d.place (span_end b.holes) in
+        let here : List (Hole A) = holes_from at (gap d) in
+        let (hs, is, past, long) = gaps_after p ds (gapped b d) far.1 in (
+          here ++ hs,
+          is ∙ ap (λ ks. ks ++ hs) (put_holes d.place at b (gap d) refl) ∙ append_assoc b.holes here hs,
+          after_both p here hs (from_after p at (gap d) (omega (arith, far.0))) past,
+          omega (arith, put_longer d.place b (gap d), long),
+        )
 
     places_after : (at p : ℕ) (ds : List (Cell A)) → p ≤ at → AreSideBySide at ds → Each (λ (d : Cell A). p ≤ d.place) ds
     places_after at p [] h s = tt
     places_after at p (d ∷ ds) h s = (omega (arith, h, s.0), places_after (end_of d + 1) p ds (omega (arith, h, s.0)) s.1)
 
     -- What a gap shows of its cell is in the cell's columns.
-    pub gap_stands : (front : List (Cell A)) (c : Cell A) (rest : List (Cell A)) (b full : Border A) (Is : List (Item A) → Type 0) → has_gap draws c ≡ true →
-        HasGaps draws columns tag (front ++ c ∷ rest) b full →
+    pub gap_stands : (front : List (Cell A)) (c : Cell A) (rest : List (Cell A)) (b : Border A) (Is : List (Item A) → Type 0) → has_gap draws c ≡ true →
         AreSideBySide 0 (front ++ c ∷ rest) → Each (IsFilled columns) front → IsFilled columns c → b.holes ≡ [] → c.place ≤ length b.cells →
-        ((es : List (Element A)) → IsGapOf tag c.width (first_line c.lines) es → Is (items_of es)) →
-        HasInColumns columns (shown full.tag full) c.place c.width Is
-    gap_stands front c rest b full Is gap h side fills own_fills none within shows =
-        let begins : HolesFill columns 0 b.holes 0 = rw none (omega arith) in
-        let (m, to, (n, own, others), more_side, order, longer) = gaps_in_front front (c ∷ rest) 0 b full h side fills begins in
-        let (es, is, put) = rw gap at own in
+        Is (items_of (gap_of same tag c.width (first_line c.lines))) →
+        (let full = fold gapped b (front ++ c ∷ rest) in HasInColumns columns (shown full.tag full) c.place c.width Is)
+    gap_stands front c rest b Is has side fills own_fills none within shows =
+        let es : List (Element A) = gap_of same tag c.width (first_line c.lines) in
+        let m : Border A = fold gapped b front in
+        let n : Border A = gapped m c in
+        let full : Border A = fold gapped n rest in
+        let whole : fold gapped b (front ++ c ∷ rest) ≡ full = fold-append gapped b front (c ∷ rest) in
+        let own : gap c ≡ es = rw has refl in
+        let (to, more_side, order, longer) = gaps_in_front front (c ∷ rest) 0 b side fills (rw none (omega arith)) in
         let ordered : HolesFill columns 0 m.holes c.place = subst (λ k. HolesFill columns 0 m.holes k) (sym more_side.0) order in
         let far : max c.place (span_end m.holes) ≡ c.place = omega (arith, span_end-is m.holes, ends_before 0 m.holes c.place ordered) in
-        let (hs, holes, past, long) = gaps_after c.place rest n full others (places_after (end_of c + 1) c.place rest (omega arith) more_side.1) in
+        let (hs, holes, past, long) = gaps_after c.place rest n (places_after (end_of c + 1) c.place rest (omega arith) more_side.1) in
         let later : List (Hole A) = holes_from c.place es ++ hs in
-        let all : full.holes ≡ m.holes ++ later =
-        holes ∙ ap (λ ks. ks ++ hs) (ap (λ (x : Border A). x.holes) put ∙ put_holes c.place c.place m es far) ∙ append_assoc m.holes (holes_from c.place es) hs in
-        let inside : c.place ≤ length full.cells = omega (arith, within, longer, ap (λ (x : Border A). length x.cells) put, put_longer c.place m es, long) in
+        let put : n.holes ≡ m.holes ++ holes_from c.place es = put_holes c.place c.place m (gap c) far ∙ ap (λ ds. m.holes ++ holes_from c.place ds) own in
+        let all : full.holes ≡ m.holes ++ later = holes ∙ ap (λ ks. ks ++ hs) put ∙ append_assoc m.holes (holes_from c.place es) hs in
+        let inside : c.place ≤ length full.cells = omega (arith, within, longer, put_longer c.place m (gap c), long) in
         let starts : BeginAfter c.place later = after_both c.place (holes_from c.place es) hs (from_after c.place c.place es (omega arith)) past in
         let front_shown = shown_before one full.tag full.cells 0 m.holes c.place later ordered inside starts in
-        record {
+        subst (λ (x : Border A). HasInColumns columns (shown x.tag x) c.place c.width Is) (sym whole) (record {
           before = front_shown.0;
           here = items_of es;
           after = shown_from full.tag full.cells (c.place + items_width columns (items_of es)) hs;
@@ -254,6 +259,6 @@ module _ {A : Type 0} (columns : ℕ → Option ℕ) where
               ap (shown_from full.tag full.cells 0) all ∙ rw (front_shown.1, shown_here one full.tag full.cells c.place es hs)
               (sym (append_assoc front_shown.0 (items_of es) _));
           place = omega (arith, front_shown.2);
-          width = gap_width c.width c.lines es own_fills is;
-          is = shows es is;
-        }
+          width = line_takes c.width c.lines own_fills;
+          is = shows;
+        })

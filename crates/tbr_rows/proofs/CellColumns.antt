@@ -1,16 +1,12 @@
 -- The lines of a row, and where its cells are in them.
-use Rattle.std.proofs.Common.{◌≡◌, ℕ, zero, suc, ◌+◌, ◌<◌, inl, inr, Option, Some, List, [], ◌∷◌, ◌++◌, map, drop, length, get_or, refl, ap, sym, ◌∙◌, arith, append_assoc, append-nil}
-use Rattle.std.specs.List.{slice_get, AllByRecursion as Each}
+use Rattle.tbr_rows.proofs.Common.{◌≡◌, ℕ, zero, suc, ◌+◌, ◌<◌, inl, inr, Option, Some, List, [], ◌∷◌, ◌++◌, map, drop, length, get_or, refl, ap, sym, ◌∙◌, arith, append_assoc, append-nil}
+use Rattle.tbr_rows.proofs.Common.{slice_get, Each, length-map, get_or_at, same_Some, Item, items_width, Column, AreSideBySide, end_of, cell_text, numbers_below, line_text, line_texts}
+use Rattle.tbr_rows.proofs.Common.{cell_in, TakesCellColumns}
 use Rattle.std.proofs.lemmas.Bool.{cases_lt}
-use Rattle.std.proofs.lemmas.List.{length-append, length-map, get_or_at}
+use Rattle.std.proofs.lemmas.List.{length-append}
 use Rattle.std.proofs.Math.ListN.{get_or-append}
-use Rattle.std.proofs.lemmas.Option.{slice_get-map, slice_get-get_or, same_Some}
-use Rattle.tbr_model.specs.Run.{Item, item_width, items_width}
-use Rattle.tbr_rows.specs.declared.column.Column.{Column}
-use Rattle.tbr_rows.specs.Cells.{AreSideBySide, end_of}
-use Rattle.tbr_rows.specs.Texts.{cell_text, numbers_below, line_text, line_texts}
-use Rattle.tbr_rows.specs.Gaps.{cell_in}
-use Rattle.tbr_rows.specs.Shown.{TakesCellColumns}
+use Rattle.std.proofs.lemmas.Option.{slice_get-map, slice_get-get_or}
+use Rattle.tbr_model.specs.Run.{item_width}
 
 -- ---- the numbers below one
 

@@ -1,25 +1,15 @@
 -- The lines of a cell, where they are in a block's text.
-use Rattle.std.proofs.Common.{◌≡◌, ℕ, ◌-◌, Bool, true, Option, None, Some, Ok, Err, List, [], ◌∷◌, ◌++◌, drop, length, map, refl, ap, sym, ◌∙◌, subst, IfOk}
-use Rattle.std.specs.Cmp.{IsEquivalence}
+use Rattle.tbr_rows.proofs.Common.{◌≡◌, ℕ, ◌-◌, Bool, true, Option, None, Some, List, [], ◌∷◌, ◌++◌, drop, length, map, refl, ap, sym, ◌∙◌, subst, IfOk, IsEquivalence, drop-map, AllZip}
+use Rattle.tbr_rows.proofs.Common.{Item, items_width, RenderLine, Text, Line, line_items, items_under, CellAlign, spaces, aligned_items, Element, items_of, text_items, SameItems}
+use Rattle.tbr_rows.proofs.Common.{SameElements, IsMerged, same_items, same_items_trans, same_items_append, same_texts, first_mergeable, last_mergeable, after_mergeable, before_mergeable}
+use Rattle.tbr_rows.proofs.Common.{first_line, FillsText, IsGapText, longest}
+use Rattle.std.proofs.Common.{Ok, Err}
 use Rattle.std.specs.declared.result.Result.{Result}
-use Rattle.std.proofs.lemmas.List.{drop-map}
-use Rattle.std.specs.List.{AllZip}
-use Rattle.tbr_model.specs.Run.{Item, items_width}
-use Rattle.tbr_border.specs.declared.render_line.RenderLine.{RenderLine}
-use Rattle.tbr_border.specs.declared.render_line.RenderLine.TheVariants.{Text, Line}
-use Rattle.tbr_border.specs.RenderLine.{line_items, items_under, IsItself, IsMergedText}
+use Rattle.tbr_border.specs.RenderLine.{IsItself, IsMergedText}
 use Rattle.tbr_tagged.specs.declared.error.OutOfMemory.{OutOfMemory}
-use Rattle.tbr_tagged.specs.declared.padding.CellAlign.{CellAlign}
-use Rattle.tbr_tagged.specs.Padding.{spaces, columns_in_front, aligned_items}
-use Rattle.tbr_tagged.specs.Elements.{Element, items_of, text_items, SameItems, SameElements, IsMerged}
-use Rattle.tbr_tagged.proofs.SameItems.{same_items, same_items_trans, same_items_append, same_texts}
+use Rattle.tbr_tagged.specs.Padding.{columns_in_front}
 use Rattle.tbr_tagged.proofs.TextAfter.{same_elements}
-use Rattle.tbr_rows.specs.Borders.{first_mergeable, last_mergeable, after_mergeable, before_mergeable}
-use Rattle.tbr_rows.specs.Cells.{first_line}
 use Rattle.tbr_rows.specs.CellLines.{as_lines}
-use Rattle.tbr_rows.specs.Filled.{FillsText}
-use Rattle.tbr_rows.specs.Gaps.{IsGapText}
-use Rattle.tbr_rows.specs.Stretches.{longest}
 use Rattle.tbr_rows.proofs.Stretches.{stretches_show, stretches_merged, merged_once, same_back}
 
 module _ {A : Type 0} (eq : A → A → Bool) where

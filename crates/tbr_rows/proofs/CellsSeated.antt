@@ -1,11 +1,7 @@
 -- Which cells are in a row: those that overhang, and its own.
-use Rattle.std.proofs.Common.{◌≡◌, ℕ, ◌-◌, inl, inr, true, false, Option, Some, List, [], ◌∷◌, refl, ap, sym, ◌∙◌, ◌≢◌, is_none, ◌==◌}
-use Rattle.std.specs.List.{AllByRecursion as Each}
-use Rattle.std.proofs.lemmas.Bool.{and_parts}
-use Rattle.tbr_border.specs.declared.render_line.RenderLine.{RenderLine}
-use Rattle.tbr_rows.specs.declared.line_set.LineSet.{LineSet as Cell}
-use Rattle.tbr_rows.specs.Cells.{first_line, empty_cell, with_hanging}
-use Rattle.tbr_rows.specs.CellsShown.{MadeRow, StandsAmong}
+use Rattle.tbr_rows.proofs.Common.{◌≡◌, ℕ, ◌-◌, inl, inr, true, false, Option, Some, List, [], ◌∷◌, refl, ap, sym, ◌∙◌, is_none, ◌==◌, Each, and_parts, RenderLine, Cell, first_line}
+use Rattle.tbr_rows.proofs.Common.{empty_cell, with_hanging, MadeRow, StandsAmong}
+use Rattle.std.proofs.Common.{◌≢◌}
 use Rattle.tbr_rows.proofs.Among.{among_cons, among_front, among_again, none_among}
 use Rattle.tbr_rows.proofs.Seats.{Seats, rest, apart, next, takes, waits, seats}
 
@@ -43,11 +39,11 @@ some_line [] h = absurd (h refl)
 some_line (l ∷ ls) h = refl
 
 -- of one row
-pub own_cell_stands : {A : Type 0} (columns : ℕ → Option ℕ) (r : MadeRow A columns) (c : Cell A) → StandsAmong c r.own → c.lines ≢ [] → StandsAmong c r.means.cells
-own_cell_stands columns r c k some = among_own 0 c r.hanging r.own r.means.cells (some_line c.lines some) k r.means.seated
+pub own_cell_stands : {A : Type 0} (columns : ℕ → Option ℕ) (r : MadeRow A columns) (c : Cell A) → StandsAmong c r.own → c.lines ≢ [] → StandsAmong c r.cells
+own_cell_stands columns r c k some = among_own 0 c r.hanging r.own r.cells (some_line c.lines some) k r.seated
 
-pub hanging_cell_stands : {A : Type 0} (columns : ℕ → Option ℕ) (r : MadeRow A columns) (c : Cell A) → StandsAmong c r.hanging → StandsAmong c r.means.cells
-hanging_cell_stands columns r c k = among_seated 0 c r.hanging r.own r.means.cells k r.means.seated
+pub hanging_cell_stands : {A : Type 0} (columns : ℕ → Option ℕ) (r : MadeRow A columns) (c : Cell A) → StandsAmong c r.hanging → StandsAmong c r.cells
+hanging_cell_stands columns r c k = among_seated 0 c r.hanging r.own r.cells k r.seated
 
 module _ {A : Type 0} (P : Cell A → Type 0) (empty : (at width : ℕ) → P (empty_cell at width)) where
   all_seated : {at : ℕ} {hs cs r : List (Cell A)} → Seats A at hs cs r → Each P hs → Each P cs → Each P r

@@ -1,20 +1,8 @@
 -- What a row shows of its cells and leaves of them, and that it takes their columns.
-use Rattle.std.proofs.Common.{◌≡◌, if◌then◌else◌, ℕ, ◌+◌, ◌-◌, ◌≤◌, Bool, true, false, Option, Some, None, List, [], ◌∷◌, ◌++◌, map, take, drop, length, refl, arith, is_some, nat_lt}
-use Rattle.std.specs.List.{AllByRecursion as Each}
-use Rattle.std.proofs.lemmas.Bool.{cond_both}
-use Rattle.std.proofs.lemmas.Simd.{map-map}
-use Rattle.tbr_model.proofs.lists.Each.{each_map}
-use Rattle.tbr_border.specs.Border.{Border, has_holes}
-use Rattle.tbr_border.specs.declared.render_line.RenderLine.{RenderLine}
-use Rattle.tbr_border.specs.declared.render_line.RenderLine.TheVariants.{Text, Line}
-use Rattle.tbr_rows.specs.declared.line_set.LineSet.{LineSet as Cell}
-use Rattle.tbr_rows.specs.declared.column.Column.{Column}
-use Rattle.tbr_rows.specs.Cells.{AreSideBySide, AreApart, end_of}
-use Rattle.tbr_rows.specs.Gaps.{cell_in, overhang}
-use Rattle.tbr_rows.specs.Rows.{cells_under, columns_shown, cells_left}
-use Rattle.tbr_rows.specs.Borders.{first_mergeable, last_mergeable, after_mergeable, before_mergeable}
-use Rattle.tbr_rows.specs.Shown.{meeting, met, DrawsInOne, TakesColumns, FillsBelow, TakesCellColumns}
-use Rattle.tbr_rows.specs.CellsShown.{Fills, IsFilled}
+use Rattle.tbr_rows.proofs.Common.{◌≡◌, if◌then◌else◌, ℕ, ◌+◌, ◌-◌, ◌≤◌, Bool, true, false, Option, Some, None, List, [], ◌∷◌, ◌++◌, map, take, drop, length, refl, arith, is_some, nat_lt}
+use Rattle.tbr_rows.proofs.Common.{Each, cond_both, map-map, each_map, Border, has_holes, RenderLine, Text, Line, Cell, Column, AreSideBySide, AreApart, end_of, cell_in, overhang}
+use Rattle.tbr_rows.proofs.Common.{cells_under, columns_shown, cells_left, first_mergeable, last_mergeable, after_mergeable, before_mergeable, meeting, met, DrawsInOne, TakesColumns}
+use Rattle.tbr_rows.proofs.Common.{FillsBelow, TakesCellColumns, Fills, IsFilled}
 use Rattle.tbr_rows.proofs.FilledCells.{shown_width, cell_fills}
 use Rattle.tbr_rows.proofs.Among.{each_drop, each_gives, each_take}
 
@@ -105,6 +93,7 @@ module _ {A : Type 0} (columns : ℕ → Option ℕ) (one : DrawsInOne columns) 
             (lines_stay (Fills columns c.width) collapses top c h),
       )
 
-  pub columns_fill : (collapses : Bool) (top : Option (Border A)) (tag : A) (i : ℕ) (cs : List (Cell A)) → Each (IsFilled columns) cs → Each (TakesCellColumns columns tag i) (map (column_of collapses top) cs)
+  pub columns_fill : (collapses : Bool) (top : Option (Border A)) (tag : A) (i : ℕ) (cs : List (Cell A)) →
+      Each (IsFilled columns) cs → Each (TakesCellColumns columns tag i) (map (column_of collapses top) cs)
   columns_fill collapses top tag i cs h =
       each_map (column_of collapses top) (IsFilled columns) (TakesCellColumns columns tag i) (column_fills collapses top tag i) cs h

@@ -1,26 +1,16 @@
 -- What a row has of a cell takes the cell's columns.
-use Rattle.std.proofs.Common.{◌≡◌, ℕ, zero, suc, ◌+◌, ◌<◌, Bool, true, false, Option, None, Some, unwrap_or, List, [], ◌∷◌, map, take, drop, length, get_or, set, drop-cons, refl, ap, ◌∙◌, arith, ◌≤◌, IsTrue, slice_range}
-use Rattle.std.specs.List.{AllZip, AllByRecursion as Each}
-use Rattle.tbr_model.specs.Run.{Item, items_width}
+use Rattle.tbr_rows.proofs.Common.{◌≡◌, ℕ, zero, suc, ◌+◌, ◌<◌, Bool, true, false, Option, None, Some, unwrap_or, List, [], ◌∷◌, map, take, drop, length, get_or, set, drop-cons, refl, ap}
+use Rattle.tbr_rows.proofs.Common.{◌∙◌, arith, ◌≤◌, slice_range, AllZip, Each, Item, items_width, RenderLine, Text, Line, Segment, character, Hole, Border, stretched, drawn, shown_from}
+use Rattle.tbr_rows.proofs.Common.{shown, CellAlign, items_of, text_items, spaces, columns_missing, aligned_items, same_width, length-replicate, length-map, length-take-le, cond_both}
+use Rattle.tbr_rows.proofs.Common.{length-stretched, Column, FillsLine, text_of_lines, filler_above, DrawsInOne, HolesFill, TakesColumns, FillsBelow, TakesCellColumns}
+use Rattle.std.proofs.Common.{IsTrue}
 use Rattle.tbr_model.specs.Width.{takes_one_column}
-use Rattle.tbr_border.specs.declared.render_line.RenderLine.{RenderLine}
-use Rattle.tbr_border.specs.declared.render_line.RenderLine.TheVariants.{Text, Line}
-use Rattle.tbr_border.specs.Cell.{Cell as Segment, slash, arms, character, line_above}
-use Rattle.tbr_border.specs.Border.{Hole, Border, stretched, drawn, shown_from, shown}
-use Rattle.tbr_tagged.specs.declared.padding.CellAlign.{CellAlign}
-use Rattle.tbr_tagged.specs.Elements.{items_of, text_items}
-use Rattle.tbr_tagged.specs.Padding.{spaces, columns_missing, aligned_items}
-use Rattle.tbr_tagged.proofs.SameItems.{same_width}
+use Rattle.tbr_border.specs.Cell.{slash, arms, line_above}
 use Rattle.tbr_tagged.proofs.PaddedLines.{front_within}
-use Rattle.std.proofs.lemmas.List.{length-replicate, length-map, length-drop, length-take-le, drop-set-lt, take_more_set}
+use Rattle.std.proofs.lemmas.List.{length-drop, drop-set-lt, take_more_set}
 use Rattle.std.proofs.lemmas.List.Elements.{all_zip_more}
-use Rattle.std.proofs.lemmas.Bool.{cond_both}
-use Rattle.tbr_border.proofs.JoinedCells.{length-stretched}
 use Rattle.tbr_rows.proofs.Among.{each_drop}
-use Rattle.tbr_rows.specs.declared.column.Column.{Column}
-use Rattle.tbr_rows.specs.Filled.{FillsLine}
-use Rattle.tbr_rows.specs.Texts.{text_of_lines, filler_above}
-use Rattle.tbr_rows.specs.Shown.{DrawsInOne, HolesFill, LineFits, TakesColumns, FillsBelow, LinesFillCell, TakesCellColumns}
+use Rattle.tbr_rows.specs.Shown.{LineFits, LinesFillCell}
 use Rattle.tbr_rows.proofs.CellColumns.{width_append}
 
 -- characters of one column
@@ -57,7 +47,9 @@ above_narrow [] = tt
 above_narrow (c ∷ cells) = grind (arith, cond_both, above_narrow cells)
 
 -- a text that is filled up takes so many columns more
-pub aligned_width : {A : Type 0} (columns : ℕ → Option ℕ) → DrawsInOne columns → (align : CellAlign) (is : List (Item A)) (missing : ℕ) (a : A) → items_width columns (aligned_items align is missing a) ≡ items_width columns is + missing
+pub aligned_width : {A : Type 0} (columns : ℕ → Option ℕ) → DrawsInOne columns →
+    (align : CellAlign) (is : List (Item A)) (missing : ℕ) (a : A) →
+    items_width columns (aligned_items align is missing a) ≡ items_width columns is + missing
 aligned_width {A} columns one align is missing a = grind (arith, ℕ, width_append, spaces_width, front_within)
 
 -- ---- borders with text in front
@@ -102,11 +94,13 @@ filled_line {A} columns eq align width a t (Line b) (Line done) one fits fills =
 filled_line columns eq align width a t (Text es) (Line done) one fits fills = absurd fills
 filled_line columns eq align width a t (Line b) (Text done) one fits fills = absurd fills
 
-filler_columns : {A : Type 0} (columns : ℕ → Option ℕ) (a : A) (width : ℕ) (bottom : Option (Border A)) → DrawsInOne columns → FillsBelow width bottom → items_width columns (text_items (filler_above width bottom) a) ≡ width
+filler_columns : {A : Type 0} (columns : ℕ → Option ℕ) (a : A) (width : ℕ) (bottom : Option (Border A)) →
+    DrawsInOne columns → FillsBelow width bottom → items_width columns (text_items (filler_above width bottom) a) ≡ width
 filler_columns columns a width None one fills = spaces_width columns one width a
 filler_columns columns a width (Some b) one fills = text_columns columns (map line_above b.cells) a one (above_narrow b.cells) ∙ length-map b.cells line_above ∙ fills
 
-lines_fill : {A : Type 0} (columns : ℕ → Option ℕ) (a : A) (c : Column A) (ls : List (RenderLine A)) → DrawsInOne columns → FillsBelow c.cell.width c.bottom → Each (TakesColumns columns a c.cell.width) ls →
+lines_fill : {A : Type 0} (columns : ℕ → Option ℕ) (a : A) (c : Column A) (ls : List (RenderLine A)) →
+    DrawsInOne columns → FillsBelow c.cell.width c.bottom → Each (TakesColumns columns a c.cell.width) ls →
     items_width columns (text_of_lines a c ls) ≡ c.cell.width
 lines_fill columns a c [] one below lines = filler_columns columns a c.cell.width c.bottom one below
 lines_fill columns a c (l ∷ ls) one below lines = lines.0

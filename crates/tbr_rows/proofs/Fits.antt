@@ -1,9 +1,8 @@
 -- Whether overhanging cells find their places.
-use Rattle.std.proofs.Common.{◌≡◌, if◌then◌else◌, ℕ, ◌+◌, ◌<◌, ◌≤◌, Bool, true, false, ◌&&◌, ◌||◌, Option, Some, None, List, [], ◌∷◌, map, refl, subst, arith, is_some, option_map}
-use Rattle.std.specs.List.{list_all, list_any}
-use Rattle.std.proofs.lemmas.Bool.{eqb-true, ne_eqb, leb-true, leb-false, le-leb, and_parts}
-use Rattle.tbr_rows.specs.declared.line_set.LineSet.{LineSet as Cell}
-use Rattle.tbr_rows.specs.Cells.{end_of, AreSideBySide, AreApart, Spot, spot_of, spots_from, look, is_left_for, ends_before, row_fits, with_hanging}
+use Rattle.tbr_rows.proofs.Common.{◌≡◌, if◌then◌else◌, ℕ, ◌+◌, ◌<◌, ◌≤◌, Bool, true, false, ◌&&◌, ◌||◌, Option, Some, None, List, [], ◌∷◌, map, refl, subst, arith, is_some, option_map}
+use Rattle.tbr_rows.proofs.Common.{list_all, list_any, eqb-true, le-leb, and_parts, same_Some, Cell, end_of, AreSideBySide, AreApart, Spot, spot_of, spots_from, look, is_left_for}
+use Rattle.tbr_rows.proofs.Common.{ends_before, row_fits, with_hanging}
+use Rattle.std.proofs.lemmas.Bool.{ne_eqb, leb-true, leb-false}
 
 -- whether a cell finds its place among others
 abbrev pub finds : {A : Type 0} → List Spot → Cell A → Bool
@@ -40,6 +39,11 @@ all_found (h ∷ hs) = all_found hs
 pub some_mapped : {X Y : Type 0} (f : X → Y) (o : Option X) → is_some (option_map f o) ≡ is_some o
 some_mapped f None = refl
 some_mapped f (Some x) = refl
+
+-- what is mapped, if that gives something
+pub mapped_from : {X Y : Type 0} (f : X → Y) (o : Option X) (y : Y) → option_map f o ≡ Some y → (x : X) × (o ≡ Some x) × (f x ≡ y)
+mapped_from f None y h = absurd (let no : ⊥ = cc in no)
+mapped_from f (Some x) y h = (x, refl, same_Some (f x) y h)
 
 -- Overhanging cells have their places exactly where the row fits.
 pub found_exactly : {A : Type 0} (at : ℕ) (hs cs : List (Cell A)) → AreSideBySide at cs → AreApart at hs → is_some (with_hanging at hs cs) ≡ row_fits hs (map spot_of cs)

@@ -1,12 +1,10 @@
 -- Whether a row fits, told cell by cell.
-use Rattle.std.proofs.Common.{◌≡◌, ℕ, ◌+◌, ◌-◌, ◌<◌, ◌≤◌, Bool, true, false, ◌&&◌, ◌||◌, ◌==◌, List, [], ◌∷◌, map, refl, ap, sym, ◌∙◌, arith, inl, inr, take, length, get_or, ◌++◌, append_assoc, is_none}
-use Rattle.std.specs.List.{list_all, list_any, AllZip}
-use Rattle.std.proofs.lemmas.Bool.{ne_eqb, eq-eqb, eqb-false, lt-leb, and_parts, and_from, or_cases, or_left, or_right, and_right}
-use Rattle.tbr_rows.specs.declared.line_set.LineSet.{LineSet as Cell}
-use Rattle.tbr_rows.specs.Cells.{end_of, AreSideBySide, AreApart, Spot, spot_of, spots_from, look, first_line, is_left_for, ends_before, row_fits, stands_first, IsAsFree}
-use Rattle.tbr_border.specs.declared.render_line.RenderLine.{RenderLine}
+use Rattle.tbr_rows.proofs.Common.{◌≡◌, ℕ, ◌+◌, ◌-◌, ◌<◌, ◌≤◌, Bool, true, false, ◌&&◌, ◌||◌, ◌==◌, List, [], ◌∷◌, map, refl, ap, sym, ◌∙◌, arith, inl, inr, take, length, get_or, ◌++◌}
+use Rattle.tbr_rows.proofs.Common.{append_assoc, is_none, list_all, list_any, AllZip, eqb-false, and_parts, Cell, end_of, AreSideBySide, AreApart, Spot, spot_of, spots_from, look}
+use Rattle.tbr_rows.proofs.Common.{first_line, is_left_for, ends_before, row_fits, RenderLine, Fitting, fits_with}
+use Rattle.std.proofs.lemmas.Bool.{ne_eqb, eq-eqb, lt-leb, and_from, or_cases, or_left, or_right, and_right}
+use Rattle.tbr_rows.specs.Cells.{stands_first, IsAsFree}
 use Rattle.std.proofs.lemmas.List.{map_more}
-use Rattle.tbr_rows.specs.Fitting.{Fitting, fits_with}
 use Rattle.tbr_rows.proofs.Fits.{spots_side_by_side, none_from, elsewhere, past, all_found, finds}
 
 pub spots_are : {A : Type 0} (cs : List (Cell A)) → AreSideBySide 0 cs → map spot_of cs ≡ spots_from 0 (map look cs)
@@ -27,7 +25,11 @@ module _ {A : Type 0} (width : ℕ) (blank : Bool) where
   taken h hs at fits left apart here is = record {
     apart = nearer hs apart.1;
     passed = later hs apart.1;
-    same = λ more. rw is (rw (eq-eqb h.place at here, none_from h (at + width + 1) more (omega (arith, here)), lt-leb (at + width + 1) h.place (omega (arith, here))) (go fits (h.width == width && blank) _));
+    same = λ more. rw is (rw (
+      eq-eqb h.place at here,
+      none_from h (at + width + 1) more (omega (arith, here)),
+      lt-leb (at + width + 1) h.place (omega (arith, here)),
+    ) (go fits (h.width == width && blank) _));
   }
     where
       nearer : (ks : List (Cell A)) → AreApart (end_of h + 1) ks → AreApart at ks

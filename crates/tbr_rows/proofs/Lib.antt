@@ -1,3 +1,4 @@
+pub mod Common
 pub mod RowTexts
 pub mod Fits
 pub mod Seats
@@ -8,11 +9,10 @@ pub mod CellColumns
 pub mod FilledCells
 pub mod MeantTexts
 pub mod MeantRows
-pub mod OneRow
 pub mod Stretches
 pub mod AlignedLines
 pub mod CellLines
-pub mod ComputedRow
+pub mod AlikeRows
 pub mod Among
 pub mod ColumnsOfRows
 pub mod CellsSeated

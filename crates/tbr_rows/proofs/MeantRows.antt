@@ -1,35 +1,20 @@
 -- Cells, their places, borders and rows by what tags mean.
-use Rattle.std.proofs.Common.{◌≡◌, ℕ, Bool, Option, None, Some, List, [], ◌∷◌, ◌&&◌, map, ap, sym, ◌∙◌, refl, ◌-◌, true, false, take, drop, length, option_map, replicate, is_some, is_none}
-use Rattle.tbr_model.specs.Run.{Item, glyph}
-use Rattle.tbr_model.specs.Mapped.{map_items}
-use Rattle.tbr_border.specs.Border.{Border, without_holes, Hole, has_holes}
-use Rattle.tbr_border.specs.Cell.{horizontal, Side, above, below}
-use Rattle.tbr_tagged.specs.Mapped.{MeansEqual}
-use Rattle.tbr_tagged.specs.declared.padding.CellAlign.{CellAlign}
-use Rattle.tbr_tagged.specs.Elements.{items_of, SameItems}
-use Rattle.tbr_tagged.specs.Padding.{aligned_items, columns_missing}
-use Rattle.tbr_tagged.proofs.MappedTags.{means_same_items}
-use Rattle.tbr_model.proofs.maps.Words.{items_width-map}
-use Rattle.std.proofs.lemmas.List.{map-append, length-map, take-map, drop-map}
-use Rattle.std.specs.List.{AllZip}
-use Rattle.tbr_border.specs.declared.render_line.RenderLine.{RenderLine}
-use Rattle.tbr_border.specs.declared.render_line.RenderLine.TheVariants.{Text, Line}
-use Rattle.tbr_rows.specs.declared.line_set.LineSet.{LineSet as Cell}
-use Rattle.tbr_rows.specs.declared.row.Row.{Row}
-use Rattle.tbr_rows.specs.declared.row.RowStyle.{RowStyle}
-use Rattle.tbr_rows.specs.declared.column.Column.{Column}
-use Rattle.tbr_rows.specs.Cells.{row_width, Spot, spot_of, row_fits, separators, first_line, with_hanging}
-use Rattle.tbr_rows.specs.Filled.{FillsLine}
-use Rattle.tbr_rows.proofs.Fits.{finds, some_mapped}
-use Rattle.tbr_rows.specs.Texts.{row_height, line_texts}
-use Rattle.tbr_rows.specs.Rows.{cells_under, next_under, next_begun, shown_in, cells_left, separator_in, IsPlain, IsRow, border_above, next_merged, columns_shown}
-use Rattle.tbr_rows.specs.Meant.{map_border, map_cell, map_column, map_line, EqualIfMeant, row_meant, MeansRow, MeansFilled, map_hole}
-use Rattle.tbr_rows.proofs.MeantTexts.{text-map, items-map, line_texts-map, row_height-map, cells_left-map, overhang-map, gaps_mean, texts_mean}
+use Rattle.tbr_rows.proofs.Common.{◌≡◌, ℕ, Bool, Option, None, Some, List, [], ◌∷◌, ◌&&◌, map, ap, sym, ◌∙◌, refl, ◌-◌, true, false, take, drop, length, option_map, replicate, is_some}
+use Rattle.tbr_rows.proofs.Common.{is_none, Item, map_items, Border, Hole, has_holes, Side, above, below, MeansEqual, CellAlign, items_of, SameItems, aligned_items, columns_missing}
+use Rattle.tbr_rows.proofs.Common.{means_same_items, items_width-map, map-append, length-map, drop-map, AllZip, RenderLine, Text, Line, Cell, Row, RowStyle, Column, row_width, Spot, spot_of}
+use Rattle.tbr_rows.proofs.Common.{row_fits, separators, first_line, with_hanging, FillsLine, row_height, with_gap, cells_under, next_under, next_begun, shown_in, left_in, separator_in}
+use Rattle.tbr_rows.proofs.Common.{plain_border, next_merged, columns_shown, SeenRow, border_below, row_under, IsLaidOut, map_border, map_cell, map_column, map_line, TellsApart, row_meant}
+use Rattle.tbr_rows.proofs.Common.{map_hole, map-map, same_Some, joined, joined_at_each, first_mergeable, last_mergeable, after_mergeable, before_mergeable, merged_with, merged_below}
+use Rattle.tbr_rows.proofs.Common.{merged_above, without_first_border, with_last_border_apart, whole_column}
+use Rattle.tbr_tags.specs.Tells.{equal_as_told}
+use Rattle.std.proofs.lemmas.List.{take-map}
+use Rattle.tbr_rows.proofs.Fits.{finds, some_mapped, mapped_from}
+use Rattle.tbr_rows.specs.Rows.{border_above, row_of}
+use Rattle.tbr_rows.specs.Meant.{EqualIfMeant, MeansFilled}
+use Rattle.tbr_rows.proofs.MeantTexts.{text-map, items-map, line_texts-map, row_height-map, cells_left-map, overhang-map, with_gap-map, seen_meant, laid_means}
 use Rattle.tbr_model.proofs.lists.Each.{zip-map}
 use Rattle.tbr_rows.proofs.Squares.{if_both, map_both, fold_both}
-use Rattle.std.proofs.lemmas.Simd.{map-map}
-use Rattle.std.proofs.lemmas.Option.{same_Some}
-use Rattle.tbr_rows.specs.Borders.{joined, joined_at_each, above_row, first_mergeable, last_mergeable, after_mergeable, before_mergeable, merged_with, merged_below, merged_above, without_first_border, with_last_border_apart, whole_column}
+use Rattle.tbr_rows.specs.Borders.{above_row}
 use Rattle.tbr_rows.proofs.Seats.{Seats, rest, apart, next, takes, waits, seats}
 
 module _ {A B : Type 0} (f : A → B) where
@@ -121,52 +106,74 @@ module _ {A B : Type 0} (f : A → B) where
       map_both (map_cell f) with_last_border_apart with_last_border_apart (map_column f) (λ c. rw (before-map c.lines, last-map c.lines) refl) cs
   columns_shown-map false cs = map_both (map_cell f) whole_column whole_column (map_column f) (λ c. refl) cs
 
+  begun-map : (style : RowStyle) (top : Option (Border A)) (cs : List (Cell A)) (b : Border A) →
+      next_begun style (option_map (map_border f) top) (map (map_cell f) cs) (map_border f b) ≡ map_border f (next_begun style top cs b)
+  begun-map style top cs b =
+      rw (next_under-map top cs b, cells_under-map style.collapses top cs) (next_merged-map style.collapses (cells_under style.collapses top cs) (next_under top cs b))
+
+  shown_in-map : (style : RowStyle) (top : Option (Border A)) (cs : List (Cell A)) →
+      shown_in style (option_map (map_border f) top) (map (map_cell f) cs) ≡ map (map_column f) (shown_in style top cs)
+  shown_in-map style top cs = rw (cells_under-map style.collapses top cs) (columns_shown-map style.collapses (cells_under style.collapses top cs))
+
+  left_in-map : (style : RowStyle) (top : Option (Border A)) (cs : List (Cell A)) →
+      left_in style (option_map (map_border f) top) (map (map_cell f) cs) ≡ map (map_cell f) (left_in style top cs)
+  left_in-map style top cs =
+      rw (shown_in-map style top cs, row_height-map f (shown_in style top cs)) (cells_left-map f (row_height (shown_in style top cs)) (shown_in style top cs))
+
+  -- ---- the row
+
+  module _ (eq : A → A → Bool) (same : B → B → Bool) (alike : (a b : A) → same (f a) (f b) ≡ eq a b) (columns : ℕ → Option ℕ) (style : RowStyle) (a : A)
+      (top : Option (Border A)) where
+    below-map : (cs : List (Cell A)) → border_below same columns style (f a) (option_map (map_border f) top) (map (map_cell f) cs) ≡ map_border f (border_below eq columns style a top cs)
+    below-map cs =
+        let plain : Border A = plain_border (row_width cs) a in
+        rw (row_width-map cs, begun-map style top cs plain, left_in-map style top cs)
+        (fold_both (map_cell f) (map_border f) (with_gap eq columns style.draws_borders a) (with_gap same columns style.draws_borders (f a))
+        (with_gap-map f eq same alike columns style.draws_borders a) (next_begun style top cs plain) (left_in style top cs))
+
+    abbrev here : List (Cell A) → SeenRow A
+    here cs = row_under eq columns style a top cs
+
+    abbrev there : List (Cell A) → SeenRow B
+    there cs = row_under same columns style (f a) (option_map (map_border f) top) (map (map_cell f) cs)
+
+    under-map : (cs : List (Cell A)) → there cs ≡ seen_meant f (here cs)
+    under-map cs =
+        let shown : List (Column A) = shown_in style top cs in
+        let texts : (there cs).lines ≡ map (map_items f) (here cs).lines =
+        rw (shown_in-map style top cs, row_height-map f shown) (line_texts-map f (separator_in style) a shown (row_height shown)) in
+        let lower : (there cs).next ≡ option_map (map_border f) (here cs).next =
+        rw (below-map cs) (if_both (option_map (map_border f)) style.draws_borders (Some (border_below eq columns style a top cs)) None) in
+        let rest : (there cs).overhang ≡ map (map_cell f) (here cs).overhang = rw (left_in-map style top cs) (overhang-map f style.draws_borders (left_in style top cs)) in
+        λ i. record { above = border_above-map style.collapses cs top i; lines = texts i; next = lower i; overhang = rest i }
+
+    pub row-map : (hanging own : List (Cell A)) (seen : SeenRow A) → row_of eq columns style a hanging own top ≡ Some seen →
+        row_of same columns style (f a) (map (map_cell f) hanging) (map (map_cell f) own) (option_map (map_border f) top) ≡ Some (seen_meant f seen)
+    row-map hanging own seen is =
+        let (cs, seated, row) = mapped_from (row_under eq columns style a top) (with_hanging 0 hanging own) seen is in
+        ap (option_map (row_under same columns style (f a) (option_map (map_border f) top))) (seats-map (seats 0 hanging own cs seated))
+        ∙ ap Some (under-map cs ∙ ap (seen_meant f) row)
+
 -- ---- rows
 
+-- a row that is laid out
+pub row_means : {A B : Type 0} (f : A → B) (eq : A → A → Bool) (same : B → B → Bool) → MeansEqual f eq → EqualIfMeant f eq → TellsApart same →
+    (columns : ℕ → Option ℕ) (style : RowStyle) (a : A) (hanging own : List (Cell A)) (top : Option (Border A)) (row : Row A) (seen : SeenRow A) →
+    row_of eq columns style a hanging own top ≡ Some seen → IsLaidOut eq row seen →
+    row_of same columns style (f a) (map (map_cell f) hanging) (map (map_cell f) own) (option_map (map_border f) top) ≡ Some (row_meant f row)
+row_means f eq same means told tells columns style a hanging own top row seen is laid =
+    let alike : (b c : _) → same (f b) (f c) ≡ eq b c = λ b c. sym (equal_as_told same tells (eq b c) (f b) (f c) (means b c, told b c)) in
+    row-map f eq same alike columns style a top hanging own seen is ∙ ap Some (sym (laid_means f eq means row seen laid))
+
 module _ {A B : Type 0} (f : A → B) (eq : A → A → Bool) (means : MeansEqual f eq) where
-  plain_means : (a : A) (width : ℕ) (b : Border A) → IsPlain eq a width b → map_border f b ≡ without_holes (replicate width horizontal) (f a)
-  plain_means a width b p = rw (p.cells, means b.tag a p.tag, p.holes) refl
-
-  pub row_means : EqualIfMeant f eq → (columns : ℕ → Option ℕ) (style : RowStyle) (a : A) (hanging own : List (Cell A)) (top : Option (Border A))
-      (row : Row A) → IsRow columns eq style a hanging own top row →
-      MeansRow columns style (f a) (map (map_cell f) hanging) (map (map_cell f) own) (option_map (map_border f) top) (row_meant f row)
-  row_means told columns style a hanging own top row r =
-      let collapses : Bool = style.collapses in
-      let draws : Bool = style.draws_borders in
-      let under : List (Cell A) = cells_under collapses top r.cells in
-      let shown : List (Column A) = shown_in style top r.cells in
-      let height : ℕ = row_height shown in
-      record {
-        cells = map (map_cell f) r.cells;
-        seated = seats-map f (seats 0 hanging own r.cells r.seated);
-        upper = rw (border_above-map f collapses r.cells top) (ap (option_map (map_border f)) r.upper);
-        shown = map (map_column f) shown;
-        shown_is = rw (cells_under-map f collapses top r.cells, columns_shown-map f collapses under) refl;
-        texts =
-            rw (row_height-map f shown, line_texts-map f (separator_in style) a shown height)
-            (texts_mean f eq means told row.lines.items (line_texts (glyph (separator_in style) a) a shown height) r.texts);
-        full = map_border f r.full;
-        gaps =
-            rw (
-              row_height-map f shown,
-              cells_left-map f height shown,
-              row_width-map f r.cells,
-              ← plain_means a (row_width r.cells) r.plain r.plain_is,
-              next_under-map f top r.cells r.plain,
-              cells_under-map f collapses top r.cells,
-              next_merged-map f collapses under (next_under top r.cells r.plain),
-            )
-            (gaps_mean f eq means told draws columns a (cells_left height shown) (next_begun style top r.cells r.plain) r.full r.gaps);
-        lower = ap (option_map (map_border f)) r.lower ∙ sym (if_both (option_map (map_border f)) draws (Some r.full) None);
-        rest = rw (row_height-map f shown, cells_left-map f height shown, overhang-map f draws (cells_left height shown)) (ap (map (map_cell f)) r.rest);
-      }
-
   -- ---- what comes into a row
 
-  pub aligned_means : (align : CellAlign) (missing : ℕ) (a : A) (is js : List (Item A)) → SameItems eq js (aligned_items align is missing a) → map_items f js ≡ aligned_items align (map_items f is) missing (f a)
+  pub aligned_means : (align : CellAlign) (missing : ℕ) (a : A) (is js : List (Item A)) →
+      SameItems eq js (aligned_items align is missing a) → map_items f js ≡ aligned_items align (map_items f is) missing (f a)
   aligned_means align missing a is js h = rw (means_same_items f eq means js (aligned_items align is missing a) h) (simp (map-append, text-map f))
 
-  pub filled_means : (columns : ℕ → Option ℕ) (align : CellAlign) (width : ℕ) (a : A) (l done : RenderLine A) → FillsLine columns eq align width a l done → MeansFilled columns align width (f a) (map_line f l) (map_line f done)
+  pub filled_means : (columns : ℕ → Option ℕ) (align : CellAlign) (width : ℕ) (a : A) (l done : RenderLine A) →
+      FillsLine columns eq align width a l done → MeansFilled columns align width (f a) (map_line f l) (map_line f done)
   filled_means columns align width a (Text es) (Text done) h =
       rw (items-map f done, items-map f es, items_width-map f columns (items_of es)) (aligned_means align (columns_missing columns width es) a (items_of es) (items_of done) h.0)
   filled_means columns align width a (Line b) (Line done) h = ap (map_border f) h

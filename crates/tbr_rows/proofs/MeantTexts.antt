@@ -1,27 +1,12 @@
 -- Lines of rows, gaps and what overhangs, under other tags.
-use Rattle.std.proofs.Common.{◌≡◌, if◌then◌else◌, ℕ, ◌+◌, ◌-◌, max, Bool, true, false, Option, None, Some, List, [], ◌∷◌, map, drop, refl, ap, sym, ◌∙◌, nat_lt, slice_range, option_map, arith}
-use Rattle.std.proofs.lemmas.List.{length-map, drop-map, map-append, map_push}
-use Rattle.tbr_model.specs.Run.{Item, glyph}
-use Rattle.tbr_model.specs.Mapped.{map_item, map_items}
-use Rattle.tbr_model.proofs.maps.Words.{items_width-map}
-use Rattle.tbr_border.specs.declared.render_line.RenderLine.{RenderLine}
-use Rattle.tbr_border.specs.declared.render_line.RenderLine.TheVariants.{Text, Line}
-use Rattle.tbr_border.specs.Cell.{Cell as Segment, character}
-use Rattle.tbr_border.specs.Border.{Hole, Border, shown, shown_from, span_end}
-use Rattle.tbr_tagged.specs.Elements.{Element, piece, marker_element, element_items, items_of, text_items, SameElement, HasText, IsPartedFrom, IsMerged}
-use Rattle.tbr_tagged.specs.Padding.{spaces}
-use Rattle.tbr_tagged.specs.Mapped.{MeansEqual}
-use Rattle.tbr_tagged.proofs.MappedTags.{means_same_items}
-use Rattle.tbr_rows.specs.declared.line_set.LineSet.{LineSet as Cell}
-use Rattle.tbr_rows.specs.declared.column.Column.{Column}
-use Rattle.tbr_rows.specs.Cells.{cell_height, first_line}
-use Rattle.tbr_rows.specs.Texts.{row_height, filler_above, text_of_lines, cell_text, row_text, numbers_below, line_text, line_texts, HaveTexts}
-use Rattle.tbr_border.specs.RenderLine.{items_under}
-use Rattle.tbr_rows.specs.Gaps.{has_gap, with_element, with_elements, IsGapText, FillsGapIf, FillsGaps, overhang_of, overhang}
-use Rattle.tbr_rows.specs.Rows.{cells_left}
-use Rattle.tbr_rows.specs.Meant.{map_element, map_hole, map_border, map_line, map_cell, map_column, EqualIfMeant, EndsStretch, AreLongest, IsGapOf, HasGapIf, HasGaps}
-use Rattle.std.proofs.lemmas.Bool.{both_ways}
-use Rattle.std.proofs.lemmas.Simd.{map-map}
+use Rattle.tbr_rows.proofs.Common.{◌≡◌, if◌then◌else◌, ℕ, ◌+◌, ◌-◌, max, Bool, true, false, Option, None, Some, List, [], ◌∷◌, map, drop, refl, ap, sym, ◌∙◌, nat_lt, slice_range, option_map}
+use Rattle.tbr_rows.proofs.Common.{length-map, drop-map, map-append, map_push, Item, glyph, marker, map_items, items_width-map, RenderLine, Text, Line, Segment, character, Hole, Border}
+use Rattle.tbr_rows.proofs.Common.{SameHole, SameBorder, shown, shown_from, span_end, Element, piece, marker_element, element_items, items_of, text_items, SameElement, spaces, MeansEqual}
+use Rattle.tbr_rows.proofs.Common.{means_same_items, Cell, Column, cell_height, first_line, row_height, filler_above, text_of_lines, cell_text, row_text, numbers_below, line_text}
+use Rattle.tbr_rows.proofs.Common.{line_texts, HaveTexts, items_under, has_gap, with_element, with_elements, gap_of, gap_in, with_gap, overhang_of, overhang, character_before, longest, Row}
+use Rattle.tbr_rows.proofs.Common.{cells_left, SeenRow, SameIfAny, IsLaidOut, map_hole, map_border, map_line, map_cell, map_column, row_meant, map-map}
+use Rattle.tbr_model.specs.Mapped.{map_item}
+use Rattle.tbr_rows.specs.Meant.{map_element}
 use Rattle.tbr_rows.proofs.Squares.{map_both, flat_both, fold_both, if_both, zip_same}
 
 module _ {A B : Type 0} (f : A → B) where
@@ -95,7 +80,8 @@ module _ {A B : Type 0} (f : A → B) where
   span_end-map (h ∷ []) = refl
   span_end-map (h ∷ k ∷ hs) = span_end-map (k ∷ hs)
 
-  with_elements-map : (columns : ℕ → Option ℕ) (place : ℕ) (b : Border A) (es : List (Element A)) → with_elements columns place (map_border f b) (map (map_element f) es) ≡ map_border f (with_elements columns place b es)
+  with_elements-map : (columns : ℕ → Option ℕ) (place : ℕ) (b : Border A) (es : List (Element A)) →
+      with_elements columns place (map_border f b) (map (map_element f) es) ≡ map_border f (with_elements columns place b es)
   with_elements-map columns place b es =
       fold_both (map_element f) (map_border f) (with_element columns place) (with_element columns place)
       (λ d e. rw (span_end-map d.holes, element-map e, items_width-map f columns (element_items e), map_push) refl) b es
@@ -104,42 +90,67 @@ module _ {A B : Type 0} (f : A → B) where
   first_line-map [] = refl
   first_line-map (l ∷ ls) = refl
 
+  -- a row as it is seen, by what its tags mean
+  abbrev pub seen_meant : SeenRow A → SeenRow B
+  seen_meant seen = record {
+    above = option_map (map_border f) seen.above;
+    lines = map (map_items f) seen.lines;
+    next = option_map (map_border f) seen.next;
+    overhang = map (map_cell f) seen.overhang;
+  }
+
+  -- ---- where meanings are told apart as tags are
+
+  module _ (eq : A → A → Bool) (same : B → B → Bool) (alike : (a b : A) → same (f a) (f b) ≡ eq a b) where
+    before-map : (c : ℕ) (a : A) (es : List (Element A)) → character_before same c (f a) (map (map_element f) es) ≡ map (map_element f) (character_before eq c a es)
+    before-map c a [] = refl
+    before-map c a (marker_element name ∷ es) = refl
+    before-map c a (piece cs b ∷ es) = rw (alike a b) (if_both (map (map_element f)) (eq a b) (piece (c ∷ cs) b ∷ es) (piece (c ∷ []) a ∷ piece cs b ∷ es))
+
+    longest-map : (is : List (Item A)) → longest same (map_items f is) ≡ map (map_element f) (longest eq is)
+    longest-map [] = refl
+    longest-map (glyph c a ∷ is) = ap (character_before same c (f a)) (longest-map is) ∙ before-map c a (longest eq is)
+    longest-map (marker name ∷ is) = ap (λ es. marker_element name ∷ es) (longest-map is)
+
+    gap-map : (a : A) (width : ℕ) (o : Option (RenderLine A)) → gap_of same (f a) width (option_map (map_line f) o) ≡ map (map_element f) (gap_of eq a width o)
+    gap-map a width None = refl
+    gap-map a width (Some (Text line)) = refl
+    gap-map a width (Some (Line b)) = ap (longest same) (shown-map b.tag b) ∙ longest-map (shown b.tag b)
+
+    pub with_gap-map : (columns : ℕ → Option ℕ) (draws : Bool) (a : A) (b : Border A) (c : Cell A) →
+        with_gap same columns draws (f a) (map_border f b) (map_cell f c) ≡ map_border f (with_gap eq columns draws a b c)
+    with_gap-map columns draws a b c =
+        let gap = gap_of eq a c.width (first_line c.lines) in
+        rw (first_line-map c.lines, gap-map a c.width (first_line c.lines), if_both (map (map_element f)) (has_gap draws c) gap []) (with_elements-map columns c.place b (gap_in eq draws a c))
+
   -- ---- where equal tags mean the same
 
-  module _ (eq : A → A → Bool) (means : MeansEqual f eq) (told : EqualIfMeant f eq) where
+  module _ (eq : A → A → Bool) (means : MeansEqual f eq) where
     element_means : (e d : Element A) → SameElement eq e d → map_element f e ≡ map_element f d
     element_means (piece cs a) (piece ds b) h = rw (h.0, means a b h.1) refl
     element_means (marker_element m) (marker_element n) h = rw h refl
     element_means _ _ h = absurd h
 
-    has_text : (e : Element A) → HasText e → HasText (map_element f e)
-    has_text (piece [] a) h = h
-    has_text (piece (c ∷ cs) a) h = h
-    has_text (marker_element name) h = h
+    hole_means : (h k : Hole A) → SameHole eq h k → map_hole f h ≡ map_hole f k
+    hole_means h k same = λ i. record { place = same.0 i; width = same.1 i; element = element_means h.element k.element same.2 i }
 
-    ends_stretch : (e : Element A) (es : List (Element A)) → IsPartedFrom eq e es → EndsStretch (map_element f e) (map (map_element f) es)
-    ends_stretch (piece cs a) (piece ds b ∷ es) h = λ same. both_ways (eq a b) h (told a b same)
-    ends_stretch (piece cs a) [] h = tt
-    ends_stretch (piece cs a) (marker_element name ∷ es) h = tt
-    ends_stretch (marker_element name) [] h = tt
-    ends_stretch (marker_element name) (e ∷ es) h = tt
+    border_means : (b c : Border A) → SameBorder eq b c → map_border f b ≡ map_border f c
+    border_means b c h = λ i. record { cells = h.cells i; tag = means b.tag c.tag h.tag i; holes = zip_same (SameHole eq) (map_hole f) (map_hole f) hole_means b.holes c.holes h.holes i }
 
-    pub longest_means : (es : List (Element A)) → IsMerged eq es → AreLongest (map (map_element f) es)
-    longest_means [] h = tt
-    longest_means (e ∷ es) h = (has_text e h.0, ends_stretch e es h.1, longest_means es h.2)
-
-    gap_means : (a : A) (width : ℕ) (o : Option (RenderLine A)) (es : List (Element A)) → IsGapText eq a width o es → IsGapOf (f a) width (option_map (map_line f) o) (map (map_element f) es)
-    gap_means a width None es h = zip_same (SameElement eq) (map_element f) (map_element f) element_means es (piece (spaces width) a ∷ []) h
-    gap_means a width (Some (Text line)) es h = zip_same (SameElement eq) (map_element f) (map_element f) element_means es line h
-    gap_means a width (Some (Line b)) es h = (items-map es ∙ means_same_items f eq means (items_of es) (shown b.tag b) h.0 ∙ sym (shown-map b.tag b), longest_means es h.1)
-
-    gap_if_means : (b : Bool) (columns : ℕ → Option ℕ) (a : A) (c : Cell A) (x y : Border A) → FillsGapIf b columns eq a c x y → HasGapIf b columns (f a) (map_cell f c) (map_border f x) (map_border f y)
-    gap_if_means false columns a c x y h = ap (map_border f) h
-    gap_if_means true columns a c x y h = grind (arith, first_line-map, gap_means, with_elements-map)
-
-    pub gaps_mean : (draws : Bool) (columns : ℕ → Option ℕ) (a : A) (cs : List (Cell A)) (x y : Border A) → FillsGaps draws columns eq a cs x y → HasGaps draws columns (f a) (map (map_cell f) cs) (map_border f x) (map_border f y)
-    gaps_mean draws columns a [] x y h = ap (map_border f) h
-    gaps_mean draws columns a (c ∷ cs) x y h = (map_border f h.0, gap_if_means (has_gap draws c) columns a c x h.0 h.1, gaps_mean draws columns a cs h.0 y h.2)
+    next_means : (o p : Option (Border A)) → SameIfAny eq o p → option_map (map_border f) o ≡ option_map (map_border f) p
+    next_means None None h = refl
+    next_means (Some b) (Some c) h = ap Some (border_means b c h)
+    next_means None (Some c) h = absurd h
+    next_means (Some b) None h = absurd h
 
     pub texts_mean : (lines : List (List (Element A))) (texts : List (List (Item A))) → HaveTexts eq lines texts → map (λ es. map_items f (items_of es)) lines ≡ map (map_items f) texts
     texts_mean lines texts h = zip_same _ (λ es. map_items f (items_of es)) (map_items f) (λ es is k. means_same_items f eq means (items_of es) is k) lines texts h
+
+    -- a row that is laid out is the one that is seen
+    pub laid_means : (row : Row A) (seen : SeenRow A) → IsLaidOut eq row seen → row_meant f row ≡ seen_meant seen
+    laid_means row seen h = λ i. record {
+      above = option_map (map_border f) (h.upper i);
+      lines = texts_mean row.lines.items seen.lines h.texts i;
+      next = next_means row.next seen.next h.lower i;
+      overhang = map (map_cell f) (h.rest i);
+    }

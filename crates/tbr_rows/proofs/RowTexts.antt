@@ -1,14 +1,12 @@
 -- Lines of a row, built text by text.
-use Rattle.std.proofs.Common.{◌≡◌, ℕ, ◌+◌, ◌<◌, Bool, true, List, [], ◌∷◌, ◌++◌, map, take, drop, get_or, length, refl, sym, ◌∙◌, subst, arith, append_assoc, append-nil, drop-cons}
-use Rattle.std.specs.Cmp.{IsEquivalence}
-use Rattle.std.proofs.lemmas.List.{map_push, length-take-le, length-map, get_or_at, take_more}
-use Rattle.tbr_model.specs.Run.{Item}
-use Rattle.tbr_tagged.specs.Elements.{Element, items_of, text_items, SameItems}
-use Rattle.tbr_tagged.proofs.SameItems.{same_items, same_from_path, same_items_trans, same_items_append, same_texts}
-use Rattle.tbr_rows.specs.declared.column.Column.{Column}
-use Rattle.tbr_rows.specs.Texts.{row_text, separator_before, cell_text, line_text, dropped}
+use Rattle.tbr_rows.proofs.Common.{◌≡◌, ℕ, ◌+◌, ◌<◌, Bool, true, List, [], ◌∷◌, ◌++◌, map, take, drop, get_or, length, refl, sym, ◌∙◌, subst, arith, append_assoc, append-nil, drop-cons}
+use Rattle.tbr_rows.proofs.Common.{IsEquivalence, map_push, length-take-le, length-map, get_or_at, Item, Element, items_of, text_items, SameItems, same_items, same_items_trans}
+use Rattle.tbr_rows.proofs.Common.{same_items_append, same_texts, Column, row_text, separator_before, cell_text, line_text, dropped}
+use Rattle.std.proofs.lemmas.List.{take_more}
+use Rattle.tbr_tagged.proofs.SameItems.{same_from_path}
 
-pub row_text_more : {A : Type 0} (separator : Item A) (ts : List (List (Item A))) (t : List (Item A)) → row_text separator (ts ++ t ∷ []) ≡ row_text separator ts ++ (separator_before separator (length ts) ++ t)
+pub row_text_more : {A : Type 0} (separator : Item A) (ts : List (List (Item A))) (t : List (Item A)) →
+    row_text separator (ts ++ t ∷ []) ≡ row_text separator ts ++ (separator_before separator (length ts) ++ t)
 row_text_more separator [] t = refl
 row_text_more separator (u ∷ []) t = refl
 row_text_more separator (u ∷ v ∷ ts) t = rw (row_text_more separator (v ∷ ts) t) (simp append_assoc)
@@ -24,7 +22,8 @@ module _ {A : Type 0} (eq : A → A → Bool) (laws : IsEquivalence eq) where
       same_items_trans eq laws (items_of new) (items_of old ++ is) (items_of old ++ js) h (same_items_append eq laws (items_of old) (items_of old) is js (same_items eq laws (items_of old)) e)
 
   -- after a line comes a text under a copy of a tag
-  pub text_after : (old new : List (Element A)) (cs ds : List ℕ) (a b : A) → ds ≡ cs → eq b a ≡ true → SameItems eq (items_of new) (items_of old ++ text_items ds b) → SameItems eq (items_of new) (items_of old ++ text_items cs a)
+  pub text_after : (old new : List (Element A)) (cs ds : List ℕ) (a b : A) → ds ≡ cs → eq b a ≡ true →
+      SameItems eq (items_of new) (items_of old ++ text_items ds b) → SameItems eq (items_of new) (items_of old ++ text_items cs a)
   text_after old new cs ds a b e k h =
       after_same old new (text_items ds b) (text_items cs a) (subst (λ es. SameItems eq (text_items ds b) (text_items es a)) e (same_texts eq laws ds b a k)) h
 

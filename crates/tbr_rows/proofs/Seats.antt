@@ -1,8 +1,9 @@
 -- Cells among which overhanging ones have taken their places.
-use Rattle.std.proofs.Common.{◌≡◌, if◌then◌else◌, ℕ, ◌+◌, ◌-◌, ◌<◌, ◌≤◌, Bool, true, false, Option, Some, None, List, [], ◌∷◌, ◌++◌, map, fold, refl, ap, sym, ◌∙◌, subst, arith, append_assoc, append-nil, nat_lt, is_some, option_map, eq-eqb, ne_eqb, leb-true, ltb-true, ltb-false}
-use Rattle.std.proofs.lemmas.Option.{same_Some}
-use Rattle.tbr_rows.specs.declared.line_set.LineSet.{LineSet as Cell}
-use Rattle.tbr_rows.specs.Cells.{end_of, row_width, next_place, empty_cell, AreSideBySide, AreApart, spot_of, is_left_for, ends_before, row_fits, with_hanging, appended, Seating, seat, seated, append_all}
+use Rattle.tbr_rows.proofs.Common.{◌≡◌, if◌then◌else◌, ℕ, ◌+◌, ◌-◌, ◌<◌, ◌≤◌, Bool, true, false, Option, Some, None, List, [], ◌∷◌, ◌++◌, map, fold, refl, ap, sym, ◌∙◌, subst, arith}
+use Rattle.tbr_rows.proofs.Common.{append_assoc, append-nil, nat_lt, is_some, option_map, same_Some, Cell, end_of, row_width, next_place, empty_cell, AreSideBySide, AreApart, spot_of}
+use Rattle.tbr_rows.proofs.Common.{is_left_for, ends_before, row_fits, with_hanging, Seating, seat, seated, append_all}
+use Rattle.std.proofs.Common.{eq-eqb, ne_eqb, leb-true, ltb-true, ltb-false}
+use Rattle.tbr_rows.specs.Cells.{appended}
 use Rattle.tbr_rows.proofs.Fits.{left_is, found_exactly}
 
 -- ---- how they come to be, cell by cell

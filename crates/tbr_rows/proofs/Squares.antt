@@ -1,7 +1,5 @@
 -- Two ways round: a function before or after a walk over a list.
-use Rattle.std.proofs.Common.{◌≡◌, Bool, true, false, if◌then◌else◌, List, [], ◌∷◌, map, fold, refl, ap, ◌∙◌, flat_map}
-use Rattle.std.specs.List.{AllZip}
-use Rattle.std.proofs.lemmas.List.{map-append}
+use Rattle.tbr_rows.proofs.Common.{◌≡◌, Bool, true, false, if◌then◌else◌, List, [], ◌∷◌, map, fold, refl, ap, ◌∙◌, flat_map, AllZip, map-append}
 
 pub map_both : {X Y Z W : Type 0} (f : X → Y) (g : X → Z) (h : Y → W) (k : Z → W) → ((x : X) → h (f x) ≡ k (g x)) → (xs : List X) →
     map h (map f xs) ≡ map k (map g xs)

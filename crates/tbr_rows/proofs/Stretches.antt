@@ -1,11 +1,8 @@
 -- A line's items have one form as elements whose pieces are the longest stretches under equal tags.
-use Rattle.std.proofs.Common.{◌≡◌, ℕ, Bool, true, List, [], ◌∷◌, ◌++◌, refl, sym, ◌∙◌, arith}
-use Rattle.std.specs.Cmp.{IsEquivalence}
-use Rattle.std.proofs.lemmas.Bool.{cond_both}
-use Rattle.tbr_model.specs.Run.{Item, glyph, marker}
-use Rattle.tbr_tagged.specs.Elements.{Element, piece, marker_element, items_of, text_items, SameItems, SameElements, HasText, IsPartedFrom, IsMerged}
-use Rattle.tbr_tagged.proofs.SameItems.{same_items, same_items_trans}
-use Rattle.tbr_rows.specs.Stretches.{character_before, longest}
+use Rattle.tbr_rows.proofs.Common.{◌≡◌, ℕ, Bool, true, List, [], ◌∷◌, ◌++◌, refl, sym, ◌∙◌, arith, IsEquivalence, cond_both, Item, glyph, marker, Element, piece, marker_element, items_of}
+use Rattle.tbr_rows.proofs.Common.{text_items, SameItems, SameElements, IsMerged, same_items, same_items_trans, told_items, TellsApart, character_before, longest}
+use Rattle.tbr_tagged.specs.Elements.{HasText, IsPartedFrom}
+use Rattle.tbr_tags.specs.Tells.{told_equiv}
 
 module _ {A : Type 0} (eq : A → A → Bool) (laws : IsEquivalence eq) where
   -- ---- the longest stretches
@@ -96,3 +93,12 @@ module _ {A : Type 0} (eq : A → A → Bool) (laws : IsEquivalence eq) where
   merged_once (marker_element n ∷ es) (piece (d ∷ ds) b ∷ fs) l m h = absurd h.0
   merged_once (piece [] a ∷ es) (f ∷ fs) l m h = absurd l.0
   merged_once (e ∷ es) (piece [] b ∷ fs) l m h = absurd m.0
+
+  pub longest_once : (es : List (Element A)) (is : List (Item A)) → SameItems eq (items_of es) is → IsMerged eq es → SameElements eq es (longest eq is)
+  longest_once es is shows merged =
+      let back = same_back (items_of (longest eq is)) is (stretches_show is) in
+      merged_once es (longest eq is) merged (stretches_merged is) (same_items_trans eq laws (items_of es) is (items_of (longest eq is)) shows back)
+
+-- Where tags are told apart, stretches show just the items.
+pub longest_items : {A : Type 0} (same : A → A → Bool) → TellsApart same → (is : List (Item A)) → items_of (longest same is) ≡ is
+longest_items same tells is = told_items same tells (items_of (longest same is)) is (stretches_show same (told_equiv same tells) is)

@@ -1,5 +1,6 @@
 -- The cells of a row, and where they are.
-use Rattle.std.specs.Prelude.{◌≡◌, ℕ, ◌+◌, ◌-◌, ◌/◌, ◌≤◌, nat_lt, nat_le, ◌==◌, ◌&&◌, ◌||◌, not, Bool, true, false, ⊤, if◌then◌else◌, Option, None, Some, is_none, List, [], ◌∷◌, ◌++◌, fold, length, drop, get_or, map, take, option_map}
+use Rattle.std.specs.Prelude.{◌≡◌, ℕ, ◌+◌, ◌-◌, ◌/◌, ◌≤◌, nat_lt, nat_le, ◌==◌, ◌&&◌, ◌||◌, not, Bool, true, false, ⊤, if◌then◌else◌, Option, None, Some, is_none, List, [], ◌∷◌, ◌++◌, fold}
+use Rattle.std.specs.Prelude.{length, drop, get_or, map, take, option_map}
 use Rattle.std.specs.List.{list_all, list_any}
 use Rattle.tbr_border.specs.declared.render_line.RenderLine.{RenderLine}
 use Rattle.tbr_rows.specs.declared.line_set.LineSet.{LineSet as Cell}

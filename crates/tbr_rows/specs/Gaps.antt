@@ -8,6 +8,7 @@ use Rattle.tbr_tagged.specs.Padding.{spaces}
 use Rattle.tbr_rows.specs.declared.line_set.LineSet.{LineSet as Cell}
 use Rattle.tbr_rows.specs.Cells.{first_line}
 use Rattle.tbr_rows.specs.declared.column.Column.{Column}
+use Rattle.tbr_rows.specs.Stretches.{longest}
 
 -- whether a line of a cell is in the border below its row
 abbrev pub has_gap : {A : Type 0} → Bool → Cell A → Bool
@@ -21,8 +22,22 @@ with_element columns place b e = with_span columns (max place (span_end b.holes)
 abbrev pub with_elements : {A : Type 0} → (ℕ → Option ℕ) → ℕ → Border A → List (Element A) → Border A
 with_elements columns place b es = fold (with_element columns place) b es
 
--- The elements of a cell's first line, under equal tags: those of a text, or of a border as text under its own tag.
--- Where there is no line they are one piece of spaces.
+-- the elements of a cell's first line: those of a text, or of a border as text under its own tag, and one piece of
+-- spaces where there is no line
+abbrev pub gap_of : {A : Type 0} → (A → A → Bool) → A → ℕ → Option (RenderLine A) → List (Element A)
+gap_of same a width None = piece (spaces width) a ∷ []
+gap_of same a width (Some (Text line)) = line
+gap_of same a width (Some (Line b)) = longest same (shown b.tag b)
+
+-- what a cell has in the border below its row: these, if it spans more rows and borders are drawn
+abbrev pub gap_in : {A : Type 0} → (A → A → Bool) → Bool → A → Cell A → List (Element A)
+gap_in same draws a c = if has_gap draws c then gap_of same a c.width (first_line c.lines) else []
+
+-- the border with that
+abbrev pub with_gap : {A : Type 0} → (A → A → Bool) → (ℕ → Option ℕ) → Bool → A → Border A → Cell A → Border A
+with_gap same columns draws a b c = with_elements columns c.place b (gap_in same draws a c)
+
+-- The elements of a cell's first line, under equal tags.
 abbrev pub IsGapText : {A : Type 0} → (A → A → Bool) → A → ℕ → Option (RenderLine A) → List (Element A) → Type 0
 IsGapText eq a width None es = SameElements eq es (piece (spaces width) a ∷ [])
 IsGapText eq a width (Some (Text line)) es = SameElements eq es line

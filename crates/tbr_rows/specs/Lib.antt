@@ -11,4 +11,3 @@ pub mod CellsShown
 pub mod Stretches
 pub mod AlignedLines
 pub mod CellLines
-pub mod Computed

@@ -1,9 +1,10 @@
 -- Rows: what a list of cells comes to between a border above and one below.
-use Rattle.std.specs.Prelude.{◌≡◌, ℕ, Bool, true, if◌then◌else◌, Option, None, Some, List, [], map, fold, replicate}
-use Rattle.tbr_model.specs.Run.{glyph}
+use Rattle.std.specs.Prelude.{◌≡◌, ℕ, Bool, if◌then◌else◌, ⊤, Option, None, Some, List, [], map, fold, replicate, option_map}
+use Rattle.tbr_model.specs.Run.{Item, glyph}
 use Rattle.tbr_model.specs.Codes.{space_character}
+use Rattle.tbr_tagged.specs.Elements.{items_of}
 use Rattle.tbr_border.specs.Cell.{horizontal, above}
-use Rattle.tbr_border.specs.Border.{Border}
+use Rattle.tbr_border.specs.Border.{Border, without_holes, SameBorder}
 use Rattle.tbr_rows.specs.declared.line_set.LineSet.{LineSet as Cell}
 use Rattle.tbr_rows.specs.declared.column.Column.{Column}
 use Rattle.tbr_rows.specs.declared.row.Row.{Row}
@@ -11,7 +12,7 @@ use Rattle.tbr_rows.specs.declared.row.RowStyle.{RowStyle}
 use Rattle.tbr_rows.specs.Cells.{row_width, separators, with_hanging}
 use Rattle.tbr_rows.specs.Borders.{joined_at_each, above_row, merged_below, without_first_border, merged_above, with_last_border_apart, whole_column}
 use Rattle.tbr_rows.specs.Texts.{row_height, line_texts, dropped, HaveTexts}
-use Rattle.tbr_rows.specs.Gaps.{FillsGaps, cell_in, overhang}
+use Rattle.tbr_rows.specs.Gaps.{cell_in, with_gap, overhang}
 
 -- ---- the border above
 
@@ -72,28 +73,58 @@ separator_in style = if style.draws_borders then vertical_bar else space_charact
 abbrev pub drawn_in : {A : Type 0} → RowStyle → Border A → Option (Border A)
 drawn_in style b = if style.draws_borders then Some b else None
 
--- ─ throughout, and nothing in front of it, under a copy of a tag
-pub record IsPlain {A : Type 0} (eq : A → A → Bool) (a : A) (width : ℕ) (b : Border A) : Type 0 where
-  pub cells : b.cells ≡ replicate width horizontal
-  pub tag : eq b.tag a ≡ true
-  pub holes : b.holes ≡ []
+-- ─ throughout, and nothing in front of it
+abbrev pub plain_border : {A : Type 0} → ℕ → A → Border A
+plain_border width a = without_holes (replicate width horizontal) a
 
--- A row of cells under a border, if there is one.
-pub record IsRow {A : Type 0} (columns : ℕ → Option ℕ) (eq : A → A → Bool) (style : RowStyle) (a : A)
-    (hanging own : List (Cell A)) (top : Option (Border A)) (row : Row A) : Type 0 where
-  -- its cells, among which overhanging ones have taken their places
-  pub cells : List (Cell A)
-  pub seated : with_hanging 0 hanging own ≡ Some cells
-  -- the border above it
-  pub upper : row.above ≡ border_above style.collapses cells top
-  -- its lines
-  pub texts : HaveTexts eq row.lines.items
-      (line_texts (glyph (separator_in style) a) a (shown_in style top cells) (row_height (shown_in style top cells)))
-  -- the border below it: as it begins, and as it ends, with lines of spanning cells
-  pub plain : Border A
-  pub plain_is : IsPlain eq a (row_width cells) plain
-  pub full : Border A
-  pub gaps : FillsGaps style.draws_borders columns eq a (left_in style top cells) (next_begun style top cells plain) full
-  pub lower : row.next ≡ drawn_in style full
-  -- what overhangs
-  pub rest : row.overhang ≡ overhang style.draws_borders (left_in style top cells)
+-- What is seen of a row: the borders above and below it, its lines, and what overhangs.
+pub record SeenRow (A : Type 0) : Type 0 where
+  pub above : Option (Border A)
+  pub lines : List (List (Item A))
+  pub next : Option (Border A)
+  pub overhang : List (Cell A)
+
+module _ {A : Type 0} (same : A → A → Bool) (columns : ℕ → Option ℕ) (style : RowStyle) (a : A) where
+  -- the border below a row: as it begins, and then with the lines of spanning cells
+  abbrev pub border_below : Option (Border A) → List (Cell A) → Border A
+  border_below top cells =
+      let begun = next_begun style top cells (plain_border (row_width cells) a) in
+      fold (with_gap same columns style.draws_borders a) begun (left_in style top cells)
+
+  -- the row of cells that have their places, under a border, if there is one
+  abbrev pub row_under : Option (Border A) → List (Cell A) → SeenRow A
+  row_under top cells = record {
+    above = border_above style.collapses cells top;
+    lines = line_texts (glyph (separator_in style) a) a (shown_in style top cells) (row_height (shown_in style top cells));
+    next = drawn_in style (border_below top cells);
+    overhang = overhang style.draws_borders (left_in style top cells);
+  }
+
+  -- The row of these cells and of those that overhang, and none where one of those has no place. What tells tags apart
+  -- says how far pieces of text go.
+  abbrev pub row_of : List (Cell A) → List (Cell A) → Option (Border A) → Option (SeenRow A)
+  row_of hanging own top = option_map (row_under top) (with_hanging 0 hanging own)
+
+-- ---- rows that are laid out
+
+-- what is seen of one
+abbrev pub row_seen : {A : Type 0} → Row A → SeenRow A
+row_seen row = record {
+  above = row.above;
+  lines = map items_of row.lines.items;
+  next = row.next;
+  overhang = row.overhang;
+}
+
+-- a border, if there is one, up to equal tags
+abbrev pub SameIfAny : {A : Type 0} → (A → A → Bool) → Option (Border A) → Option (Border A) → Type 0
+SameIfAny eq None None = ⊤
+SameIfAny eq (Some b) (Some c) = SameBorder eq b c
+SameIfAny eq _ _ = ⊥
+
+-- A row that is laid out is one that is seen, but for copies of tags.
+pub record IsLaidOut {A : Type 0} (eq : A → A → Bool) (row : Row A) (seen : SeenRow A) : Type 0 where
+  pub upper : row.above ≡ seen.above
+  pub texts : HaveTexts eq row.lines.items seen.lines
+  pub lower : SameIfAny eq row.next seen.next
+  pub rest : row.overhang ≡ seen.overhang

@@ -2,14 +2,14 @@
 ghost use Rattle.std.specs.Prelude.{◌≡◌, ◌↔◌, ◌≢◌, ℕ, List, [], length, map, is_some, Some, Bool, true, ◌≤◌, ◌++◌, ◌∷◌, Option, flat_map};
 ghost use Rattle.tbr_rows.specs.declared.line_set.LineSet.{LineSet as Cell};
 ghost use Rattle.std.specs.List.{AllZip, AllByRecursion as Each};
-ghost use Rattle.tbr_rows.specs.Shown.{part_of, later_of, Meeting, meeting, met, merged_first, merged_last, parts_of, parts_and_merged, AreItsRows, texts_in, goes_on, TakesCellColumns, LinesFillCell, DrawsInOne, LineFits, TakesColumns};
-ghost use Rattle.tbr_rows.specs.Rows.{IsRow, cells_under, columns_shown, cells_left};
+ghost use Rattle.tbr_rows.specs.Shown.{part_of, later_of, Meeting, meeting, met, merged_first, merged_last, parts_of, parts_and_merged, AreItsRows, texts_in, goes_on, TakesCellColumns};
+ghost use Rattle.tbr_rows.specs.Shown.{LinesFillCell, DrawsInOne, LineFits, TakesColumns};
+ghost use Rattle.tbr_rows.specs.Rows.{cells_under, columns_shown, cells_left, SeenRow, row_of, IsLaidOut};
 ghost use Rattle.std.specs.Option.{option_map};
 ghost use Rattle.tbr_tagged.specs.Mapped.{MeansEqual};
 ghost use Rattle.tbr_rows.specs.declared.row.Row.{Row};
 ghost use Rattle.tbr_rows.specs.declared.row.RowStyle.{RowStyle};
-ghost use Rattle.tbr_rows.specs.Meant.{map_cell, map_border, map_line, row_meant, EqualIfMeant, MeansRow, MeansFilled, SeenRow};
-ghost use Rattle.tbr_rows.specs.Computed.{TellsApart, row_of};
+ghost use Rattle.tbr_rows.specs.Meant.{map_cell, map_border, map_line, row_meant, EqualIfMeant, TellsApart, MeansFilled};
 ghost use Rattle.tbr_rows.specs.Gaps.{cell_in, overhang};
 ghost use Rattle.tbr_rows.specs.Filled.{FillsLine};
 ghost use Rattle.tbr_rows.specs.CellsShown.{MadeRow, StandsAmong, FollowOneAnother, HasFilledCells, IsOfFirst, ShowsTexts};
@@ -122,13 +122,14 @@ pub fn lines_that_fit_take_their_columns<T>()
 {}
 
 /// Replacing each tag of a row by what it means gives the row of the cells whose tags are replaced in this way. That
-/// holds where tags are equal exactly if they mean the same.
+/// holds where tags are equal exactly if they mean the same, and meanings can be told apart.
 pub fn a_row_is_its_row_by_meaning<A, B>()
-    ensures { (f : A → B) (eq : A → A → Bool) → MeansEqual f eq → EqualIfMeant f eq →
-        (columns : ℕ → Option ℕ) (style : RowStyle) (tag : A) (hanging cells : List (Cell A))
-        (top : Option (Border A)) (row : Row A) → IsRow columns eq style tag hanging cells top row →
-        MeansRow columns style (f tag) (map (map_cell f) hanging) (map (map_cell f) cells)
-        (option_map (map_border f) top) (row_meant f row) }
+    ensures { (f : A → B) (eq : A → A → Bool) (same : B → B → Bool) → MeansEqual f eq → EqualIfMeant f eq →
+        TellsApart same → (columns : ℕ → Option ℕ) (style : RowStyle) (tag : A) (hanging cells : List (Cell A))
+        (top : Option (Border A)) (row : Row A) (seen : SeenRow A) →
+        row_of eq columns style tag hanging cells top ≡ Some seen → IsLaidOut eq row seen →
+        row_of same columns style (f tag) (map (map_cell f) hanging) (map (map_cell f) cells)
+        (option_map (map_border f) top) ≡ Some (row_meant f row) }
 {}
 
 /// Replacing each tag by what it means leaves filled lines filled, and changes no place.
@@ -142,21 +143,6 @@ pub fn meanings_change_no_place<A, B>()
         row_fits (map (map_cell f) hanging) spots ≡ row_fits hanging spots }
 {}
 
-/// With each tag replaced by what it means, there is only one row of the same cells under the same border.
-pub fn there_is_one_row_by_meaning<T>()
-    ensures { (columns : ℕ → Option ℕ) (style : RowStyle) (tag : T) (hanging cells : List (Cell T))
-        (top : Option (Border T)) (row other : SeenRow T) → MeansRow columns style tag hanging cells top row →
-        MeansRow columns style tag hanging cells top other → row ≡ other }
-{}
-
-/// If tags can be told apart, the row by what they mean is computed.
-pub fn a_row_is_computed<T>()
-    ensures { (same : T → T → Bool) → TellsApart same → (columns : ℕ → Option ℕ) (style : RowStyle) (tag : T)
-        (hanging cells : List (Cell T)) (top : Option (Border T)) (row : SeenRow T) →
-        MeansRow columns style tag hanging cells top row
-        ↔ (row_of same columns style tag hanging cells top ≡ Some row) }
-{}
-
 /// Over the rows of its span each cell shows its texts once, in order, in its own columns, also in the borders between
 /// these rows. The rows must follow one another, and the lines of all cells must fit their columns. The cells of a row
 /// are its own and those that overhang. An own cell without lines may give its place to one that overhangs.
@@ -165,7 +151,7 @@ pub fn rows_show_each_cell_in_its_columns<T>()
         (cell : Cell T) → FollowOneAnother columns draws rows → Each (HasFilledCells columns) rows →
         IsOfFirst columns cell rows → length rows ≡ cell.span → ShowsTexts columns draws rows cell }
     ensures own { (columns : ℕ → Option ℕ) (row : MadeRow T columns) (cell : Cell T) →
-        StandsAmong cell row.own → cell.lines ≢ [] → StandsAmong cell row.means.cells }
+        StandsAmong cell row.own → cell.lines ≢ [] → StandsAmong cell row.cells }
     ensures hanging { (columns : ℕ → Option ℕ) (row : MadeRow T columns) (cell : Cell T) →
-        StandsAmong cell row.hanging → StandsAmong cell row.means.cells }
+        StandsAmong cell row.hanging → StandsAmong cell row.cells }
 {}

@@ -1,10 +1,11 @@
 //! Rows.
-ghost use Rattle.std.specs.Prelude.{◌≡◌, map, true, IfOk, OnOk};
+ghost use Rattle.std.specs.Prelude.{◌≡◌, map, true, Some, IfOk, OnOk};
 ghost use Rattle.std.specs.List.{AllByRecursion as Each};
 ghost use Rattle.tbr_tagged.specs.Elements.{IsMerged};
 ghost use Rattle.tbr_rows.specs.Cells.{row_fits, spot_of};
 ghost use Rattle.tbr_rows.specs.Rows as model;
-ghost use Rattle.tbr_rows.specs.Rows.{IsRow, IsPlain};
+ghost use Rattle.tbr_border.specs.Border.{SameBorder};
+ghost use Rattle.tbr_rows.specs.Rows.{SeenRow, row_of, IsLaidOut};
 
 use crate::borders::{join, merge_first, merge_last, whole};
 use crate::column::{Column, height};
@@ -76,7 +77,8 @@ impl<T: Tag> Columns<T> {
         tag: &T,
     ) -> Result<Row<T>, OutOfMemory>
         requires fits { row_fits hanging (map spot_of self) ≡ true }
-        ensures row { IfOk result (λ row. IsRow W.columns T.eq style tag.now hanging self above row) }
+        ensures row { IfOk result (λ row. (seen : SeenRow T)
+            × (row_of T.eq W.columns style tag.now hanging self above ≡ Some seen) × IsLaidOut T.eq row seen) }
         ensures merged { IfOk result (λ row. Each (IsMerged T.eq) row.lines.items) }
     {
         let cells = hanging.seat(alloc, self)?;
@@ -97,7 +99,7 @@ impl<T: Tag> Columns<T> {
 
 /// A border under a copy of a tag.
 fn plain<T: Tag>(alloc: Global, width: usize, tag: &T) -> Result<BorderHoriz<T>, OutOfMemory>
-    ensures { IfOk result (λ border. IsPlain T.eq tag.now width border) }
+    ensures { IfOk result (λ border. SameBorder T.eq border (model.plain_border width tag.now)) }
 {
     BorderHoriz::new(alloc, width, tag.clone()?)
 }

@@ -1,5 +1,6 @@
 -- The names that most proofs here cite, passed on from one place. It declares nothing.
-pub use Rattle.std.proofs.Common.{Bool, Err, IfErr, List, None, Ok, Option, Result, Some, ap, arith, chars, drop, false, length, map, refl, rules, string_bytes, subst, sym, true, vec_len, ℕ, [], ◌++◌, ◌+◌, ◌-◌, ◌<◌, ◌==◌, ◌^◌, ◌∙◌, ◌∷◌, ◌≡◌, ◌≢◌, ◌≤◌}
+pub use Rattle.std.proofs.Common.{Bool, Err, IfErr, List, None, Ok, Option, Result, Some, ap, arith, chars, drop, false, length, map, refl, rules, string_bytes, subst, sym, true, vec_len, ℕ}
+pub use Rattle.std.proofs.Common.{[], ◌++◌, ◌+◌, ◌-◌, ◌<◌, ◌==◌, ◌^◌, ◌∙◌, ◌∷◌, ◌≡◌, ◌≢◌, ◌≤◌}
 pub use Rattle.std.proofs.lemmas.Bool.{cond_both, false≢true}
 pub use Rattle.std.proofs.lemmas.List.{length-map}
 pub use Rattle.std.specs.List.{AllByRecursion as Each, AllZip}
@@ -30,7 +31,8 @@ pub use Rattle.tbr_commands.specs.declared.opening.Decorator.{Decorator}
 pub use Rattle.tbr_commands.specs.declared.opening.Decorator.TheVariants.{Plain, Rich, Trivial}
 pub use Rattle.tbr_commands.specs.declared.opening.Opening.{Opening}
 pub use Rattle.tbr_program.specs.Closing.{closed_text}
-pub use Rattle.tbr_program.specs.Commands.{Made, Place, after_command, after_line, after_read, answered, block_made, cells_waiting, ended, ended_as, if_some_are, joins, level_ended, level_opened, on_top, request_made, waits, with_stack}
+pub use Rattle.tbr_program.specs.Commands.{Made, Place, after_command, after_line, after_read, answered, block_made, cells_waiting, ended, ended_as, if_some_are, joins, level_ended}
+pub use Rattle.tbr_program.specs.Commands.{level_opened, on_top, request_made, waits, with_stack}
 pub use Rattle.tbr_program.specs.Prefixes.{prefixes}
 pub use Rattle.tbr_program.specs.Progress.{GoesOn, Opened, Pending, Progress, renderers_of, without_cells}
 pub use Rattle.tbr_program.specs.declared.opened.Opener.{Opener}

@@ -1,5 +1,6 @@
 -- But for memory, what a line or the end of a script is refused with, the script itself gives.
-use Rattle.tbr_runner.proofs.Common.{◌≡◌, ◌≢◌, ℕ, Bool, true, false, Option, Some, None, List, [], ◌∷◌, Result, Err, IfErr, refl, sym, subst, Decoration, IsOfScript, RunError, OutOfMemory, NotACommand, Place, Command, IsCommand, ask, link, end_link, sub, append, cell, end_cell, vertical_row, command_read, after_line, ended}
+use Rattle.tbr_runner.proofs.Common.{◌≡◌, ◌≢◌, ℕ, Bool, true, false, Option, Some, None, List, [], ◌∷◌, Result, Err, IfErr, refl, sym, subst, Decoration, IsOfScript, RunError, OutOfMemory}
+use Rattle.tbr_runner.proofs.Common.{NotACommand, Place, Command, IsCommand, ask, link, end_link, sub, append, cell, end_cell, vertical_row, command_read, after_line, ended}
 use Rattle.tbr_commands.specs.Command.{row}
 use Rattle.tbr_commands.proofs.Reading.{read_command}
 use Rattle.tbr_program.specs.Safe.{shown_command}
@@ -49,4 +50,5 @@ module _ {D M : Type 0} (columns : ℕ → Option ℕ) (decoration : Decoration 
       go : (read : Option Command) → ((command : Command) → read ≡ Some command → IsCommand (b ∷ bs) command) → after_shown_read columns decoration raw number read p ≡ Err e → IsOfScript e
       go None reads is = of_script {X = Place columns decoration} (λ _. ⊥) (Err (NotACommand number)) e is tt other
       go (Some command) reads is =
-          of_script _ _ e is (command_waits columns decoration p number (shown_command raw command) (shown_sized columns decoration raw command (sized columns decoration (b ∷ bs) command (reads command refl)))) other
+          of_script _ _ e is (command_waits columns decoration p number (shown_command raw command)
+          (shown_sized columns decoration raw command (sized columns decoration (b ∷ bs) command (reads command refl)))) other

@@ -1,5 +1,12 @@
 -- One walk over what commands and lines make of a script's renderers, and over what they are refused with.
-use Rattle.tbr_runner.proofs.Common.{◌≡◌, ℕ, Option, None, Some, Result, Ok, Err, List, [], ◌∷◌, ◌++◌, drop, map, length, chars, refl, subst, arith, rules, cond_both, AllZip, Each, Outcome, done, refused, CellAlign, row_fits, Decoration, and_then, changed, taking, gathered, Renderer, Line, spots_of, GivenCell, cells_given, handed_out, sub_renderer, Call, new_line, begin, finish, add_inline_text, append_subrender, append_vert_row, after, Act, call, row_of_cells, after_act, IsOfScript, RunError, OutOfMemory, NothingToEnd, RowDoesNotFit, Level, Stack, first_renderer, top_of, in_first, with_top, in_top, link_number, shown_number, open_links, with_link, without_open_link, after_end_with, ends_nothing, counted, Command, ask, link, end_link, sub, append, cell, end_cell, vertical_row, IsCommand, command_read, Opener, Sub, prefixes, Pending, Opened, Progress, renderers_of, without_cells, Place, Made, answered, on_top, if_some_are, with_stack, level_opened, ended_as, level_ended, block_made, joins, waits, cells_waiting, request_made, after_command, after_read, after_line, ended, closed_text, unless_refused, EndsOne}
+use Rattle.tbr_runner.proofs.Common.{◌≡◌, ℕ, Option, None, Some, Result, Ok, Err, List, [], ◌∷◌, ◌++◌, drop, map, length, chars, refl, subst, arith, rules, cond_both, AllZip, Each, Outcome}
+use Rattle.tbr_runner.proofs.Common.{done, refused, CellAlign, row_fits, Decoration, and_then, changed, taking, gathered, Renderer, Line, spots_of, GivenCell, cells_given, handed_out}
+use Rattle.tbr_runner.proofs.Common.{sub_renderer, Call, new_line, begin, finish, add_inline_text, append_subrender, append_vert_row, after, Act, call, row_of_cells, after_act, IsOfScript}
+use Rattle.tbr_runner.proofs.Common.{RunError, OutOfMemory, NothingToEnd, RowDoesNotFit, Level, Stack, first_renderer, top_of, in_first, with_top, in_top, link_number, shown_number}
+use Rattle.tbr_runner.proofs.Common.{open_links, with_link, without_open_link, after_end_with, ends_nothing, counted, Command, ask, link, end_link, sub, append, cell, end_cell, vertical_row}
+use Rattle.tbr_runner.proofs.Common.{IsCommand, command_read, Opener, Sub, prefixes, Pending, Opened, Progress, renderers_of, without_cells, Place, Made, answered, on_top, if_some_are}
+use Rattle.tbr_runner.proofs.Common.{with_stack, level_opened, ended_as, level_ended, block_made, joins, waits, cells_waiting, request_made, after_command, after_read, after_line, ended}
+use Rattle.tbr_runner.proofs.Common.{closed_text, unless_refused, EndsOne}
 use Rattle.tbr_tagged.specs.declared.Error.TheVariants as E
 use Rattle.tbr_decor.specs.Start as start
 use Rattle.tbr_decor.specs.End as end
@@ -147,7 +154,8 @@ module _ {D M : Type 0} (columns : ℕ → Option ℕ) (decoration : Decoration 
 
     -- what takes what others give
     taking_fine : {X : Type 0} (Is : Top → Type 0) (Gives : X → Type 0) (given : Outcome X) (act : X → Act M) (r : Top) → IsReady narrow r → Fine narrow Gives given →
-        ((x : X) (s : Top) → Gives x → after_act columns decoration (act x) r ≡ done s → Is s) → Fine narrow Is (taking (after columns decoration new_line) given (λ x. after_act columns decoration (act x)) r)
+        ((x : X) (s : Top) → Gives x → after_act columns decoration (act x) r ≡ done s → Is s) →
+        Fine narrow Is (taking (after columns decoration new_line) given (λ x. after_act columns decoration (act x)) r)
     taking_fine Is Gives given act r may gives makes = search (rules, fine_then, fine_by)
 
     -- what cells that wait give
@@ -199,7 +207,9 @@ module _ {D M : Type 0} (columns : ℕ → Option ℕ) (decoration : Decoration 
       block_meets first next Sub (l ∷ ls) [] ends h =
           let inside = l.renderer in
           let below_it : Stack Top = record p.stack { levels = ls } in
-          changed_meets (λ rs. IsBelow Sub (inside ∷ rs) []) (λ rs. After rs left.cells others) (record { stack = below_it; pending = left; opened = others }) below_it (block_made columns decoration first next inside) (λ rs is. is) h (λ r rs k.
+          changed_meets (λ rs. IsBelow Sub (inside ∷ rs) []) (λ rs. After rs left.cells others)
+          (record { stack = below_it; pending = left; opened = others }) below_it
+          (block_made columns decoration first next inside) (λ rs is. is) h (λ r rs k.
           let may = (walk.ready (inside ∷ r ∷ rs) [] (record { by = Sub; below = left } ∷ others) k).0 in
           taking_fine narrow _ (λ lines. handed_out columns inside ≡ done lines) (handed_out columns inside) (λ lines. call (append_subrender (prefixes first next (length lines)) lines)) r may.1.0
           (hands_fine narrow inside may.0) (λ lines t gives does. walk.joins first next lines inside r t rs left others (ends inside refl) gives does k))
@@ -212,7 +222,8 @@ module _ {D M : Type 0} (columns : ℕ → Option ℕ) (decoration : Decoration 
 
     ended_meets : (number : ℕ) (command : Command) (end : Opener → Option (Top → Place columns decoration → Made columns decoration)) (p : Place columns decoration) (opens : Levels) →
         ((r : Top) → top_of p.stack ≡ Some r → Ends command r) →
-        ((by : Opener) (left : Pending D M (List M)) (others : Levels) → Ended number p left others command end by p.stack.levels p.pending.cells) → Before (renderers p.stack.levels) p.pending.cells opens →
+        ((by : Opener) (left : Pending D M (List M)) (others : Levels) →
+        Ended number p left others command end by p.stack.levels p.pending.cells) → Before (renderers p.stack.levels) p.pending.cells opens →
         Makes (level_ended columns decoration number end p opens)
     ended_meets number command end p [] ends does h = tt
     ended_meets number command end p (level ∷ others) ends does h = does level.by level.below others ends h
@@ -229,12 +240,14 @@ module _ {D M : Type 0} (columns : ℕ → Option ℕ) (decoration : Decoration 
       link_ends : (k : Option ℕ) (r : Top) (rs : List Top) → Here (r ∷ rs) → Fine narrow (λ s. Here (s ∷ rs)) (after_end_with columns decoration k r)
       link_ends None r rs h = called_fine (finish end.link) tt r rs h
       link_ends (Some k) r rs h =
-          fine_then narrow (λ s. Here (s ∷ rs)) _ (after columns decoration (finish end.link) r) _ (called_fine (finish end.link) tt r rs h) (λ s still. called_fine (add_inline_text (link_number k)) tt s rs still)
+          fine_then narrow (λ s. Here (s ∷ rs)) _ (after columns decoration (finish end.link) r) _
+          (called_fine (finish end.link) tt r rs h) (λ s still. called_fine (add_inline_text (link_number k)) tt s rs still)
 
       -- the cells that wait, as they are taken
       row_meets : {X : Type 0} (Gives : X → Type 0) (given : Outcome X) (act : X → Act M) → (AreReady narrow p.pending.cells → Fine narrow Gives given) →
           ((x : X) → Gives x → TakesCells p.pending.cells (act x)) → At Before p →
-          Makes (with_stack columns decoration (record p { pending = without_cells p.pending }) (in_top (taking (after columns decoration new_line) given (λ x. after_act columns decoration (act x))) p.stack))
+          Makes (with_stack columns decoration (record p { pending = without_cells p.pending })
+          (in_top (taking (after columns decoration new_line) given (λ x. after_act columns decoration (act x))) p.stack))
       row_meets Gives given act gives takes h = search (rules, changed_meets, taking_fine)
 
       pub command_meets : (command : Command) → Asks Asked command → (EndsOne command → (r : Top) → top_of p.stack ≡ Some r → Ends command r) → At Before p →
@@ -242,26 +255,37 @@ module _ {D M : Type 0} (columns : ℕ → Option ℕ) (decoration : Decoration 
       command_meets (ask request) asked ends h =
           let q : Place columns decoration = record p { pending = record p.pending { begun = counted p.pending.begun request } } in
           cond_both (ends_nothing p.pending.begun request) (Err (NothingToEnd number)) _ Makes (λ none. tt)
-          (λ some. changed_meets Here Here q p.stack (request_made columns decoration request) (λ rs is. walk.kept rs p.pending.cells p.opened is) h (λ r rs k. called_fine (call_of r.width request) (asks_own r.width request) r rs k))
+          (λ some. changed_meets Here Here q p.stack (request_made columns decoration request)
+          (λ rs is. walk.kept rs p.pending.cells p.opened is) h
+          (λ r rs k. called_fine (call_of r.width request) (asks_own r.width request) r rs k))
       command_meets (link target) asked ends h =
           let starts = begin (start.link (chars target)) in
-          changed_meets Here Here p (with_link (chars target) p.stack) (after columns decoration starts) (λ rs is. walk.kept rs p.pending.cells p.opened is) (subst Here (same_renderers _ p.stack.levels) h) (λ r rs k. called_fine starts tt r rs k)
+          changed_meets Here Here p (with_link (chars target) p.stack) (after columns decoration starts)
+          (λ rs is. walk.kept rs p.pending.cells p.opened is) (subst Here (same_renderers _ p.stack.levels) h)
+          (λ r rs k. called_fine starts tt r rs k)
       command_meets end_link asked ends h =
           let make = λ (r : Top). after_end_with columns decoration (shown_number r (open_links p.stack)) r in
           let Still = λ (t : Stack Top). Here (renderers t.levels) in
           some_meet narrow (At After) (open_links p.stack) _ (Err (NothingToEnd number))
           (fine_changed narrow Still (At After) (λ t. record p { stack = t }) (changed without_open_link (in_top make p.stack)) (λ t is. walk.kept (renderers t.levels) p.pending.cells p.opened is)
           (fine_changed narrow (λ t. Still (without_open_link t)) Still without_open_link (in_top make p.stack) (λ t is. is)
-          (in_top_fine narrow Here (λ t. Still (without_open_link t)) make p.stack p.stack.levels h (λ l ls k. link_ends (shown_number l.renderer (open_links p.stack)) l.renderer (renderers ls) k)))) tt
+          (in_top_fine narrow Here (λ t. Still (without_open_link t)) make p.stack p.stack.levels h
+          (λ l ls k. link_ends (shown_number l.renderer (open_links p.stack)) l.renderer (renderers ls) k)))) tt
       command_meets (sub width) asked ends h = level_meets Sub width p p.stack.levels asked h
-      command_meets (append first next) asked ends h = ended_meets number (append first next) (joins columns decoration first next) p p.opened (ends tt) (λ by left others. block_meets number p left others first next by p.stack.levels p.pending.cells) h
+      command_meets (append first next) asked ends h =
+          ended_meets number (append first next) (joins columns decoration first next) p p.opened (ends tt)
+          (λ by left others. block_meets number p left others first next by p.stack.levels p.pending.cells) h
       command_meets (cell width span align) asked ends h = level_meets (Cell span align) width p p.stack.levels asked h
-      command_meets end_cell asked ends h = ended_meets number end_cell (waits columns decoration) p p.opened (ends tt) (λ by left others. cell_meets number p left others by p.stack.levels p.pending.cells) h
+      command_meets end_cell asked ends h =
+          ended_meets number end_cell (waits columns decoration) p p.opened (ends tt)
+          (λ by left others. cell_meets number p left others by p.stack.levels p.pending.cells) h
       command_meets (row collapse) asked ends h =
           top_meets narrow (At After) (top_of p.stack) _ (λ top there. cond_both (row_fits top.hanging (spots_of columns p.pending.cells)) _ (Err (RowDoesNotFit number)) Makes
-          (λ fits. row_meets (AllZip GivesCell p.pending.cells) (cells_waiting columns decoration p.pending) (row_of_cells collapse) (cells_fine narrow p.pending.cells p.pending.aligns) (λ given give. give) h) (λ not. tt))
+          (λ fits. row_meets (AllZip GivesCell p.pending.cells) (cells_waiting columns decoration p.pending)
+          (row_of_cells collapse) (cells_fine narrow p.pending.cells p.pending.aligns) (λ given give. give) h) (λ not. tt))
       command_meets vertical_row asked ends h =
-          row_meets (AllZip HandsOut p.pending.cells) (gathered (handed_out columns) (renderers_of p.pending.cells)) (λ lines. call (append_vert_row lines)) (lines_fine narrow p.pending.cells) (λ lines give. give) h
+          row_meets (AllZip HandsOut p.pending.cells) (gathered (handed_out columns) (renderers_of p.pending.cells))
+          (λ lines. call (append_vert_row lines)) (lines_fine narrow p.pending.cells) (λ lines give. give) h
 
       -- a line, by what it asks for
       abbrev pub AsksOf : List ℕ → Type 0
@@ -276,6 +300,7 @@ module _ {D M : Type 0} (columns : ℕ → Option ℕ) (decoration : Decoration 
           read_meets (Some command) is = let (asked, ends) = asks command (is command refl) in command_meets command asked ends h
 
   -- what a line leaves that is done, where anything may be too narrow
-  pub line_makes : (Asked : Opener → ℕ → Type 0) (Ends : Command → Top → Type 0) (Before After : Holds) (walk : Walk (Unit {0}) Asked Ends Before After) (p next : Place columns decoration) (number : ℕ) (line : List ℕ) →
+  pub line_makes : (Asked : Opener → ℕ → Type 0) (Ends : Command → Top → Type 0) (Before After : Holds)
+      (walk : Walk (Unit {0}) Asked Ends Before After) (p next : Place columns decoration) (number : ℕ) (line : List ℕ) →
       AsksOf (Unit {0}) Asked Ends Before After walk number p line → At Before p → after_line columns decoration number line p ≡ Ok next → At After next
   line_makes Asked Ends Before After walk p next number line asks h does = subst (Meets (Unit {0}) (At After)) does (line_meets (Unit {0}) Asked Ends Before After walk number p line asks h)

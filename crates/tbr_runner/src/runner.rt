@@ -17,7 +17,7 @@ use tbr_commands::{Decorator, Opening};
 use tbr_decor::{PlainDecorator, RichDecorator, TextDecorator, TrivialDecorator};
 use tbr_model::CharWidth;
 use tbr_program::Program;
-use tbr_script::{RunError, Sink, Source, split_line, write_all};
+use tbr_script::{Lines, RunError, Sink, Source, write_all};
 use tbr_tagged::UnicodeColumns;
 
 /// The most bytes that a read asks for.
@@ -107,21 +107,22 @@ pub fn render_shown<W: CharWidth, B: AsSlice<u8> + Drop>(
     ensures refusal { IfErr result (λ e. e ≢ RunError.OutOfMemory → shown raw W.columns (B.items script) ≡ Err e) }
     ensures of_script { IfErr result (λ e. e ≢ RunError.OutOfMemory → IsOfScript e) }
 {
-    let (opening, number, rest) = first_command(script.as_slice())?;
+    let mut lines = Lines::of(script.as_slice());
+    let (opening, number) = first_command(&mut lines)?;
     match opening.decorator {
         Decorator::Plain => {
             let decorator = PlainDecorator::new();
-            let (program, end) = run_under::<_, W>(alloc, opening, decorator, number, rest, raw)?;
+            let (program, end) = run_under::<_, W>(alloc, opening, decorator, number, lines, raw)?;
             finish(program, end, script, raw)
         }
         Decorator::Trivial => {
             let decorator = TrivialDecorator::new();
-            let (program, end) = run_under::<_, W>(alloc, opening, decorator, number, rest, raw)?;
+            let (program, end) = run_under::<_, W>(alloc, opening, decorator, number, lines, raw)?;
             finish(program, end, script, raw)
         }
         Decorator::Rich => {
             let decorator = RichDecorator::new();
-            let (program, end) = run_under::<_, W>(alloc, opening, decorator, number, rest, raw)?;
+            let (program, end) = run_under::<_, W>(alloc, opening, decorator, number, lines, raw)?;
             finish(program, end, script, raw)
         }
     }
@@ -134,23 +135,23 @@ fn run_under<D: TextDecorator, W: CharWidth>(
     opening: Opening,
     decorator: D,
     number: usize,
-    script: &[u8],
+    lines: Lines<'_>,
     raw: bool,
 ) -> Result<(Program<D, W>, usize), RunError>
     requires width { 0 < opening.width }
     requires wrap_width { opening.options.wrap_width ≢ Some 0 }
-    requires number { number + length script.now < 2 ^ 64 }
+    requires number { number + length lines < 2 ^ 64 }
     ensures told { IfOk result (λ told. shown_on raw W.columns (decoration_of D.TextDecorator D.Annotation.tells)
-        number (lines_of script.now) (started opening decorator)
+        number (lines_of lines.entry) (started opening decorator)
         ≡ ended W.columns (decoration_of D.TextDecorator D.Annotation.tells) told.1 (shown_links raw told.0)) }
     ensures goes_on { IfOk result (λ told. GoesOn told.0) }
     ensures refusal { IfErr result (λ e. e ≢ RunError.OutOfMemory →
         shown_on raw W.columns (decoration_of D.TextDecorator D.Annotation.tells)
-        number (lines_of script.now) (started opening decorator) ≡ Err e) }
+        number (lines_of lines.entry) (started opening decorator) ≡ Err e) }
     ensures of_script { IfErr result (λ e. e ≢ RunError.OutOfMemory → IsOfScript e) }
 {
     let program = Program::<D, W>::new(alloc, opening.width, opening.options, decorator)?;
-    run_lines(alloc, program, number, script, raw)
+    run_lines(alloc, program, number, lines, raw)
 }
 
 /// The text of a program that has run a whole script. The script is dropped first.
@@ -172,28 +173,29 @@ fn finish<D: TextDecorator, W: CharWidth, B: Drop>(
     program.finish(number, raw)
 }
 
-/// The first command of a script, the number of the line after it, and what follows it.
-fn first_command(script: &[u8]) -> Result<(Opening, usize, &[u8]), RunError>
+/// The first command of a script, and the number of the line after it. It takes the lines up to that command.
+fn first_command(lines: &mut Lines<'_>) -> Result<(Opening, usize), RunError>
+    requires { length lines.old < 2 ^ 63 }
     ensures found { IfOk result (λ r. (raw : Bool) (columns : ℕ → Option ℕ) →
-        shown raw columns script.now ≡ shown_under raw columns r.0.decorator r.0 r.1 (lines_of r.2.now)) }
-    ensures bound { IfOk result (λ r. r.1 + length r.2.now ≤ length script.now + 1) }
+        shown raw columns lines.old ≡ shown_under raw columns r.0.decorator r.0 r.1 (lines_of lines.new)) }
+    ensures bound { IfOk result (λ r. r.1 + length lines.new ≤ length lines.old + 1) }
     ensures width { IfOk result (λ r. 0 < r.0.width) }
     ensures wrap_width { IfOk result (λ r. r.0.options.wrap_width ≢ Some 0) }
     ensures refused { IfErr result (λ e. (raw : Bool) (columns : ℕ → Option ℕ) →
-        shown raw columns script.now ≡ Err e) }
+        shown raw columns lines.old ≡ Err e) }
     ensures of_script { IfErr result (λ e. IsOfScript e) }
 {
-    let mut rest = script;
     let mut number = 1;
-    while !rest.is_empty() {
-        let (line, after) = split_line(rest);
+    while let Some(line) = lines.next() {
+        let Ok(line) = line else {
+            return Err(RunError::NotACommand(number));
+        };
         if !line.is_empty() {
             let Some(opening) = Opening::parse(line) else {
                 return Err(RunError::NotACommand(number));
             };
-            return Ok((opening, number + 1, after));
+            return Ok((opening, number + 1));
         }
-        rest = after;
         number += 1;
     }
     Err(RunError::NotACommand(number))
@@ -204,27 +206,28 @@ fn run_lines<D: TextDecorator, W: CharWidth>(
     alloc: Global,
     program: Program<D, W>,
     number: usize,
-    script: &[u8],
+    lines: Lines<'_>,
     raw: bool,
 ) -> Result<(Program<D, W>, usize), RunError>
     requires goes_on { GoesOn program }
-    requires number { number + length script.now < 2 ^ 64 }
+    requires number { number + length lines < 2 ^ 64 }
     ensures told { IfOk result (λ told. shown_on raw W.columns (decoration_of D.TextDecorator D.Annotation.tells)
-        number (lines_of script.now) program
+        number (lines_of lines.entry) program
         ≡ ended W.columns (decoration_of D.TextDecorator D.Annotation.tells) told.1 (shown_links raw told.0)) }
     ensures goes_on { IfOk result (λ told. GoesOn told.0) }
     ensures refusal { IfErr result (λ e. e ≢ RunError.OutOfMemory →
         shown_on raw W.columns (decoration_of D.TextDecorator D.Annotation.tells)
-        number (lines_of script.now) program ≡ Err e) }
+        number (lines_of lines.entry) program ≡ Err e) }
     ensures of_script { IfErr result (λ e. e ≢ RunError.OutOfMemory → IsOfScript e) }
 {
     let mut program = program;
-    let mut rest = script;
+    let mut lines = lines;
     let mut number = number;
-    while !rest.is_empty() {
-        let (line, after) = split_line(rest);
+    while let Some(line) = lines.next() {
+        let Ok(line) = line else {
+            return Err(RunError::NotACommand(number));
+        };
         program.run_line(alloc, number, line, raw)?;
-        rest = after;
         number += 1;
     }
     Ok((program, number))

@@ -12,7 +12,9 @@ use Rattle.tbr_script.proofs.Reading.{bar_split, split_written}
 
 -- the clause of `split_once` at a text
 abbrev pub IsSplitAt : List ℕ → List ℕ → Option (Bor (List ℕ) × Bor (List ℕ)) → Type 0
-IsSplitAt p bs r = MatchOption r (FindsText p bs None) (λ x. (i : ℕ) × (j : ℕ) × FindsText p bs (Some (i, j)) × (x.0.now ≡ take i bs) × (x.1.now ≡ drop j bs) × (i ≤ j) × (length x.0.now ≡ i) × (length x.1.now + j ≡ length bs))
+IsSplitAt p bs r = MatchOption r (FindsText p bs None)
+    (λ x. (i : ℕ) × (j : ℕ) × FindsText p bs (Some (i, j)) × (x.0.now ≡ take i bs) × (x.1.now ≡ drop j bs) × (i ≤ j) ×
+    (length x.0.now ≡ i) × (length x.1.now + j ≡ length bs))
 
 -- nothing earlier is a bar
 first_bar : (bs : List ℕ) (x : Bor (List ℕ) × Bor (List ℕ)) → IsSplitAt bar bs (Some x) → (xs ys : List ℕ) → bs ≡ xs ++ (bar ++ ys) → length x.0.now ≤ length xs

@@ -1,5 +1,5 @@
 pub mod Writes
-pub mod Lines
+pub mod FirstLine
 pub mod FirstWord
 pub mod Reading
 pub mod Texts

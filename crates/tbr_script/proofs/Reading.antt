@@ -1,5 +1,6 @@
 -- What is read is what is written.
-use Rattle.std.proofs.Common.{◌≡◌, ◌≢◌, ℕ, zero, suc, ◌^◌, ◌<◌, ◌≤◌, ◌==◌, ◌&&◌, Bool, true, false, if◌then◌else◌, Option, None, Some, List, [], ◌∷◌, ◌++◌, length, take, drop, flat_map, encode_utf8, codes, refl, sym, ap, ◌∙◌, subst, inl, inr, arith, append_assoc, append-nil, get_or, lit≤, rules}
+use Rattle.std.proofs.Common.{◌≡◌, ◌≢◌, ℕ, zero, suc, ◌^◌, ◌<◌, ◌≤◌, ◌==◌, ◌&&◌, Bool, true, false, if◌then◌else◌, Option, None, Some, List, [], ◌∷◌, ◌++◌, length, take, drop, flat_map}
+use Rattle.std.proofs.Common.{encode_utf8, codes, refl, sym, ap, ◌∙◌, subst, inl, inr, arith, append_assoc, append-nil, get_or, lit≤, rules}
 use Rattle.std.specs.Bool.{Decides}
 use Rattle.std.specs.Prelude.{nat_lt}
 use Rattle.std.specs.Char.{digit_value, IsScalar}
@@ -12,7 +13,8 @@ use Rattle.std.proofs.lemmas.Bool.Decides.{Decides-and, Decides-like, Decides-lt
 use Rattle.std.proofs.lemmas.List.{take-append-drop}
 use Rattle.std.proofs.lemmas.Slice.Eq.{bytes_eq-Decides}
 use Rattle.tbr_script.specs.Script.{backslash, character_by_letter, bar, IsNumber, IsSize, IsByte, NamesCharacter, IsEscape, Piece, itself, escape, IsPiece, written, meant, IsText, AreSplitTexts}
-use Rattle.tbr_script.specs.Read.{when, all_digits, is_numeral, is_number, number_read, size_read, byte_read, names_character, character_read, TextPlace, in_text, in_escape, at_brace, in_braces, with_character, read_from, text_read, split_at_bar, texts_read}
+use Rattle.tbr_script.specs.Read.{when, all_digits, is_numeral, is_number, number_read, size_read, byte_read, names_character, character_read, TextPlace, in_text, in_escape, at_brace}
+use Rattle.tbr_script.specs.Read.{in_braces, with_character, read_from, text_read, split_at_bar, texts_read}
 
 -- ---- options
 
@@ -169,7 +171,8 @@ no_backslash b not zero lt same = false≢true (sym not ∙ ap (λ x. x == backs
 no_backslash b not (suc i) lt same = absurd (omega (arith, lt))
 
 -- digits that name a character, and their closing brace
-closed : (ds bs text : List ℕ) → ((rest : List ℕ) → read_from in_text bs ≡ Some rest → IsText bs rest) → option_and_then (λ c. with_character c (read_from in_text bs)) (character_read ds) ≡ Some text → IsText (92 ∷ 117 ∷ 123 ∷ (ds ++ 125 ∷ bs)) text
+closed : (ds bs text : List ℕ) → ((rest : List ℕ) → read_from in_text bs ≡ Some rest → IsText bs rest) →
+    option_and_then (λ c. with_character c (read_from in_text bs)) (character_read ds) ≡ Some text → IsText (92 ∷ 117 ∷ 123 ∷ (ds ++ 125 ∷ bs)) text
 closed ds bs text later e =
     let (c, names, follows) = followed (λ d. with_character d (read_from in_text bs)) (character_read ds) text e in
     let (rest, reads, whole) = mapped (λ bytes. encode_utf8 c ++ bytes) (read_from in_text bs) text follows in
@@ -229,7 +232,8 @@ is_bar bs e = sym (take-append-drop 3 bs) ∙ ap (λ xs. xs ++ drop 3 bs) ((byte
 found_bar : (bs ys : List ℕ) → bs ≡ bar ++ ys → bytes_eq (take 3 bs) bar ≡ true
 found_bar bs ys is = (bytes_eq-Decides (take 3 bs) bar).1 (ap (take 3) is)
 
-earlier : (b : ℕ) (bs front : List ℕ) → ((xs ys : List ℕ) → bs ≡ xs ++ (bar ++ ys) → length front ≤ length xs) → bytes_eq (take 3 (b ∷ bs)) bar ≡ false → (xs ys : List ℕ) → b ∷ bs ≡ xs ++ (bar ++ ys) → length (b ∷ front) ≤ length xs
+earlier : (b : ℕ) (bs front : List ℕ) → ((xs ys : List ℕ) → bs ≡ xs ++ (bar ++ ys) → length front ≤ length xs) →
+    bytes_eq (take 3 (b ∷ bs)) bar ≡ false → (xs ys : List ℕ) → b ∷ bs ≡ xs ++ (bar ++ ys) → length (b ∷ front) ≤ length xs
 earlier b bs front first none [] ys w = absurd (false≢true (sym none ∙ found_bar (b ∷ bs) ys w))
 earlier b bs front first none (x ∷ xs) ys w = omega (arith, first xs ys (let same : bs ≡ xs ++ (bar ++ ys) = cc w in same))
 
@@ -258,7 +262,8 @@ split_written (b ∷ bs) other first =
 pub texts_written : (writing one other : List ℕ) → AreSplitTexts writing one other → texts_read writing ≡ Some (one, other)
 texts_written writing one other t =
     ap texts_read t.splits
-    ∙ ap (option_and_then (λ (p : List ℕ × List ℕ). option_and_then (λ x. option_map (λ y. (x, y)) (text_read p.1)) (text_read p.0))) (split_written t.before t.after (λ xs ys w. t.first xs ys (t.splits ∙ w)))
+    ∙ ap (option_and_then (λ (p : List ℕ × List ℕ). option_and_then (λ x. option_map (λ y. (x, y)) (text_read p.1))
+    (text_read p.0))) (split_written t.before t.after (λ xs ys w. t.first xs ys (t.splits ∙ w)))
     ∙ ap (option_and_then (λ x. option_map (λ y. (x, y)) (text_read t.after))) (text_written t.before one t.one_is)
     ∙ ap (option_map (λ y. (one, y))) (text_written t.after other t.other_is)
 

@@ -1,5 +1,6 @@
 -- Texts, as they are read piece by piece.
-use Rattle.std.proofs.Common.{◌≡◌, ◌≢◌, ℕ, suc, ◌<◌, ◌==◌, Option, None, Some, List, [], ◌∷◌, ◌++◌, length, get_or, drop, take-append-drop, drop-cons, add-one, ◌+◌, ◌-◌, encode_utf8, refl, sym, ap, ◌∙◌, arith, lit<, append_assoc, append-nil, rules}
+use Rattle.std.proofs.Common.{◌≡◌, ◌≢◌, ℕ, suc, ◌<◌, ◌==◌, Option, None, Some, List, [], ◌∷◌, ◌++◌, length, get_or, drop, take-append-drop, drop-cons, add-one, ◌+◌, encode_utf8, refl, sym}
+use Rattle.std.proofs.Common.{ap, ◌∙◌, arith, lit<, append_assoc, append-nil, rules}
 use Rattle.std.specs.List.{slice_range}
 use Rattle.std.specs.Option.{option_map, option_and_then}
 use Rattle.std.proofs.lemmas.Bool.{eqb-true}
@@ -60,7 +61,9 @@ no_closing ds (b ∷ bs) none =
     no_closing (ds ++ b ∷ []) bs (λ i lt. none (suc i) (omega arith)) ∙ sym (if_not (b == 125) _ _ (eqb-of b 125 (none 0 (omega arith))))
 
 -- digits in braces
-pub braced : (after inner digits rest : List ℕ) → after ≡ 123 ∷ inner → (inner ≡ digits ++ 125 ∷ rest) × ((i : ℕ) → i < length digits → get_or digits i 0 ≢ 125) → option_and_then (λ c. with_character c (text_read rest)) (character_read digits) ≡ read_from at_brace after
+pub braced : (after inner digits rest : List ℕ) → after ≡ 123 ∷ inner →
+    (inner ≡ digits ++ 125 ∷ rest) × ((i : ℕ) → i < length digits → get_or digits i 0 ≢ 125) →
+    option_and_then (λ c. with_character c (text_read rest)) (character_read digits) ≡ read_from at_brace after
 braced after inner digits rest brace (parts, none) = sym (ap (read_from at_brace) brace ∙ ap (read_from (in_braces [])) parts ∙ to_brace [] digits rest none)
 
 -- ---- a text so far, and what the rest means

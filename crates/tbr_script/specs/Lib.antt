@@ -1,3 +1,4 @@
+pub mod Lines
 pub mod Script
 pub mod Streams
 pub mod Refusal

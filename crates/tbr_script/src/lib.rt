@@ -3,7 +3,7 @@
 
 pub use error::RunError;
 pub use escape::unescape;
-pub use line::split_line;
+pub use line::Lines;
 pub use number::{parse_byte, parse_number, parse_size};
 pub use streams::{Failed, Sink, Source, StdSink, StdSource, write_all};
 pub use text_pair::TextPair;

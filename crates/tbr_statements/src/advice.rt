@@ -41,17 +41,25 @@ fn refusal(
 }
 
 /// The line isn't a command.
-pub fn not_a_command(alloc: Global, line: usize, writing: &[u8]) -> Refusal
+pub fn not_a_command(alloc: Global, line: usize, writing: &str) -> Refusal
     ensures { Tells result kind_is.NotACommand line None }
 {
     faulty(line, fault_of(alloc, writing, false))
 }
 
 /// The line isn't the first command that it should be.
-pub fn not_an_opening(alloc: Global, line: usize, writing: &[u8]) -> Refusal
+pub fn not_an_opening(alloc: Global, line: usize, writing: &str) -> Refusal
     ensures { Tells result kind_is.NotACommand line None }
 {
     faulty(line, fault_of(alloc, writing, true))
+}
+
+/// The line isn't UTF-8.
+pub fn not_utf8(alloc: Global, line: usize) -> Refusal
+    ensures { Tells result kind_is.NotACommand line None }
+{
+    let texts = both(alloc, "the line isn't UTF-8", "save the file as UTF-8");
+    refusal(Kind::NotACommand, line, None, None, texts)
 }
 
 /// The line has a fault.

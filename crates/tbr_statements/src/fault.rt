@@ -43,14 +43,7 @@ pub struct Fault {
 const FIRST: usize = 1;
 
 /// Why a line isn't a command, or isn't a first command. It refuses only where memory is refused.
-pub fn fault_of(alloc: Global, line: &[u8], is_first: bool) -> Result<Fault, AllocError> {
-    let Ok(line) = str::from_utf8(line) else {
-        return Ok(Fault {
-            column: None,
-            message: String::from_str(alloc, "the line isn't UTF-8")?,
-            help: String::from_str(alloc, "save the file as UTF-8")?,
-        });
-    };
+pub fn fault_of(alloc: Global, line: &str, is_first: bool) -> Result<Fault, AllocError> {
     if let Some(fault) = fault_of_file(alloc, line)? {
         return Ok(fault);
     }
@@ -408,7 +401,7 @@ fn fault_of_options(alloc: Global, words: PlacedWords<'_>) -> Result<Fault, Allo
     let mut words = words;
     while let Some((column, option)) = words.next() {
         let line = format!(in alloc; "new 1 plain {option}")?;
-        if Opening::parse(line.as_bytes()).is_none() {
+        if Opening::parse(line.as_str()).is_none() {
             return fault_of_option(alloc, column, option);
         }
     }

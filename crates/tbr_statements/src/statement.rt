@@ -1,9 +1,10 @@
 //! What a line of a script for people asks for.
 ghost use Rattle.std.specs.Prelude.{◌≡◌, IfOk, IfSome};
 ghost use Rattle.std.specs.Option.{option_map};
+ghost use Rattle.tbr_script.specs.Lines.{bytes_of};
 ghost use Rattle.tbr_statements.specs.Statement as model;
 ghost use Rattle.tbr_statements.specs.Statement.{IsSized, statement_of};
-ghost use Rattle.tbr_statements.specs.Read.{item_number_read, argument_read, block_read, other_read, statement_read};
+ghost use Rattle.tbr_statements.specs.Read.{item_number_read, argument_read, block_read, statement_read};
 
 use crate::block::Block;
 use crate::table_cell::table_cell;
@@ -32,12 +33,12 @@ pub enum Statement {
 impl Statement {
     /// What a line asks for, without its newline. `Ok(None)` if it isn't known. It refuses only where memory is
     /// refused.
-    pub fn parse(alloc: Global, line: &[u8]) -> Result<Option<Statement>, AllocError>
+    pub fn parse(alloc: Global, line: &str) -> Result<Option<Statement>, AllocError>
         ensures read { IfOk result (λ found. option_map statement_of found ≡ statement_read line.now) }
         ensures sized { IfOk result (λ found. IfSome found IsSized) }
     {
         // No command begins so, and such lines come often.
-        if line.starts_with(b"cell auto") {
+        if line.starts_with("cell auto") {
             return Ok(of_line(line));
         }
         match Command::parse(alloc, line)? {
@@ -47,27 +48,21 @@ impl Statement {
     }
 }
 
-/// Whether a line asks for nothing: it is empty, or a comment.
-pub fn is_skipped(line: &[u8]) -> bool
-    ensures { result ≡ model.is_skipped line.now }
+/// Whether a line asks for nothing: it is empty, or a comment. A comment may have bytes that aren't UTF-8.
+pub fn is_skipped(line: Result<&str, &[u8]>) -> bool
+    ensures { result ≡ model.is_skipped (bytes_of line.entry) }
 {
-    line.is_empty() || line.starts_with(b"#")
-}
-
-/// What a line asks for that is no command of `blockrender`. `None` also if it isn't UTF-8.
-fn of_line(line: &[u8]) -> Option<Statement>
-    ensures read { option_map statement_of result ≡ other_read line.now }
-    ensures sized { IfSome result IsSized }
-{
-    let Ok(line) = str::from_utf8(line) else {
-        return None;
+    let bytes = match line {
+        Ok(text) => text.as_bytes(),
+        Err(bytes) => bytes,
     };
-    of_blocks(line)
+    bytes.is_empty() || bytes.starts_with(b"#")
 }
 
-/// The same of a line that is UTF-8.
-fn of_blocks(line: &str) -> Option<Statement>
-    ensures { option_map statement_of result ≡ block_read line.now }
+/// What a line asks for that is no command of `blockrender`.
+fn of_line(line: &str) -> Option<Statement>
+    ensures read { option_map statement_of result ≡ block_read line.now }
+    ensures sized { IfSome result IsSized }
 {
     match line {
         "quote" => Some(Statement::Open(Block::Quote)),

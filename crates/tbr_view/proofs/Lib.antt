@@ -1,3 +1,4 @@
+pub mod Common
 pub mod ShownLines
 mod States
 mod Places

@@ -1,11 +1,7 @@
 -- Where a script for people is, by what is recorded.
-use Rattle.std.proofs.Common.{◌≡◌, ℕ, Option, None, Some, sym, subst, ◌∙◌}
-use Rattle.std.specs.Prelude.{Result, Ok, Err, OnOk}
-use Rattle.tbr_decor.specs.Decoration.{Decoration}
-use Rattle.tbr_recorded.specs.Script.{TableScript}
-use Rattle.tbr_statements.specs.declared.statement.Statement.{Statement}
-use Rattle.tbr_view.specs.Tables.{Place, DoesInTable}
-use Rattle.tbr_view.specs.Lines.{DoesOutside, DoesWith}
+use Rattle.tbr_view.proofs.Common.{◌≡◌, ℕ, Option, None, Some, sym, subst, ◌∙◌, Ok, OnOk, Decoration, TableScript, Statement, Place, DoesInTable, DoesOutside}
+use Rattle.std.specs.Prelude.{Result, Err}
+use Rattle.tbr_view.specs.Lines.{DoesWith}
 
 pub on_both : {T E : Type 0} (r : Result T E) (P Q : Type 0) → OnOk r P → OnOk r Q → OnOk r (P × Q)
 on_both (Ok x) P Q p q = (p, q)

@@ -1,12 +1,10 @@
 -- Lines that are shown one after another.
-use Rattle.std.proofs.Common.{◌≡◌, ℕ, Bool, List, [], ◌∷◌, ◌++◌, refl, sym, ap, subst, ◌∙◌, append_assoc, append-nil}
-use Rattle.std.specs.Prelude.{Option, false}
+use Rattle.tbr_view.proofs.Common.{◌≡◌, ℕ, Bool, List, [], ◌∷◌, ◌++◌, refl, sym, ap, subst, ◌∙◌, append_assoc, Option, false, Vec, lines_of, AreShown, ShowsLine}
+use Rattle.std.proofs.Common.{append-nil}
 use Rattle.std.proofs.lemmas.Bool.{false≢true}
-use Rattle.std.specs.Global.{Vec}
 use Rattle.std.specs.Option.{unwrap_or}
 use Rattle.tbr_border.specs.declared.RenderLine.{RenderLine}
 use Rattle.tbr_decor.specs.declared.annotation.RichAnnotation.{RichAnnotation}
-use Rattle.tbr_script.specs.Script.{lines_of}
 use Rattle.tbr_commands.specs.declared.opening.Decorator.{Decorator}
 use Rattle.tbr_commands.specs.declared.opening.Opening.{Opening}
 use Rattle.tbr_view.specs.declared.script.Settings.{Settings}
@@ -14,7 +12,7 @@ use Rattle.tbr_view.specs.declared.script.Format.{Format}
 use Rattle.tbr_view.specs.declared.script.Format.TheVariants.{Text, Bare, Ansi, Ndjson, Html}
 use Rattle.tbr_view.specs.Script.{Begins}
 use Rattle.tbr_annotations.specs.Written.{IsWrittenOut}
-use Rattle.tbr_view.specs.Shown.{AreShown, ShowsAnnotated, ShowsLine, ShowsUnder, IsShown, opening_in, is_text}
+use Rattle.tbr_view.specs.Shown.{ShowsAnnotated, ShowsUnder, IsShown, opening_in, is_text}
 
 -- one line more
 pub one_more_shown : {L : Type 0} (Shows : L → List ℕ → Type 0) (lines : List L) (line : L) (cs more : List ℕ) → AreShown Shows lines cs → Shows line more →

@@ -1,33 +1,23 @@
 -- Where a script for people is, by where its program is and its levels.
-use Rattle.std.proofs.Common.{◌≡◌, ℕ, ◌-◌, ◌<◌, ◌==◌, true, false, Option, None, Some, List, [], ◌∷◌, ◌++◌, suc, slice_get, take, length, refl, ap, sym, subst, ◌∙◌, arith}
+use Rattle.tbr_view.proofs.Common.{◌≡◌, ℕ, ◌-◌, true, false, Option, None, Some, List, [], ◌∷◌, ◌++◌, take, length, refl, ap, sym, subst, ◌∙◌, arith, width_of_text, chars_of, Decoration}
+use Rattle.tbr_view.proofs.Common.{top_of, lines_of, TextPair, StartBlock, layout, ask, command_of, Level, Opener, OfBlock, other_prefix, stands_apart, Known, Leaves, left, noted, openers}
+use Rattle.tbr_view.proofs.Common.{state_of, opened_by, DoesIf, BlockAppends, BlockCloses, Place, LinesDo}
+use Rattle.std.proofs.Common.{◌<◌, slice_get}
 use Rattle.std.specs.Prelude.{IfSome, IfNone}
-use Rattle.std.proofs.lemmas.Bool.{eqb-true}
 use Rattle.std.proofs.lemmas.List.{map-append, take-map, length-map, length_push, get_or_push, take_at}
 use Rattle.std.proofs.lemmas.Option.{slice_get-map, slice_get-get_or}
 use Rattle.std.proofs.lemmas.Slice.Eq.{bytes_eq-Decides}
-use Rattle.tbr_model.specs.Width.{width_of_text}
-use Rattle.tbr_tagged.specs.View.{chars_of}
-use Rattle.tbr_decor.specs.Decoration.{Decoration}
 use Rattle.tbr_renderer.specs.Renderer.{Renderer}
-use Rattle.tbr_stack.specs.Stack.{top_of}
-use Rattle.tbr_script.specs.Script.{lines_of}
-use Rattle.tbr_script.specs.declared.text_pair.TextPair.{TextPair}
 use Rattle.tbr_commands.specs.declared.command.Command as declared
 use Rattle.tbr_commands.specs.declared.command.Command.TheVariants as asked
-use Rattle.tbr_commands.specs.declared.request.layout.Layout.TheVariants.{StartBlock}
-use Rattle.tbr_commands.specs.Request.{layout}
-use Rattle.tbr_commands.specs.Command.{ask, sub, command_of}
+use Rattle.tbr_commands.specs.Command.{sub}
 use Rattle.tbr_program.specs.Progress.{Progress}
 use Rattle.tbr_statements.specs.declared.block.Block.{Block}
-use Rattle.tbr_statements.specs.declared.level.Level.{Level}
 use Rattle.tbr_statements.specs.declared.level.Notes.{Notes}
-use Rattle.tbr_statements.specs.declared.level.Opener.{Opener}
-use Rattle.tbr_statements.specs.declared.level.Opener.TheVariants.{Block as OfBlock}
-use Rattle.tbr_statements.specs.Block.{prefix_of, other_prefix, stands_apart, end_of}
-use Rattle.tbr_statements.specs.Level.{Known, Leaves, innermost, opener_of, may_not_append, is_closed_by, known_outside, left, noted}
-use Rattle.tbr_view.specs.Session.{openers, state_of, opened_by, CommandDoes, DoesIf, Commands, BlockOpens, BlockAppends, BlockCloses}
-use Rattle.tbr_view.specs.Tables.{Place}
-use Rattle.tbr_view.specs.Lines.{LineDoes, LinesDo}
+use Rattle.tbr_statements.specs.Block.{prefix_of, end_of}
+use Rattle.tbr_statements.specs.Level.{innermost, opener_of, may_not_append, is_closed_by, known_outside}
+use Rattle.tbr_view.specs.Session.{CommandDoes, Commands, BlockOpens}
+use Rattle.tbr_view.specs.Lines.{LineDoes}
 
 -- ---- lists of levels
 
@@ -91,7 +81,9 @@ same_known old new inside notes =
     ap (λ levels. With levels new.notes) inside ∙ ap (With (take (length old.inside - 1) old.inside)) notes
 
 -- a level that closed, if one was open
-pub is_left : (old new : Known) (by : Option Opener) → IfSome by (λ b. Leaves old.inside old.notes b new.inside new.notes) → IfNone by ((old.inside ≡ []) × (new.inside ≡ []) × (new.notes ≡ old.notes)) → new ≡ left old
+pub is_left : (old new : Known) (by : Option Opener) →
+    IfSome by (λ b. Leaves old.inside old.notes b new.inside new.notes) →
+    IfNone by ((old.inside ≡ []) × (new.inside ≡ []) × (new.notes ≡ old.notes)) → new ≡ left old
 is_left old new None leaves none =
     same_known old new (rw none.0 none.1) (rw none.0 none.2)
 is_left old new (Some by) leaves none =
@@ -151,12 +143,8 @@ module _ {D A : Type 0} (columns : ℕ → Option ℕ) (decoration : Decoration 
 -- ---- lines
 
 module _ {D M : Type 0} (columns : ℕ → Option ℕ) (decoration : Decoration D M) where
-  no_length : (n : ℕ) → true ≡ (suc n == 0) → ⊥
-  no_length n e = let none : suc n ≡ 0 = eqb-true (suc n) 0 (sym e) in omega (arith, none)
-
-  pub no_line_left : (s : Place D M) (rest : List ℕ) → true ≡ (length rest == 0) → LinesDo columns decoration s (lines_of rest) s
-  no_line_left s [] none = refl
-  no_line_left s (b ∷ bs) none = absurd (no_length (length bs) none)
+  pub no_line_left : (s : Place D M) (rest : List ℕ) → rest ≡ [] → LinesDo columns decoration s (lines_of rest) s
+  no_line_left s rest none = subst (λ bs. LinesDo columns decoration s (lines_of bs) s) (sym none) refl
 
   pub line_done : (s next last : Place D M) (rest line after : List ℕ) → lines_of rest ≡ line ∷ lines_of after → LineDoes columns decoration s line next →
       LinesDo columns decoration next (lines_of after) last → LinesDo columns decoration s (lines_of rest) last

@@ -17,7 +17,7 @@ use tbr_commands::{Decorator, Opening};
 use tbr_decor::{PlainDecorator, RichDecorator, TrivialDecorator};
 use tbr_headings::Headings;
 use tbr_model::CharWidth;
-use tbr_script::split_line;
+use tbr_script::Lines;
 use tbr_statements::{Problem, Refusal, advice, is_skipped};
 
 /// What is written.
@@ -62,15 +62,16 @@ pub struct Shown {
 pub fn view<W: CharWidth>(alloc: Global, script: &[u8], view: Settings) -> Result<Shown, Refusal>
     ensures { IfOk result (λ shown. IsShown W.columns script.now view (chars_of shown.text)) }
 {
-    let (opening, number, rest) = first_command(alloc, script)?;
+    let mut lines = Lines::of(script);
+    let (opening, number) = first_command(alloc, &mut lines)?;
     let opening = with_settings(opening, view);
     match opening.decorator {
         Decorator::Plain => {
             let decorator = PlainDecorator::new();
-            let (lines, lost, warnings) = run::<_, W>(
-                alloc, opening, decorator, view.width, number, rest,
+            let (shown, lost, warnings) = run::<_, W>(
+                alloc, opening, decorator, view.width, number, lines,
             )?;
-            let text = show::<_, W>(alloc, lines, view.format)?;
+            let text = show::<_, W>(alloc, shown, view.format)?;
             Ok(Shown {
                 text,
                 lost,
@@ -79,10 +80,10 @@ pub fn view<W: CharWidth>(alloc: Global, script: &[u8], view: Settings) -> Resul
         }
         Decorator::Trivial => {
             let decorator = TrivialDecorator::new();
-            let (lines, lost, warnings) = run::<_, W>(
-                alloc, opening, decorator, view.width, number, rest,
+            let (shown, lost, warnings) = run::<_, W>(
+                alloc, opening, decorator, view.width, number, lines,
             )?;
-            let text = show::<_, W>(alloc, lines, view.format)?;
+            let text = show::<_, W>(alloc, shown, view.format)?;
             Ok(Shown {
                 text,
                 lost,
@@ -91,10 +92,10 @@ pub fn view<W: CharWidth>(alloc: Global, script: &[u8], view: Settings) -> Resul
         }
         Decorator::Rich => {
             let decorator = RichDecorator::new();
-            let (lines, lost, warnings) = run::<_, W>(
-                alloc, opening, decorator, view.width, number, rest,
+            let (shown, lost, warnings) = run::<_, W>(
+                alloc, opening, decorator, view.width, number, lines,
             )?;
-            let text = show::<_, W>(alloc, lines, view.format)?;
+            let text = show::<_, W>(alloc, shown, view.format)?;
             Ok(Shown {
                 text,
                 lost,
@@ -123,24 +124,24 @@ fn with_settings(opening: Opening, view: Settings) -> Opening
     }
 }
 
-/// The first command of a script, the number of the line after it, and what follows it.
-fn first_command(alloc: Global, script: &[u8]) -> Result<(Opening, usize, &[u8]), Refusal>
-    ensures begins { IfOk result (λ r. Begins script.now r.0 r.1 r.2.now) }
-    ensures refused { IfErr result (λ e. BeginsNot script.now e) }
+/// The first command of a script, and the number of the line after it. It takes the lines up to that command.
+fn first_command(alloc: Global, lines: &mut Lines<'_>) -> Result<(Opening, usize), Refusal>
+    ensures begins { IfOk result (λ r. Begins lines.old r.0 r.1 lines.new) }
+    ensures refused { IfErr result (λ e. BeginsNot lines.old e) }
     ensures width { IfOk result (λ r. 0 < r.0.width) }
     ensures wrap_width { IfOk result (λ r. r.0.options.wrap_width ≢ Some 0) }
 {
-    let mut rest = script;
     let mut number = 1usize;
-    while !rest.is_empty() {
-        let (line, after) = split_line(rest);
+    while let Some(line) = lines.next() {
         if !is_skipped(line) {
+            let Ok(line) = line else {
+                return Err(advice::not_utf8(alloc, number));
+            };
             let Some(opening) = Opening::parse(line) else {
                 return Err(advice::not_an_opening(alloc, number, line));
             };
-            return Ok((opening, number.saturating_add(1), after));
+            return Ok((opening, number.saturating_add(1)));
         }
-        rest = after;
         number = number.saturating_add(1);
     }
     Err(advice::nothing_there(alloc, number))
@@ -153,7 +154,7 @@ fn run<D: Headings, W: CharWidth>(
     decorator: D,
     set_width: Option<usize>,
     number: usize,
-    script: &[u8],
+    lines: Lines<'_>,
 ) -> Result<
     (
         Vec<RenderLine<Annotations<D::Annotation>>>,
@@ -165,15 +166,13 @@ fn run<D: Headings, W: CharWidth>(
     requires width { 0 < opening.width }
     requires wrap_width { opening.options.wrap_width ≢ Some 0 }
     ensures { IfOk result (λ r. LinesGive W.columns (decoration_of D.TextDecorator D.Annotation.tells)
-        (begun opening decorator) (lines_of script.now) (map line_seen r.0.items)) }
+        (begun opening decorator) (lines_of lines.entry) (map line_seen r.0.items)) }
 {
     let mut session: Session<D, W> = Session::new(alloc, opening, decorator, set_width)?;
-    let mut rest = script;
+    let mut lines = lines;
     let mut number = number;
-    while !rest.is_empty() {
-        let (line, after) = split_line(rest);
+    while let Some(line) = lines.next() {
         session.run_line(number, line)?;
-        rest = after;
         number = number.saturating_add(1);
     }
     session.finish(number)

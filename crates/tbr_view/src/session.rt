@@ -10,6 +10,7 @@ ghost use Rattle.tbr_statements.specs.Level.{innermost, opener_of, may_not_appen
 ghost use Rattle.tbr_view.specs.Session as model;
 ghost use Rattle.tbr_view.specs.Tables.{no_tables, place_of, counted};
 ghost use Rattle.tbr_view.specs.Lines.{begun, Does, DoesOutside, LineDoes, EndsIn};
+ghost use Rattle.tbr_script.specs.Lines.{bytes_of};
 ghost use Rattle.tbr_statements.specs.Statement.{IsSized};
 
 use std::alloc::{AllocError, Global};
@@ -109,16 +110,19 @@ impl<D: Headings, W: CharWidth> Session<D, W> {
 
     /// Does what the line of this number asks for. An empty line and a comment ask for nothing. It refuses where the
     /// line is at fault, and where memory is refused.
-    pub fn run_line(&mut self, number: usize, line: &[u8]) -> Result<(), Refusal>
+    pub fn run_line(&mut self, number: usize, line: Result<&str, &[u8]>) -> Result<(), Refusal>
         requires { GoesOn self.old.program }
         ensures does { OnOk result (LineDoes W.columns (decoration_of D.TextDecorator D.Annotation.tells)
-            (place_of self.old.program self.old.levels.inside.items self.old.tables) line.now
+            (place_of self.old.program self.old.levels.inside.items self.old.tables) (bytes_of line.entry)
             (place_of self.new.program self.new.levels.inside.items self.new.tables)) }
         ensures live { OnOk result (GoesOn self.new.program) }
     {
         if is_skipped(line) {
             return Ok(());
         }
+        let Ok(line) = line else {
+            return Err(advice::not_utf8(self.alloc, number));
+        };
         match Statement::parse(self.alloc, line)? {
             Some(statement) => self.run_statement(number, statement),
             None => Err(advice::not_a_command(self.alloc, number, line)),

@@ -1,10 +1,11 @@
 -- What calls, rows and footnotes add to the lines, piece by piece.
 use Rattle.text_block_renderer.proofs.Common.{◌≡◌, ℕ, Bool, Option, None, List, [], ◌∷◌, ◌++◌, map, flat_map, fold, refl, ap, sym, ◌∙◌, subst, append_assoc, append-nil, arith, rules, AllZip, Each}
 use Rattle.text_block_renderer.proofs.Common.{map-append, map-map, flat_map-append, Outcome, Entry, Item, Border, BorderCell, SeenRow, Decoration, Open, Renderer, with_line, open_run, IsSound, listed}
-use Rattle.text_block_renderer.proofs.Common.{footnote_lines, Line, GivenCell, border_lines, with_next, with_row, PutsRow, before_border, Call, Does, entries_brought, Brings, laid_entries}
+use Rattle.text_block_renderer.proofs.Common.{footnote_lines, Line, GivenCell, border_lines, with_next, with_row, before_border, Call, Does, entries_brought, Brings, laid_entries}
 use Rattle.text_block_renderer.proofs.Common.{text_of_lines, done, told_by, after_flush, Added, part_added, row_added, note_added, notes_add, flush_ends, Part, lines_laid, IsPart, lines_of_part, Act}
 use Rattle.text_block_renderer.proofs.Common.{call, row, fmt_links, finalise, rows_of, after_act, act_enters, acts_enter, Piece, part, put, noted, cells_in, rows_in, border_lines_of, lines_of_piece}
 use Rattle.text_block_renderer.proofs.Common.{entries_of_piece, added_of_piece, act_adds, acts_add, IsPiece, StaysLine, ComesInPieces}
+use Rattle.text_block_renderer.proofs.Common.{PutRow, row_shown}
 use Rattle.std.proofs.lemmas.List.Folds.{flat_map-map}
 use Rattle.tbr_model.specs.Layout.{joined}
 use Rattle.tbr_model.proofs.lists.Each.{each_append, each_map}
@@ -19,7 +20,7 @@ use Rattle.text_block_renderer.proofs.CallMoves.{call_moves}
 use Rattle.text_block_renderer.proofs.LineParts.{part_of_other, course_parts}
 use Rattle.text_block_renderer.proofs.AddedLines.{moves_grow, laid_lines}
 use Rattle.text_block_renderer.proofs.LineContents.{text_of_lines-append}
-use Rattle.text_block_renderer.proofs.ActSteps.{ActStep, after_acts, act_step}
+use Rattle.text_block_renderer.proofs.ActSteps.{after_put, row_to_put, ActStep, after_acts, act_step}
 use Rattle.tbr_renderer.proofs.RowsOfCells.{row_flushes, under_row, row_beside, row_closed}
 use Rattle.text_block_renderer.proofs.LastingLines.{all_stay, stay_on, stay_texts, top_put_back}
 use Rattle.tbr_rows.proofs.Among.{each_gives}
@@ -50,11 +51,8 @@ module _ {D A : Type 0} (columns : ℕ → Option ℕ) where
   row_lines m seen = search (rules, next_lines, lines_beside, laid_lines, append_assoc)
 
   -- lines stay where the border above a row is put in
-  pub top_stays : (collapses : Bool) (cells : List (GivenCell (List A))) (m s : Renderer D A (List A))
-      (puts : PutsRow columns collapses cells m s) → AllZip StaysLine m.lines (under_row m puts.row).lines
-  top_stays collapses cells m s puts =
-      subst (λ (o : Option (Border (List A))). AllZip StaysLine m.lines (before_border m.lines ++ border_lines o))
-      (sym puts.means.upper) (top_put_back collapses puts.means.cells m.lines)
+  pub top_stays : (p : PutRow D A columns) → AllZip StaysLine p.before.lines (under_row p.before (row_shown p)).lines
+  top_stays p = top_put_back p.collapses p.seated p.before.lines
 
   -- ---- what pieces make of lines
 
@@ -135,22 +133,23 @@ module _ {D A : Type 0} (columns : ℕ → Option ℕ) where
         chain = subst (λ rows. Chain columns r.options.draw_borders r.hanging rows s.hanging) (sym (no_rows xs)) (ap (λ (f : Frame A). f.hanging) same);
       }
 
-  row_along : (collapses : Bool) (cells : List (GivenCell (List A))) (m s : Renderer D A (List A)) → m.block ≡ None →
-      s.block ≡ None → (puts : PutsRow columns collapses cells m s) →
-      Along (cells ∷ []) (row_added m collapses cells ∷ []) m (laid_entries (joined puts.row.lines)) s
-  row_along collapses cells m s none closed puts =
-      let seen = puts.row in
-      let same = ap (λ (q : Renderer D A (List A)). beside q) puts.is ∙ row_beside columns m seen in
+  row_along : (p : PutRow D A columns) → p.before.block ≡ None → (after_put columns p).block ≡ None →
+      Along (p.cells ∷ []) (row_added p.before p.collapses p.cells ∷ []) p.before (laid_entries (joined (row_shown p).lines)) (after_put columns p)
+  row_along p none closed =
+      let m : Renderer D A (List A) = p.before in
+      let s : Renderer D A (List A) = after_put columns p in
+      let seen : SeenRow (List A) = row_shown p in
+      let same = row_beside columns m seen in
       let above = before_border m.lines ++ border_lines seen.above in
       let new = lines_laid columns m seen.lines ++ border_lines_of columns m seen.next in
       let es = laid_entries (joined seen.lines) in
       let whole : AllZip StaysLine (m.lines ++ (new ++ [])) s.lines =
-      subst (λ ls. AllZip StaysLine (m.lines ++ (new ++ [])) ls) (sym (ap (λ (q : Renderer D A (List A)). q.lines) puts.is ∙ row_lines m seen))
-      (subst (λ ls. AllZip StaysLine (m.lines ++ ls) (above ++ new)) (sym (append-nil new)) (all_zip_append StaysLine m.lines new above new (top_stays collapses cells m s puts) (all_stay new))) in
-      these m s es (put (record { before = m; after = s; collapses = collapses; cells = cells; puts = puts }) ∷ [])
+      subst (λ ls. AllZip StaysLine (m.lines ++ (new ++ [])) ls) (sym (row_lines m seen))
+      (subst (λ ls. AllZip StaysLine (m.lines ++ ls) (above ++ new)) (sym (append-nil new)) (all_zip_append StaysLine m.lines new above new (top_stays p) (all_stay new))) in
+      these m s es (put p ∷ [])
       (ap (λ (q : Renderer D A (List A)). q.width) same) (ap (λ (q : Renderer D A (List A)). q.options) same) (record { width = refl; options = refl; block = none }, tt) whole
       (ap (λ (o : Option (Open (List A))). open_run o ++ es) none ∙ sym (append-nil es) ∙ sym (append-nil (es ++ [])) ∙ ap (λ (o : Option (Open (List A))). (es ++ []) ++ open_run o) (sym closed))
-      (refl, ap (λ (q : Renderer D A (List A)). q.lines) puts.is ∙ row_lines m seen ∙ ap (λ (o : Option (Border (List A))). (before_border m.lines ++ border_lines o) ++ new) puts.means.upper)
+      (refl, row_lines m seen)
       (refl, refl, ap (λ (q : Renderer D A (List A)). q.hanging) same)
 
   -- one that adds nothing, whatever it makes of the decorator
@@ -180,13 +179,15 @@ module _ {D A : Type 0} (columns : ℕ → Option ℕ) where
         after_act columns decoration (row collapses cells) r ≡ done s →
         (more : List (Item (List A))) × (text_of_lines s.lines ≡ text_of_lines r.lines ++ more)
     texts_only_come collapses cells r s h =
-        let (m, flushed, puts, is, computed) = act_step columns decoration (row collapses cells) r s h in
+        let (m, flushed, seated, are, is, brings) = act_step columns decoration (row collapses cells) r s h in
+        let p : PutRow D A columns = row_to_put columns decoration collapses cells m seated are in
+        let seen : SeenRow (List A) = row_shown p in
         let first = moves_grow columns (flush r ∷ []) r m (m, (refl, row_flushes columns r m flushed), refl) in
-        let new = lines_laid columns m puts.row.lines ++ border_lines_of columns m puts.row.next in (
+        let new = lines_laid columns m seen.lines ++ border_lines_of columns m seen.next in (
           text_of_lines first.0 ++ text_of_lines new,
-          ap (λ (q : Renderer D A (List A)). text_of_lines q.lines) puts.is ∙ ap text_of_lines (row_lines m puts.row) ∙ text_of_lines-append (under_row m puts.row).lines new
+          ap (λ (q : Renderer D A (List A)). text_of_lines q.lines) is ∙ ap text_of_lines (row_lines m seen) ∙ text_of_lines-append (under_row m seen).lines new
               ∙ ap (λ js. js ++ text_of_lines new)
-              (stay_texts m.lines (under_row m puts.row).lines (top_stays collapses cells m s puts)
+              (stay_texts m.lines (under_row m seen).lines (top_stays p)
               ∙ ap text_of_lines first.1 ∙ text_of_lines-append r.lines first.0)
               ∙ append_assoc (text_of_lines r.lines) (text_of_lines first.0) (text_of_lines new),
         )
@@ -203,17 +204,18 @@ module _ {D A : Type 0} (columns : ℕ → Option ℕ) where
     act_along (finalise targets) r s sound h =
         subst (λ (q : Renderer D A (List A)). Along [] [] r [] q) (sym h)
         (asked_along (decoration.after r.decorator (change.finalise (listed r.options targets))) r)
-    act_along (row collapses cells) r s sound h =
-        let (m, flushed, puts, is, computed) = h in
+    act_along (row collapses cells) r s sound (m, flushed, seated, are, is, brings) =
+        let p : PutRow D A columns = row_to_put columns decoration collapses cells m seated are in
+        let q : Renderer D A (List A) = after_put columns p in
         let first = course_along r m [] [] (flush_ends r) (one columns any (flush r) r m (refl, row_flushes columns r m flushed)) sound in
-        let closed = row_closed columns r s (m, flushed, puts.row, puts.is) in
-        let second = row_along collapses cells m s (flushed_none columns r m (row_flushes columns r m flushed)) closed puts in
+        let second = row_along p (flushed_none columns r m (row_flushes columns r m flushed)) (row_closed columns r q (m, flushed, row_shown p, refl)) in
         let ends = map part_added (flush_ends r) in
         let put_it = λ (o : Outcome (Renderer D A (List A))). told_by (λ q. row_added q collapses cells ∷ []) o in
         subst (λ xs. Along (cells ∷ []) (ends ++ xs) r (act_enters columns decoration (row collapses cells) r) s) (sym (ap put_it (live_done r.failure (after_flush columns r) m flushed).1))
-        (subst (λ fs. Along (cells ∷ []) (ends ++ row_added m collapses cells ∷ []) r fs s) (sym is)
-        (along_on [] (cells ∷ []) ends (row_added m collapses cells ∷ []) r m s []
-        (laid_entries (joined puts.row.lines)) first second))
+        (subst (λ fs. Along (cells ∷ []) (ends ++ row_added m collapses cells ∷ []) r fs s) (sym brings)
+        (subst (λ (there : Renderer D A (List A)). Along (cells ∷ []) (ends ++ row_added m collapses cells ∷ []) r (laid_entries (joined (row_shown p).lines)) there) (sym is)
+        (along_on [] (cells ∷ []) ends (row_added m collapses cells ∷ []) r m q []
+        (laid_entries (joined (row_shown p).lines)) first second)))
 
     pub acts_along : (acts : List (Act A)) (r s : Renderer D A (List A)) → IsSound columns r →
         after_acts columns decoration acts r ≡ done s →

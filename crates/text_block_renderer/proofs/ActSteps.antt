@@ -1,23 +1,43 @@
 -- Calls and rows one by one: each is a call, or a row that is put after a flush.
-use Rattle.text_block_renderer.proofs.Common.{◌≡◌, ℕ, Option, Some, List, [], ◌∷◌, ◌++◌, map, append-nil, append_assoc, subst, ap, sym, ◌∙◌, arith, pointwise, Entry, MeansRow, TellsApart, Decoration}
-use Rattle.text_block_renderer.proofs.Common.{Outcome, done, if_live, last_border, Renderer, after_flush, listed, with_footnotes, and_then, run, told_by, style_in, PutsRow, cells_from, Call, Does}
+use Rattle.text_block_renderer.proofs.Common.{◌≡◌, ℕ, Option, Some, List, [], ◌∷◌, ◌++◌, map, append-nil, append_assoc, subst, ap, sym, ◌∙◌, arith, pointwise, Entry, Decoration}
+use Rattle.text_block_renderer.proofs.Common.{Outcome, done, if_live, Renderer, after_flush, listed, with_footnotes, and_then, run, told_by, Call, Does}
 use Rattle.text_block_renderer.proofs.Common.{Steps, after, entries_brought, brought, laid_entries, Act, call, row, fmt_links, finalise, after_act, row_seen, texts_of_row, act_brought, act_comes}
 use Rattle.text_block_renderer.proofs.Common.{acts_come}
+use Rattle.text_block_renderer.proofs.Common.{Bool, option_map, GivenCell, with_hanging, own_cells, row_seated, with_row, PutRow, row_shown}
 use Rattle.tbr_model.specs.Layout.{joined}
-use Rattle.tbr_rows.proofs.ComputedRow.{computed}
+use Rattle.tbr_rows.specs.declared.LineSet.{LineSet as Cell}
+use Rattle.tbr_annotations.proofs.Told.{annotations_tell}
 use Rattle.tbr_decor.specs.Change as change
 use Rattle.tbr_tagged.proofs.Outcomes.{live_done}
 use Rattle.tbr_renderer.proofs.OutcomeParts.{one_done, done_first, run_last}
-use Rattle.tbr_renderer.proofs.ComputedRows.{lists_apart, cells_come, cells_side_by_side, one_own, row_computed}
+use Rattle.tbr_renderer.proofs.RowsOfCells.{row_parts}
+
+-- what a row leaves
+abbrev pub after_put : {D A : Type 0} (columns : ℕ → Option ℕ) → PutRow D A columns → Renderer D A (List A)
+after_put columns p = with_row columns p.before (row_shown p)
 
 module _ {D A : Type 0} (columns : ℕ → Option ℕ) (decoration : Decoration D A) where
+  -- a row of these cells, which have their places in a renderer
+  abbrev pub row_to_put : (collapses : Bool) (cells : List (GivenCell (List A))) (m : Renderer D A (List A)) (seated : List (Cell (List A))) →
+      with_hanging 0 m.hanging (own_cells (pointwise decoration.same) columns cells m) ≡ Some seated → PutRow D A columns
+  row_to_put collapses cells m seated are = record {
+    same = pointwise decoration.same;
+    tells = annotations_tell decoration.same decoration.tells;
+    before = m;
+    collapses = collapses;
+    cells = cells;
+    seated = seated;
+    are_seated = are;
+  }
+
   -- one that succeeds; of a row, what it brings
   abbrev pub ActStep : Act A → Renderer D A (List A) → Renderer D A (List A) → Type 0
   ActStep (call c) r s = Does columns decoration c r s
   ActStep (row collapses cells) r s =
-      (m : Renderer D A (List A)) × (if_live r.failure (after_flush columns r) ≡ done m)
-      × (puts : PutsRow columns collapses cells m s) × (act_brought columns decoration (row collapses cells) r ≡ laid_entries (joined puts.row.lines))
-      × (row_seen columns decoration collapses cells m ≡ Some puts.row)
+      (m : Renderer D A (List A)) × (if_live r.failure (after_flush columns r) ≡ done m) × (seated : List (Cell (List A)))
+      × (are : with_hanging 0 m.hanging (own_cells (pointwise decoration.same) columns cells m) ≡ Some seated)
+      × (s ≡ after_put columns (row_to_put collapses cells m seated are))
+      × (act_brought columns decoration (row collapses cells) r ≡ laid_entries (joined (row_shown (row_to_put collapses cells m seated are)).lines))
   ActStep (fmt_links links) r s = s ≡ with_footnotes columns r links
   ActStep (finalise targets) r s = s ≡ record r { decorator = decoration.after r.decorator (change.finalise (listed r.options targets)) }
 
@@ -28,20 +48,16 @@ module _ {D A : Type 0} (columns : ℕ → Option ℕ) (decoration : Decoration 
   act_step (call c) r s h = h
   act_step (row collapses cells) r s h =
       let same = pointwise decoration.same in
-      let tells : TellsApart same = lists_apart decoration.same decoration.tells in
-      let (m, flushed, puts) = (row_computed same tells columns collapses cells r s).1 h in
-      let own = cells_from same columns m.annotations 0 cells in
-      let come = cells_come same tells columns m.annotations 0 cells in
-      let there = one_own columns m.annotations 0 cells puts.own own puts.come come puts.side_by_side (cells_side_by_side same tells columns m.annotations 0 cells) in
-      let means = subst (λ cs. MeansRow columns (style_in m collapses) m.annotations m.hanging cs (last_border m.lines) puts.row) there puts.means in
-      let seen = (computed same tells columns (style_in m collapses) m.annotations m.hanging own (last_border m.lines) puts.row).0 means in (
+      let (m, flushed, seated, are, is) = row_parts same columns collapses cells r s h in (
         m,
         flushed,
-        puts,
+        seated,
+        are,
+        is,
         ap
             (told_by (λ q. texts_of_row columns decoration (row_seen columns decoration collapses cells q)))
-            (live_done r.failure (after_flush columns r) m flushed).1 ∙ ap (texts_of_row columns decoration) seen,
-        seen,
+            (live_done r.failure (after_flush columns r) m flushed).1
+            ∙ ap (λ o. texts_of_row columns decoration (option_map (row_seated same columns collapses m) o)) are,
       )
   act_step (fmt_links links) r s h = one_done (with_footnotes columns r links) s (live_done r.failure (done (with_footnotes columns r links)) s h).1
   act_step (finalise targets) r s h = grind (arith, one_done, live_done)

@@ -1,14 +1,20 @@
 -- The visible characters and the markers of a cell are in the lines of the rows that it spans, and in the borders between them, whatever its width.
 use Rattle.text_block_renderer.proofs.Common.{◌≡◌, ℕ, zero, suc, ◌+◌, ◌-◌, ◌<◌, ◌≤◌, ◌⊎◌, inl, inr, is_none, Bool, true, false, if◌then◌else◌, Option, Some, None, List, [], ◌∷◌, ◌++◌, map, flat_map}
-use Rattle.text_block_renderer.proofs.Common.{take, drop, length, refl, ap, sym, ◌∙◌, subst, arith, append_assoc, append-nil, rules, nat_lt, AllZip, cond_both, ltb-true, map-append, flat_map-append}
+use Rattle.text_block_renderer.proofs.Common.{take, drop, length, refl, ap, sym, ◌∙◌, subst, arith, append_assoc, append-nil, rules, nat_lt, cond_both, ltb-true, map-append, flat_map-append}
 use Rattle.text_block_renderer.proofs.Common.{Item, items_width, glyph, Border, shown, RenderLine, CellAlign, Element, text_items, spaces, columns_in_front, cell_height, first_line, StandsAmong}
-use Rattle.text_block_renderer.proofs.Common.{IsGapOf, HasGapIf, HasGaps, SeenRow, MeansRow, part_of, later_of, Meeting, met, meeting, as_lines, merged_first, merged_last, first_mergeable}
-use Rattle.text_block_renderer.proofs.Common.{without_first_border, separator_in, cells_left, before_border, Line, text, border, Renderer, line_padding, GivenCell, FillsCell, ComesAs, PutsRow}
+use Rattle.text_block_renderer.proofs.Common.{SeenRow, part_of, later_of, Meeting, met, meeting, as_lines, merged_first, merged_last, first_mergeable}
+use Rattle.text_block_renderer.proofs.Common.{without_first_border, separator_in, before_border, Line, text, border, Renderer, line_padding, GivenCell}
 use Rattle.text_block_renderer.proofs.Common.{border_lines, border_lines_of, lines_laid, StandWithin, text_before, written, to_show}
+use Rattle.text_block_renderer.proofs.Common.{fold, TellsApart, gap_of, gap_in, with_gap, row_under, shown_in, left_in, next_begun, plain_border}
+use Rattle.text_block_renderer.proofs.Common.{filled, cells_from, cell_from, own_cells, PutRow, row_shown, style_in, last_border}
 use Rattle.tbr_model.specs.Layout.{joined}
 use Rattle.tbr_model.proofs.lists.Joined.{joined-append}
 use Rattle.tbr_border.specs.declared.RenderLine.TheVariants.{Text, Line as Rule}
 use Rattle.tbr_tagged.specs.Elements.{items_of}
+use Rattle.tbr_tagged.specs.Padding.{aligned_items}
+use Rattle.tbr_rows.specs.Stretches.{longest}
+use Rattle.tbr_rows.specs.Cells.{row_width}
+use Rattle.tbr_rows.proofs.Stretches.{longest_items}
 use Rattle.tbr_rows.specs.declared.LineSet.{LineSet as Cell}
 use Rattle.tbr_rows.specs.declared.RowStyle.{RowStyle}
 use Rattle.tbr_rows.specs.Gaps.{cell_in, has_gap, with_element, with_elements, overhang_of, overhang}
@@ -21,16 +27,8 @@ use Rattle.tbr_rows.proofs.CellsSeated.{among_own}
 use Rattle.text_block_renderer.proofs.Within.{within_on, two_within, itself_within, middle_within, after_within, before_within}
 use Rattle.text_block_renderer.proofs.Written.{written-append, stays_written, border_shown, laid_within}
 use Rattle.tbr_renderer.proofs.RowsOfCells.{row_beside}
+use Rattle.text_block_renderer.proofs.ActSteps.{after_put}
 use Rattle.text_block_renderer.proofs.ActParts.{row_lines, top_stays}
-
--- what is among the items of a list has something among those of the other
-among_zip : {X Y : Type 0} (R : X → Y → Type 0) (x : X) (xs : List X) (ys : List Y) → AllZip R xs ys → StandsAmong x xs → (y : Y) × StandsAmong y ys × R x y
-among_zip R x [] ys all h = absurd (none_among x h)
-among_zip R x (z ∷ xs) [] all h = absurd all
-among_zip R x (z ∷ xs) (y ∷ ys) all h = elim (among_cons x z xs h) [
-  | inl same ↦ (y, ([], ys, refl), subst (λ v. R v y) (sym same) all.0)
-  | inr there ↦ let (w, among, is) = among_zip R x xs ys all.1 there in (w, among_front w y ys among, is)
-]
 
 -- one more of the first items
 one_more : {X : Type 0} (n : ℕ) (xs : List X) → take (suc n) xs ≡ take n xs ++ take 1 (drop n xs)
@@ -108,43 +106,9 @@ module _ {T : Type 0} (columns : ℕ → Option ℕ) (a : T) where
   put_written place b [] = sym (append-nil (text_before b))
   put_written place b (e ∷ es) = grind (arith, flat_map-append, append-nil, append_assoc, put_written place (with_element columns place b e) es)
 
-  -- a cell's line in it says what the line says
-  gap_within : (width : ℕ) (ls : List (RenderLine T)) (es : List (Element T)) → IsGapOf a width (first_line ls) es → StandWithin (seen (items_in (take 1 ls))) (seen (items_of es))
-  gap_within width [] es h = tt
-  gap_within width (Text line ∷ ls) es h = subst (λ xs. StandWithin (seen (items_in (Text line ∷ []))) (seen (items_of xs))) (sym h) (line_within (Text line))
-  gap_within width (Rule b ∷ ls) es h =
-      subst (λ is. StandWithin (seen (items_in (Rule b ∷ []))) (seen is)) (sym h.0)
-      (subst (λ is. StandWithin (seen is) (seen (shown b.tag b))) (sym (append-nil (text_before b))) (border_shown columns b.tag b))
-
-  one_gap : (gap : Bool) (d : Cell T) (b m : Border T) → HasGapIf gap columns a d b m →
-      (more : List (Item T)) × (text_before m ≡ text_before b ++ more) × StandWithin (seen (items_in (if gap then take 1 d.lines else []))) (seen more)
-  one_gap false d b m h = ([], ap (λ (x : Border T). text_before x) h ∙ sym (append-nil (text_before b)), tt)
-  one_gap true d b m (es, is, put) = (items_of es, ap (λ (x : Border T). text_before x) put ∙ put_written d.place b es, gap_within d.width d.lines es is)
-
   -- what is in the border below of a cell that spans rows
   abbrev in_gap : Bool → Cell T → List (Item T)
   in_gap draws d = items_in (if has_gap draws d then take 1 d.lines else [])
-
-  gaps_within : (draws : Bool) (ds : List (Cell T)) (b full : Border T) → HasGaps draws columns a ds b full →
-      (more : List (Item T)) × (text_before full ≡ text_before b ++ more) × ((d : Cell T) → StandsAmong d ds → StandWithin (seen (in_gap draws d)) (seen more))
-  gaps_within draws [] b full h = ([], ap (λ (x : Border T). text_before x) h ∙ sym (append-nil (text_before b)), λ d among. absurd (none_among d among))
-  gaps_within draws (e ∷ ds) b full (m, here, others) =
-      let (one, is, within) = one_gap (has_gap draws e) e b m here in
-      let (more, are, each) = gaps_within draws ds m full others in (
-        one ++ more,
-        are ∙ ap (λ js. js ++ more) is ∙ append_assoc (text_before b) one more,
-        λ d among. elim (among_cons d e ds among) [
-          | inl same ↦ subst (λ c. StandWithin (seen (in_gap draws c)) (seen (one ++ more))) (sym same) (before_within columns (in_gap draws e) one more within)
-          | inr there ↦ after_within columns one (in_gap draws d) more (each d there)
-        ],
-      )
-
-  below_within : (draws : Bool) (d : Cell T) (cs : List (Cell T)) (b full : Border T) → StandsAmong d cs → HasGaps draws columns a cs b full →
-      StandWithin (seen (in_gap draws d)) (seen (below (if draws then Some full else None)))
-  below_within false d cs b full among gaps = tt
-  below_within true d cs b full among gaps =
-      let (more, is, each) = gaps_within true cs b full gaps in
-      subst (λ js. StandWithin (seen (in_gap true d)) (seen js)) (sym is) (after_within columns (text_before b) (in_gap true d) more (each d among))
 
   -- ---- a cell in a row
 
@@ -167,62 +131,119 @@ module _ {T : Type 0} (columns : ℕ → Option ℕ) (a : T) where
           let hangs = ap (overhang draws) is ∙ flat_map-append (overhang_of draws) front (d ∷ back) ∙ ap (λ s. before ++ ((if s then next ∷ [] else []) ++ after)) e in
           inr (next, (before, after, hangs), sym (append-nil next.lines), omega (arith, more), omega (arith, more))
 
-  -- a row's lines and the text in front of the border below it have what a cell shows, but for what is left
-  cell_shown : (style : RowStyle) (hanging own : List (Cell T)) (top : Option (Border T)) (row : SeenRow T)
-      (means : MeansRow columns style a hanging own top row) (c : Cell T) → StandsAmong c means.cells →
-      (rest : List (RenderLine T)) × IsLeft c.span rest row.overhang × StandWithin (seen (items_in c.lines)) (seen ((joined row.lines ++ below row.next) ++ items_in rest))
-  cell_shown style hanging own top row means c among =
-      let height = row_height means.shown in
-      let draws = style.draws_borders in
-      let k = column_of style.collapses top c in
-      let shown : StandsAmong k means.shown =
-      subst (StandsAmong k) (sym (means.shown_is ∙ columns_are style.collapses top means.cells))
-      (among_map (column_of style.collapses top) c means.cells among) in
-      let high : cell_height k.cell ≤ height = each_among _ k means.shown shown (row_is_high_enough means.shown) in
-      let d : Cell T = cell_in (dropped height k) in
-      let stands = among_map cell_in (dropped height k) (map (dropped height) means.shown) (among_map (dropped height) k means.shown shown) in
-      let first = items_in (take height k.cell.lines) in
-      let gap = in_gap draws d in
-      let rest = later_of draws height k.cell in
-      let here = joined row.lines ++ below row.next in
-      let separator : Item T = glyph (separator_in style) a in
-      let line_has = λ (i : ℕ). within_on (seen (items_in (take 1 (drop i k.cell.lines)))) (seen (cell_text a i k)) (seen (line_text separator a means.shown i))
-      (one_within (cell_shows a k) (λ l more. refl) (drop i k.cell.lines)) (text_among separator (cell_text a i k) (map (cell_text a i) means.shown) (among_map (cell_text a i) k means.shown shown)) in
-      let in_lines : StandWithin (seen first) (seen (joined row.lines)) = grind (arith, lines_within) in
-      let in_border : StandWithin (seen gap) (seen (below row.next)) =
-      subst (λ o. StandWithin (seen gap) (seen (below o))) (sym means.lower) (below_within draws d (cells_left height means.shown) _ means.full stands means.gaps) in
-      let all : (first ++ gap) ++ items_in rest ≡ items_in c.lines =
-      ap (λ is. is ++ items_in rest)
-      (sym (flat_map-append said (take height k.cell.lines) (if has_gap draws d then take 1 d.lines else [])))
-      ∙ sym (flat_map-append said (part_of draws height k.cell) rest)
-      ∙ ap items_in (part_and_later draws height k.cell high) ∙ ap (λ (x : Cell T). items_in x.lines) (cell_is style.collapses top height c) ∙ met_written (meeting style.collapses top height) c in (
-        rest,
-        subst (λ n. IsLeft n rest row.overhang) (span_stays style.collapses top height c) (subst (IsLeft d.span rest) (sym means.rest) (later_left draws d (cells_left height means.shown) stands)),
-        subst (λ js. StandWithin (seen js) (seen (here ++ items_in rest))) all
-            (two_within columns (first ++ gap) (items_in rest) here (items_in rest) (two_within columns first gap (joined row.lines) (below row.next) in_lines in_border) (itself_within columns (items_in rest))),
-      )
+  module _ (same : T → T → Bool) (tells : TellsApart same) where
+    -- a cell's line in the border says what the line says
+    line_in_gap : (width : ℕ) (ls : List (RenderLine T)) → StandWithin (seen (items_in (take 1 ls))) (seen (items_of (gap_of same a width (first_line ls))))
+    line_in_gap width [] = tt
+    line_in_gap width (Text line ∷ ls) = line_within (Text line)
+    line_in_gap width (Rule b ∷ ls) =
+        subst (λ is. StandWithin (seen (items_in (Rule b ∷ []))) (seen is)) (sym (longest_items same tells (shown b.tag b)))
+        (subst (λ is. StandWithin (seen is) (seen (shown b.tag b))) (sym (append-nil (text_before b))) (border_shown columns b.tag b))
 
-  -- ---- what comes into the cell
+    gap_within : (draws : Bool) (d : Cell T) → StandWithin (seen (in_gap draws d)) (seen (items_of (gap_in same draws a d)))
+    gap_within draws d = go (has_gap draws d)
+      where
+        go : (gap : Bool) → StandWithin (seen (items_in (if gap then take 1 d.lines else []))) (seen (items_of (if gap then gap_of same a d.width (first_line d.lines) else [])))
+        go true = line_in_gap d.width d.lines
+        go false = tt
 
-  filled_within : (align : CellAlign) (width : ℕ) (lines : List (Line T)) (filled : List (RenderLine T)) →
-      AllZip (FillsCell columns align width a) lines filled →
-      StandWithin (seen (written lines)) (seen (items_in filled))
-  filled_within align width [] [] h = tt
-  filled_within align width (text is ∷ ls) (Text es ∷ fs) h =
-      let missing = width - items_width columns is in
-      let front : List (Item T) = text_items (spaces (columns_in_front align missing)) a in
-      let back : List (Item T) = text_items (spaces (missing - columns_in_front align missing)) a in
-      let are : front ++ (is ++ back) ≡ items_of es = sym (append_assoc front is back) ∙ sym h.0.0 in
-      two_within columns is (written ls) (items_of es) (items_in fs)
-      (subst (λ js. StandWithin (seen is) (seen js)) are (middle_within columns front is back))
-      (filled_within align width ls fs h.1)
-  filled_within align width (border b ∷ ls) (Rule c ∷ fs) h =
-      let same : text_before c ≡ text_before b = ap (λ (d : Border T). text_before d) h.0 in
-      two_within columns (text_before b) (written ls) (text_before c) (items_in fs)
-      (subst (λ is. StandWithin (seen (text_before b)) (seen is)) (sym same) (itself_within columns (text_before b)))
-      (filled_within align width ls fs h.1)
-  filled_within align width (l ∷ ls) (f ∷ fs) h = absurd h.0
-  filled_within align width ls fs h = absurd h
+    gaps_within : (draws : Bool) (ds : List (Cell T)) (b : Border T) → (more : List (Item T)) × (text_before (fold (with_gap same columns draws a) b ds) ≡ text_before b ++ more)
+        × ((d : Cell T) → StandsAmong d ds → StandWithin (seen (in_gap draws d)) (seen more))
+    gaps_within draws [] b = ([], sym (append-nil (text_before b)), λ d among. absurd (none_among d among))
+    gaps_within draws (e ∷ ds) b =
+        let one : List (Item T) = items_of (gap_in same draws a e) in
+        let (more, are, each) = gaps_within draws ds (with_gap same columns draws a b e) in (
+          one ++ more,
+          are ∙ ap (λ js. js ++ more) (put_written e.place b (gap_in same draws a e)) ∙ append_assoc (text_before b) one more,
+          λ d among. elim (among_cons d e ds among) [
+            | inl is ↦ subst (λ c. StandWithin (seen (in_gap draws c)) (seen (one ++ more))) (sym is) (before_within columns (in_gap draws e) one more (gap_within draws e))
+            | inr there ↦ after_within columns one (in_gap draws d) more (each d there)
+          ],
+        )
+
+    below_within : (draws : Bool) (d : Cell T) (cs : List (Cell T)) (b : Border T) → StandsAmong d cs →
+        StandWithin (seen (in_gap draws d)) (seen (below (if draws then Some (fold (with_gap same columns draws a) b cs) else None)))
+    below_within false d cs b among = tt
+    below_within true d cs b among =
+        let (more, is, each) = gaps_within true cs b in
+        subst (λ js. StandWithin (seen (in_gap true d)) (seen js)) (sym is) (after_within columns (text_before b) (in_gap true d) more (each d among))
+
+    abbrev row_with : RowStyle → Option (Border T) → List (Cell T) → SeenRow T
+    row_with style top cells = row_under same columns style a top cells
+
+    -- its lines and the text in front of the border below it have what a cell shows, but for what is left
+    cell_shown : (style : RowStyle) (top : Option (Border T)) (cells : List (Cell T)) (c : Cell T) → StandsAmong c cells →
+        (rest : List (RenderLine T)) × IsLeft c.span rest (row_with style top cells).overhang
+        × StandWithin (seen (items_in c.lines)) (seen ((joined (row_with style top cells).lines ++ below (row_with style top cells).next) ++ items_in rest))
+    cell_shown style top cells c among =
+        let row : SeenRow T = row_with style top cells in
+        let columns_in = shown_in style top cells in
+        let height = row_height columns_in in
+        let draws = style.draws_borders in
+        let k = column_of style.collapses top c in
+        let stands_in : StandsAmong k columns_in =
+        subst (StandsAmong k) (sym (columns_are style.collapses top cells))
+        (among_map (column_of style.collapses top) c cells among) in
+        let high : cell_height k.cell ≤ height = each_among _ k columns_in stands_in (row_is_high_enough columns_in) in
+        let d : Cell T = cell_in (dropped height k) in
+        let stands = among_map cell_in (dropped height k) (map (dropped height) columns_in) (among_map (dropped height) k columns_in stands_in) in
+        let first = items_in (take height k.cell.lines) in
+        let gap = in_gap draws d in
+        let rest = later_of draws height k.cell in
+        let here = joined row.lines ++ below row.next in
+        let separator : Item T = glyph (separator_in style) a in
+        let line_has = λ (i : ℕ). within_on (seen (items_in (take 1 (drop i k.cell.lines)))) (seen (cell_text a i k)) (seen (line_text separator a columns_in i))
+        (one_within (cell_shows a k) (λ l more. refl) (drop i k.cell.lines))
+        (text_among separator (cell_text a i k) (map (cell_text a i) columns_in) (among_map (cell_text a i) k columns_in stands_in)) in
+        let in_lines : StandWithin (seen first) (seen (joined row.lines)) = lines_within k.cell.lines (line_text separator a columns_in) line_has height in
+        let in_border : StandWithin (seen gap) (seen (below row.next)) =
+        below_within draws d (left_in style top cells) (next_begun style top cells (plain_border (row_width cells) a)) stands in
+        let all : (first ++ gap) ++ items_in rest ≡ items_in c.lines =
+        ap (λ is. is ++ items_in rest)
+        (sym (flat_map-append said (take height k.cell.lines) (if has_gap draws d then take 1 d.lines else [])))
+        ∙ sym (flat_map-append said (part_of draws height k.cell) rest)
+        ∙ ap items_in (part_and_later draws height k.cell high) ∙ ap (λ (x : Cell T). items_in x.lines) (cell_is style.collapses top height c) ∙ met_written (meeting style.collapses top height) c in (
+          rest,
+          subst (λ n. IsLeft n rest row.overhang) (span_stays style.collapses top height c) (later_left draws d (left_in style top cells) stands),
+          subst (λ js. StandWithin (seen js) (seen (here ++ items_in rest))) all
+              (two_within columns (first ++ gap) (items_in rest) here (items_in rest)
+              (two_within columns first gap (joined row.lines) (below row.next) in_lines in_border) (itself_within columns (items_in rest))),
+        )
+
+    -- ---- what comes into the cell
+
+    filled_within : (align : CellAlign) (width : ℕ) (lines : List (Line T)) → StandWithin (seen (written lines)) (seen (items_in (map (filled same columns align width a) lines)))
+    filled_within align width [] = tt
+    filled_within align width (text is ∷ ls) =
+        let missing = width - items_width columns is in
+        let front : List (Item T) = text_items (spaces (columns_in_front align missing)) a in
+        let back : List (Item T) = text_items (spaces (missing - columns_in_front align missing)) a in
+        let es : List (Element T) = longest same (aligned_items align is missing a) in
+        let are : front ++ (is ++ back) ≡ items_of es = sym (append_assoc front is back) ∙ sym (longest_items same tells (aligned_items align is missing a)) in
+        two_within columns is (written ls) (items_of es) (items_in (map (filled same columns align width a) ls))
+        (subst (λ js. StandWithin (seen is) (seen js)) are (middle_within columns front is back))
+        (filled_within align width ls)
+    filled_within align width (border b ∷ ls) =
+        two_within columns (text_before b) (written ls) (text_before b) (items_in (map (filled same columns align width a) ls)) (itself_within columns (text_before b)) (filled_within align width ls)
+
+    -- a cell that comes is among the row's own
+    comes_among : (given : GivenCell T) (at : ℕ) (cells : List (GivenCell T)) → StandsAmong given cells →
+        (c : Cell T) × StandsAmong c (cells_from same columns a at cells) × (c.span ≡ given.span) × (c.lines ≡ map (filled same columns given.align given.width a) given.lines)
+    comes_among given at [] h = absurd (none_among given h)
+    comes_among given at (g ∷ gs) h =
+        let here : Cell T = cell_from same columns a at g in
+        let rest : List (Cell T) = cells_from same columns a (at + g.width + 1) gs in
+        elim (among_cons given g gs h) [
+          | inl is ↦ (
+            here,
+            ([], rest, refl),
+            ap (λ (k : GivenCell T). k.span) (sym is),
+            ap (λ (k : GivenCell T). map (filled same columns k.align k.width a) k.lines) (sym is),
+          )
+          | inr there ↦
+              let (c, among, span, lines) = comes_among given (at + g.width + 1) gs there in
+              (c, among_front c here rest among, span, lines)
+        ]
 
 module _ {D A : Type 0} (columns : ℕ → Option ℕ) where
   -- the border below a row says what is in front of it
@@ -234,25 +255,24 @@ module _ {D A : Type 0} (columns : ℕ → Option ℕ) where
       (λ e. before_within columns (text_before b) (is ++ line_padding columns r is) [] (before_within columns (text_before b) is (line_padding columns r is) (border_shown columns b.tag b)))
       (λ e. before_within columns (text_before b) (text_before b) [] (itself_within columns (text_before b)))
 
-  module _ (collapses : Bool) (cells : List (GivenCell (List A))) (m s : Renderer D A (List A)) (puts : PutsRow columns collapses cells m s) where
-    -- a row writes its lines after what there was, and then what is in front of the border below
-    pub row_adds : (more : List (Item (List A))) × (written s.lines ≡ written m.lines ++ more) × StandWithin
-        (to_show columns (joined puts.row.lines ++ below columns m.annotations puts.row.next))
-        (to_show columns more)
-    row_adds =
-        let row = puts.row in
-        let top : List (Line (List A)) = before_border m.lines ++ border_lines row.above in
-        let laid = lines_laid columns m row.lines in
-        let last = border_lines_of columns m row.next in
-        let texts = laid_within columns m row.lines in (
-          written laid ++ written last,
-          ap (λ (q : Renderer D A (List A)). written q.lines) puts.is ∙ ap written (row_lines columns m row)
-              ∙ written-append top (laid ++ last)
-              ∙ ap (λ is. is ++ written (laid ++ last))
-              (stays_written m.lines top (top_stays columns collapses cells m s puts))
-              ∙ ap (λ is. written m.lines ++ is) (written-append laid last),
-          two_within columns (joined row.lines) (below columns m.annotations row.next) (written laid) (written last) texts (border_within m row.next),
-        )
+  -- a row writes its lines after what there was, and then what is in front of the border below
+  pub row_adds : (p : PutRow D A columns) → (more : List (Item (List A))) × (written (after_put columns p).lines ≡ written p.before.lines ++ more)
+      × StandWithin (to_show columns (joined (row_shown p).lines ++ below columns p.before.annotations (row_shown p).next)) (to_show columns more)
+  row_adds p =
+      let m : Renderer D A (List A) = p.before in
+      let row : SeenRow (List A) = row_shown p in
+      let top : List (Line (List A)) = before_border m.lines ++ border_lines row.above in
+      let laid = lines_laid columns m row.lines in
+      let last = border_lines_of columns m row.next in
+      let texts = laid_within columns m row.lines in (
+        written laid ++ written last,
+        ap written (row_lines columns m row)
+            ∙ written-append top (laid ++ last)
+            ∙ ap (λ is. is ++ written (laid ++ last))
+            (stays_written m.lines top (top_stays columns p))
+            ∙ ap (λ is. written m.lines ++ is) (written-append laid last),
+        two_within columns (joined row.lines) (below columns m.annotations row.next) (written laid) (written last) texts (border_within m row.next),
+      )
 
   -- Items stand in what is written, or what is left of them is in a cell that overhangs for some rows yet.
   abbrev pub Follows : List (Item (List A)) → ℕ → Renderer D A (List A) → Type 0
@@ -261,40 +281,48 @@ module _ {D A : Type 0} (columns : ℕ → Option ℕ) where
       ((c : Cell (List A)) × StandsAmong c r.hanging × (1 ≤ c.span) × (c.span ≤ rows) × StandWithin us
       (to_show columns (written r.lines ++ items_in c.lines)))
 
-  module _ (collapses : Bool) (cells : List (GivenCell (List A))) (m s : Renderer D A (List A)) (puts : PutsRow columns collapses cells m s) (us : List (Item (List A))) (rows : ℕ) where
-    -- through a row
-    pub row_follows : (c : Cell (List A)) → StandsAmong c puts.means.cells → c.span ≤ suc rows → StandWithin us (to_show columns (written m.lines ++ items_in c.lines)) → Follows us rows s
-    row_follows c among few within =
-        let (more, is, shows) = row_adds collapses cells m s puts in
-        let row = puts.row in
-        let (rest, left, inside) = cell_shown columns m.annotations _ _ _ _ row puts.means c among in
-        let there = below columns m.annotations row.next in
-        let is_rest = items_in rest in
-        let own : StandWithin (to_show columns (items_in c.lines)) (to_show columns (more ++ is_rest)) = search (rules, within_on, two_within, itself_within) in
-        let both = two_within columns (written m.lines) (items_in c.lines) (written m.lines) (more ++ is_rest) (itself_within columns (written m.lines)) own in
-        let all : StandWithin us (to_show columns (written s.lines ++ is_rest)) = grind (arith, append_assoc, within_on) in
-        elim left [
-          | inl none ↦ inl (subst (λ js. StandWithin us (to_show columns js)) (ap (λ ls. written s.lines ++ items_in ls) none ∙ append-nil (written s.lines)) all)
-          | inr (d, hangs, are, some, spans) ↦
-              let hanging : s.hanging ≡ row.overhang = ap (λ (q : Renderer D A (List A)). q.hanging) puts.is ∙ ap (λ (q : Renderer D A (List A)). q.hanging) (row_beside columns m row) in
-              inr (d, subst (StandsAmong d) (sym hanging) hangs, some, omega (arith, spans, few), subst (λ ls. StandWithin us (to_show columns (written s.lines ++ items_in ls))) (sym are) all)
-        ]
+  -- through a row
+  pub row_follows : (p : PutRow D A columns) (us : List (Item (List A))) (rows : ℕ) (c : Cell (List A)) → StandsAmong c p.seated → c.span ≤ suc rows →
+      StandWithin us (to_show columns (written p.before.lines ++ items_in c.lines)) → Follows us rows (after_put columns p)
+  row_follows p us rows c among few within =
+      let m : Renderer D A (List A) = p.before in
+      let s : Renderer D A (List A) = after_put columns p in
+      let row : SeenRow (List A) = row_shown p in
+      let (more, is, shows) = row_adds p in
+      let (rest, left, inside) = cell_shown columns m.annotations p.same p.tells (style_in m p.collapses) (last_border m.lines) p.seated c among in
+      let there = below columns m.annotations row.next in
+      let is_rest = items_in rest in
+      let own =
+      within_on (to_show columns (items_in c.lines)) (to_show columns ((joined row.lines ++ there) ++ is_rest)) (to_show columns (more ++ is_rest)) inside
+      (two_within columns (joined row.lines ++ there) is_rest more is_rest shows (itself_within columns is_rest)) in
+      let both = two_within columns (written m.lines) (items_in c.lines) (written m.lines) (more ++ is_rest) (itself_within columns (written m.lines)) own in
+      let all : StandWithin us (to_show columns (written s.lines ++ is_rest)) =
+      subst (λ js. StandWithin us (to_show columns js)) (sym (ap (λ js. js ++ is_rest) is ∙ append_assoc (written m.lines) more is_rest))
+      (within_on us (to_show columns (written m.lines ++ items_in c.lines)) (to_show columns (written m.lines ++ (more ++ is_rest))) within both) in
+      elim left [
+        | inl none ↦ inl (subst (λ js. StandWithin us (to_show columns js)) (ap (λ ls. written s.lines ++ items_in ls) none ∙ append-nil (written s.lines)) all)
+        | inr (d, hangs, are, some, spans) ↦
+            let hanging : s.hanging ≡ row.overhang = ap (λ (q : Renderer D A (List A)). q.hanging) (row_beside columns m row) in
+            inr (d, subst (StandsAmong d) (sym hanging) hangs, some, omega (arith, spans, few), subst (λ ls. StandWithin us (to_show columns (written s.lines ++ items_in ls))) (sym are) all)
+      ]
 
   -- and from where a row takes a cell
-  pub cell_follows : (collapses : Bool) (cells : List (GivenCell (List A))) (m s : Renderer D A (List A)) →
-      PutsRow columns collapses cells m s → (rows : ℕ) (cell : GivenCell (List A)) → StandsAmong cell cells →
-      cell.span ≤ suc rows → Follows (to_show columns (written cell.lines)) rows s
-  cell_follows collapses cells m s puts rows cell among few =
-      let (c, own, comes) = among_zip (ComesAs columns m.annotations) cell cells puts.own puts.come among in
+  pub cell_follows : (p : PutRow D A columns) (rows : ℕ) (cell : GivenCell (List A)) → StandsAmong cell p.cells → cell.span ≤ suc rows →
+      Follows (to_show columns (written cell.lines)) rows (after_put columns p)
+  cell_follows p rows cell among few =
+      let m : Renderer D A (List A) = p.before in
+      let s : Renderer D A (List A) = after_put columns p in
+      let (c, own, span, lines) = comes_among columns m.annotations p.same p.tells cell 0 p.cells among in
       let inside = to_show columns (written cell.lines) in
-      let filled : StandWithin inside (to_show columns (items_in c.lines)) = filled_within columns m.annotations cell.align cell.width cell.lines c.lines comes.2 in
+      let shows : StandWithin inside (to_show columns (items_in c.lines)) =
+      subst (λ ls. StandWithin inside (to_show columns (items_in ls))) (sym lines) (filled_within columns m.annotations p.same p.tells cell.align cell.width cell.lines) in
       (elim c.lines as (λ ls. c.lines ≡ ls → Follows inside rows s) [
-        | [] ↦ λ e. inl (within_on inside [] (to_show columns (written s.lines)) (subst (λ ls. StandWithin inside (to_show columns (items_in ls))) e filled) tt)
+        | [] ↦ λ e. inl (within_on inside [] (to_show columns (written s.lines)) (subst (λ ls. StandWithin inside (to_show columns (items_in ls))) e shows) tt)
         | l ∷ ls ↦ λ e.
-            let seated = among_own 0 c m.hanging puts.own puts.means.cells (ap (λ ks. is_none (first_line ks)) e) own puts.means.seated in
-            row_follows collapses cells m s puts inside rows c seated (omega (arith, comes.1, few))
+            let seated = among_own 0 c m.hanging (own_cells p.same columns p.cells m) p.seated (ap (λ ks. is_none (first_line ks)) e) own p.are_seated in
+            row_follows p inside rows c seated (omega (arith, span, few))
             (within_on inside (to_show columns (items_in c.lines))
-            (to_show columns (written m.lines ++ items_in c.lines)) filled
+            (to_show columns (written m.lines ++ items_in c.lines)) shows
             (after_within columns (written m.lines) (items_in c.lines) (items_in c.lines)
             (itself_within columns (items_in c.lines))))
       ]) refl

@@ -30,11 +30,11 @@ pub use Rattle.tbr_kept_lines.specs.LastBorder.{before_border, last_border, with
 pub use Rattle.tbr_kept_lines.specs.Line.{Line, border, text}
 pub use Rattle.tbr_decor.specs.Decoration.{Decoration}
 pub use Rattle.tbr_rows.specs.Borders.{above_row, first_mergeable, joined_at_each, merged_below, merged_with, without_first_border}
-pub use Rattle.tbr_rows.specs.Cells.{AreApart, cell_height, first_line}
+pub use Rattle.tbr_rows.specs.Cells.{AreApart, cell_height, first_line, with_hanging}
 pub use Rattle.tbr_rows.specs.CellsShown.{Fills, FollowOneAnother, HasFilledCells, IsFilled, ShowsTexts, StandsAmong}
-pub use Rattle.tbr_rows.specs.Computed.{TellsApart, row_of}
-pub use Rattle.tbr_rows.specs.Meant.{HasGapIf, HasGaps, IsGapOf, MeansRow, SeenRow}
-pub use Rattle.tbr_rows.specs.Rows.{border_above, cells_left, separator_in}
+pub use Rattle.tbr_rows.specs.Gaps.{gap_in, gap_of, with_gap}
+pub use Rattle.tbr_rows.specs.Meant.{TellsApart}
+pub use Rattle.tbr_rows.specs.Rows.{SeenRow, border_above, cells_left, left_in, next_begun, plain_border, row_under, separator_in, shown_in}
 pub use Rattle.tbr_rows.specs.Shown.{DrawsInOne, Meeting, as_lines, later_of, meeting, merged_first, merged_last, met, part_of}
 pub use Rattle.tbr_rows.specs.declared.LineSet.{LineSet as Overhanging}
 pub use Rattle.tbr_renderer.specs.Appended.{as_text, border_line, border_of_cells, handed_out, prefixed, with_border, with_cell, with_cell_below, with_cells, with_divider}
@@ -48,12 +48,12 @@ pub use Rattle.tbr_renderer.specs.Image.{shown_title}
 pub use Rattle.tbr_renderer.specs.Outcomes.{and_then, changed, run, told_by}
 pub use Rattle.tbr_renderer.specs.Renderer.{IsSound, Open, Renderer, Settings, block_width, entries_of, ignores, last_mode, least, line_padding, may_overflow, new_renderer, open_block, open_run}
 pub use Rattle.tbr_renderer.specs.Renderer.{settings_of, struck, text_annotations, with_events, with_line, with_more, without_annotation}
-pub use Rattle.tbr_renderer.specs.Rows.{ComesAs, FillsCell, GivenCell, PutsRow, after_row, border_lines, cells_from, style_in, with_next, with_row}
+pub use Rattle.tbr_renderer.specs.Rows.{GivenCell, after_row, border_lines, cell_from, cells_from, filled, own_cells, row_seated, style_in, with_next, with_row}
 pub use Rattle.tbr_renderer.specs.Steps.{after_block_start, after_first_text, after_joining, after_text, at_line_start, block_started, text_brings, with_empty_line}
 pub use Rattle.tbr_renderer.specs.declared.options.RenderOptions.{RenderOptions}
 pub use Rattle.text_block_renderer.specs.Acts.{Act, ActIsTooNarrow, Added, ComesInPieces, IsPiece, KeepsText, Piece, PutRow, StaysLine, act_adds, act_brought, act_comes, act_enters, acts_add}
 pub use Rattle.text_block_renderer.specs.Acts.{acts_come, acts_enter, added_of_piece, after_act, before_run, border_lines_of, call, cells_in, entries_of_piece, finalise, fmt_links, lines_of_piece}
-pub use Rattle.text_block_renderer.specs.Acts.{note_added, noted, notes_add, part, part_added, put, row, row_added, row_seen, rows_in, rows_of, texts_of_row}
+pub use Rattle.text_block_renderer.specs.Acts.{note_added, noted, notes_add, part, part_added, put, row, row_added, row_seen, row_shown, rows_in, rows_of, texts_of_row}
 pub use Rattle.text_block_renderer.specs.Added.{Part, below_add, call_adds, calls_add, cell_adds, cells_add, divider_adds, empty_adds, ended, flush_adds, flush_ends, image_adds, laid, ruled}
 pub use Rattle.text_block_renderer.specs.Added.{run_of_block, start_adds, start_lays, text_adds, texts_add, vert_row_adds}
 pub use Rattle.text_block_renderer.specs.Drawn.{AreDrawnAmong, DrawNone, WithoutDrawnBorders, as_it_is, border_drawn, borders_added, borders_drawn, drawn, drawn_below, drawn_of_added, drawn_of_part}

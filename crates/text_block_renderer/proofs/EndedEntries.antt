@@ -4,6 +4,7 @@ use Rattle.text_block_renderer.proofs.Common.{map-append, flat_map-append, lengt
 use Rattle.text_block_renderer.proofs.Common.{open_run, with_border, footnote_lines, run, told_by, with_next, laid_entry, laid_entries, entries_brought, StaysLine, Act, call, row, fmt_links, finalise}
 use Rattle.text_block_renderer.proofs.Common.{after_act, before_run, act_comes, acts_come, act_adds, acts_add, part_added, row_added, notes_add, run_of_block, flush_ends, call_adds, border_drawn}
 use Rattle.text_block_renderer.proofs.Common.{drawn_of_part, drawn_below, drawn_of_row, drawn_of_added, borders_drawn}
+use Rattle.text_block_renderer.proofs.Common.{PutRow, SeenRow, row_shown, row_seated, option_map}
 use Rattle.std.proofs.lemmas.List.Folds.{flat_map-map}
 use Rattle.std.proofs.Math.Seq.{take-append_seam, drop-append_seam}
 use Rattle.tbr_model.specs.Layout.{joined}
@@ -11,7 +12,7 @@ use Rattle.tbr_tagged.proofs.Outcomes.{live_done}
 use Rattle.tbr_renderer.proofs.FlushedBlocks.{EndsBlock, FlushesBlock, Flushes}
 use Rattle.tbr_renderer.proofs.JoinedTexts.{run_joined}
 use Rattle.tbr_renderer.proofs.OutcomeParts.{one_done, done_first}
-use Rattle.text_block_renderer.proofs.ActSteps.{ActStep, act_step}
+use Rattle.text_block_renderer.proofs.ActSteps.{row_to_put, ActStep, act_step}
 use Rattle.text_block_renderer.proofs.ActParts.{top_stays}
 use Rattle.tbr_renderer.proofs.FlushedBlocks.{flushed_none, lines_beside}
 use Rattle.text_block_renderer.proofs.Moves.{any, Move, flush, line, rule, join, turn, brought_by, brought, added_by, added, Makes, MakesAll}
@@ -168,26 +169,29 @@ module _ {D A : Type 0} (columns : ℕ → Option ℕ) (Q : Renderer D A (List A
           laid_on ts r ended bs k,
         ))
     act_on (row collapses cells) r s es bs h k =
-        let (m, flushed, puts, is, seen) = h in
+        let (m, flushed, seated, are, is, brings) = h in
+        let p : PutRow D A columns = row_to_put columns decoration collapses cells m seated are in
+        let seen : SeenRow (List A) = row_shown p in
         let flushes = row_flushes columns r m flushed in
-        let top = under_row m puts.row in
-        let full = fold (with_line columns) top puts.row.lines in
-        let more = laid_entries (joined puts.row.lines) in
-        let next = drawn_below columns full puts.row.next in
+        let top = under_row m seen in
+        let full = fold (with_line columns) top seen.lines in
+        let more = laid_entries (joined seen.lines) in
+        let next = drawn_below columns full seen.next in
         let put_it = λ (o : Outcome Top). flat_map (drawn_of_added columns decoration) (told_by (λ q. row_added q collapses cells ∷ []) o) in
         let ends = map part_added (flush_ends r) in
         let draws : drawn_by (row collapses cells) r ≡ next =
         flat_map-append (drawn_of_added columns decoration) ends (told_by (λ q. row_added q collapses cells ∷ []) (after_flush columns r))
         ∙ ap (λ cs. cs ++ put_it (after_flush columns r)) (flat_map-map (drawn_of_added columns decoration) part_added (flush_ends r) ∙ runs_draw_none columns r r.block)
-        ∙ ap put_it (live_done r.failure (after_flush columns r) m flushed).1 ∙ append-nil (drawn_of_row columns m _) ∙ ap (drawn_of_row columns m) seen
-        ∙ sym (ap (λ (q : Top). drawn_below columns q puts.row.next) (lines_beside columns puts.row.lines top)) in
+        ∙ ap put_it (live_done r.failure (after_flush columns r) m flushed).1 ∙ append-nil (drawn_of_row columns m _)
+        ∙ ap (λ o. drawn_of_row columns m (option_map (row_seated p.same columns collapses m) o)) are
+        ∙ sym (ap (λ (q : Top). drawn_below columns q seen.next) (lines_beside columns seen.lines top)) in
         subst (λ cs. Ended Q s (act_comes columns decoration (row collapses cells) r es) (bs ++ cs)) (sym draws)
-        (subst (λ fs. Ended Q s (es ++ fs) (bs ++ next)) (sym is)
-        (put_on m s more es bs (bs ++ next) (flushed_none columns r m flushes) (row_closed columns r s (m, flushed, puts.row, puts.is))
-        (λ ended j. subst (λ (q : Top). Q q (ended ++ more) (bs ++ next)) (sym puts.is)
-        (below_on full puts.row.next (ended ++ more) bs
-        (laid_on puts.row.lines top ended bs
-        (on.stays m top ended bs (top_stays columns collapses cells m s puts) refl refl refl j))))
+        (subst (λ fs. Ended Q s (es ++ fs) (bs ++ next)) (sym brings)
+        (put_on m s more es bs (bs ++ next) (flushed_none columns r m flushes) (row_closed columns r s (m, flushed, seen, is))
+        (λ ended j. subst (λ (q : Top). Q q (ended ++ more) (bs ++ next)) (sym is)
+        (below_on full seen.next (ended ++ more) bs
+        (laid_on seen.lines top ended bs
+        (on.stays m top ended bs (top_stays columns p) refl refl refl j))))
         (flushed_on r m es bs flushes k)))
 
     pub acts_on : (acts : List (Act A)) (r s : Top) (es : Came) (bs : Texts A) → run (after_act columns decoration) acts r ≡ done s → Ended Q r es bs →

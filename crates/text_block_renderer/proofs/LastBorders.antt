@@ -1,15 +1,16 @@
 -- A border that is the last line, and lines that come after it.
 use Rattle.text_block_renderer.proofs.Common.{◌≡◌, ℕ, suc, ◌-◌, ◌⊎◌, inl, inr, Bool, Option, Some, None, List, [], ◌∷◌, ◌++◌, map, flat_map, take, length, refl, ap, sym, ◌∙◌, subst, arith}
 use Rattle.text_block_renderer.proofs.Common.{append_assoc, append-nil, Border, Decoration, Renderer, after, footnote_lines, Line, border, without_last, last_border, before_border, border_above}
-use Rattle.text_block_renderer.proofs.Common.{border_lines, done, GivenCell, PutsRow, after_flush, Act, call, row, fmt_links, finalise, rows_of, after_act, run, PutRow, put, lines_of_piece}
+use Rattle.text_block_renderer.proofs.Common.{border_lines, done, GivenCell, after_flush, Act, call, row, fmt_links, finalise, rows_of, after_act, run, PutRow, put, lines_of_piece}
 use Rattle.text_block_renderer.proofs.Common.{lines_laid, border_lines_of}
+use Rattle.text_block_renderer.proofs.Common.{row_shown}
 use Rattle.tbr_rows.specs.declared.LineSet.{LineSet as Cell}
 use Rattle.tbr_renderer.proofs.OutcomeParts.{one_done, done_first, run_last}
 use Rattle.tbr_tagged.proofs.Outcomes.{live_done}
 use Rattle.text_block_renderer.specs.LastBorders.{lines_above}
 use Rattle.text_block_renderer.proofs.Moves.{flush}
 use Rattle.text_block_renderer.proofs.AddedLines.{moves_grow, laid_lines, steps_grow}
-use Rattle.text_block_renderer.proofs.ActSteps.{act_step}
+use Rattle.text_block_renderer.proofs.ActSteps.{row_to_put, act_step}
 use Rattle.text_block_renderer.proofs.ActParts.{row_lines}
 use Rattle.tbr_renderer.proofs.RowsOfCells.{row_flushes}
 
@@ -82,21 +83,15 @@ module _ {T : Type 0} where
 -- ---- calls, rows and footnotes
 
 module _ {D A : Type 0} (columns : ℕ → Option ℕ) (decoration : Decoration D A) where
-  row_is : (collapses : Bool) (cells : List (GivenCell (List A))) (m s : Renderer D A (List A)) (puts : PutsRow columns collapses cells m s) →
-      s.lines ≡ (before_border m.lines ++ border_lines (border_above collapses puts.means.cells (last_border m.lines)))
-      ++ (lines_laid columns m puts.row.lines ++ border_lines_of columns m puts.row.next)
-  row_is collapses cells m s puts =
-      let new = lines_laid columns m puts.row.lines ++ border_lines_of columns m puts.row.next in
-      ap (λ (q : Renderer D A (List A)). q.lines) puts.is ∙ row_lines columns m puts.row ∙ ap (λ (o : Option (Border (List A))). (before_border m.lines ++ border_lines o) ++ new) puts.means.upper
-
   act_keeps : (kept : List (Line (List A))) (act : Act A) (r s : Renderer D A (List A)) → after_act columns decoration act r ≡ done s → Stay kept r.lines → Stay kept s.lines
   act_keeps kept (call c) r s h k =
       let (more, is) = steps_grow columns decoration (c ∷ []) r s (run_last (after columns decoration) c r s h) in grown kept r.lines s.lines more is k
   act_keeps kept (row collapses cells) r s h k =
-      let (m, flushed, puts, brings, computed) = act_step columns decoration (row collapses cells) r s h in
-      let (more, is) = moves_grow columns (flush r ∷ []) r m (m, (refl, row_flushes columns r m flushed), refl) in
-      let here = stay_above collapses puts.means.cells kept m.lines (grown kept r.lines m.lines more is k) in
-      grown kept _ s.lines (lines_laid columns m puts.row.lines ++ border_lines_of columns m puts.row.next) (row_is collapses cells m s puts) here
+      let (m, flushed, seated, are, is, brings) = act_step columns decoration (row collapses cells) r s h in
+      let seen = row_shown (row_to_put columns decoration collapses cells m seated are) in
+      let (more, grows) = moves_grow columns (flush r ∷ []) r m (m, (refl, row_flushes columns r m flushed), refl) in
+      let here = stay_above collapses seated kept m.lines (grown kept r.lines m.lines more grows k) in
+      grown kept _ s.lines (lines_laid columns m seen.lines ++ border_lines_of columns m seen.next) (ap (λ (q : Renderer D A (List A)). q.lines) is ∙ row_lines columns m seen) here
   act_keeps kept (fmt_links links) r s h k =
       let is = act_step columns decoration (fmt_links links) r s h in
       let texts = flat_map (footnote_lines columns r) links in
@@ -118,12 +113,13 @@ module _ {D A : Type 0} (columns : ℕ → Option ℕ) (decoration : Decoration 
       (p : PutRow D A columns) × (after_flush columns r ≡ done p.before) × (p.collapses ≡ collapses) × (p.cells ≡ cells)
       × (s.lines ≡ lines_above columns p p.before.lines ++ lines_of_piece columns (put p))
   row_becomes collapses cells r s h =
-      let (m, flushed, puts, brings, computed) = act_step columns decoration (row collapses cells) r s h in (
-        record { before = m; after = s; collapses = collapses; cells = cells; puts = puts },
+      let (m, flushed, seated, are, is, brings) = act_step columns decoration (row collapses cells) r s h in
+      let p : PutRow D A columns = row_to_put columns decoration collapses cells m seated are in (
+        p,
         (live_done r.failure (after_flush columns r) m flushed).1,
         refl,
         refl,
-        row_is collapses cells m s puts,
+        ap (λ (q : Renderer D A (List A)). q.lines) is ∙ row_lines columns m (row_shown p),
       )
 
   -- where no row comes lines only come

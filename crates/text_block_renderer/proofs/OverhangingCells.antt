@@ -1,27 +1,33 @@
 -- Rows that follow one another among calls, and what they show of their cells.
-use Rattle.text_block_renderer.proofs.Common.{◌≡◌, ℕ, Bool, Option, List, [], ◌∷◌, ◌++◌, map, length, sym, ◌∙◌, subst, arith, AllZip, Each, length-append, length-map, length-replicate, CellAlign}
-use Rattle.text_block_renderer.proofs.Common.{RenderLine, AreApart, DrawsInOne, Fills, IsFilled, FollowOneAnother, HasFilledCells, ShowsTexts, Line, GivenCell, FillsCell, ComesAs, PutRow, FitsCell}
+use Rattle.text_block_renderer.proofs.Common.{◌≡◌, ℕ, Bool, Option, List, [], ◌∷◌, ◌++◌, map, length, sym, ◌∙◌, subst, arith, Each, length-append, length-map, length-replicate, CellAlign}
+use Rattle.text_block_renderer.proofs.Common.{AreApart, DrawsInOne, Fills, IsFilled, FollowOneAnother, HasFilledCells, ShowsTexts, Line, GivenCell, PutRow, FitsCell}
 use Rattle.text_block_renderer.proofs.Common.{LinesFit, CellsFit, IsCellOf}
+use Rattle.text_block_renderer.proofs.Common.{TellsApart, filled, cells_from, row_shown, text, border}
+use Rattle.text_block_renderer.proofs.Common.{◌-◌, items_width, ap}
 use Rattle.tbr_model.proofs.lists.Each.{each_front, each_map}
 use Rattle.tbr_rows.specs.declared.LineSet.{LineSet as Cell}
 use Rattle.tbr_rows.proofs.FilledCells.{fill_later}
+use Rattle.tbr_tagged.specs.Padding.{aligned_items}
+use Rattle.tbr_rows.proofs.Stretches.{longest_items}
+use Rattle.tbr_renderer.proofs.RowsOfCells.{each_own}
 use Rattle.tbr_rows.proofs.CellsOfRows.{aligned_width, all_filled, overhang_apart, overhang_filled, shown_over}
 use Rattle.text_block_renderer.specs.Headline.{made}
-
--- what holds of each item of a list, and so of what has come of it
-each_zip : {X Y : Type 0} (P : X → Type 0) (R : X → Y → Type 0) (Q : Y → Type 0) → ((x : X) (y : Y) → P x → R x y → Q y) → (xs : List X) (ys : List Y) → Each P xs → AllZip R xs ys → Each Q ys
-each_zip P R Q each [] [] k h = tt
-each_zip P R Q each (x ∷ xs) (y ∷ ys) k h = (each x y k.0 h.0, each_zip P R Q each xs ys k.1 h.1)
-each_zip P R Q each xs ys k h = absurd h
 
 -- ---- cells whose lines fit
 
 module _ {A : Type 0} (columns : ℕ → Option ℕ) (one : DrawsInOne columns) where
-  line_filled : (align : CellAlign) (width : ℕ) (a : A) (l : Line A) (done : RenderLine A) → FitsCell columns width l → FillsCell columns align width a l done → Fills columns width done
-  line_filled align width a l done fits h = grind (arith, aligned_width, length-append, length-replicate, fill_later)
+  module _ (same : A → A → Bool) (tells : TellsApart same) (a : A) where
+    line_filled : (align : CellAlign) (width : ℕ) (l : Line A) → FitsCell columns width l → Fills columns width (filled same columns align width a l)
+    line_filled align width (text is) fits =
+        let missing = width - items_width columns is in
+        ap (items_width columns) (longest_items same tells (aligned_items align is missing a)) ∙ omega (arith, aligned_width columns one align is missing a, fits)
+    line_filled align width (border b) fits = grind (arith, length-append, length-replicate, fill_later)
 
-  pub own_filled : (a : A) (given : List (GivenCell A)) (own : List (Cell A)) → Each (LinesFit columns) given → AllZip (ComesAs columns a) given own → Each (IsFilled columns) own
-  own_filled a = grind (arith, each_zip, line_filled)
+    lines_filled : (align : CellAlign) (width : ℕ) (ls : List (Line A)) → Each (FitsCell columns width) ls → Each (Fills columns width) (map (filled same columns align width a) ls)
+    lines_filled align width = each_map (filled same columns align width a) (FitsCell columns width) (Fills columns width) (line_filled align width)
+
+    pub own_filled : (cells : List (GivenCell A)) → Each (LinesFit columns) cells → Each (IsFilled columns) (cells_from same columns a 0 cells)
+    own_filled = each_own same columns a (LinesFit columns) (IsFilled columns) (λ given at fits. lines_filled given.align given.width given.lines fits) 0
 
 -- ---- the cells that overhang
 
@@ -29,24 +35,24 @@ module _ {D A : Type 0} (columns : ℕ → Option ℕ) where
   -- Rows have what overhung before, and then what overhangs of the row before; other pieces change nothing of it.
   abbrev pub Chain : Bool → List (Cell (List A)) → List (PutRow D A columns) → List (Cell (List A)) → Type 0
   Chain draws hanging [] left = left ≡ hanging
-  Chain draws hanging (p ∷ rows) left = (p.before.hanging ≡ hanging) × (p.before.options.draw_borders ≡ draws) × Chain draws p.puts.row.overhang rows left
+  Chain draws hanging (p ∷ rows) left = (p.before.hanging ≡ hanging) × (p.before.options.draw_borders ≡ draws) × Chain draws (row_shown p).overhang rows left
 
   pub chain_append : (draws : Bool) (hanging : List (Cell (List A))) (rows : List (PutRow D A columns))
       (between : List (Cell (List A))) (others : List (PutRow D A columns)) (left : List (Cell (List A))) →
       Chain draws hanging rows between → Chain draws between others left → Chain draws hanging (rows ++ others) left
   chain_append draws hanging [] between others left h k = subst (λ cells. Chain draws cells others left) h k
-  chain_append draws hanging (p ∷ rows) between others left h k = (h.0, h.1, chain_append draws p.puts.row.overhang rows between others left h.2 k)
+  chain_append draws hanging (p ∷ rows) between others left h k = (h.0, h.1, chain_append draws (row_shown p).overhang rows between others left h.2 k)
 
   follow : (draws : Bool) (hanging : List (Cell (List A))) (rows after : List (PutRow D A columns))
       (left : List (Cell (List A))) → Chain draws hanging (rows ++ after) left →
       FollowOneAnother columns draws (map made rows)
   follow draws hanging [] after left h = tt
   follow draws hanging (p ∷ []) after left h = h.1
-  follow draws hanging (p ∷ q ∷ rows) after left h = (h.1, h.2.0, follow draws p.puts.row.overhang (q ∷ rows) after left h.2)
+  follow draws hanging (p ∷ q ∷ rows) after left h = (h.1, h.2.0, follow draws (row_shown p).overhang (q ∷ rows) after left h.2)
 
   module _ (one : DrawsInOne columns) where
     pub cells_filled : (p : PutRow D A columns) → CellsFit columns p.cells → HasFilledCells columns (made p)
-    cells_filled p fit = own_filled columns one p.before.annotations p.cells p.puts.own fit p.puts.come
+    cells_filled p fit = own_filled columns one p.same p.tells p.before.annotations p.cells fit
 
     -- of a stretch of the rows
     pub cells_shown : (draws : Bool) (before rows after : List (PutRow D A columns)) (cell : Cell (List A)) (hanging left : List (Cell (List A))) → length rows ≡ cell.span → IsCellOf cell rows →
@@ -63,4 +69,4 @@ module _ {D A : Type 0} (columns : ℕ → Option ℕ) where
         let first : AreApart 0 q.before.hanging × Each (IsFilled columns) q.before.hanging = subst (λ cells. AreApart 0 cells × Each (IsFilled columns) cells) (sym chain.0) hang in
         let apart = overhang_apart columns one (made q) first.0 in
         let filled = overhang_filled columns one (made q) (all_filled columns one (made q) first.1 fill.0) in
-        cells_shown draws before rows after cell q.puts.row.overhang left span is fill.1 (apart, filled) chain.2
+        cells_shown draws before rows after cell (row_shown q).overhang left span is fill.1 (apart, filled) chain.2

@@ -1,23 +1,25 @@
 -- Rows and footnotes put no character without columns into lines.
-use Rattle.text_block_renderer.proofs.Common.{◌≡◌, ℕ, zero, suc, ◌-◌, Bool, true, false, if◌then◌else◌, Option, None, Some, List, [], ◌∷◌, ◌++◌, map, flat_map, fold, replicate, drop, nat_lt, subst}
+use Rattle.text_block_renderer.proofs.Common.{◌≡◌, ℕ, zero, suc, ◌-◌, Bool, true, false, if◌then◌else◌, Option, None, Some, List, [], ◌∷◌, ◌++◌, map, flat_map, fold, drop, nat_lt, subst}
 use Rattle.text_block_renderer.proofs.Common.{sym, ap, refl, ◌∙◌, arith, cond_both, Each, AllZip, Item, items_width, text_items, spaces, columns_in_front, element_items, Hole, Border, shown}
-use Rattle.text_block_renderer.proofs.Common.{without_holes, horizontal, CellAlign, DrawsInOne, SeenRow, MeansRow, HasGapIf, HasGaps, IsGapOf, cells_left, first_line, Overhanging, Line, text, border}
-use Rattle.text_block_renderer.proofs.Common.{text_before, border_lines, last_border, Decoration, Element, Renderer, with_line, with_border, with_next, with_row, GivenCell, ComesAs, FillsCell}
-use Rattle.text_block_renderer.proofs.Common.{PutsRow, style_in, footnote_lines, done, run, Act, call, row, fmt_links, finalise, after_act, StaysLine}
+use Rattle.text_block_renderer.proofs.Common.{CellAlign, DrawsInOne, SeenRow, cells_left, first_line, Overhanging, Line, text, border}
+use Rattle.text_block_renderer.proofs.Common.{text_before, border_lines, last_border, Decoration, Element, Renderer, with_line, with_border, with_next, GivenCell}
+use Rattle.text_block_renderer.proofs.Common.{style_in, footnote_lines, done, run, Act, call, row, fmt_links, finalise, after_act, StaysLine}
+use Rattle.text_block_renderer.proofs.Common.{TellsApart, gap_of, gap_in, with_gap, row_under, shown_in, left_in, plain_border, filled, cells_from, own_cells, PutRow, row_shown}
 use Rattle.tbr_model.specs.Run.{glyph, item_width}
-use Rattle.tbr_model.proofs.lists.Each.{each_append}
+use Rattle.tbr_model.proofs.lists.Each.{each_append, each_map}
 use Rattle.tbr_border.specs.Border.{with_cells as recelled, stretched}
 use Rattle.tbr_border.specs.Cell.{line_above}
 use Rattle.tbr_border.specs.declared.RenderLine.{RenderLine}
 use Rattle.tbr_border.specs.declared.RenderLine.TheVariants.{Text, Line as Rule}
 use Rattle.tbr_border.specs.RenderLine.{line_items, items_under}
-use Rattle.tbr_tagged.specs.Elements.{items_of, piece}
+use Rattle.tbr_tagged.specs.Elements.{items_of}
 use Rattle.tbr_tagged.specs.Padding.{aligned_items}
 use Rattle.tbr_footnotes.specs.Footnote.{footnote_items, fits_after, cut_lines}
 use Rattle.tbr_rows.specs.declared.RowStyle.{RowStyle}
-use Rattle.tbr_rows.specs.Gaps.{has_gap, with_elements, overhang_of, overhang}
+use Rattle.tbr_rows.specs.Gaps.{has_gap, overhang_of, overhang}
 use Rattle.tbr_rows.specs.Texts.{row_height, filler_above, row_text, cell_text, text_of_lines as cell_shows, line_text, numbers_below}
-use Rattle.tbr_rows.specs.Rows.{separator_in, next_begun}
+use Rattle.tbr_rows.specs.Rows.{separator_in, next_begun, border_below}
+use Rattle.tbr_rows.proofs.Stretches.{longest_items}
 use Rattle.tbr_rows.specs.Cells.{row_width}
 use Rattle.tbr_rows.proofs.Among.{each_drop}
 use Rattle.tbr_rows.proofs.CellsSeated.{each_seated}
@@ -27,9 +29,9 @@ use Rattle.tbr_rows.proofs.BelowRows.{begins_plain}
 use Rattle.tbr_renderer.proofs.OutcomeParts.{one_done, done_first}
 use Rattle.tbr_renderer.specs.Footnotes.{link_width}
 use Rattle.text_block_renderer.specs.Columns.{ItemHasColumns, LineHasColumns, LinesHaveColumns, CellHasColumns, GivenHasColumns, ActHasColumns}
-use Rattle.text_block_renderer.proofs.ActSteps.{ActStep, after_acts, act_step}
+use Rattle.text_block_renderer.proofs.ActSteps.{after_put, row_to_put, ActStep, after_acts, act_step}
 use Rattle.text_block_renderer.proofs.ActParts.{top_stays}
-use Rattle.tbr_renderer.proofs.RowsOfCells.{row_flushes, under_row}
+use Rattle.tbr_renderer.proofs.RowsOfCells.{row_flushes, under_row, each_own}
 use Rattle.text_block_renderer.proofs.CellsInRows.{put_written}
 use Rattle.text_block_renderer.proofs.LineCharacters.{Have, spaces_have, narrow_has, border_has, front_has, Has, lines_put, border_put, flush_keeps}
 use Rattle.text_block_renderer.proofs.CallCharacters.{call_keeps}
@@ -81,22 +83,22 @@ module _ {T : Type 0} (columns : ℕ → Option ℕ) (draws : DrawsInOne columns
 
   -- ---- the border below
 
-  gap_has : (tag : T) (width : ℕ) (ls : List (RenderLine T)) (es : List (Element T)) → IsGapOf tag width (first_line ls) es → Each LineHas ls → Have columns (items_of es)
-  gap_has tag width [] es h k = subst (λ (fs : List (Element T)). Have columns (items_of fs)) (sym h)
-      (each_append (ItemHasColumns columns) (text_items (spaces width) tag) [] (spaces_have columns draws width tag) tt)
-  gap_has tag width (Text line ∷ ls) es h k = subst (λ (fs : List (Element T)). Have columns (items_of fs)) (sym h) k.0
-  gap_has tag width (Rule b ∷ ls) es h k = subst (Have columns) (sym h.0) k.0
+  module _ (same : T → T → Bool) (tells : TellsApart same) where
+    line_in_gap : (tag : T) (width : ℕ) (ls : List (RenderLine T)) → Each LineHas ls → Have columns (items_of (gap_of same tag width (first_line ls)))
+    line_in_gap tag width [] k = each_append (ItemHasColumns columns) (text_items (spaces width) tag) [] (spaces_have columns draws width tag) tt
+    line_in_gap tag width (Text line ∷ ls) k = k.0
+    line_in_gap tag width (Rule b ∷ ls) k = subst (Have columns) (sym (longest_items same tells (shown b.tag b))) k.0
 
-  one_gap : (tag : T) (gap : Bool) (d : Overhanging T) (b m : Border T) → HasGapIf gap columns tag d b m → CellHasColumns columns d → Have columns (text_before b) → Have columns (text_before m)
-  one_gap tag false d b m h k t = subst (λ (c : Border T). Have columns (text_before c)) (sym h) t
-  one_gap tag true d b m (es, is, put) k t =
-      subst (λ (c : Border T). Have columns (text_before c)) (sym put)
-      (subst (Have columns) (sym (put_written columns tag d.place b es)) (each_append (ItemHasColumns columns) (text_before b) (items_of es) t (gap_has tag d.width d.lines es is k)))
+    gap_has : (tag : T) (drawn : Bool) (d : Overhanging T) → CellHasColumns columns d → Have columns (items_of (gap_in same drawn tag d))
+    gap_has tag drawn d k =
+        cond_both (has_gap drawn d) (gap_of same tag d.width (first_line d.lines)) [] (λ (es : List (Element T)). Have columns (items_of es)) (λ _. line_in_gap tag d.width d.lines k) (λ _. tt)
 
-  gaps_have : (tag : T) (drawn : Bool) (ds : List (Overhanging T)) (b full : Border T) → HasGaps drawn columns tag ds b full → Each (CellHasColumns columns) ds → Have columns (text_before b) →
-      Have columns (text_before full)
-  gaps_have tag drawn [] b full h k t = subst (λ (c : Border T). Have columns (text_before c)) (sym h) t
-  gaps_have tag drawn (d ∷ ds) b full (m, here, others) k t = gaps_have tag drawn ds m full others k.1 (one_gap tag (has_gap drawn d) d b m here k.0 t)
+    gaps_have : (tag : T) (drawn : Bool) (ds : List (Overhanging T)) (b : Border T) → Each (CellHasColumns columns) ds → Have columns (text_before b) →
+        Have columns (text_before (fold (with_gap same columns drawn tag) b ds))
+    gaps_have tag drawn [] b k t = t
+    gaps_have tag drawn (d ∷ ds) b k t =
+        gaps_have tag drawn ds (with_gap same columns drawn tag b d) k.1
+        (subst (Have columns) (sym (put_written columns tag d.place b (gap_in same drawn tag d))) (each_append (ItemHasColumns columns) (text_before b) _ t (gap_has tag drawn d k.0)))
 
   -- ---- a row of cells
 
@@ -111,68 +113,60 @@ module _ {T : Type 0} (columns : ℕ → Option ℕ) (draws : DrawsInOne columns
   NextHas None = Unit {0}
   NextHas (Some b) = Have columns (text_before b)
 
-  module _ (style : RowStyle) (tag : T) (hanging own : List (Overhanging T)) (top : Option (Border T)) (row : SeenRow T) (means : MeansRow columns style tag hanging own top row)
-      (hang : Each (CellHasColumns columns) hanging) (come : Each (CellHasColumns columns) own) where
-    cells_have : Each (CellHasColumns columns) means.cells
-    cells_have = each_seated (CellHasColumns columns) (λ at width. tt) 0 hanging own means.cells hang come means.seated
+  module _ (same : T → T → Bool) (tells : TellsApart same) (style : RowStyle) (tag : T) (top : Option (Border T)) (cells : List (Overhanging T))
+      (cells_have : Each (CellHasColumns columns) cells) where
+    abbrev row_of_cells : SeenRow T
+    row_of_cells = row_under same columns style tag top cells
 
-    shown_are : means.shown ≡ map (column_of style.collapses top) means.cells
-    shown_are = means.shown_is ∙ columns_are style.collapses top means.cells
+    abbrev height : ℕ
+    height = row_height (shown_in style top cells)
 
-    left_of_cells : (height : ℕ) (cs : List (Overhanging T)) → Each (CellHasColumns columns) cs → Each (CellHasColumns columns) (cells_left height (map (column_of style.collapses top) cs))
-    left_of_cells height [] h = tt
-    left_of_cells height (c ∷ cs) h = (each_drop LineHas height _ (lines_stay LineHas style.collapses top c h.0), left_of_cells height cs h.1)
+    shown_are : shown_in style top cells ≡ map (column_of style.collapses top) cells
+    shown_are = columns_are style.collapses top cells
 
-    left_have : Each (CellHasColumns columns) (cells_left (row_height means.shown) means.shown)
-    left_have =
-        subst (λ ks. Each (CellHasColumns columns) (cells_left (row_height means.shown) ks)) (sym shown_are) (left_of_cells (row_height means.shown) means.cells cells_have)
+    left_of_cells : (n : ℕ) (cs : List (Overhanging T)) → Each (CellHasColumns columns) cs → Each (CellHasColumns columns) (cells_left n (map (column_of style.collapses top) cs))
+    left_of_cells n [] h = tt
+    left_of_cells n (c ∷ cs) h = (each_drop LineHas n _ (lines_stay LineHas style.collapses top c h.0), left_of_cells n cs h.1)
 
-    pub texts_have : Each (Have columns) row.lines
+    left_have : Each (CellHasColumns columns) (left_in style top cells)
+    left_have = subst (λ ks. Each (CellHasColumns columns) (cells_left height ks)) (sym shown_are) (left_of_cells height cells cells_have)
+
+    pub texts_have : Each (Have columns) row_of_cells.lines
     texts_have =
         let separator : Item T = glyph (separator_in style) tag in
-        let numbers = numbers_below (row_height means.shown) in
-        subst (Each (Have columns)) (sym means.texts)
-        (subst (λ ks. Each (Have columns) (map (line_text separator tag ks) numbers)) (sym shown_are)
-        (lines_have separator style.collapses top tag means.cells (separates style tag) cells_have numbers))
+        let numbers = numbers_below height in
+        subst (λ ks. Each (Have columns) (map (line_text separator tag ks) numbers)) (sym shown_are)
+        (lines_have separator style.collapses top tag cells (separates style tag) cells_have numbers)
 
-    pub next_has : NextHas row.next
+    pub next_has : NextHas row_of_cells.next
     next_has =
-        let plain : Border T = without_holes (replicate (row_width means.cells) horizontal) tag in
-        let begun = next_begun style top means.cells plain in
-        let none : begun.holes ≡ [] = (begins_plain style top means.cells plain).1 refl in
-        let full = gaps_have tag style.draws_borders (cells_left (row_height means.shown) means.shown) begun means.full means.gaps left_have
+        let plain : Border T = plain_border (row_width cells) tag in
+        let begun = next_begun style top cells plain in
+        let none : begun.holes ≡ [] = (begins_plain style top cells plain).1 refl in
+        let full = gaps_have same tells tag style.draws_borders (left_in style top cells) begun left_have
         (subst (λ (hs : List (Hole T)). Have columns (flat_map (λ (h : Hole T). element_items h.element) hs)) (sym none) tt) in
-        subst NextHas (sym means.lower) (cond_both style.draws_borders (Some means.full) None NextHas (λ e. full) (λ e. tt))
+        cond_both style.draws_borders (Some (border_below same columns style tag top cells)) None NextHas (λ e. full) (λ e. tt)
 
-    pub rest_has : Each (CellHasColumns columns) row.overhang
-    rest_has = subst (Each (CellHasColumns columns)) (sym means.rest) (overhang_has style.draws_borders (cells_left (row_height means.shown) means.shown) left_have)
+    pub rest_has : Each (CellHasColumns columns) row_of_cells.overhang
+    rest_has = overhang_has style.draws_borders (left_in style top cells) left_have
 
   -- ---- what comes into a row
 
-  filled_have : (tag : T) (align : CellAlign) (width : ℕ) (lines : List (Line T)) (filled : List (RenderLine T)) → AllZip (FillsCell columns align width tag) lines filled →
-      LinesHaveColumns columns lines → Each LineHas filled
-  filled_have tag align width [] [] h k = tt
-  filled_have tag align width (text is ∷ ls) (Text es ∷ fs) h k =
-      let missing = width - items_width columns is in
-      let front = text_items (spaces (columns_in_front align missing)) tag in
-      let back = text_items (spaces (missing - columns_in_front align missing)) tag in
-      let all : Have columns (aligned_items align is missing tag) =
-      each_append (ItemHasColumns columns) (front ++ is) back (each_append (ItemHasColumns columns) front is (spaces_have columns draws (columns_in_front align missing) tag) k.0)
-      (spaces_have columns draws (missing - columns_in_front align missing) tag) in
-      (subst (Have columns) (sym h.0.0) all, filled_have tag align width ls fs h.1 k.1)
-  filled_have tag align width (border b ∷ ls) (Rule c ∷ fs) h k = (
-    subst (λ (d : Border T). Have columns (shown d.tag d)) (sym h.0)
-        (border_has columns draws b.tag (recelled (stretched width b.cells) b) (front_has columns b.tag b k.0)),
-    filled_have tag align width ls fs h.1 k.1,
-  )
-  filled_have tag align width (l ∷ ls) (f ∷ fs) h k = absurd h.0
-  filled_have tag align width ls fs h k = absurd h
+  module _ (same : T → T → Bool) (tells : TellsApart same) (tag : T) where
+    line_filled : (align : CellAlign) (width : ℕ) (l : Line T) → LineHasColumns columns l → LineHas (filled same columns align width tag l)
+    line_filled align width (text is) k =
+        let missing = width - items_width columns is in
+        let front = text_items (spaces (columns_in_front align missing)) tag in
+        let back = text_items (spaces (missing - columns_in_front align missing)) tag in
+        subst (Have columns) (sym (longest_items same tells (aligned_items align is missing tag)))
+        (each_append (ItemHasColumns columns) (front ++ is) back (each_append (ItemHasColumns columns) front is (spaces_have columns draws (columns_in_front align missing) tag) k)
+        (spaces_have columns draws (missing - columns_in_front align missing) tag))
+    line_filled align width (border b) k = border_has columns draws b.tag (recelled (stretched width b.cells) b) (front_has columns b.tag b k)
 
-  own_have : (tag : T) (cells : List (GivenCell T)) (own : List (Overhanging T)) → AllZip (ComesAs columns tag) cells own → Each (λ (g : GivenCell T). LinesHaveColumns columns g.lines) cells → Each
-      (CellHasColumns columns) own
-  own_have tag [] [] h k = tt
-  own_have tag (g ∷ gs) (c ∷ cs) h k = (filled_have tag g.align g.width g.lines c.lines h.0.2 k.0, own_have tag gs cs h.1 k.1)
-  own_have tag gs cs h k = absurd h
+    own_have : (cells : List (GivenCell T)) → Each (λ (g : GivenCell T). LinesHaveColumns columns g.lines) cells → Each (CellHasColumns columns) (cells_from same columns tag 0 cells)
+    own_have =
+        each_own same columns tag (λ (g : GivenCell T). LinesHaveColumns columns g.lines) (CellHasColumns columns)
+        (λ g at k. each_map (filled same columns g.align g.width tag) (LineHasColumns columns) LineHas (line_filled g.align g.width) g.lines k) 0
 
   -- lines that stay where a row comes
   stay_have : (ls ms : List (Line T)) → AllZip StaysLine ls ms → LinesHaveColumns columns ls → LinesHaveColumns columns ms
@@ -199,20 +193,19 @@ module _ {D A : Type 0} (columns : ℕ → Option ℕ) (draws : DrawsInOne colum
   next_put r None h k = k
   next_put r (Some b) h k = border_put columns draws r b h k
 
-  row_keeps : (collapses : Bool) (cells : List (GivenCell (List A))) (m s : Renderer D A (List A)) → PutsRow columns collapses cells m s → Each (GivenHasColumns columns) cells → Has columns draws m →
-      Has columns draws s
-  row_keeps collapses cells m s puts good k =
-      let seen = puts.row in
-      let style = style_in m collapses in
-      let own = own_have columns draws m.annotations cells puts.own puts.come good in
+  row_keeps : (p : PutRow D A columns) → Each (GivenHasColumns columns) p.cells → Has columns draws p.before → Has columns draws (after_put columns p)
+  row_keeps p good k =
+      let m : Renderer D A (List A) = p.before in
+      let seen : SeenRow (List A) = row_shown p in
+      let style = style_in m p.collapses in
+      let own = own_have columns draws p.same p.tells m.annotations p.cells good in
+      let have = each_seated (CellHasColumns columns) (λ at width. tt) 0 m.hanging (own_cells p.same columns p.cells m) p.seated k.1 own p.are_seated in
       let top : Has columns draws (under_row m seen) = (
-        stay_have columns draws m.lines _
-            (top_stays columns collapses cells m s puts) k.0,
-        rest_has columns draws style m.annotations m.hanging puts.own (last_border m.lines) seen puts.means k.1 own,
+        stay_have columns draws m.lines _ (top_stays columns p) k.0,
+        rest_has columns draws p.same p.tells style m.annotations (last_border m.lines) p.seated have,
       ) in
-      subst (λ (q : Renderer D A (List A)). Has columns draws q) (sym puts.is)
-      (next_put _ seen.next (next_has columns draws style m.annotations m.hanging puts.own (last_border m.lines) seen puts.means k.1 own)
-      (lines_put columns draws seen.lines _ (texts_have columns draws style m.annotations m.hanging puts.own (last_border m.lines) seen puts.means k.1 own) top))
+      next_put _ seen.next (next_has columns draws p.same p.tells style m.annotations (last_border m.lines) p.seated have)
+      (lines_put columns draws seen.lines _ (texts_have columns draws p.same p.tells style m.annotations (last_border m.lines) p.seated have) top)
 
   pub footnotes_have : (r : Renderer D A (List A)) (links : List (List (Element A))) → Each (λ es. Have columns (footnote_items es)) links → Each (Have columns)
       (flat_map (footnote_lines columns r) links)
@@ -223,9 +216,9 @@ module _ {D A : Type 0} (columns : ℕ → Option ℕ) (draws : DrawsInOne colum
   module _ (decoration : Decoration D A) where
     act_keeps : (act : Act A) (r s : Renderer D A (List A)) → ActHasColumns columns act → ActStep columns decoration act r s → Has columns draws r → Has columns draws s
     act_keeps (call c) r s good h k = call_keeps columns draws decoration c r s good h k
-    act_keeps (row collapses cells) r s good (m, flushed, puts, brings, computed) k =
-        row_keeps collapses cells m s puts good
-        (flush_keeps columns draws r m r.block (row_flushes columns r m flushed) k)
+    act_keeps (row collapses cells) r s good (m, flushed, seated, are, is, brings) k =
+        subst (λ (q : Renderer D A (List A)). Has columns draws q) (sym is)
+        (row_keeps (row_to_put columns decoration collapses cells m seated are) good (flush_keeps columns draws r m r.block (row_flushes columns r m flushed) k))
     act_keeps (fmt_links links) r s good h k = subst (λ (q : Renderer D A (List A)). Has columns draws q) (sym h)
         (lines_put columns draws (flat_map (footnote_lines columns r) links) r (footnotes_have r links good) k)
     act_keeps (finalise targets) r s good h k = subst (λ (q : Renderer D A (List A)). Has columns draws q) (sym h) k

@@ -4,13 +4,14 @@ use Rattle.text_block_renderer.proofs.Common.{append-nil, rules, filter-append, 
 use Rattle.text_block_renderer.proofs.Common.{Line, text, border, after_flush, footnote_lines, Open, Renderer, open_run, IsSound, as_text, prefixed, with_divider, with_cell, with_cell_below}
 use Rattle.text_block_renderer.proofs.Common.{with_cells, handed_out, Call, append_subrender, append_vert_row, Does, done, if_live, Act, call, row, fmt_links, finalise, rows_of, after_act, lines_laid}
 use Rattle.text_block_renderer.proofs.Common.{StandWithin, written, to_show, AreWrittenIn, IsWrittenSoFar, CallTakes, Takes, NothingOverhangs, AreTakenIn}
+use Rattle.text_block_renderer.proofs.Common.{PutRow, own_cells}
 use Rattle.tbr_renderer.proofs.OutcomeParts.{one_done, done_first}
 use Rattle.tbr_model.specs.Layout.{joined}
 use Rattle.tbr_border.specs.Cell.{Cell}
 use Rattle.tbr_rows.proofs.Among.{each_among}
 use Rattle.tbr_rows.proofs.CellsSeated.{among_seated}
 use Rattle.tbr_renderer.proofs.CallParts.{handed_then}
-use Rattle.text_block_renderer.proofs.ActSteps.{ActStep, after_acts, act_step}
+use Rattle.text_block_renderer.proofs.ActSteps.{row_to_put, ActStep, after_acts, act_step}
 use Rattle.text_block_renderer.proofs.ActParts.{alone, rows_one}
 use Rattle.tbr_renderer.proofs.RowsOfCells.{row_flushes}
 use Rattle.tbr_renderer.proofs.FlushedBlocks.{flushed_none, lines_beside, flush_beside}
@@ -136,10 +137,10 @@ module _ {D A : Type 0} (columns : ℕ → Option ℕ) where
     act_adds (call c) r s h = more_text r s (steps_grow columns decoration (c ∷ []) r s (alone columns decoration c r s h).0)
     act_adds (fmt_links links) r s h = more_text r s (subst (λ (q : Renderer D A (List A)). Grows r q) (sym h) (lines_grow columns (flat_map (footnote_lines columns r) links) r))
     act_adds (finalise targets) r s h = more_text r s ([], ap (λ (q : Renderer D A (List A)). q.lines) h ∙ sym (append-nil r.lines))
-    act_adds (row collapses cells) r s (m, flushed, puts, is, computed) =
+    act_adds (row collapses cells) r s (m, flushed, seated, are, is, brings) =
         let first = flush_adds r m flushed in
-        let (more, are, shows) = row_adds columns collapses cells m s puts in
-        (first.0 ++ more, are ∙ ap (λ js. js ++ more) first.1 ∙ append_assoc (written r.lines) first.0 more)
+        let (more, writes, shows) = row_adds columns (row_to_put columns decoration collapses cells m seated are) in
+        (first.0 ++ more, ap (λ (q : Renderer D A (List A)). written q.lines) is ∙ writes ∙ ap (λ js. js ++ more) first.1 ∙ append_assoc (written r.lines) first.0 more)
 
     -- what is left goes on overhanging
     follows_on : (us : List (Item (List A))) (n rows : ℕ) (r s : Renderer D A (List A)) → n ≤ rows → MoreText r s → s.hanging ≡ r.hanging → Follows columns us n r → Follows columns us rows s
@@ -158,10 +159,11 @@ module _ {D A : Type 0} (columns : ℕ → Option ℕ) where
         (lines_beside columns (flat_map (footnote_lines columns r) links) r)) k
     act_follows us (finalise targets) n rows r s fits h k = follows_on us n rows r s (omega (arith, fits)) (act_adds (finalise targets) r s h) (ap (λ (q : Renderer D A (List A)). q.hanging) h) k
     act_follows us (row collapses cells) n rows r s fits h (inl k) = inl (more_within us r s (act_adds (row collapses cells) r s h) k)
-    act_follows us (row collapses cells) n rows r s fits (m, flushed, puts, is, computed) (inr (c, hangs, some, few, k)) =
+    act_follows us (row collapses cells) n rows r s fits (m, flushed, seated, are, is, brings) (inr (c, hangs, some, few, k)) =
         let same : m.hanging ≡ r.hanging = ap (λ (q : Renderer D A (List A)). q.hanging) (flush_beside columns r m r.block refl (row_flushes columns r m flushed)) in
-        let seated = among_seated 0 c m.hanging puts.own puts.means.cells (subst (StandsAmong c) (sym same) hangs) puts.means.seated in
-        row_follows columns collapses cells m s puts us rows c seated (omega (arith, few, fits)) (still_more us r m (items_in c.lines) (flush_adds r m flushed) k)
+        let p : PutRow D A columns = row_to_put columns decoration collapses cells m seated are in
+        let among = among_seated 0 c m.hanging (own_cells p.same columns cells m) seated (subst (StandsAmong c) (sym same) hangs) are in
+        subst (Follows columns us rows) (sym is) (row_follows columns p us rows c among (omega (arith, few, fits)) (still_more us r m (items_in c.lines) (flush_adds r m flushed) k))
 
     -- through calls and rows
     acts_follow : (us : List (Item (List A))) (acts : List (Act A)) (n rows : ℕ) (r s : Renderer D A (List A)) →
@@ -182,8 +184,10 @@ module _ {D A : Type 0} (columns : ℕ → Option ℕ) where
         Takes span lines act → span ≤ suc rows → ActStep columns decoration act r s →
         Follows columns (seen columns lines) rows s
     act_within (call c) span rows r s lines t few h = inl (taken_within c r s lines t h)
-    act_within (row collapses cells) span rows r s lines (cell, among, spans, is) few (m, flushed, puts, brings, computed) =
-        subst (λ (ls : List (Line (List A))). Follows columns (seen columns ls) rows s) is (cell_follows columns collapses cells m s puts rows cell among (omega (arith, spans, few)))
+    act_within (row collapses cells) span rows r s lines (cell, among, spans, gives) few (m, flushed, seated, are, is, brings) =
+        subst (λ (ls : List (Line (List A))). Follows columns (seen columns ls) rows s) gives
+        (subst (Follows columns (seen columns cell.lines) rows) (sym is)
+        (cell_follows columns (row_to_put columns decoration collapses cells m seated are) rows cell among (omega (arith, spans, few))))
     act_within other span rows r s lines t few h = elim t [ ]
 
     -- where the rows of its span come, or nothing overhangs in the end, all of it stands

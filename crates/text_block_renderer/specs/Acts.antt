@@ -8,9 +8,10 @@ use Rattle.tbr_border.specs.Border.{Border}
 use Rattle.tbr_tagged.specs.Elements.{Element}
 use Rattle.tbr_decor.specs.Change as change
 use Rattle.tbr_decor.specs.Decoration.{Decoration}
-use Rattle.tbr_rows.specs.Meant.{SeenRow}
-use Rattle.tbr_rows.specs.Computed.{row_of}
-use Rattle.tbr_kept_lines.specs.LastBorder.{last_border}
+use Rattle.tbr_rows.specs.declared.LineSet.{LineSet as Cell}
+use Rattle.tbr_rows.specs.Cells.{with_hanging}
+use Rattle.tbr_rows.specs.Rows.{SeenRow}
+use Rattle.tbr_rows.specs.Meant.{TellsApart}
 use Rattle.tbr_kept_lines.specs.Line.{Line, text, border}
 use Rattle.tbr_renderer.specs.Renderer.{Renderer, with_line, open_run}
 use Rattle.tbr_tagged.specs.Outcome.{Outcome, done, refused, if_live}
@@ -19,7 +20,7 @@ use Rattle.tbr_renderer.specs.Outcomes.{told_by, told}
 use Rattle.tbr_renderer.specs.Flush.{after_flush}
 use Rattle.tbr_renderer.specs.Appended.{border_line}
 use Rattle.tbr_renderer.specs.Footnotes.{listed, footnote_lines, with_footnotes}
-use Rattle.tbr_renderer.specs.Rows.{GivenCell, style_in, cells_from, PutsRow, after_row}
+use Rattle.tbr_renderer.specs.Rows.{GivenCell, own_cells, row_seated, row_in, after_row}
 use Rattle.tbr_renderer.specs.Calls.{Call, made, after, entries_brought, laid_entries}
 pub use Rattle.tbr_renderer.specs.Acts.{Act, call, row, fmt_links, finalise, after_act}
 use Rattle.text_block_renderer.specs.Added.{Part, flush_ends, call_adds}
@@ -61,8 +62,7 @@ module _ {D A : Type 0} (columns : ℕ → Option ℕ) (decoration : Decoration 
   abbrev pub row_seen : Bool → List (GivenCell (List A)) → Renderer D A (List A) → Option (SeenRow (List A))
   row_seen collapses cells r =
       let same = pointwise decoration.same in
-      let own = cells_from same columns r.annotations 0 cells in
-      row_of same columns (style_in r collapses) r.annotations r.hanging own (last_border r.lines)
+      row_in same columns collapses r (own_cells same columns cells r)
 
   -- its texts as laid entries
   abbrev pub texts_of_row : Option (SeenRow (List A)) → List (Entry (List A))
@@ -114,13 +114,16 @@ module _ {D A : Type 0} (columns : ℕ → Option ℕ) (decoration : Decoration 
 
 -- ---- what adds lines
 
--- A row that was put: to which renderer, after the flush, and what came of it.
+-- A row that was put: to which renderer, after the flush, and its cells, as they came and then in their places. What
+-- tells annotations apart is given.
 pub record PutRow (D A : Type 0) (columns : ℕ → Option ℕ) : Type 0 where
+  pub same : List A → List A → Bool
+  pub tells : TellsApart same
   pub before : Renderer D A (List A)
-  pub after : Renderer D A (List A)
   pub collapses : Bool
   pub cells : List (GivenCell (List A))
-  pub puts : PutsRow columns collapses cells before after
+  pub seated : List (Cell (List A))
+  pub are_seated : with_hanging 0 before.hanging (own_cells same columns cells before) ≡ Some seated
 
 -- What adds lines: a part as calls have it, a row, or a footnote's line, with the renderer at that moment.
 pub data Piece (D A : Type 0) (columns : ℕ → Option ℕ) : Type 0 where
@@ -131,6 +134,10 @@ pub data Piece (D A : Type 0) (columns : ℕ → Option ℕ) : Type 0 where
 module _ {D A : Type 0} {columns : ℕ → Option ℕ} where
   abbrev pub cells_in : PutRow D A columns → List (GivenCell (List A))
   cells_in p = p.cells
+
+  -- the row itself
+  abbrev pub row_shown : PutRow D A columns → SeenRow (List A)
+  row_shown p = row_seated p.same columns p.collapses p.before p.seated
 
   -- the rows among pieces
   abbrev pub rows_in : List (Piece D A columns) → List (PutRow D A columns)
@@ -154,13 +161,13 @@ module _ {D A : Type 0} (columns : ℕ → Option ℕ) where
   abbrev pub lines_of_piece : Piece D A columns → List (Line (List A))
   lines_of_piece (part p) = lines_of_part columns p
   lines_of_piece (put p) =
-      lines_laid columns p.before p.puts.row.lines ++ border_lines_of p.before p.puts.row.next
+      lines_laid columns p.before (row_shown p).lines ++ border_lines_of p.before (row_shown p).next
   lines_of_piece (noted r is) = lines_laid columns r (is ∷ [])
 
   -- what calls and rows brought of it
   abbrev pub entries_of_piece : Piece D A columns → List (Entry (List A))
   entries_of_piece (part p) = entries_of_part p
-  entries_of_piece (put p) = laid_entries (joined p.puts.row.lines)
+  entries_of_piece (put p) = laid_entries (joined (row_shown p).lines)
   entries_of_piece (noted r is) = []
 
   -- The renderer's width and options are still those of another one. A row comes where no block is open.

@@ -4,7 +4,7 @@ use Rattle.tbr_model.specs.Run.{Item}
 use Rattle.tbr_border.specs.Border.{Border, shown, without_holes}
 use Rattle.tbr_border.specs.Cell.{Cell, horizontal, slash}
 use Rattle.tbr_decor.specs.Decoration.{Decoration}
-use Rattle.tbr_rows.specs.Meant.{SeenRow}
+use Rattle.tbr_rows.specs.Rows.{SeenRow}
 use Rattle.tbr_renderer.specs.declared.options.RenderOptions.{RenderOptions}
 use Rattle.tbr_kept_lines.specs.Line.{Line, text}
 use Rattle.tbr_renderer.specs.Renderer.{Renderer, line_padding}

@@ -13,7 +13,7 @@ use Rattle.tbr_decor.specs.Decoration.{Decoration}
 use Rattle.tbr_kept_lines.specs.Line.{Line, text, border}
 use Rattle.tbr_renderer.specs.Flush.{lines_at_end}
 use Rattle.tbr_renderer.specs.Renderer.{Renderer, block_width, may_overflow}
-use Rattle.tbr_renderer.specs.Rows.{GivenCell, style_in}
+use Rattle.tbr_renderer.specs.Rows.{GivenCell, style_in, own_cells, are_side_by_side}
 use Rattle.tbr_kept_lines.specs.LastBorder.{last_border}
 use Rattle.text_block_renderer.specs.Added.{ended}
 use Rattle.text_block_renderer.specs.Stretches.{NoneIsAhead}
@@ -55,20 +55,22 @@ module _ {D A : Type 0} {columns : ℕ → Option ℕ} where
   -- a row with the cells of which it was made
   abbrev pub made : PutRow D A columns → MadeRow (List A) columns
   made p = record {
+    same = p.same;
+    tells = p.tells;
     style = style_in p.before p.collapses;
     tag = p.before.annotations;
     hanging = p.before.hanging;
-    own = p.puts.own;
-    side_by_side = p.puts.side_by_side;
+    own = own_cells p.same columns p.cells p.before;
+    side_by_side = are_side_by_side p.same columns p.before.annotations 0 p.cells;
     top = last_border p.before.lines;
-    row = p.puts.row;
-    means = p.puts.means;
+    cells = p.seated;
+    seated = p.are_seated;
   }
 
   -- a cell of the first of these rows
   abbrev pub IsCellOf : Cell (List A) → List (PutRow D A columns) → Type 0
   IsCellOf cell [] = ⊥
-  IsCellOf cell (p ∷ rows) = StandsAmong cell p.puts.means.cells
+  IsCellOf cell (p ∷ rows) = StandsAmong cell p.seated
 
 -- No character takes more than two columns. This is a law of `CharWidth`, and so is `DrawsInOne`.
 abbrev pub TakeTwoAtMost : (ℕ → Option ℕ) → Type 0

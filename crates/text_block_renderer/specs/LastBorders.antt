@@ -11,7 +11,7 @@ module _ {D A : Type 0} (columns : ℕ → Option ℕ) where
   -- the lines above a row: if the last one is a border, it becomes what the row makes of it
   abbrev pub lines_above : PutRow D A columns → List (Line (List A)) → List (Line (List A))
   lines_above p lines =
-      before_border lines ++ border_lines (border_above p.collapses p.puts.means.cells (last_border lines))
+      before_border lines ++ border_lines (border_above p.collapses p.seated (last_border lines))
 
   -- Where pieces come after these lines, one after another, the lines are then the last ones. A row finds just the lines
   -- that there are when it comes.

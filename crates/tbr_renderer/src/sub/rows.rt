@@ -9,14 +9,14 @@ ghost use Rattle.tbr_tagged.specs.Elements.{items_of, IsMerged};
 ghost use Rattle.tbr_rows.specs.Filled.{cell_after};
 ghost use Rattle.tbr_tagged.specs.declared.Error.TheVariants as E;
 ghost use Rattle.tbr_rows.specs.Cells.{AreSideBySide, has_lines, row_fits, spot_of};
-ghost use Rattle.tbr_rows.specs.Meant.{MeansRow, SeenRow};
+ghost use Rattle.tbr_rows.specs.Rows.{row_seen};
 ghost use Rattle.tbr_renderer.specs.Renderer.{KeepsSettings, with_line, block_width};
 ghost use Rattle.tbr_tagged.specs.Outcome.{done, refused};
 ghost use Rattle.tbr_renderer.specs.Outcomes.{and_then, taking};
 ghost use Rattle.tbr_renderer.specs.Flush.{EndsBest, after_flush};
 ghost use Rattle.tbr_kept_lines.specs.LastBorder.{last_border, before_border};
 ghost use Rattle.tbr_renderer.specs.Rows as model;
-ghost use Rattle.tbr_renderer.specs.Rows.{GivenCell, ComesAs, cells_handed_out, row_made, row_seen};
+ghost use Rattle.tbr_renderer.specs.Rows.{GivenCell, cells_handed_out, row_made};
 
 use crate::renderer::Renderer;
 use crate::sub::SubRenderer;
@@ -112,8 +112,7 @@ impl<D: TextDecorator, W: CharWidth> SubRenderer<D, W> {
     ) -> Result<Columns<Annotations<D::Annotation>>, Error>
         ensures cells { IfOk result (λ columns. (cells : List (GivenCell (List D.Annotation.Meaning)))
             × (cells_handed_out W.columns cols.items aligns.now ≡ done cells)
-            × AllZip (ComesAs W.columns (self.now.annotations)) cells
-            columns) }
+            × (columns ≡ model.own_cells (pointwise D.Annotation.same) W.columns cells self.now)) }
         ensures free { IfOk result (λ columns. AllZip (model.LeavesFree W.columns) cols.items columns) }
         ensures side_by_side { IfOk result (λ columns. AreSideBySide 0 columns) }
         ensures too_narrow { result ≡ Err E.TooNarrow →
@@ -142,11 +141,8 @@ impl<D: TextDecorator, W: CharWidth> SubRenderer<D, W> {
     ) -> Result<(), OutOfMemory>
         requires unfailed { self.old.failure ≡ None }
         requires fits { row_fits self.old.hanging (map spot_of columns) ≡ true }
-        ensures row { OnOk result ((row : SeenRow (List D.Annotation.Meaning))
-            × MeansRow W.columns (model.style_in self.old collapses) (self.old.annotations)
-            self.old.hanging columns
-            (last_border self.old.lines) row
-            × (self.new ≡ model.with_row W.columns self.old row)) }
+        ensures row { let same = pointwise D.Annotation.same in
+            OnOk result (model.row_put_of same W.columns collapses self.old columns ≡ Some self.new) }
         ensures settings { KeepsSettings self.old self.new }
     {
         let style = RowStyle {

@@ -2,7 +2,8 @@
 ghost use Rattle.std.specs.Prelude.{◌≡◌, ◌≢◌, ◌≤◌, ◌++◌, ◌∷◌, [], None, Err, true, false, map, chars, IfOk, IfErr, OnOk, replicate};
 ghost use Rattle.tbr_tagged.specs.View.{chars_of};
 ghost use Rattle.tbr_tagged.specs.declared.Error.TheVariants as E;
-ghost use Rattle.tbr_renderer.specs.Renderer.{KeepsSettings, block_width, may_overflow, last_mode, struck, struck_character, open_block, new_block, stroke, text_annotations, entries_under, entries_of, called, with_events, is_white, ignores};
+ghost use Rattle.tbr_renderer.specs.Renderer.{KeepsSettings, block_width, may_overflow, last_mode, struck, struck_character, open_block, new_block, stroke, text_annotations, entries_under};
+ghost use Rattle.tbr_renderer.specs.Renderer.{entries_of, called, with_events, is_white, ignores};
 ghost use Rattle.tbr_renderer.specs.View.{IsFresh, Writes, open_seen};
 ghost use Rattle.tbr_renderer.specs.Steps.{after_joining, after_first_text, after_text};
 ghost use Rattle.tbr_renderer.specs.Outcomes.{Tries};

@@ -70,7 +70,7 @@ impl<D: Headings, W: CharWidth> Session<D, W> {
             return Err(advice::under_a_cell(self.alloc, number, self.levels.notes.spanning));
         }
         self.levels.enter(Opener::Table, number)?;
-        let table = TableScript::begun(self.alloc, self.tables.texts);
+        let table = TableScript::begun(self.alloc, self.tables.texts)?;
         self.add_step(number, Step::Table, table)
     }
 

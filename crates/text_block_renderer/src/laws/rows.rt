@@ -1,5 +1,5 @@
 //! The laws of rows of cells side by side.
-ghost use Rattle.std.specs.Prelude.{◌≡◌, ◌↔◌, ℕ, Bool, Option, List, [], ◌++◌};
+ghost use Rattle.std.specs.Prelude.{◌≡◌, ℕ, Bool, Option, List, [], ◌++◌};
 ghost use Rattle.tbr_model.specs.Run.{Entry, Item};
 ghost use Rattle.std.specs.Cmp.Lexicographic.{pointwise};
 ghost use Rattle.tbr_decor.specs.Decoration.{Decoration};
@@ -8,21 +8,13 @@ ghost use Rattle.tbr_renderer.specs.declared.options.RenderOptions.{RenderOption
 ghost use Rattle.tbr_renderer.specs.Calls.{text_of_lines};
 ghost use Rattle.tbr_tagged.specs.Outcome.{done};
 ghost use Rattle.tbr_renderer.specs.Outcomes.{run};
-ghost use Rattle.tbr_rows.specs.Computed.{TellsApart};
-ghost use Rattle.tbr_renderer.specs.Rows.{GivenCell, AppendsRow, after_row};
+ghost use Rattle.tbr_renderer.specs.Rows.{GivenCell, after_row};
 ghost use Rattle.tbr_kept_lines.specs.LastBorder.{before_border};
 ghost use Rattle.tbr_kept_lines.specs.Line.{Line};
 ghost use Rattle.tbr_renderer.specs.Flush.{after_flush};
 ghost use Rattle.text_block_renderer.specs.Acts.{Act, rows_of, after_act, acts_come, PutRow, put, lines_of_piece};
 ghost use Rattle.text_block_renderer.specs.LastBorders.{lines_above};
 ghost use Rattle.text_block_renderer.specs.Taken.{IsWrittenSoFar};
-
-/// Where annotations can be told apart, a row leaves exactly the state that is computed from what it means.
-pub fn a_row_is_computed<D, A>()
-    ensures { (same : List A → List A → Bool) → TellsApart same → (columns : ℕ → Option ℕ) (collapses : Bool)
-        (cells : List (GivenCell (List A))) (r s : Renderer D A (List A)) →
-        AppendsRow columns collapses cells r s ↔ (after_row same columns collapses cells r ≡ done s) }
-{}
 
 /// A row takes no line of text back: its texts come after those that there are.
 pub fn a_row_takes_no_text_back<D, A>()

@@ -1,4 +1,4 @@
-use Rattle.std.proofs.Common.{Ok, Err, refl}
+use Rattle.tbr_c.proofs.Common.{Ok, Err, refl}
 use Rattle.tbr_c.proofs.calls.tbr1_new.Goals as goal
 
 pub returns-in-Ok : goal.returns-in-Ok

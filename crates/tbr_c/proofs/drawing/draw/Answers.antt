@@ -1,17 +1,15 @@
-use Rattle.std.proofs.Common.{◌≡◌, Err, ap, ◌∙◌, sym, subst}
+use Rattle.tbr_c.proofs.Common.{◌≡◌, Err, ap, ◌∙◌, sym, decoration_of, after_each, drawn_made}
+use Rattle.std.proofs.Common.{subst}
 use Rattle.std.specs.List.{AllByRecursion as Each}
 use Rattle.std.proofs.lemmas.List.{take_all}
 use Rattle.std.proofs.lemmas.Result.{err_from_is_err_and}
 use Rattle.tbr_tagged.specs.declared.Error.TheVariants as refusal
-use Rattle.tbr_decor.specs.Decoration.{decoration_of}
 use Rattle.tbr_script.specs.declared.error.RunError.TheVariants as unrun
 use Rattle.tbr_tables.specs.Laws.{IsSized}
 use Rattle.tbr_tables.specs.Recorded.{calls_in}
 use Rattle.tbr_tables.specs.declared.drawn.Call.TheVariants.{Given}
-use Rattle.tbr_recorded.specs.Drawn.{after_each}
 use Rattle.tbr_recorded.proofs.Elements.{each_get_or}
 use Rattle.tbr_recorded.proofs.Walks.{each_step, each_refused}
-use Rattle.tbr_c.specs.Drawing.{drawn_made}
 use Rattle.tbr_c.proofs.Facts.{asked_on_top}
 use Rattle.tbr_c.proofs.drawing.draw.Goals as goal
 

@@ -1,8 +1,6 @@
-use Rattle.std.proofs.Common.{◌≡◌, Ok, take}
-use Rattle.tbr_decor.specs.Decoration.{decoration_of}
+use Rattle.tbr_c.proofs.Common.{◌≡◌, Ok, decoration_of, after_each, drawn_made}
+use Rattle.std.proofs.Common.{take}
 use Rattle.tbr_program.specs.Progress.{GoesOn}
-use Rattle.tbr_recorded.specs.Drawn.{after_each}
-use Rattle.tbr_c.specs.Drawing.{drawn_made}
 use Rattle.tbr_c.proofs.drawing.draw.Given as goal
 
 abbrev pub invariant-loop-drawn : goal.invariant-loop-drawn

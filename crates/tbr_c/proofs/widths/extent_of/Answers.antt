@@ -1,8 +1,7 @@
-use Rattle.std.proofs.Common.{ℕ, List, Ok, Err, ap, sym, ◌∙◌, chars}
-use Rattle.tbr_tagged.specs.UnicodeColumns.{unicode_columns}
+use Rattle.tbr_c.proofs.Common.{ℕ, List, Ok, Err, ap, sym, ◌∙◌, unicode_columns, NotUtf8}
+use Rattle.std.proofs.Common.{chars}
 use Rattle.tbr_tables.specs.Numbers.{any_width}
 use Rattle.tbr_tables.specs.Ruler.{no_text, after_text, room_of}
-use Rattle.tbr_c_lines.specs.declared.fault.Fault.TheVariants.{NotUtf8}
 use Rattle.tbr_c.specs.Arguments.{extent_of}
 use Rattle.tbr_c.proofs.Texts.{read_text, read_no_text, extent_read}
 use Rattle.tbr_c.proofs.widths.extent_of.Goals as goal

@@ -28,7 +28,8 @@ returns-in_err-start_block-clause-too_narrow g c = λ narrow.
 
 pub returns-in_err-fmt_links-clause-too_narrow : goal.returns-in_err-fmt_links-clause-too_narrow
 returns-in_err-fmt_links-clause-too_narrow g c = λ narrow.
-    let beside = call_beside g.W.CharWidth.columns (decoration_of g.D.TextDecorator g.D.Annotation.Tag.tells) start_block c.finalise.new.self c.start_block.new.self c.in_ok-start_block.ensures.answers.ok in
+    let beside = call_beside g.W.CharWidth.columns (decoration_of g.D.TextDecorator g.D.Annotation.Tag.tells)
+    start_block c.finalise.new.self c.start_block.new.self c.in_ok-start_block.ensures.answers.ok in
     let live : c.start_block.new.self.failure ≡ None = beside.0 ∙ ap (λ r. r.failure) c.in_ok-footnotes.ensures.asked ∙ c.requires in
     let p = err_from_is_err_and c.from_residual-in_err-fmt_links.result c.from_residual-in_err-fmt_links.ensures.1 in
     let is : c.in_err-fmt_links.field-0.0 ≡ TooNarrow = cc (p.1, p.2, narrow) in
@@ -43,7 +44,8 @@ returns-clause-noted g c =
     let begun = c.start_block.new.self in
     let some : (length notes.items == 0) ≡ false = ap (λ n. n == 0) (sym notes.ok.0) ∙ sym c.if-is_empty.ensures in
     let starts = ap (λ r. after columns decoration start_block r) (sym c.in_ok-footnotes.ensures.asked) ∙ c.in_ok-start_block.ensures.answers.ok in
-    closed_with columns decoration (map chars_of c.args.targets.items) c.args.renderer c.requires meaning notes.items begun c.fmt_links.new.self starts c.in_ok-fmt_links.ensures.ok c.in_ok-footnotes.ensures.lines some
+    closed_with columns decoration (map chars_of c.args.targets.items) c.args.renderer c.requires meaning notes.items
+    begun c.fmt_links.new.self starts c.in_ok-fmt_links.ensures.ok c.in_ok-footnotes.ensures.lines some
 
 pub returns-clause-live : goal.returns-clause-live
 returns-clause-live g c =

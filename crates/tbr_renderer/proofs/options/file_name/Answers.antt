@@ -1,4 +1,4 @@
-use Rattle.std.proofs.Common.{rules}
+use Rattle.tbr_renderer.proofs.Common.{rules}
 use Rattle.tbr_renderer.proofs.Images.{name_alone, name_after}
 use Rattle.tbr_renderer.proofs.options.file_name.Goals as goal
 

@@ -1,6 +1,5 @@
-use Rattle.std.proofs.Common.{◌++◌, map}
-use Rattle.tbr_tagged.specs.Elements.{items_of, SameItems, IsMerged}
-use Rattle.tbr_tagged.specs.View.{element_of}
+use Rattle.tbr_renderer.proofs.Common.{◌++◌, map, items_of, SameItems, element_of}
+use Rattle.tbr_tagged.specs.Elements.{IsMerged}
 use Rattle.tbr_renderer.proofs.sub.after_markers.Given as goal
 
 abbrev pub invariant-loop-marker : goal.invariant-loop-marker

@@ -1,7 +1,4 @@
-use Rattle.std.proofs.Common.{◌≡◌, map, take}
-use Rattle.tbr_border.specs.Cell.{above, below}
-use Rattle.tbr_rows.specs.Cells.{end_of}
-use Rattle.tbr_rows.specs.Borders.{joined_at_each}
+use Rattle.tbr_rows.proofs.Common.{◌≡◌, map, take, above, below, end_of, joined_at_each}
 use Rattle.tbr_rows.proofs.borders.join.Given as goal
 
 abbrev pub invariant-loop-cell : goal.invariant-loop-cell

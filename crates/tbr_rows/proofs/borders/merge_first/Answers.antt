@@ -1,7 +1,4 @@
-use Rattle.std.proofs.Common.{◌≡◌, rules, refl}
-use Rattle.std.proofs.lemmas.List.{map-append}
-use Rattle.std.proofs.lemmas.Grind.{fold-append}
-use Rattle.tbr_rows.specs.Borders.{merged_below}
+use Rattle.tbr_rows.proofs.Common.{◌≡◌, rules, refl, map-append, fold-append, merged_below}
 use Rattle.tbr_rows.proofs.borders.merge_first.Goals.{in-Some-take_first_border+in_ok-merge_from_below, in_default}
 use Rattle.tbr_rows.proofs.borders.merge_first.Goals as goal
 

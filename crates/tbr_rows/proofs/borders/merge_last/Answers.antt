@@ -1,6 +1,4 @@
-use Rattle.std.proofs.Common.{arith}
-use Rattle.std.proofs.lemmas.List.{map-append}
-use Rattle.std.proofs.lemmas.Grind.{fold-append}
+use Rattle.tbr_rows.proofs.Common.{arith, map-append, fold-append}
 use Rattle.tbr_rows.proofs.borders.merge_last.Goals.{in-Some-bottom+in_ok-merge_from_above, in_default}
 use Rattle.tbr_rows.proofs.borders.merge_last.Goals as goal
 

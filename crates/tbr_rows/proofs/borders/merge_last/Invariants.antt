@@ -1,5 +1,4 @@
-use Rattle.std.proofs.Common.{◌≡◌, map, fold}
-use Rattle.tbr_rows.specs.Borders.{merged_above, with_last_border_apart}
+use Rattle.tbr_rows.proofs.Common.{◌≡◌, map, fold, merged_above, with_last_border_apart}
 use Rattle.tbr_rows.proofs.borders.merge_last.Given as goal
 
 abbrev pub invariant-loop-cell : goal.invariant-loop-cell

@@ -1,5 +1,4 @@
-use Rattle.std.proofs.Common.{◌≡◌, map}
-use Rattle.tbr_rows.specs.Borders.{whole_column}
+use Rattle.tbr_rows.proofs.Common.{◌≡◌, map, whole_column}
 use Rattle.tbr_rows.proofs.borders.whole.Given as goal
 
 abbrev pub invariant-loop-cell : goal.invariant-loop-cell

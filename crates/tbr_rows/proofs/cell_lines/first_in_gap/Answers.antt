@@ -1,5 +1,4 @@
-use Rattle.std.proofs.Common.{arith}
-use Rattle.tbr_wrap.proofs.runs.LinesLeft.{first_of}
+use Rattle.tbr_rows.proofs.Common.{arith, first_of}
 use Rattle.tbr_rows.proofs.CellLines.{gap_of_text}
 use Rattle.tbr_rows.proofs.cell_lines.first_in_gap.Goals as goal
 

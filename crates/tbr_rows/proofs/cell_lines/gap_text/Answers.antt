@@ -1,5 +1,4 @@
-use Rattle.std.proofs.Common.{sym, subst, IfOk}
-use Rattle.tbr_rows.specs.Gaps.{IsGapText}
+use Rattle.tbr_rows.proofs.Common.{sym, subst, IfOk, IsGapText}
 use Rattle.tbr_rows.proofs.CellLines.{gap_of_line}
 use Rattle.tbr_rows.proofs.cell_lines.gap_text.Goals as goal
 

@@ -1,5 +1,4 @@
-use Rattle.std.proofs.Common.{◌≡◌, take}
-use Rattle.tbr_rows.specs.Texts.{row_height}
+use Rattle.tbr_rows.proofs.Common.{◌≡◌, take, row_height}
 use Rattle.tbr_rows.proofs.column.height.Given as goal
 
 abbrev pub invariant-loop-column : goal.invariant-loop-column

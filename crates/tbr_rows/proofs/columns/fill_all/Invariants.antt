@@ -1,6 +1,4 @@
-use Rattle.std.proofs.Common.{◌≡◌, take, drop}
-use Rattle.std.specs.List.{AllZip}
-use Rattle.tbr_rows.specs.Filled.{FillsLine}
+use Rattle.tbr_rows.proofs.Common.{◌≡◌, take, drop, AllZip, FillsLine}
 use Rattle.tbr_rows.proofs.columns.fill_all.Given as goal
 
 abbrev pub invariant-loop-line : goal.invariant-loop-line

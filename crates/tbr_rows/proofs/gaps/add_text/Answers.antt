@@ -1,8 +1,7 @@
-use Rattle.std.proofs.Common.{ap, sym, map-id, ◌∙◌, map, refl}
+use Rattle.tbr_rows.proofs.Common.{ap, sym, ◌∙◌, map, refl, element_of, with_elements}
+use Rattle.std.proofs.Common.{map-id}
 use Rattle.std.proofs.lemmas.Iterator.Consumers.{YieldsList-from_first, YieldsList-end}
-use Rattle.tbr_tagged.specs.View.{element_of}
 use Rattle.tbr_tagged.specs.Walks.{elements_to_come}
-use Rattle.tbr_rows.specs.Gaps.{with_elements}
 use Rattle.tbr_rows.proofs.gaps.add_text.Goals as goal
 
 pub returns : goal.returns

@@ -1,6 +1,4 @@
-use Rattle.std.proofs.Common.{◌≡◌, map}
-use Rattle.tbr_tagged.specs.View.{element_of}
-use Rattle.tbr_rows.specs.Gaps.{with_elements}
+use Rattle.tbr_rows.proofs.Common.{◌≡◌, map, element_of, with_elements}
 use Rattle.tbr_rows.proofs.gaps.add_text.Given as goal
 
 abbrev pub invariant-loop-element : goal.invariant-loop-element

@@ -1,9 +1,4 @@
-use Rattle.std.proofs.Common.{◌≡◌, ℕ, Bool, Option, List, ◌++◌, ◌∷◌, [], map, refl, append-nil}
-use Rattle.std.proofs.lemmas.List.{map_push}
-use Rattle.std.proofs.lemmas.List.Concat.{flat_map-append}
-use Rattle.tbr_border.specs.Border.{Border}
-use Rattle.tbr_rows.specs.declared.line_set.LineSet.{LineSet as Cell}
-use Rattle.tbr_rows.specs.Gaps.{has_gap, FillsGapIf, FillsGaps, cell_in}
+use Rattle.tbr_rows.proofs.Common.{◌≡◌, ℕ, Bool, Option, List, ◌++◌, ◌∷◌, [], map, refl, append-nil, map_push, flat_map-append, Border, Cell, has_gap, FillsGapIf, FillsGaps, cell_in}
 use Rattle.tbr_rows.proofs.gaps.hang.Goals as goal
 
 fills_push : {A : Type 0} (draws : Bool) (columns : ℕ → Option ℕ) (eq : A → A → Bool) (a : A) (cs : List (Cell A)) (c : Cell A) (b m end : Border A) →

@@ -1,5 +1,4 @@
-use Rattle.std.proofs.Common.{◌≡◌, map}
-use Rattle.tbr_rows.specs.Gaps.{FillsGaps, overhang, cell_in}
+use Rattle.tbr_rows.proofs.Common.{◌≡◌, map, FillsGaps, overhang, cell_in}
 use Rattle.tbr_rows.proofs.gaps.hang.Given as goal
 
 abbrev pub invariant-loop-column : goal.invariant-loop-column

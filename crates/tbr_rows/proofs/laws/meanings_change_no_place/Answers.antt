@@ -1,4 +1,4 @@
-use Rattle.std.proofs.Common.{rules}
+use Rattle.tbr_rows.proofs.Common.{rules}
 use Rattle.tbr_rows.proofs.MeantRows.{lines_mean, spots_mean, fits_mean}
 use Rattle.tbr_rows.proofs.laws.meanings_change_no_place.Goals as goal
 

@@ -1,7 +1,4 @@
-use Rattle.std.proofs.Common.{◌≡◌, suc, ◌-◌, ◌<◌, List, [], ◌∷◌, length, get_or, refl, arith, rules}
-use Rattle.std.proofs.lemmas.Result.{IfOk-weaker}
-use Rattle.tbr_rows.specs.declared.line_set.LineSet.{LineSet as Cell}
-use Rattle.tbr_rows.specs.Cells.{end_of, row_width}
+use Rattle.tbr_rows.proofs.Common.{◌≡◌, suc, ◌-◌, ◌<◌, List, [], ◌∷◌, length, get_or, refl, arith, rules, IfOk-weaker, Cell, end_of, row_width}
 use Rattle.tbr_rows.proofs.line_set.row_width.Goals as goal
 
 -- the row ends with its last cell

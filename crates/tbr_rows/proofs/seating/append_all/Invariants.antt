@@ -1,5 +1,4 @@
-use Rattle.std.proofs.Common.{◌≡◌}
-use Rattle.tbr_rows.specs.Cells.{append_all}
+use Rattle.tbr_rows.proofs.Common.{◌≡◌, append_all}
 use Rattle.tbr_rows.proofs.seating.append_all.Given as goal
 
 abbrev pub invariant-loop-cell : goal.invariant-loop-cell

@@ -1,7 +1,4 @@
-use Rattle.std.proofs.Common.{ap, sym, ◌∙◌}
-use Rattle.std.proofs.lemmas.Bool.{eqb-true}
-use Rattle.std.proofs.lemmas.List.{nil_from_length}
-use Rattle.tbr_rows.specs.Cells.{seated}
+use Rattle.tbr_rows.proofs.Common.{ap, sym, ◌∙◌, eqb-true, nil_from_length, seated}
 use Rattle.tbr_rows.proofs.Seats.{seated_none}
 use Rattle.tbr_rows.proofs.seating.seated.Goals as goal
 

@@ -1,5 +1,4 @@
-use Rattle.std.proofs.Common.{◌≡◌, fold, []}
-use Rattle.tbr_rows.specs.Cells.{seat, Seating}
+use Rattle.tbr_rows.proofs.Common.{◌≡◌, fold, [], seat, Seating}
 use Rattle.tbr_rows.proofs.seating.seated.Given as goal
 
 abbrev pub invariant-loop-cell : goal.invariant-loop-cell

@@ -1,8 +1,6 @@
-use Rattle.std.proofs.Common.{set, ◌≡◌, ◌<◌, length, get_or, ap, ◌∙◌, arith}
-use Rattle.tbr_model.specs.Run.{glyph}
+use Rattle.tbr_rows.proofs.Common.{set, ◌≡◌, ◌<◌, length, get_or, ap, ◌∙◌, arith, glyph, dropped}
 use Rattle.tbr_rows.proofs.RowTexts.{read_dropped, one_more_cell}
 use Rattle.std.proofs.lemmas.List.Edits.{map_over_more}
-use Rattle.tbr_rows.specs.Texts.{dropped}
 use Rattle.tbr_rows.proofs.texts.line_of.Goals as goal
 
 pub loop-i-preserved : goal.loop-i-preserved

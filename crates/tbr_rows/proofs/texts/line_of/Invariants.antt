@@ -1,7 +1,4 @@
-use Rattle.std.proofs.Common.{◌≡◌, ◌++◌, map, take, drop}
-use Rattle.tbr_model.specs.Run.{glyph}
-use Rattle.tbr_tagged.specs.Elements.{items_of, SameItems, IsMerged}
-use Rattle.tbr_rows.specs.Texts.{line_text, dropped}
+use Rattle.tbr_rows.proofs.Common.{◌≡◌, ◌++◌, map, take, drop, glyph, items_of, SameItems, IsMerged, line_text, dropped}
 use Rattle.tbr_rows.proofs.texts.line_of.Given as goal
 
 abbrev pub invariant-loop-i : goal.invariant-loop-i

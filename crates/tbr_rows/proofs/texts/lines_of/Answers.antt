@@ -1,13 +1,7 @@
-use Rattle.std.proofs.Common.{◌≡◌, ℕ, ◌+◌, Bool, List, [], ◌∷◌, ◌++◌, map, drop, refl, ap, add-one, rules}
-use Rattle.std.proofs.lemmas.List.{drop-drop, map_push, map-id}
-use Rattle.std.proofs.lemmas.Simd.{map-map}
-use Rattle.tbr_model.specs.Run.{Item, glyph}
-use Rattle.tbr_model.proofs.lists.Each.{each_append}
-use Rattle.tbr_border.specs.declared.render_line.RenderLine.{RenderLine}
-use Rattle.tbr_tagged.specs.Elements.{Element, items_of, SameItems, IsMerged}
-use Rattle.tbr_tagged.proofs.SameItems.{all_zip_append}
-use Rattle.tbr_rows.specs.declared.column.Column.{Column}
-use Rattle.tbr_rows.specs.Texts.{row_text, text_of_lines, cell_text, dropped, line_text, line_texts, HaveTexts}
+use Rattle.tbr_rows.proofs.Common.{◌≡◌, ℕ, ◌+◌, Bool, List, [], ◌∷◌, ◌++◌, map, drop, refl, ap, rules, drop-drop, map_push, map-map, Item, glyph, each_append, RenderLine, Element, items_of}
+use Rattle.tbr_rows.proofs.Common.{SameItems, IsMerged, all_zip_append, Column, row_text, text_of_lines, cell_text, dropped, line_text, line_texts, HaveTexts}
+use Rattle.std.proofs.Common.{add-one}
+use Rattle.std.proofs.lemmas.List.{map-id}
 use Rattle.tbr_rows.proofs.texts.lines_of.Goals as goal
 
 text_later : {A : Type 0} (a : A) (i : ℕ) (c : Column A) (ls : List (RenderLine A)) → text_of_lines a (dropped i c) ls ≡ text_of_lines a c ls

@@ -1,8 +1,4 @@
-use Rattle.std.proofs.Common.{◌≡◌, map}
-use Rattle.std.specs.List.{AllByRecursion as Each}
-use Rattle.tbr_model.specs.Run.{glyph}
-use Rattle.tbr_tagged.specs.Elements.{IsMerged}
-use Rattle.tbr_rows.specs.Texts.{HaveTexts, line_texts, dropped}
+use Rattle.tbr_rows.proofs.Common.{◌≡◌, map, Each, glyph, IsMerged, HaveTexts, line_texts, dropped}
 use Rattle.tbr_rows.proofs.texts.lines_of.Given as goal
 
 abbrev pub invariant-loop : goal.invariant-loop

@@ -1,5 +1,4 @@
-use Rattle.std.proofs.Common.{◌∙◌}
-use Rattle.std.proofs.lemmas.Result.{on_ok_weaker}
+use Rattle.tbr_rows.proofs.Common.{◌∙◌, on_ok_weaker}
 use Rattle.tbr_border.specs.Border.{lines_above}
 use Rattle.tbr_rows.proofs.RowTexts.{text_after}
 use Rattle.tbr_rows.proofs.texts.push_filler.Goals as goal

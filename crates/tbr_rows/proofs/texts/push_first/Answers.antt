@@ -1,8 +1,4 @@
-use Rattle.std.proofs.Common.{rules}
-use Rattle.std.proofs.lemmas.Bool.{eqb-true, eqb-false}
-use Rattle.std.proofs.lemmas.List.{nil_from_length}
-use Rattle.std.proofs.lemmas.Result.{on_ok_weaker}
-use Rattle.tbr_wrap.proofs.runs.LinesLeft.{first_of}
+use Rattle.tbr_rows.proofs.Common.{rules, eqb-true, eqb-false, nil_from_length, on_ok_weaker, first_of}
 use Rattle.tbr_rows.proofs.texts.push_first.Goals as goal
 
 pub returns-then-is_empty-clause-items : goal.returns-then-is_empty-clause-items

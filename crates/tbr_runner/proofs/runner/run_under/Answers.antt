@@ -7,10 +7,10 @@ pub returns-clause-told : goal.returns-clause-told
 returns-clause-told g c =
     let decoration = decoration_of g.D.TextDecorator g.D.Annotation.Tag.tells in
     if_ok_then c.run_lines.result (λ told.
-    shown_same c.args.raw g.W.CharWidth.columns decoration c.args.number (lines_of c.args.script.now) c.in_ok-program.program _ _ c.in_ok-program.ensures.program) c.run_lines.ensures.told
+    shown_same c.args.raw g.W.CharWidth.columns decoration c.args.number (lines_of c.args.lines) c.in_ok-program.program _ _ c.in_ok-program.ensures.program) c.run_lines.ensures.told
 
 pub returns-clause-refusal : goal.returns-clause-refusal
 returns-clause-refusal g c =
     let decoration = decoration_of g.D.TextDecorator g.D.Annotation.Tag.tells in
     if_err_then c.run_lines.result (λ e h other.
-    shown_same c.args.raw g.W.CharWidth.columns decoration c.args.number (lines_of c.args.script.now) c.in_ok-program.program _ _ c.in_ok-program.ensures.program (h other)) c.run_lines.ensures.refusal
+    shown_same c.args.raw g.W.CharWidth.columns decoration c.args.number (lines_of c.args.lines) c.in_ok-program.program _ _ c.in_ok-program.ensures.program (h other)) c.run_lines.ensures.refusal

@@ -1,4 +1,4 @@
-use Rattle.std.proofs.Common.{◌/◌, ◌+◌, sym, arith, rules}
+use Rattle.std.proofs.Common.{◌/◌, sym, arith, rules}
 use Rattle.std.specs.Fmt.{decimal}
 use Rattle.std.proofs.lemmas.Fmt.{decimal_step, decimal_digit}
 use Rattle.tbr_script.proofs.Writes.{writes_more, beginning_of, stopped}

@@ -20,7 +20,8 @@ pub returns-in_err-write_all-2-clause-line : goal.returns-in_err-write_all-2-cla
 returns-in_err-write_all-2-clause-line g c =
     let held = g.S.Sink.contents in
     let number = decimal c.args.number in
-    let first = appends_more (held c.args.sink.now) (held c.write_all.new.sink) (held c.write_decimal.new.sink) (codes "line ") number c.in_ok-write_all.ensures.written c.in_ok-write_decimal.ensures.digits in
+    let first = appends_more (held c.args.sink.now) (held c.write_all.new.sink) (held c.write_decimal.new.sink)
+    (codes "line ") number c.in_ok-write_all.ensures.written c.in_ok-write_decimal.ensures.digits in
     stopped _ c.from_residual-in_err-write_all-2.result _ _ _ c.from_residual-in_err-write_all-2.ensures.1
     (beginning_of _ _ ((codes "line " ++ number) ++ codes ": ") c.args.what.now _ refl
     (beginning_after (held c.args.sink.now) (held c.write_decimal.new.sink) (held c.write_all-2.new.sink) (codes "line " ++ number) (codes ": ") first c.in_err-write_all-2.ensures.written))
@@ -29,6 +30,8 @@ pub returns-clause-line : goal.returns-clause-line
 returns-clause-line g c =
     let held = g.S.Sink.contents in
     let number = decimal c.args.number in
-    let first = appends_more (held c.args.sink.now) (held c.write_all.new.sink) (held c.write_decimal.new.sink) (codes "line ") number c.in_ok-write_all.ensures.written c.in_ok-write_decimal.ensures.digits in
+    let first = appends_more (held c.args.sink.now) (held c.write_all.new.sink) (held c.write_decimal.new.sink)
+    (codes "line ") number c.in_ok-write_all.ensures.written c.in_ok-write_decimal.ensures.digits in
     let all = appends_more (held c.args.sink.now) (held c.write_decimal.new.sink) (held c.write_all-2.new.sink) (codes "line " ++ number) (codes ": ") first c.in_ok-write_all-2.ensures.written in
-    writes_more (held c.args.sink.now) (held c.write_all-2.new.sink) (held c.write_all-3.new.sink) c.write_all-3.result ((codes "line " ++ number) ++ codes ": ") c.args.what.now all c.write_all-3.ensures.written
+    writes_more (held c.args.sink.now) (held c.write_all-2.new.sink) (held c.write_all-3.new.sink)
+    c.write_all-3.result ((codes "line " ++ number) ++ codes ": ") c.args.what.now all c.write_all-3.ensures.written

@@ -1,12 +1,9 @@
-use Rattle.std.proofs.Common.{◌≡◌, ◌+◌, ◌++◌, ℕ, List, length}
-use Rattle.tbr_script.specs.Script.{lines_of}
-use Rattle.tbr_statements.specs.Level.{held}
-use Rattle.tbr_view.specs.Script.{AreSkipped}
+use Rattle.tbr_view.proofs.Common.{◌≡◌, ◌+◌, ◌++◌, ℕ, List, length, lines_of, held, AreSkipped}
 use Rattle.tbr_view.proofs.script.first_command.Given as goal
 
-abbrev pub invariant-loop-rest : goal.invariant-loop-rest
-invariant-loop-rest l = (skipped : List (List ℕ)) × (lines_of l.script ≡ skipped ++ lines_of l.rest) × AreSkipped skipped
+abbrev pub invariant-loop-line : goal.invariant-loop-line
+invariant-loop-line l = (skipped : List (List ℕ)) × (lines_of l.fn.lines ≡ skipped ++ lines_of l.lines) × AreSkipped skipped
     × (l.number ≡ held (length skipped + 1))
 
-abbrev pub decreases-loop-rest : goal.decreases-loop-rest
-decreases-loop-rest l = length l.rest
+abbrev pub decreases-loop-line : goal.decreases-loop-line
+decreases-loop-line l = length l.lines

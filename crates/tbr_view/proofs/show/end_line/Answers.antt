@@ -1,7 +1,5 @@
-use Rattle.std.proofs.Common.{rules, chars, ap, ◌∙◌}
-use Rattle.std.specs.String.{string_bytes}
+use Rattle.tbr_view.proofs.Common.{rules, chars, ap, ◌∙◌, string_bytes, newline_character}
 use Rattle.std.proofs.lemmas.Str.{IsUtf8-string_bytes}
-use Rattle.tbr_model.specs.Codes.{newline_character}
 use Rattle.tbr_tagged.proofs.TextAfter.{chars_push}
 use Rattle.tbr_view.proofs.show.end_line.Goals as goal
 

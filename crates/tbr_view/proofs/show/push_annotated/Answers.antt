@@ -1,5 +1,4 @@
-use Rattle.std.proofs.Common.{ap}
-use Rattle.std.proofs.lemmas.Result.{on_ok_weaker}
+use Rattle.tbr_view.proofs.Common.{ap, on_ok_weaker}
 use Rattle.tbr_view.specs.Shown.{elements_in}
 use Rattle.tbr_view.proofs.show.push_annotated.Goals as goal
 

@@ -1,7 +1,4 @@
-use Rattle.std.proofs.Common.{[], ◌∷◌, ◌++◌, chars, ap, ◌∙◌, append_assoc}
-use Rattle.std.specs.String.{string_bytes}
-use Rattle.std.proofs.lemmas.Result.{on_ok_weaker}
-use Rattle.tbr_model.specs.Codes.{newline_character}
+use Rattle.tbr_view.proofs.Common.{[], ◌∷◌, ◌++◌, chars, ap, ◌∙◌, append_assoc, string_bytes, on_ok_weaker, newline_character}
 use Rattle.tbr_border.specs.RenderLine.{line_items}
 use Rattle.tbr_tagged.specs.Walks.{item_characters}
 use Rattle.tbr_view.proofs.show.push_characters.Goals as goal

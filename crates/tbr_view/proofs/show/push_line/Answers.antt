@@ -1,5 +1,4 @@
-use Rattle.std.proofs.Common.{sym}
-use Rattle.std.proofs.lemmas.Result.{on_ok_weaker}
+use Rattle.tbr_view.proofs.Common.{sym, on_ok_weaker}
 use Rattle.tbr_view.proofs.ShownLines.{shown_in}
 use Rattle.tbr_view.proofs.show.push_line.Goals as goal
 

@@ -1,8 +1,6 @@
-use Rattle.std.proofs.Common.{◌++◌, chars, ap, sym, ◌∙◌, [], ◌∷◌, subst}
+use Rattle.tbr_view.proofs.Common.{◌++◌, chars, ap, sym, ◌∙◌, [], ◌∷◌, subst, AreShown, ShowsLine, chars_of}
 use Rattle.std.proofs.lemmas.Str.{chars-nil}
-use Rattle.tbr_view.specs.Shown.{AreShown, ShowsLine}
 use Rattle.tbr_view.proofs.ShownLines.{one_more_shown}
-use Rattle.tbr_tagged.specs.View.{chars_of}
 use Rattle.tbr_view.proofs.show.show.Goals as goal
 
 pub loop-line-init : goal.loop-line-init

@@ -1,5 +1,4 @@
-use Rattle.tbr_tagged.specs.View.{chars_of}
-use Rattle.tbr_view.specs.Shown.{AreShown, ShowsLine}
+use Rattle.tbr_view.proofs.Common.{chars_of, AreShown, ShowsLine}
 use Rattle.tbr_view.proofs.show.show.Given as goal
 
 abbrev pub invariant-loop-line : goal.invariant-loop-line

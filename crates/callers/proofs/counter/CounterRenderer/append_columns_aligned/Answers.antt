@@ -10,8 +10,11 @@ returns c =
     record {
       takes = takes_so given (Each (λ col. IsWide calls col.0) cols) (calls.append_row c.args.collapse) old c.take_cells.new.self c.take_cells.result
           (on_ok_weaker c.take_cells.result (λ h.
-          let (cells, gives, sum) = cells_come cols c.args.aligns.now h.1 in
-          (h.0, takes_given given (calls.append_row c.args.collapse) old c.take_cells.new.self cells h.0 gives (ap (λ n. done (with_more n old)) sum ∙ ap (λ (d : Counted). done d) (sym h.2)))) c.take_cells.ensures.ok)
+          let (cells, gives, sum) = cells_come cols c.args.aligns.now h.1 in (
+            h.0,
+            takes_given given (calls.append_row c.args.collapse) old c.take_cells.new.self cells h.0 gives
+                (ap (λ n. done (with_more n old)) sum ∙ ap (λ (d : Counted). done d) (sym h.2)),
+          )) c.take_cells.ensures.ok)
           c.take_cells.ensures.err;
       best = on_ok_weaker c.take_cells.result (λ h. (tt, nothing_said cols)) c.take_cells.ensures.ok;
     }

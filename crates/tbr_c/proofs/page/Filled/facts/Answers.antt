@@ -1,7 +1,5 @@
-use Rattle.std.proofs.Common.{inl, inr, refl, ap, ◌∙◌, length, arith}
-use Rattle.tbr_tagged.specs.UnicodeColumns.{unicode_columns}
-use Rattle.tbr_decor.specs.Decoration.{decoration_of}
-use Rattle.tbr_program.specs.Safe.{shown_links}
+use Rattle.tbr_c.proofs.Common.{refl, ap, ◌∙◌, length, arith, unicode_columns, decoration_of, shown_links}
+use Rattle.std.proofs.Common.{inl, inr}
 use Rattle.tbr_program.proofs.MadeCommands.{still_open}
 use Rattle.tbr_c.proofs.page.Filled.facts.Goals as goal
 

@@ -1,6 +1,5 @@
+use Rattle.tbr_c.proofs.Common.{unicode_columns, decoration_of}
 use Rattle.std.proofs.lemmas.List.{nil_from_length}
-use Rattle.tbr_tagged.specs.UnicodeColumns.{unicode_columns}
-use Rattle.tbr_decor.specs.Decoration.{decoration_of}
 use Rattle.tbr_program.proofs.Results.{if_ok_then}
 use Rattle.tbr_c.proofs.EndedLines.{lines_end, narrow_end}
 use Rattle.tbr_c.proofs.page.Filled.into_lines.Goals as goal

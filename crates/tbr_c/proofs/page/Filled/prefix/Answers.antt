@@ -1,4 +1,5 @@
-use Rattle.std.proofs.Common.{[], sym, ap, ◌∙◌, encode_utf8_all}
+use Rattle.tbr_c.proofs.Common.{sym, ap, ◌∙◌, encode_utf8_all}
+use Rattle.std.proofs.Common.{[]}
 use Rattle.std.specs.String.{string_bytes}
 use Rattle.std.proofs.lemmas.Str.{IsUtf8-string_bytes, encodes-chars}
 use Rattle.tbr_decor.specs.Prefix.{asked_prefix}

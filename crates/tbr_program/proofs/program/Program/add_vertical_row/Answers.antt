@@ -9,7 +9,8 @@ returns-in_err-append_vert_row g c =
     let columns = g.W.CharWidth.columns in
     let decoration = decoration_of g.D.TextDecorator g.D.Annotation.Tag.tells in
     record {
-      runs = λ number. runs_refused (after_command columns decoration number vertical_row) c.args.self.now _ c.from_residual-in_err-append_vert_row.result c.in_err-append_vert_row.field-0.0 c.from_residual-in_err-append_vert_row.ensures.1 (λ e.
+      runs = λ number. runs_refused (after_command columns decoration number vertical_row) c.args.self.now _
+          c.from_residual-in_err-append_vert_row.result c.in_err-append_vert_row.field-0.0 c.from_residual-in_err-append_vert_row.ensures.1 (λ e.
           vertical_narrow columns decoration number _ c.args.self.now c.self.view_is c.top_mut.result.now c.top_mut.ensures.top c.in_ok-cells.cells.items c.in_ok-cells.ensures.cells
           (c.append_vert_row.ensures.takes.too_narrow (c.in_err-append_vert_row.was ∙ ap Err e)));
     }

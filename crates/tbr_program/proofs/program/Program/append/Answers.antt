@@ -12,7 +12,8 @@ returns-then-not-is_sub g c =
     let texts = c.args.prefixes.now in
     record {
       runs = runs_early (after_command columns decoration c.args.number (append (string_bytes texts.first) (string_bytes texts.second))) c.args.self.now _ _ refl
-          (no_block columns decoration c.args.number _ c.args.self.now c.self.view_is (string_bytes texts.first) (string_bytes texts.second) (λ is. let h : c.is_sub.result ≡ true = c.is_sub.ensures.1 is in let k = c.if-not-is_sub.true in cc));
+          (no_block columns decoration c.args.number _ c.args.self.now c.self.view_is (string_bytes texts.first)
+          (string_bytes texts.second) (λ is. let h : c.is_sub.result ≡ true = c.is_sub.ensures.1 is in let k = c.if-not-is_sub.true in cc));
     }
 
 pub returns-then-has_cells : goal.returns-then-has_cells
@@ -22,7 +23,8 @@ returns-then-has_cells g c =
     let texts = c.args.prefixes.now in
     record {
       runs = runs_early (after_command columns decoration c.args.number (append (string_bytes texts.first) (string_bytes texts.second))) c.args.self.now _ _ refl
-          (block_waits columns decoration c.args.number _ c.args.self.now c.self.view_is (string_bytes texts.first) (string_bytes texts.second) (c.is_sub.ensures.0 (cc)) (λ none. let h : c.has_cells.result ≡ false = c.has_cells.ensures.1 none in cc));
+          (block_waits columns decoration c.args.number _ c.args.self.now c.self.view_is (string_bytes texts.first)
+          (string_bytes texts.second) (c.is_sub.ensures.0 (cc)) (λ none. let h : c.has_cells.result ≡ false = c.has_cells.ensures.1 none in cc));
     }
 
 pub close-inside-requires-clause-opened : goal.close-inside-requires-clause-opened
@@ -39,9 +41,12 @@ returns-in_err-append_after g c =
     let decoration = decoration_of g.D.TextDecorator g.D.Annotation.Tag.tells in
     let texts = c.args.prefixes.now in
     record {
-      runs = runs_refused (after_command columns decoration c.args.number (append (string_bytes texts.first) (string_bytes texts.second))) c.args.self.now _ c.from_residual.result c.in_err-append_after.field-0.0 c.from_residual.ensures.1 (λ e.
+      runs = runs_refused (after_command columns decoration c.args.number
+          (append (string_bytes texts.first) (string_bytes texts.second))) c.args.self.now _ c.from_residual.result
+          c.in_err-append_after.field-0.0 c.from_residual.ensures.1 (λ e.
           block_narrow columns decoration c.args.number _ c.args.self.now c.self.view_is (string_bytes texts.first) (string_bytes texts.second) (c.is_sub.ensures.0 (cc)) (c.has_cells.ensures.0 (cc))
-          c.close-inside.result c.close-inside.new.self _ c.close-inside.ensures.closes c.self-2.view_is c.top_mut-top.result.now c.top_mut-top.ensures.top (c.append_after.ensures.tries.too_narrow (c.in_err-append_after.was ∙ ap Err e)));
+          c.close-inside.result c.close-inside.new.self _ c.close-inside.ensures.closes c.self-2.view_is
+          c.top_mut-top.result.now c.top_mut-top.ensures.top (c.append_after.ensures.tries.too_narrow (c.in_err-append_after.was ∙ ap Err e)));
     }
 
 pub returns : goal.returns
@@ -52,5 +57,6 @@ returns g c =
     record {
       runs = command_done columns decoration c.args.number (append (string_bytes texts.first) (string_bytes texts.second)) c.args.self.now _ c.requires _
           (block_done columns decoration c.args.number _ c.args.self.now c.self.view_is (string_bytes texts.first) (string_bytes texts.second) (c.is_sub.ensures.0 (cc)) (c.has_cells.ensures.0 (cc))
-          c.close-inside.result c.close-inside.new.self _ c.close-inside.ensures.closes c.self-2.view_is c.top_mut-top.result.now c.top_mut-top.ensures.top c.append_after.new.renderer c.in_ok-append_after.ensures.tries.ok);
+          c.close-inside.result c.close-inside.new.self _ c.close-inside.ensures.closes c.self-2.view_is
+          c.top_mut-top.result.now c.top_mut-top.ensures.top c.append_after.new.renderer c.in_ok-append_after.ensures.tries.ok);
     }

@@ -22,8 +22,10 @@ returns-in_err-call g c =
     let decoration = decoration_of g.D.TextDecorator g.D.Annotation.Tag.tells in
     let request = request_of c.args.request.now in
     record {
-      runs = runs_refused (after_command columns decoration c.args.number (ask request)) c.args.self.now _ c.from_residual-in_err-call.result c.in_err-call.field-0.0 c.from_residual-in_err-call.ensures.1 (λ e.
-          request_narrow columns decoration c.args.number _ c.args.self.now c.self.view_is c.top_mut-top.result.now c.top_mut-top.ensures.top request (sym c.lacks.ensures ∙ c.if-lacks.false) (c.call.ensures.too_narrow (c.in_err-call.was ∙ ap Err e)));
+      runs = runs_refused (after_command columns decoration c.args.number (ask request)) c.args.self.now _
+          c.from_residual-in_err-call.result c.in_err-call.field-0.0 c.from_residual-in_err-call.ensures.1 (λ e.
+          request_narrow columns decoration c.args.number _ c.args.self.now c.self.view_is c.top_mut-top.result.now
+          c.top_mut-top.ensures.top request (sym c.lacks.ensures ∙ c.if-lacks.false) (c.call.ensures.too_narrow (c.in_err-call.was ∙ ap Err e)));
     }
 
 pub returns : goal.returns
@@ -33,7 +35,9 @@ returns g c =
     let request = request_of c.args.request.now in
     record {
       runs = command_done columns decoration c.args.number (ask request) c.args.self.now _ c.requires _
-          (request_done columns decoration c.args.number _ c.args.self.now c.self.view_is c.top_mut-top.result.now c.top_mut-top.ensures.top request (sym c.lacks.ensures ∙ c.if-lacks.false) c.call.new.renderer c.note.new.self c.in_ok-note.ensures.counts c.in_ok-call.ensures.ok);
+          (request_done columns decoration c.args.number _ c.args.self.now c.self.view_is c.top_mut-top.result.now
+          c.top_mut-top.ensures.top request (sym c.lacks.ensures ∙ c.if-lacks.false) c.call.new.renderer
+          c.note.new.self c.in_ok-note.ensures.counts c.in_ok-call.ensures.ok);
     }
 
 pub call-requires-clause-live : goal.call-requires-clause-live

@@ -19,7 +19,8 @@ returns-then-has_cells g c =
     let decoration = decoration_of g.D.TextDecorator g.D.Annotation.Tag.tells in
     record {
       runs = runs_early (after_command columns decoration c.args.number end_cell) c.args.self.now _ _ refl
-          (cell_waits columns decoration c.args.number _ c.args.self.now c.self.view_is c.in-Some.span c.in-Some.align c.in-Some.ensures.found (λ none. let h : c.has_cells.result ≡ false = c.has_cells.ensures.1 none in cc));
+          (cell_waits columns decoration c.args.number _ c.args.self.now c.self.view_is c.in-Some.span c.in-Some.align
+          c.in-Some.ensures.found (λ none. let h : c.has_cells.result ≡ false = c.has_cells.ensures.1 none in cc));
     }
 
 pub close-inside-requires-clause-opened : goal.close-inside-requires-clause-opened
@@ -31,5 +32,7 @@ returns g c =
     let decoration = decoration_of g.D.TextDecorator g.D.Annotation.Tag.tells in
     record {
       runs = command_done columns decoration c.args.number end_cell c.args.self.now _ c.requires _
-          (cell_done columns decoration c.args.number _ c.args.self.now c.self.view_is c.in-Some.span c.in-Some.align c.in-Some.ensures.found (c.has_cells.ensures.0 (cc)) c.close-inside.result c.close-inside.new.self _ c.add_cell.new.self c.close-inside.ensures.closes c.self-2.view_is c.in_ok-add_cell.ensures.waits);
+          (cell_done columns decoration c.args.number _ c.args.self.now c.self.view_is c.in-Some.span c.in-Some.align
+          c.in-Some.ensures.found (c.has_cells.ensures.0 (cc)) c.close-inside.result c.close-inside.new.self _
+          c.add_cell.new.self c.close-inside.ensures.closes c.self-2.view_is c.in_ok-add_cell.ensures.waits);
     }

@@ -16,8 +16,12 @@ returns-clause-lines g c =
     let r = c.into_inner-renderer.result.0 in
     let top = subst (λ s. top_of s ≡ Some r) stack c.into_inner-renderer.ensures.renderer in
     let links = c.in_ok-listed.ensures ∙ ap (listed c.args.raw) (c.into_inner-renderer.ensures.links ∙ ap (λ s. s.links) stack) in
-    if_ok_then c.close_lines.result (λ lines h.
-    (r, top, subst (λ targets. closed g.W.CharWidth.columns (decoration_of g.D.TextDecorator g.D.Annotation.Tag.tells) targets r ≡ done (map line_seen lines.items)) links h)) c.close_lines.ensures.lines
+    if_ok_then c.close_lines.result (λ lines h. (
+      r,
+      top,
+      subst (λ targets. closed g.W.CharWidth.columns (decoration_of g.D.TextDecorator g.D.Annotation.Tag.tells)
+          targets r ≡ done (map line_seen lines.items)) links h,
+    )) c.close_lines.ensures.lines
 
 pub returns-clause-too_narrow : goal.returns-clause-too_narrow
 returns-clause-too_narrow g c = λ narrow.
@@ -29,4 +33,5 @@ returns-clause-too_narrow g c = λ narrow.
 
 pub close_lines-requires : goal.close_lines-requires
 close_lines-requires g c =
-    (top_live c.self.inside.renderers c.self.inside.pending c.self.inside.opened (subst GoesOn (sym c.self.view_is) c.requires.goes_on) c.into_inner-renderer.result.0 c.into_inner-renderer.ensures.renderer).0
+    (top_live c.self.inside.renderers c.self.inside.pending c.self.inside.opened
+    (subst GoesOn (sym c.self.view_is) c.requires.goes_on) c.into_inner-renderer.result.0 c.into_inner-renderer.ensures.renderer).0

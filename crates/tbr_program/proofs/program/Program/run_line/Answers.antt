@@ -17,7 +17,8 @@ returns-in-Some g c =
     let line = c.args.line.now in
     record {
       runs = runs_as (after_command columns decoration c.args.number (ask request)) (after_shown_line columns decoration c.args.raw c.args.number line) c.args.self.now _ c.add_text.result
-          (ap (λ k. after_command columns decoration c.args.number k here) (requested c.args.raw request) ∙ commanded columns decoration c.args.raw c.args.number here line (ask request) c.if-is_empty.ensures c.in-Some.ensures.asked)
+          (ap (λ k. after_command columns decoration c.args.number k here) (requested c.args.raw request)
+          ∙ commanded columns decoration c.args.raw c.args.number here line (ask request) c.if-is_empty.ensures c.in-Some.ensures.asked)
           (c.add_text.ensures.runs c.args.number);
     }
 
@@ -30,7 +31,9 @@ returns-in-Some-plain_link g c =
     let line = c.args.line.now in
     record {
       runs = runs_as (after_command columns decoration c.args.number command) (after_shown_line columns decoration c.args.raw c.args.number line) here _ c.start_link.result
-          (ap (λ k. after_command columns decoration c.args.number k here) (linked c.args.raw c.in-Some-plain_link.target.now) ∙ commanded columns decoration c.args.raw c.args.number here line command c.if-is_empty.ensures c.in-Some-plain_link.ensures.asked)
+          (ap (λ k. after_command columns decoration c.args.number k here)
+          (linked c.args.raw c.in-Some-plain_link.target.now)
+          ∙ commanded columns decoration c.args.raw c.args.number here line command c.if-is_empty.ensures c.in-Some-plain_link.ensures.asked)
           (c.start_link.ensures.runs c.args.number);
     }
 
@@ -41,8 +44,10 @@ returns-in-Some-2 g c =
     let command = command_of c.in-Some-2.command in
     let line = c.args.line.now in
     record {
-      runs = runs_as (after_command columns decoration c.args.number (shown_command c.args.raw command)) (after_shown_line columns decoration c.args.raw c.args.number line) c.args.self.now c.run_shown.new.self c.run_shown.result
-          (commanded columns decoration c.args.raw c.args.number c.args.self.now line command c.if-is_empty.ensures (sym c.in_ok-command.ensures ∙ ap (option_map command_of) c.in-Some-2.is)) c.run_shown.ensures.runs;
+      runs = runs_as (after_command columns decoration c.args.number (shown_command c.args.raw command))
+          (after_shown_line columns decoration c.args.raw c.args.number line) c.args.self.now c.run_shown.new.self c.run_shown.result
+          (commanded columns decoration c.args.raw c.args.number c.args.self.now line command c.if-is_empty.ensures
+          (sym c.in_ok-command.ensures ∙ ap (option_map command_of) c.in-Some-2.is)) c.run_shown.ensures.runs;
     }
 
 pub run_shown-requires-clause-sized : goal.run_shown-requires-clause-sized

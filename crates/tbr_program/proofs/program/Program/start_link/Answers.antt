@@ -15,7 +15,8 @@ returns-in_err-start_link g c =
     let columns = g.W.CharWidth.columns in
     let decoration = decoration_of g.D.TextDecorator g.D.Annotation.Tag.tells in
     record {
-      runs = λ number. runs_refused (after_command columns decoration number (link c.args.target.now)) c.args.self.now _ c.from_residual.result c.in_err-start_link.field-0.0 c.from_residual.ensures.1 (λ e.
+      runs = λ number. runs_refused (after_command columns decoration number (link c.args.target.now)) c.args.self.now
+          _ c.from_residual.result c.in_err-start_link.field-0.0 c.from_residual.ensures.1 (λ e.
           link_narrow columns decoration number _ c.args.self.now c.self.view_is c.args.target.now (c.start_link.ensures.tries.too_narrow (c.in_err-start_link.was ∙ ap Err e)));
     }
 

@@ -8,6 +8,6 @@ use Rattle.tbr_recorded.proofs.recorded.TableScript.draw.Goals as goal
 
 pub returns-clause-sized : goal.returns-clause-sized
 returns-clause-sized c =
-    let r = c.self.inside.recording in
+    let r = c.deref.result.now in
     IfOk-weaker c.draw.result (λ calls. calls.items ≡ calls_in c.args.room r) (λ calls. Each IsSized calls.items)
     (λ calls is. subst (Each IsSized) (sym is) (calls_sized c.args.room r)) c.draw.ensures

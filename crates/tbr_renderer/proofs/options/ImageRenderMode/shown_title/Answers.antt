@@ -1,5 +1,4 @@
-use Rattle.std.proofs.Common.{◌∙◌, ap, sym, Some, chars}
-use Rattle.tbr_renderer.specs.Image.{title_by_mode}
+use Rattle.tbr_renderer.proofs.Common.{◌∙◌, ap, sym, Some, chars, title_by_mode}
 use Rattle.tbr_renderer.proofs.Images.{titled, untitled}
 use Rattle.tbr_renderer.proofs.options.ImageRenderMode.shown_title.Goals as goal
 

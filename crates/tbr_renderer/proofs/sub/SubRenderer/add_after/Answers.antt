@@ -1,7 +1,4 @@
-use Rattle.std.proofs.Common.{length, map, chars, ap, sym, ◌∙◌}
-use Rattle.std.proofs.lemmas.Result.{on_ok_weaker}
-use Rattle.tbr_kept_lines.specs.Line.{line_seen}
-use Rattle.tbr_renderer.specs.Appended.{alike, with_prefixed}
+use Rattle.tbr_renderer.proofs.Common.{length, map, chars, ap, sym, ◌∙◌, on_ok_weaker, line_seen, alike, with_prefixed}
 use Rattle.tbr_renderer.proofs.AppendedLines.{seen, length-seen}
 use Rattle.tbr_renderer.proofs.JoinedLines.{lines_told}
 use Rattle.tbr_renderer.proofs.sub.SubRenderer.add_after.Goals as goal

@@ -1,11 +1,4 @@
-use Rattle.std.proofs.Common.{◌≡◌, ◌∙◌, ◌∷◌, ap, sym, subst, map, fold}
-use Rattle.std.specs.List.{AllByRecursion as Each}
-use Rattle.std.specs.Vec.Iter.{into_iter_items}
-use Rattle.std.proofs.lemmas.Result.{on_ok_weaker}
-use Rattle.tbr_kept_lines.specs.Line.{line_seen}
-use Rattle.tbr_renderer.specs.Flush.{EndsBest}
-use Rattle.tbr_renderer.specs.Outcomes.{and_then, changed, gathered}
-use Rattle.tbr_renderer.specs.Appended.{with_cell_below}
+use Rattle.tbr_renderer.proofs.Common.{◌≡◌, ◌∙◌, ◌∷◌, ap, sym, subst, map, fold, Each, into_iter_items, on_ok_weaker, line_seen, EndsBest, and_then, changed, gathered, with_cell_below}
 use Rattle.tbr_renderer.proofs.AppendedLines.{hands}
 use Rattle.tbr_renderer.proofs.sub.SubRenderer.add_cells.Goals as goal
 

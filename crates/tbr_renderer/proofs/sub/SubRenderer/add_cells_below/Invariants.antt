@@ -1,5 +1,4 @@
-use Rattle.std.specs.List.{AllByRecursion as Each}
-use Rattle.tbr_renderer.specs.Flush.{EndsBest}
+use Rattle.tbr_renderer.proofs.Common.{Each, EndsBest}
 use Rattle.tbr_renderer.proofs.AppendedLines.{HasCells}
 use Rattle.tbr_renderer.proofs.sub.SubRenderer.add_cells_below.Given as goal
 

@@ -1,14 +1,5 @@
-use Rattle.std.proofs.Common.{◌≡◌, ◌∷◌, ◌++◌, [], List, ap, sym, ◌∙◌, refl, subst, append-nil}
-use Rattle.std.specs.Prelude.{chars}
-use Rattle.std.specs.List.{AllByRecursion as Each}
-use Rattle.std.specs.Vec.Iter.{into_iter_items}
-use Rattle.std.proofs.lemmas.List.{nil_from_length}
-use Rattle.tbr_annotations.specs.Annotations.{same_annotations}
-use Rattle.tbr_border.specs.RenderLine.{IsMergedText}
-use Rattle.tbr_tagged.specs.Elements.{items_of, text_items}
-use Rattle.tbr_kept_lines.proofs.ItemsLeft.{items_left, items_taken}
-use Rattle.tbr_renderer.specs.Appended.{texts_of, prefixed, with_prefixed}
-use Rattle.tbr_renderer.specs.Renderer.{Renderer}
+use Rattle.tbr_renderer.proofs.Common.{◌≡◌, ◌∷◌, ◌++◌, [], List, ap, sym, ◌∙◌, refl, subst, append-nil, chars, Each, into_iter_items, nil_from_length, same_annotations, IsMergedText}
+use Rattle.tbr_renderer.proofs.Common.{items_of, text_items, items_left, items_taken, texts_of, prefixed, with_prefixed, Renderer}
 use Rattle.tbr_renderer.proofs.AppendedLines.{seen, after_more, after_all, no_line}
 use Rattle.tbr_renderer.proofs.sub.SubRenderer.add_each_after.Goals as goal
 
@@ -19,10 +10,12 @@ loop-prefix-preserved g c =
     let now = c.loop-prefix.self in
     let line = c.in_ok-add_line.ensures.line in
     record {
-      after = after_more g.W.CharWidth.columns c.args.self.now g.P.AsStr.text c.args.lines.items c.loop-prefix.yielded (into_iter_items c.loop-prefix.lines) (into_iter_items c.next-in-loop-prefix.new.self) now c.add_line.new.self
+      after = after_more g.W.CharWidth.columns c.args.self.now g.P.AsStr.text c.args.lines.items c.loop-prefix.yielded
+          (into_iter_items c.loop-prefix.lines) (into_iter_items c.next-in-loop-prefix.new.self) now c.add_line.new.self
           c.in-Some-next.line c.in-Some.prefix (items_of c.put_in_front.new.text) inv.after first
           (c.in_ok-put_in_front.ensures.items ∙ (λ i. text_items (chars (c.as_str.ensures i)) now.annotations ++ c.in_ok-text.ensures.items i))
-          line c.in_ok-add_line.ensures.settings (ap (λ (r : Renderer g.row.D.Denot g.row.D-Annotation-Meaning.Denot (List g.row.D-Annotation-Meaning.Denot)). r.failure) line ∙ inv.after.put.unfailed);
+          line c.in_ok-add_line.ensures.settings
+          (ap (λ (r : Renderer g.row.D.Denot g.row.D-Annotation-Meaning.Denot (List g.row.D-Annotation-Meaning.Denot)). r.failure) line ∙ inv.after.put.unfailed);
       merged = (subst (Each (IsMergedText (same_annotations g.D.Annotation.Tag.same))) first inv.merged).1;
     }
 
@@ -33,7 +26,9 @@ returns-clause-lines g c =
     let start = c.into_iter-prefix-iterator.result in
     let given = c.loop-prefix.yielded in
     let left = into_iter_items c.loop-prefix.lines in
-    let all = append-nil given ∙ sym (items_taken start start c.loop-prefix.prefix-iterator c.next.new.self given refl c.loop-prefix.yielded_by c.in-None.ensures.steps) ∙ c.into_iter-prefix-iterator.ensures.into_iter_gives.0 in
+    let all = append-nil given
+    ∙ sym (items_taken start start c.loop-prefix.prefix-iterator c.next.new.self given refl
+    c.loop-prefix.yielded_by c.in-None.ensures.steps) ∙ c.into_iter-prefix-iterator.ensures.into_iter_gives.0 in
     after_all g.W.CharWidth.columns old read c.args.lines.items given [] left c.loop-prefix.self c.loop-prefix.invariant.after refl
     ∙ ap (λ ps. with_prefixed g.W.CharWidth.columns old (texts_of read ps) (seen c.args.lines.items)) all
 
@@ -46,7 +41,8 @@ returns-in_default-clause-lines g c =
     let left = into_iter_items c.loop-prefix.lines in
     let more = c.in-Some.prefix ∷ into_iter_items c.next.new.self in
     let none : left ≡ [] = nil_from_length left (sym c.loop-prefix.lines.rest.ok.0 ∙ c.in_default.ensures.cases.0) in
-    let all = sym (items_left start start c.loop-prefix.prefix-iterator c.next.new.self given c.in-Some.prefix refl c.loop-prefix.yielded_by c.in-Some.ensures.steps.0) ∙ c.into_iter-prefix-iterator.ensures.into_iter_gives.0 in
+    let all = sym (items_left start start c.loop-prefix.prefix-iterator c.next.new.self given c.in-Some.prefix refl
+    c.loop-prefix.yielded_by c.in-Some.ensures.steps.0) ∙ c.into_iter-prefix-iterator.ensures.into_iter_gives.0 in
     after_all g.W.CharWidth.columns old read c.args.lines.items given more left c.loop-prefix.self c.loop-prefix.invariant.after
     (ap (λ ls. prefixed old.annotations (texts_of read more) (seen ls)) none ∙ no_line g.W.CharWidth.columns old read c.args.lines.items more)
     ∙ ap (λ ps. with_prefixed g.W.CharWidth.columns old (texts_of read ps) (seen c.args.lines.items)) all

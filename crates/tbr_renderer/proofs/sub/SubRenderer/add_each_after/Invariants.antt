@@ -1,7 +1,4 @@
-use Rattle.std.specs.Vec.Iter.{into_iter_items}
-use Rattle.std.specs.List.{AllByRecursion as Each}
-use Rattle.tbr_annotations.specs.Annotations.{same_annotations}
-use Rattle.tbr_border.specs.RenderLine.{IsMergedText}
+use Rattle.tbr_renderer.proofs.Common.{into_iter_items, Each, same_annotations, IsMergedText}
 use Rattle.tbr_renderer.proofs.AppendedLines.{HasAfter}
 use Rattle.tbr_renderer.proofs.sub.SubRenderer.add_each_after.Given as goal
 

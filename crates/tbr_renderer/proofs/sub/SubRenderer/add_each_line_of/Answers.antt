@@ -1,8 +1,5 @@
-use Rattle.std.proofs.Common.{List, length, drop, ap, ◌∙◌, arith, rules}
-use Rattle.tbr_annotations.specs.Annotations.{same_annotations}
-use Rattle.tbr_wrap.specs.Block.{Block, left}
-use Rattle.tbr_wrap.proofs.runs.LinesLeft.{left_after}
-use Rattle.tbr_wrap.proofs.runs.BlockLaws.{HandsOne, one_handed}
+use Rattle.tbr_renderer.proofs.Common.{List, length, drop, ap, ◌∙◌, arith, rules, same_annotations, Block, left, left_after, HandsOne}
+use Rattle.tbr_wrap.proofs.runs.BlockLaws.{one_handed}
 use Rattle.tbr_renderer.proofs.BlockEnds.{one_line_more}
 use Rattle.tbr_renderer.proofs.sub.SubRenderer.add_each_line_of.Given.{Over}
 use Rattle.tbr_renderer.proofs.sub.SubRenderer.add_each_line_of.Goals.{In-Some}
@@ -17,7 +14,8 @@ add_line-requires-clause-merged g c = (one g (goal.at.add_line-requires-clause-m
 
 pub loop-block-preserved : goal.loop-block-preserved
 loop-block-preserved g c =
-    one_line_more g.D.Annotation.Tag.same g.D.Annotation.Tag.tells g.W.CharWidth.columns c.args.block c.loop-block.block c.next_line.new.self c.args.self.now c.loop-block.self c.add_line.new.self c.in-Some.line
+    one_line_more g.D.Annotation.Tag.same g.D.Annotation.Tag.tells g.W.CharWidth.columns c.args.block
+    c.loop-block.block c.next_line.new.self c.args.self.now c.loop-block.self c.add_line.new.self c.in-Some.line
     c.loop-block.invariant (one g (goal.at.loop-block-preserved g c).In-Some) c.in_ok-add_line.ensures.line
 
 pub loop-block-smaller : goal.loop-block-smaller

@@ -1,5 +1,4 @@
-use Rattle.std.proofs.Common.{length}
-use Rattle.tbr_wrap.specs.Block.{left}
+use Rattle.tbr_renderer.proofs.Common.{length, left}
 use Rattle.tbr_renderer.proofs.BlockEnds.{HasLines}
 use Rattle.tbr_renderer.proofs.sub.SubRenderer.add_each_line_of.Given as goal
 

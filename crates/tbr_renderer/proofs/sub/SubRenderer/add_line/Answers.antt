@@ -1,8 +1,4 @@
-use Rattle.std.proofs.Common.{◌++◌, map}
-use Rattle.std.proofs.lemmas.Result.{on_ok_weaker}
-use Rattle.tbr_tagged.specs.Elements.{items_of}
-use Rattle.tbr_tagged.specs.View.{element_of}
-use Rattle.tbr_annotations.proofs.Told.{items_told}
+use Rattle.tbr_renderer.proofs.Common.{◌++◌, map, on_ok_weaker, items_of, element_of, items_told}
 use Rattle.tbr_renderer.proofs.JoinedLines.{line_after}
 use Rattle.tbr_renderer.proofs.sub.SubRenderer.add_line.Goals as goal
 

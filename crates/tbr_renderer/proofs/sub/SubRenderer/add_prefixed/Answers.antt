@@ -1,8 +1,5 @@
-use Rattle.std.proofs.Common.{◌≡◌, length, map, chars, ap, sym, ◌∙◌, subst, arith, rules}
-use Rattle.std.proofs.lemmas.List.{length-map}
-use Rattle.std.proofs.lemmas.Result.{on_ok_weaker}
-use Rattle.tbr_kept_lines.specs.Line.{line_seen}
-use Rattle.tbr_renderer.specs.Appended.{AreAlike, GivesFirst, texts_of, with_prefixed}
+use Rattle.tbr_renderer.proofs.Common.{◌≡◌, length, map, chars, ap, sym, ◌∙◌, subst, arith, rules, length-map, on_ok_weaker, line_seen, AreAlike, texts_of, with_prefixed}
+use Rattle.tbr_renderer.specs.Appended.{GivesFirst}
 use Rattle.tbr_renderer.proofs.AppendedLines.{alike_all}
 use Rattle.tbr_renderer.proofs.JoinedLines.{lines_told}
 use Rattle.tbr_renderer.proofs.sub.SubRenderer.add_prefixed.Goals as goal

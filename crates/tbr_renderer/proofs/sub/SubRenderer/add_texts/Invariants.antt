@@ -1,5 +1,4 @@
-use Rattle.std.proofs.Common.{map}
-use Rattle.tbr_tagged.specs.Elements.{items_of}
+use Rattle.tbr_renderer.proofs.Common.{map, items_of}
 use Rattle.tbr_renderer.proofs.AppendedLines.{HasPut}
 use Rattle.tbr_renderer.proofs.sub.SubRenderer.add_texts.Given as goal
 

@@ -1,6 +1,4 @@
-use Rattle.std.proofs.Common.{List, ◌++◌, chars, ap, ◌∙◌}
-use Rattle.tbr_tagged.specs.Elements.{items_of, text_items}
-use Rattle.tbr_renderer.specs.Renderer.{Renderer}
+use Rattle.tbr_renderer.proofs.Common.{List, ◌++◌, chars, ap, ◌∙◌, items_of, text_items, Renderer}
 use Rattle.tbr_renderer.proofs.AppendedLines.{later_prefix, texts_more}
 use Rattle.tbr_renderer.proofs.sub.SubRenderer.add_texts_after.Goals as goal
 

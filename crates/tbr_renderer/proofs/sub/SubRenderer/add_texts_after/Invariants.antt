@@ -1,5 +1,4 @@
-use Rattle.std.proofs.Common.{◌≡◌, length}
-use Rattle.std.specs.Prelude.{chars}
+use Rattle.tbr_renderer.proofs.Common.{◌≡◌, length, chars}
 use denote.Shadow.{shadow}
 use denote.Text.{Utf8}
 use Rattle.tbr_renderer.proofs.AppendedLines.{HasTexts, prefix_after}

@@ -1,4 +1,4 @@
-use Rattle.std.specs.Prelude.{chars}
+use Rattle.tbr_renderer.proofs.Common.{chars}
 use Rattle.tbr_renderer.proofs.AppendedLines.{kept_after}
 use Rattle.tbr_renderer.proofs.sub.SubRenderer.append_after.Goals as goal
 

@@ -1,6 +1,4 @@
-use Rattle.std.proofs.Common.{chars, length}
-use Rattle.tbr_decor.specs.Decoration.{decoration_of}
-use Rattle.tbr_renderer.specs.Appended.{handed_out, after_lines, alike}
+use Rattle.tbr_renderer.proofs.Common.{chars, length, decoration_of, handed_out, after_lines, alike}
 use Rattle.tbr_renderer.proofs.KeptRefusals.{settled_takes}
 use Rattle.tbr_renderer.proofs.sub.SubRenderer.append_prefixed.Goals as goal
 

@@ -1,10 +1,6 @@
-use Rattle.std.proofs.Common.{◌∙◌, ap}
-use Rattle.std.proofs.lemmas.Result.{IfOk-weaker}
+use Rattle.tbr_renderer.proofs.Common.{◌∙◌, ap, IfOk-weaker, items_of, line_seen, items_told}
 use Rattle.tbr_border.specs.RenderLine.{items_under}
-use Rattle.tbr_tagged.specs.Elements.{items_of}
 use Rattle.tbr_renderer.specs.Appended.{as_text}
-use Rattle.tbr_kept_lines.specs.Line.{line_seen}
-use Rattle.tbr_annotations.proofs.Told.{items_told}
 use Rattle.tbr_kept_lines.proofs.Prefixes.{under_seen}
 use Rattle.tbr_renderer.proofs.sub.SubRenderer.as_text.Goals as goal
 

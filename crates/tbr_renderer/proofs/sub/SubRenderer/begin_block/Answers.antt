@@ -1,5 +1,4 @@
-use Rattle.std.proofs.Common.{true, false, sym, ◌∙◌}
-use Rattle.std.proofs.lemmas.Result.{on_ok_weaker}
+use Rattle.tbr_renderer.proofs.Common.{true, false, sym, ◌∙◌, on_ok_weaker}
 use Rattle.tbr_renderer.proofs.JoinedLines.{block_begun}
 use Rattle.tbr_renderer.proofs.sub.SubRenderer.begin_block.Goals as goal
 

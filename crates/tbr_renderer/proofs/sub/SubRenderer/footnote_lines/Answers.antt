@@ -1,6 +1,4 @@
-use Rattle.std.proofs.Common.{map, ap, ◌∙◌}
-use Rattle.std.proofs.lemmas.Result.{IfOk-weaker}
-use Rattle.tbr_tagged.specs.Elements.{items_of}
+use Rattle.tbr_renderer.proofs.Common.{map, ap, ◌∙◌, IfOk-weaker, items_of}
 use Rattle.tbr_decor.specs.Meant as decor
 use Rattle.tbr_footnotes.specs.Cutting.{nothing_cut}
 use Rattle.tbr_footnotes.proofs.CutLines.{cut_whole}

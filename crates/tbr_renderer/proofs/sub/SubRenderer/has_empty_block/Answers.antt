@@ -1,4 +1,4 @@
-use Rattle.std.proofs.Common.{rules}
+use Rattle.tbr_renderer.proofs.Common.{rules}
 use Rattle.tbr_renderer.proofs.Fields.{block_opens}
 use Rattle.tbr_renderer.proofs.JoinedTexts.{block_empty}
 use Rattle.tbr_renderer.proofs.sub.SubRenderer.has_empty_block.Goals as goal

@@ -1,5 +1,4 @@
-use Rattle.std.proofs.Common.{ap, sym, ◌∙◌}
-use Rattle.tbr_tagged.specs.Outcome.{done}
+use Rattle.tbr_renderer.proofs.Common.{ap, sym, ◌∙◌, done}
 use Rattle.tbr_renderer.proofs.JoinedLines.{written_mean}
 use Rattle.tbr_renderer.proofs.sub.SubRenderer.into_lines.Goals as goal
 

@@ -1,6 +1,4 @@
-use Rattle.std.proofs.Common.{map, ap, sym, ◌∙◌}
-use Rattle.tbr_tagged.specs.Outcome.{done}
-use Rattle.tbr_kept_lines.specs.Line.{line_seen}
+use Rattle.tbr_renderer.proofs.Common.{map, ap, sym, ◌∙◌, done, line_seen}
 use Rattle.tbr_renderer.proofs.JoinedLines.{lines_told}
 use Rattle.tbr_renderer.proofs.sub.SubRenderer.into_shared_lines.Goals as goal
 

@@ -1,4 +1,4 @@
-use Rattle.std.proofs.Common.{rules}
+use Rattle.tbr_renderer.proofs.Common.{rules}
 use Rattle.tbr_renderer.proofs.sub.SubRenderer.into_string.Goals as goal
 
 pub returns-clause-text : goal.returns-clause-text

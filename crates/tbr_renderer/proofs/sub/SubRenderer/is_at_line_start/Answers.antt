@@ -1,4 +1,4 @@
-use Rattle.std.proofs.Common.{rules}
+use Rattle.tbr_renderer.proofs.Common.{rules}
 use Rattle.tbr_renderer.proofs.Fields.{block_opens}
 use Rattle.tbr_renderer.proofs.JoinedTexts.{line_start}
 use Rattle.tbr_renderer.proofs.sub.SubRenderer.is_at_line_start.Goals as goal

@@ -1,4 +1,4 @@
-use Rattle.std.proofs.Common.{rules}
+use Rattle.tbr_renderer.proofs.Common.{rules}
 use Rattle.tbr_renderer.proofs.sub.SubRenderer.pop_annotation.Goals as goal
 
 pub returns : goal.returns

@@ -1,8 +1,4 @@
-use Rattle.std.proofs.Common.{◌∙◌, ◌++◌, ap, sym}
-use Rattle.std.specs.Prelude.{chars}
-use Rattle.std.proofs.lemmas.Result.{on_ok_weaker}
-use Rattle.tbr_tagged.specs.Elements.{items_of, text_items}
-use Rattle.tbr_annotations.proofs.Told.{items_told}
+use Rattle.tbr_renderer.proofs.Common.{◌∙◌, ◌++◌, ap, sym, chars, on_ok_weaker, items_of, text_items, items_told}
 use Rattle.tbr_kept_lines.proofs.Prefixes.{no_prefix}
 use Rattle.tbr_renderer.proofs.sub.SubRenderer.put_in_front.Goals as goal
 

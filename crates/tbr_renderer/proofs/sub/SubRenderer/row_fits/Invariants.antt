@@ -1,7 +1,4 @@
-use Rattle.std.proofs.Common.{◌≡◌, ℕ, Bool, List, ◌++◌, map, take}
-use Rattle.tbr_rows.specs.Cells.{row_fits, spots_from}
-use Rattle.tbr_rows.specs.Fitting.{fits_with}
-use Rattle.tbr_renderer.specs.Rows.{looks}
+use Rattle.tbr_renderer.proofs.Common.{◌≡◌, ℕ, Bool, List, ◌++◌, map, take, row_fits, spots_from, fits_with, looks}
 use Rattle.tbr_renderer.proofs.sub.SubRenderer.row_fits.Given as goal
 
 abbrev pub invariant-loop-col : goal.invariant-loop-col

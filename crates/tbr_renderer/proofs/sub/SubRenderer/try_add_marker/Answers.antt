@@ -1,9 +1,4 @@
-use Rattle.std.proofs.Common.{[], ◌∷◌, List, refl, ap, sym, ◌∙◌, subst}
-use Rattle.std.specs.String.{string_bytes}
-use Rattle.tbr_model.specs.Rule.{entry}
-use Rattle.tbr_model.specs.Run.{marker_entry}
-use Rattle.tbr_renderer.specs.Renderer.{Renderer, with_events, block_width, may_overflow}
-use Rattle.tbr_renderer.specs.View.{IsFresh}
+use Rattle.tbr_renderer.proofs.Common.{[], ◌∷◌, List, refl, ap, sym, ◌∙◌, subst, string_bytes, entry, marker_entry, Renderer, with_events, block_width, may_overflow, IsFresh}
 use Rattle.tbr_renderer.proofs.JoinedTexts.{fresh_marked, marked, block_grown}
 use Rattle.tbr_renderer.proofs.sub.SubRenderer.try_add_marker.Goals as goal
 
@@ -22,5 +17,6 @@ returns-clause-ok g c =
     let name = string_bytes c.in_ok-name.name in
     let e = (c.in_ok-add_element.ensures.answers name refl).ok in
     let written = marked columns (block_width old) (may_overflow old) c.in_ok-block.block c.add_element.new.self name e in
-    block_grown old c.take_or_new_block.new.self c.put_block.new.self c.in_ok-block.block c.add_element.new.self (entry (marker_entry name) ∷ []) c.in_ok-block.ensures.rest c.in_ok-block.ensures.block written c.put_block.ensures
+    block_grown old c.take_or_new_block.new.self c.put_block.new.self c.in_ok-block.block c.add_element.new.self
+    (entry (marker_entry name) ∷ []) c.in_ok-block.ensures.rest c.in_ok-block.ensures.block written c.put_block.ensures
     ∙ ap (λ (bytes : List _). with_events old (entry (marker_entry bytes) ∷ [])) c.in_ok-name.ensures.ok

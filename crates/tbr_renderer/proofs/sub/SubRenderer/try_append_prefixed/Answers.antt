@@ -1,9 +1,4 @@
-use Rattle.std.proofs.Common.{chars, length, fold, ap, sym, ◌∙◌}
-use Rattle.tbr_tagged.specs.Outcome.{done}
-use Rattle.tbr_renderer.specs.Flush.{after_flush}
-use Rattle.tbr_renderer.specs.Outcomes.{changed}
-use Rattle.tbr_renderer.specs.Appended.{alike, after_lines, handed_out, prefixed}
-use Rattle.tbr_renderer.specs.Renderer.{Settings, with_line}
+use Rattle.tbr_renderer.proofs.Common.{chars, length, fold, ap, sym, ◌∙◌, done, after_flush, changed, alike, after_lines, handed_out, prefixed, Settings, with_line}
 use Rattle.tbr_renderer.proofs.OutcomeParts.{taking_done}
 use Rattle.tbr_renderer.proofs.sub.SubRenderer.try_append_prefixed.Goals as goal
 
@@ -17,4 +12,7 @@ returns-clause-ok g c =
     let ok = c.in_ok-try_flush.ensures.tries.ok in
     taking_done (after_flush columns) (handed_out columns c.args.other) (λ ls. after_lines columns (prefixes (length ls)) ls) old flushed lines ok c.in_ok-kept.ensures.lines
     ∙ ap (changed (λ m. fold (with_line columns) m (prefixed old.annotations (prefixes (length lines)) lines))) ok
-    ∙ ap (λ m. done m) (sym (c.in_ok-add_after.ensures.lines ∙ ap (λ (s : Settings g.row.D.Denot g.row.D-Annotation-Meaning.Denot). fold (with_line columns) flushed (prefixed s.annotations (prefixes (length lines)) lines)) c.in_ok-try_flush.ensures.settings))
+    ∙ ap (λ m. done m) (sym
+    (c.in_ok-add_after.ensures.lines
+    ∙ ap (λ (s : Settings g.row.D.Denot g.row.D-Annotation-Meaning.Denot). fold (with_line columns) flushed
+    (prefixed s.annotations (prefixes (length lines)) lines)) c.in_ok-try_flush.ensures.settings))

@@ -1,8 +1,4 @@
-use Rattle.std.proofs.Common.{◌∙◌, ap, sym, fold}
-use Rattle.tbr_tagged.specs.Outcome.{done}
-use Rattle.tbr_renderer.specs.Renderer.{Settings, with_line}
-use Rattle.tbr_renderer.specs.Outcomes.{changed}
-use Rattle.tbr_renderer.specs.Appended.{texts_of, prefixed}
+use Rattle.tbr_renderer.proofs.Common.{◌∙◌, ap, sym, fold, done, Settings, with_line, changed, texts_of, prefixed}
 use Rattle.tbr_renderer.proofs.sub.SubRenderer.try_append_subrender.Goals as goal
 
 pub returns-clause-ok : goal.returns-clause-ok
@@ -18,5 +14,7 @@ returns-clause-ok g c =
       c.in_ok-lines.ensures.lines,
       gives,
       ap (changed (λ m. fold (with_line columns) m (prefixed old.annotations (texts_of g.P.AsStr.text given) seen))) c.in_ok-try_flush.ensures.tries.ok
-          ∙ ap (λ m. done m) (sym (is ∙ ap (λ (s : Settings g.row.D.Denot g.row.D-Annotation-Meaning.Denot). fold (with_line columns) flushed (prefixed s.annotations (texts_of g.P.AsStr.text given) seen)) c.in_ok-try_flush.ensures.settings)),
+          ∙ ap (λ m. done m) (sym
+          (is ∙ ap (λ (s : Settings g.row.D.Denot g.row.D-Annotation-Meaning.Denot). fold (with_line columns)
+          flushed (prefixed s.annotations (texts_of g.P.AsStr.text given) seen)) c.in_ok-try_flush.ensures.settings)),
     )

@@ -1,8 +1,5 @@
-use Rattle.std.proofs.Common.{List, ◌≡◌, None, Err, map, refl, arith, ap, ◌∙◌, rules}
-use Rattle.tbr_wrap.specs.Block.{Block, loose}
-use Rattle.tbr_tagged.specs.View.{element_of}
-use Rattle.tbr_wrap.proofs.runs.BlockLaws.{flush_in_two, flush_leaves, none_open_taken}
-use Rattle.tbr_renderer.specs.View.{names_of}
+use Rattle.tbr_renderer.proofs.Common.{List, ◌≡◌, None, Err, map, refl, arith, ap, ◌∙◌, rules, Block, loose, element_of, flush_leaves, names_of}
+use Rattle.tbr_wrap.proofs.runs.BlockLaws.{flush_in_two, none_open_taken}
 use Rattle.tbr_renderer.proofs.OutcomeParts.{passed_on, never_narrow, tries_ok, tries_err}
 use Rattle.tbr_renderer.proofs.BlockEnds.{markers_named, are_markers, block_flushed, block_best, block_refused}
 use Rattle.tbr_renderer.proofs.sub.SubRenderer.try_flush.Given.{Over}
@@ -47,7 +44,8 @@ pub returns-clause-tries : goal.returns-clause-tries
 returns-clause-tries g c =
     let columns = g.W.CharWidth.columns in
     tries_ok _ c.args.self.now c.add_waiting.new.self tt
-    (block_flushed columns c.args.self.now c.in-Some.block c.in-Some.ensures.block c.in-Some.ensures.opened c.flush.new.self c.take_trailing_fragments.new.self c.in_ok-flush.ensures.answers.ok c.in_ok-markers.ensures.answers.ok
+    (block_flushed columns c.args.self.now c.in-Some.block c.in-Some.ensures.block c.in-Some.ensures.opened
+    c.flush.new.self c.take_trailing_fragments.new.self c.in_ok-flush.ensures.answers.ok c.in_ok-markers.ensures.answers.ok
     (names_of (map element_of c.in_ok-markers.markers.items)) c.take_block.new.self c.add_lines_of.new.self c.add_waiting.new.self c.in-Some.ensures.rest c.in_ok-add_lines_of.ensures.lines
     (markers_named (map element_of c.in_ok-markers.markers.items) (loose columns c.flush.new.self) c.in_ok-markers.ensures.markers) c.in_ok-add_waiting.ensures.waiting)
 

@@ -1,4 +1,5 @@
-use Rattle.std.proofs.Common.{map, flat_map}
+use Rattle.tbr_renderer.proofs.Common.{map}
+use Rattle.std.proofs.Common.{flat_map}
 use Rattle.tbr_decor.specs.Meant as decor
 use Rattle.tbr_renderer.specs.Footnotes.{footnote_lines}
 use Rattle.tbr_renderer.proofs.AppendedLines.{HasPut}

@@ -1,8 +1,5 @@
-use Rattle.std.proofs.Common.{List, refl, ap, false, true, [], arith}
-use Rattle.std.proofs.lemmas.Result.{on_ok_weaker}
-use Rattle.tbr_wrap.specs.Block.{Block, text_events}
-use Rattle.tbr_wrap.proofs.runs.BlockLaws.{text_in_two, text_leaves, sound_text}
-use Rattle.tbr_renderer.specs.Renderer.{block_width, may_overflow, text_annotations, last_mode}
+use Rattle.tbr_renderer.proofs.Common.{List, refl, ap, false, true, [], arith, on_ok_weaker, Block, text_events, text_in_two, text_leaves, sound_text, block_width, may_overflow}
+use Rattle.tbr_renderer.proofs.Common.{text_annotations, last_mode}
 use Rattle.tbr_renderer.proofs.JoinedTexts.{fresh_grown, writes}
 use Rattle.tbr_renderer.proofs.sub.SubRenderer.write_nothing.Goals as goal
 
@@ -22,7 +19,8 @@ returns-clause-writes g c =
     let r = c.args.self.now in let preformatted = g.D.TextDecorator.preformatted in
     let main = text_annotations preformatted false r in let continued = text_annotations preformatted true r in
     let answers = c.add_empty_text.ensures.answers main continued (last_mode r.modes) in
-    writes g.W.CharWidth.columns r c.args.block.now c.requires.fresh [] main continued (last_mode r.modes) preformatted refl refl refl c.add_empty_text.result c.add_empty_text.new.self answers.ok answers.too_narrow
+    writes g.W.CharWidth.columns r c.args.block.now c.requires.fresh [] main continued (last_mode r.modes)
+    preformatted refl refl refl c.add_empty_text.result c.add_empty_text.new.self answers.ok answers.too_narrow
 
 pub returns-clause-two_columns : goal.returns-clause-two_columns
 returns-clause-two_columns g c = λ two is.

@@ -1,5 +1,4 @@
-use Rattle.std.proofs.Common.{rules}
-use Rattle.tbr_wrap.proofs.runs.BlockLaws.{text_in_two}
+use Rattle.tbr_renderer.proofs.Common.{rules, text_in_two}
 use Rattle.tbr_renderer.proofs.JoinedTexts.{writes}
 use Rattle.tbr_renderer.proofs.sub.SubRenderer.write_under.Goals as goal
 

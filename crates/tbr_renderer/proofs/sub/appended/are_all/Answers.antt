@@ -1,4 +1,4 @@
-use Rattle.std.proofs.Common.{◌≡◌, Bool, refl, true, false, not, sym, ◌∙◌, rules}
+use Rattle.tbr_renderer.proofs.Common.{◌≡◌, Bool, refl, true, false, not, sym, ◌∙◌, rules}
 use Rattle.tbr_renderer.proofs.AppendedLines.{all_more}
 use Rattle.tbr_renderer.proofs.sub.appended.are_all.Goals as goal
 

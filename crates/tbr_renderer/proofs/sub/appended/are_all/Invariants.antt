@@ -1,6 +1,4 @@
-use Rattle.std.proofs.Common.{◌≡◌, take, replicate}
-use Rattle.std.specs.Prelude.{chars}
-use Rattle.tbr_renderer.specs.Appended.{texts_of}
+use Rattle.tbr_renderer.proofs.Common.{◌≡◌, take, replicate, chars, texts_of}
 use Rattle.tbr_renderer.proofs.sub.appended.are_all.Given as goal
 
 abbrev pub invariant-loop-prefix : goal.invariant-loop-prefix

@@ -1,6 +1,5 @@
-use Rattle.std.proofs.Common.{rules}
+use Rattle.tbr_renderer.proofs.Common.{rules, length-append}
 use Rattle.std.proofs.iter.Next.{Yields-more}
-use Rattle.std.proofs.lemmas.List.{length-append}
 use Rattle.tbr_renderer.proofs.sub.appended.first_given.Goals as goal
 
 pub loop-preserved : goal.loop-preserved

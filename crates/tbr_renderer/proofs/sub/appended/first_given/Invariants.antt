@@ -1,4 +1,4 @@
-use Rattle.std.proofs.Common.{◌≡◌, length}
+use Rattle.tbr_renderer.proofs.Common.{◌≡◌, length}
 use Rattle.std.specs.Iterator.{Yields}
 use Rattle.tbr_renderer.proofs.sub.appended.first_given.Given as goal
 

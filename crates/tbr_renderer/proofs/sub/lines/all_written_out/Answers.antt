@@ -1,8 +1,5 @@
-use Rattle.std.proofs.lemmas.Slice.Zip.{all_zipped_more}
+use Rattle.tbr_renderer.proofs.Common.{all_zipped_more, equal_lists, IsMergedText, WritesOut}
 use Rattle.tbr_kept_lines.proofs.KeptParts.{each_after}
-use Rattle.tbr_tags.specs.Lists.{equal_lists}
-use Rattle.tbr_border.specs.RenderLine.{IsMergedText}
-use Rattle.tbr_annotations.specs.Written.{WritesOut}
 use Rattle.tbr_renderer.proofs.sub.lines.all_written_out.Goals as goal
 
 pub loop-line-preserved : goal.loop-line-preserved

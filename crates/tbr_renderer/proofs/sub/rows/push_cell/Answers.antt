@@ -1,7 +1,4 @@
-use Rattle.std.proofs.Common.{subst}
-use Rattle.std.specs.List.{AllZip}
-use Rattle.std.proofs.lemmas.Result.{on_ok_weaker}
-use Rattle.tbr_renderer.specs.Rows.{FillsKept}
+use Rattle.tbr_renderer.proofs.Common.{subst, AllZip, on_ok_weaker, FillsKept}
 use Rattle.tbr_renderer.proofs.PutRows.{all_by_themselves, all_in_text}
 use Rattle.tbr_renderer.proofs.sub.rows.push_cell.Goals as goal
 
@@ -11,7 +8,12 @@ returns-in-Ok-clause-ok g c =
     let columns = g.W.CharWidth.columns in
     let eq = g.T.PartialEq.eq in
     on_ok_weaker c.push_ended.result
-    (λ h. (h.0, subst (λ ls. AllZip (FillsKept columns eq a.align a.width a.tag.now) ls h.0) c.in-Ok.ensures.ended (all_in_text eq g.met.T.Eq.laws columns a.align a.width a.tag.now c.in-Ok.ended h.0 h.1), h.2))
+    (λ h. (
+      h.0,
+      subst (λ ls. AllZip (FillsKept columns eq a.align a.width a.tag.now) ls h.0) c.in-Ok.ensures.ended
+          (all_in_text eq g.met.T.Eq.laws columns a.align a.width a.tag.now c.in-Ok.ended h.0 h.1),
+      h.2,
+    ))
     c.push_ended.ensures.ok
 
 pub returns-in_ok-into_vec-in-Err-clause-ok : goal.returns-in_ok-into_vec-in-Err-clause-ok
@@ -21,7 +23,13 @@ returns-in_ok-into_vec-in-Err-clause-ok g c =
     let eq = g.T.PartialEq.eq in
     let each = c.in_ok-into_vec-in-Err in
     on_ok_weaker c.push.result
-    (λ h. (h.0, subst (λ ls. AllZip (FillsKept columns eq a.align a.width a.tag.now) ls h.0) c.in-Err.ensures.kept (all_by_themselves eq g.met.T.Eq.laws columns a.align a.width a.tag.now each.field-0.items c.in-Err.lines h.0 each.ensures.lines each.ensures.merged h.1), h.2))
+    (λ h. (
+      h.0,
+      subst (λ ls. AllZip (FillsKept columns eq a.align a.width a.tag.now) ls h.0) c.in-Err.ensures.kept
+          (all_by_themselves eq g.met.T.Eq.laws columns a.align a.width a.tag.now each.field-0.items c.in-Err.lines h.0
+          each.ensures.lines each.ensures.merged h.1),
+      h.2,
+    ))
     c.push.ensures.ok
 
 pub returns-in-Ok-clause-side_by_side : goal.returns-in-Ok-clause-side_by_side

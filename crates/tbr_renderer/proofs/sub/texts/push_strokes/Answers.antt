@@ -1,7 +1,4 @@
-use Rattle.std.proofs.Common.{rules, append_assoc}
-use Rattle.std.proofs.lemmas.Str.{IsUtf8-string_bytes}
-use Rattle.std.proofs.lemmas.List.{replicate_more}
-use Rattle.tbr_tagged.proofs.TextAfter.{chars_push}
+use Rattle.tbr_renderer.proofs.Common.{rules, append_assoc, IsUtf8-string_bytes, replicate_more, chars_push}
 use Rattle.tbr_renderer.proofs.sub.texts.push_strokes.Goals as goal
 
 pub loop-preserved : goal.loop-preserved

@@ -1,6 +1,4 @@
-use Rattle.std.proofs.Common.{◌≡◌, ◌++◌, replicate}
-use Rattle.tbr_tagged.specs.View.{chars_of}
-use Rattle.tbr_renderer.specs.Renderer.{stroke}
+use Rattle.tbr_renderer.proofs.Common.{◌≡◌, ◌++◌, replicate, chars_of, stroke}
 use Rattle.tbr_renderer.proofs.sub.texts.push_strokes.Given as goal
 
 abbrev pub invariant-loop : goal.invariant-loop

@@ -1,8 +1,5 @@
-use Rattle.std.proofs.Common.{ap, sym, ◌∙◌, map-id, chars}
+use Rattle.tbr_renderer.proofs.Common.{ap, sym, ◌∙◌, map-id, chars, YieldsList-end, chars-nil, struck}
 use Rattle.std.proofs.lemmas.Iterator.{YieldsList-from_chars}
-use Rattle.std.proofs.lemmas.Iterator.Consumers.{YieldsList-end}
-use Rattle.std.proofs.lemmas.Str.{chars-nil}
-use Rattle.tbr_renderer.specs.Renderer.{struck}
 use Rattle.tbr_renderer.proofs.sub.texts.struck_text.Goals as goal
 
 pub loop-c-init : goal.loop-c-init

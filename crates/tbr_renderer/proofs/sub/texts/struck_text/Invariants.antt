@@ -1,6 +1,4 @@
-use Rattle.std.proofs.Common.{◌≡◌}
-use Rattle.tbr_tagged.specs.View.{chars_of}
-use Rattle.tbr_renderer.specs.Renderer.{struck}
+use Rattle.tbr_renderer.proofs.Common.{◌≡◌, chars_of, struck}
 use Rattle.tbr_renderer.proofs.sub.texts.struck_text.Given as goal
 
 abbrev pub invariant-loop-c : goal.invariant-loop-c

@@ -1,4 +1,4 @@
-use Rattle.std.proofs.Common.{rules}
+use Rattle.tbr_rows.proofs.Common.{rules}
 use Rattle.tbr_rows.proofs.AlignedLines.{length_aligned}
 use Rattle.tbr_rows.proofs.aligned_lines.AlignedLines.len.Goals as goal
 

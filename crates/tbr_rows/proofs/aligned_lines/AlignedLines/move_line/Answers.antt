@@ -1,8 +1,4 @@
-use Rattle.std.proofs.Common.{◌≡◌, ◌-◌, ◌++◌, ap, ◌∙◌, subst, rules}
-use Rattle.std.proofs.lemmas.List.{nil_from_length}
-use Rattle.std.proofs.lemmas.Result.{on_ok_weaker}
-use Rattle.tbr_tagged.specs.Elements.{items_of, text_items, SameItems}
-use Rattle.tbr_tagged.specs.Padding.{spaces}
+use Rattle.tbr_rows.proofs.Common.{◌≡◌, ◌-◌, ◌++◌, ap, ◌∙◌, subst, rules, nil_from_length, on_ok_weaker, items_of, text_items, SameItems, spaces}
 use Rattle.tbr_rows.proofs.AlignedLines.{first_aligned, none_aligned, aligned_moved}
 use Rattle.tbr_rows.proofs.aligned_lines.AlignedLines.move_line.Goals as goal
 

@@ -1,5 +1,4 @@
-use Rattle.std.proofs.Common.{◌∙◌, ap}
-use Rattle.tbr_rows.specs.AlignedLines.{each_aligned}
+use Rattle.tbr_rows.proofs.Common.{◌∙◌, ap, each_aligned}
 use Rattle.tbr_rows.proofs.AlignedLines.{all_aligned}
 use Rattle.tbr_rows.proofs.aligned_lines.AlignedLines.new.Goals as goal
 

@@ -1,8 +1,5 @@
-use Rattle.std.proofs.Common.{◌≡◌, ◌∷◌, ap, sym, ◌∙◌, subst}
-use Rattle.std.proofs.lemmas.Result.{on_ok_weaker}
-use Rattle.tbr_tagged.specs.Elements.{items_of, SameItems}
+use Rattle.tbr_rows.proofs.Common.{◌≡◌, ◌∷◌, ap, sym, ◌∙◌, subst, on_ok_weaker, items_of, SameItems, items_under}
 use Rattle.tbr_rows.proofs.RowTexts.{after_same}
-use Rattle.tbr_border.specs.RenderLine.{items_under}
 use Rattle.tbr_rows.specs.CellLines.{lines_kept}
 use Rattle.tbr_rows.proofs.CellLines.{first_text, text_moved}
 use Rattle.tbr_rows.proofs.cell_lines.CellLines.move_first.Goals as goal
@@ -21,4 +18,6 @@ returns-clause-items g c = λ l rest e.
     let flat = items_of c.in_ok-into_tagged_line_with.field-0 in
     let first : c.in-Some.first ∷ c.pop_front.new.self.items ≡ l ∷ rest = sym (sym c.self.view_is ∙ ap (lines_kept eq) c.in-Each.is ∙ c.in-Some.ensures.items) ∙ e in
     let is : c.in-Some.first ≡ l = cc in
-    on_ok_weaker c.append.result (after_same eq laws c.args.line.now c.append.new.self flat (items_under tag l) (subst (λ l. SameItems eq flat (items_under tag l)) is c.in_ok-into_tagged_line_with.ensures.items)) c.append.ensures.items
+    on_ok_weaker c.append.result
+    (after_same eq laws c.args.line.now c.append.new.self flat (items_under tag l)
+    (subst (λ l. SameItems eq flat (items_under tag l)) is c.in_ok-into_tagged_line_with.ensures.items)) c.append.ensures.items

@@ -1,4 +1,4 @@
-use Rattle.std.proofs.Common.{rules}
+use Rattle.tbr_rows.proofs.Common.{rules}
 use Rattle.tbr_rows.proofs.CellLines.{no_last, all_before}
 use Rattle.tbr_rows.proofs.cell_lines.CellLines.take_last_border.Goals as goal
 

@@ -1,6 +1,4 @@
-use Rattle.std.proofs.Common.{map, ap, sym, ◌∙◌, [], ◌∷◌, append-nil, take_all}
-use Rattle.tbr_rows.specs.Cells.{look, row_fits, spot_of, spots_from}
-use Rattle.tbr_rows.specs.Fitting.{fits_with}
+use Rattle.tbr_rows.proofs.Common.{map, ap, sym, ◌∙◌, [], ◌∷◌, append-nil, take_all, look, row_fits, spot_of, spots_from, fits_with}
 use Rattle.tbr_rows.proofs.Fitted.{no_line, one_more_told, spots_are}
 use Rattle.tbr_rows.proofs.columns.Columns.fits.Goals as goal
 

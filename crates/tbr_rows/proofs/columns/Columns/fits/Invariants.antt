@@ -1,6 +1,4 @@
-use Rattle.std.proofs.Common.{◌≡◌, ℕ, Bool, List, ◌++◌, map, take}
-use Rattle.tbr_rows.specs.Cells.{look, row_fits, spots_from}
-use Rattle.tbr_rows.specs.Fitting.{fits_with}
+use Rattle.tbr_rows.proofs.Common.{◌≡◌, ℕ, Bool, List, ◌++◌, map, take, look, row_fits, spots_from, fits_with}
 use Rattle.tbr_rows.proofs.columns.Columns.fits.Given as goal
 
 abbrev pub invariant-loop-cell : goal.invariant-loop-cell

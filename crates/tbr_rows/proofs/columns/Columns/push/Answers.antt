@@ -1,5 +1,4 @@
-use Rattle.std.proofs.Common.{ap, ◌∙◌}
-use Rattle.tbr_rows.specs.Cells.{next_place}
+use Rattle.tbr_rows.proofs.Common.{ap, ◌∙◌, next_place}
 use Rattle.tbr_rows.proofs.Seats.{side_by_side_push}
 use Rattle.tbr_rows.proofs.columns.Columns.push.Goals as goal
 

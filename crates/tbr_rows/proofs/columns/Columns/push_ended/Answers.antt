@@ -1,11 +1,6 @@
-use Rattle.std.proofs.Common.{◌≡◌, true, ◌-◌, ◌++◌, ◌∷◌, [], map, ap, sym, ◌∙◌, subst}
-use Rattle.std.specs.List.{AllZip}
-use Rattle.tbr_model.specs.Run.{items_width}
-use Rattle.tbr_tagged.specs.Padding.{aligned_items}
+use Rattle.tbr_rows.proofs.Common.{◌≡◌, true, ◌-◌, ◌++◌, ◌∷◌, [], map, ap, sym, ◌∙◌, subst, AllZip, items_width, aligned_items, FillsText, next_place}
 use Rattle.tbr_rows.specs.CellLines.{as_lines}
-use Rattle.tbr_rows.specs.Filled.{FillsText}
 use Rattle.tbr_rows.proofs.CellLines.{texts_fill}
-use Rattle.tbr_rows.specs.Cells.{next_place}
 use Rattle.tbr_rows.proofs.Seats.{side_by_side_push}
 use Rattle.tbr_rows.proofs.columns.Columns.push_ended.Goals as goal
 
@@ -28,6 +23,15 @@ returns-clause-ok g c =
     let fill = map (λ is. aligned_items c.args.align is (c.args.width - items_width columns is) copy) in
     let filled : c.in_text.result ≡ as_lines eq (fill c.args.lines) = c.in_text.ensures ∙ ap (as_lines eq) (c.in_ok-lines.ensures ∙ ap fill c.lines.view_is) in (
       c.in_text.result,
-      subst (λ ls. AllZip (FillsText columns eq c.args.align c.args.width tag) c.args.lines ls) (sym filled) (texts_fill eq g.met.T.Eq.laws columns c.args.align c.args.width tag copy under c.args.lines),
-      rw (← c.self.view_is) (c.in_ok-push.ensures.items ∙ ap (λ place. cells ++ record { place = place; width = c.args.width; span = c.args.span; lines = c.in_text.result } ∷ []) (c.in_ok-place.ensures ∙ ap next_place c.deref.ensures.value)),
+      subst (λ ls. AllZip (FillsText columns eq c.args.align c.args.width tag) c.args.lines ls) (sym filled)
+          (texts_fill eq g.met.T.Eq.laws columns c.args.align c.args.width tag copy under c.args.lines),
+      rw (← c.self.view_is)
+          (c.in_ok-push.ensures.items
+          ∙ ap (λ place. cells ++ record {
+            place = place;
+            width = c.args.width;
+            span = c.args.span;
+            lines =
+                c.in_text.result;
+          } ∷ []) (c.in_ok-place.ensures ∙ ap next_place c.deref.ensures.value)),
     )

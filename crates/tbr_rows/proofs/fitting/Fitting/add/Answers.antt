@@ -1,8 +1,7 @@
-use Rattle.std.proofs.Common.{◌≡◌, ℕ, ◌+◌, ◌-◌, ◌<◌, ◌≤◌, Bool, false, ◌&&◌, ◌==◌, Option, Some, None, List, [], ◌∷◌, arith, rules, refl, Bor, MatchOption, ne_eqb}
-use Rattle.tbr_rows.specs.declared.line_set.LineSet.{LineSet as Cell}
+use Rattle.tbr_rows.proofs.Common.{◌≡◌, ℕ, ◌+◌, ◌-◌, ◌<◌, ◌≤◌, Bool, false, ◌&&◌, ◌==◌, Option, Some, None, List, [], ◌∷◌, arith, rules, refl, Cell, AreApart, Fitting, fits_with}
+use Rattle.tbr_rows.proofs.Common.{waiting_cells}
+use Rattle.std.proofs.Common.{Bor, MatchOption, ne_eqb}
 use Rattle.tbr_rows.specs.declared.fitting.Fitting.TheInside.{Inside}
-use Rattle.tbr_rows.specs.Cells.{AreApart}
-use Rattle.tbr_rows.specs.Fitting.{Fitting, fits_with, waiting_cells}
 use Rattle.tbr_rows.proofs.Fitted.{IsAsked, taken, next_after, next_lost}
 use Rattle.tbr_rows.proofs.fitting.Fitting.add.Goals as goal
 use Rattle.tbr_rows.proofs.fitting.Fitting.add.Goals.{then-first-self, else-first-self, then-self, else-self, then-first-width, else-first-width}

@@ -1,5 +1,4 @@
-use Rattle.std.proofs.Common.{ap, ◌∙◌, []}
-use Rattle.tbr_rows.specs.Fitting.{waiting_cells, fits_with}
+use Rattle.tbr_rows.proofs.Common.{ap, ◌∙◌, [], waiting_cells, fits_with}
 use Rattle.tbr_rows.proofs.Fitted.{fits_now}
 use Rattle.tbr_rows.proofs.fitting.Fitting.fits.Goals as goal
 

@@ -1,10 +1,10 @@
-use Rattle.std.proofs.Common.{◌≡◌, map, Some, ap, sym, ◌∙◌, subst}
-use Rattle.std.proofs.lemmas.Result.{IfOk-weaker}
-use Rattle.tbr_rows.specs.Cells.{AreSideBySide, row_fits, spot_of, with_hanging, seated}
+use Rattle.tbr_rows.proofs.Common.{◌≡◌, map, Some, ap, sym, ◌∙◌, subst, IfOk-weaker, AreSideBySide, row_fits, spot_of, with_hanging, seated}
 use Rattle.tbr_rows.proofs.Seats.{seats_of_row}
 use Rattle.tbr_rows.proofs.overhang.Overhang.seat.Goals as goal
 
-seats : (g : _) (c : goal.After-seated g) → (with_hanging 0 c.args.self c.args.columns ≡ Some (seated c.self.inside.cells c.columns.inside.cells.items)) × AreSideBySide 0 (seated c.self.inside.cells c.columns.inside.cells.items)
+seats : (g : _) (c : goal.After-seated g) →
+    (with_hanging 0 c.args.self c.args.columns ≡ Some (seated c.self.inside.cells c.columns.inside.cells.items)) ×
+    AreSideBySide 0 (seated c.self.inside.cells c.columns.inside.cells.items)
 seats g c =
     let own = c.columns.inside.cells.items in
     let hanging = c.self.inside.cells in

@@ -11,6 +11,14 @@ returns g c =
     let level = c.index_mut.result.now in
     let some : 0 < length s.levels.items = rw (← length-reverse s.levels.items, ap (λ t. length t.levels) c.self.view_is) c.requires in
     let last : IsLast s.levels.items (c.len-last.result - 1) level = last_at s.levels.items _ level some (rw (c.len-last.ensures, s.levels.ok.0) refl) c.index_mut.ensures.value in (
-      (refl, λ w. ap (λ levels. record { levels = levels; links = map chars_of s.links.items; table_depth = s.table_depth }) (changed_by (λ l. record l { renderer = w }) s.levels.items _ level _ last refl) ∙ ap (λ t. with_top t w) c.self.view_is),
+      (
+        refl,
+        λ w. ap (λ levels. record {
+          levels = levels;
+          links = map chars_of s.links.items;
+          table_depth =
+              s.table_depth;
+        }) (changed_by (λ l. record l { renderer = w }) s.levels.items _ level _ last refl) ∙ ap (λ t. with_top t w) c.self.view_is,
+      ),
       record { writes_back = tt; top = ap (λ t. top_of t) (sym c.self.view_is) ∙ ap first_renderer last.found ∙ ap Some (sym c.renderer_mut.ensures.renderer) },
     )

@@ -1,11 +1,5 @@
-use Rattle.std.proofs.Common.{ap, ◌∙◌}
-use Rattle.std.proofs.lemmas.Result.{on_ok_weaker}
+use Rattle.tbr_view.proofs.Common.{ap, ◌∙◌, on_ok_weaker, TableScript, with_bare, Known, Levels, openers, kept}
 use Rattle.tbr_tables.specs.declared.step.Step.TheVariants as step
-use Rattle.tbr_recorded.specs.Script.{TableScript, with_bare}
-use Rattle.tbr_statements.specs.Level.{Known}
-use Rattle.tbr_statements.specs.declared.level.Levels.{Levels}
-use Rattle.tbr_view.specs.Session.{openers}
-use Rattle.tbr_view.specs.Tables.{kept}
 use Rattle.tbr_view.proofs.States.{openers_push}
 use Rattle.tbr_view.proofs.session.Session.begin_table.Goals as goal
 
@@ -17,5 +11,5 @@ returns-clause-begins g c =
     on_ok_weaker c.add_step.result (λ h. record {
       program = c.add_step.ensures.program;
       levels = levels;
-      tables = h ∙ ap (λ (x : TableScript). kept (with_bare g.W.CharWidth.columns step.Table x) self.tables) c.begun-table.ensures;
+      tables = h ∙ ap (λ (x : TableScript). kept (with_bare g.W.CharWidth.columns step.Table x) self.tables) c.in_ok-table.ensures;
     }) c.add_step.ensures.tables

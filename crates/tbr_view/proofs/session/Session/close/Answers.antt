@@ -1,9 +1,4 @@
-use Rattle.std.proofs.Common.{sym, ◌∙◌, subst}
-use Rattle.std.proofs.lemmas.Result.{on_ok_weaker}
-use Rattle.tbr_decor.specs.Decoration.{decoration_of}
-use Rattle.tbr_statements.specs.declared.level.Opener.TheVariants.{Block as OfBlock}
-use Rattle.tbr_statements.specs.Level.{Leaves}
-use Rattle.tbr_view.specs.Session.{state_of, BlockAppends, BlockCloses}
+use Rattle.tbr_view.proofs.Common.{sym, ◌∙◌, subst, on_ok_weaker, decoration_of, OfBlock, Leaves, state_of, BlockAppends, BlockCloses}
 use Rattle.tbr_view.proofs.States.{block_closes}
 use Rattle.tbr_view.proofs.session.Session.close.Goals as goal
 

@@ -1,10 +1,5 @@
-use Rattle.std.proofs.Common.{subst}
-use Rattle.std.proofs.lemmas.Result.{on_ok_weaker}
-use Rattle.tbr_decor.specs.Decoration.{decoration_of}
+use Rattle.tbr_view.proofs.Common.{subst, on_ok_weaker, decoration_of, layout, ask, DoesIf}
 use Rattle.tbr_commands.specs.declared.request.layout.Layout.TheVariants.{EndBlock}
-use Rattle.tbr_commands.specs.Request.{layout}
-use Rattle.tbr_commands.specs.Command.{ask}
-use Rattle.tbr_view.specs.Session.{DoesIf}
 use Rattle.tbr_view.proofs.session.Session.close_block.Goals as goal
 
 pub returns-clause-appends : goal.returns-clause-appends

@@ -1,15 +1,13 @@
-use Rattle.std.proofs.Common.{ℕ, ap, ◌∙◌, sym, subst}
+use Rattle.tbr_view.proofs.Common.{ℕ, ap, ◌∙◌, sym, subst, decoration_of, after_each, drawn_made}
 use Rattle.std.specs.List.{AllByRecursion as Each}
 use Rattle.std.proofs.lemmas.List.{take_all}
-use Rattle.tbr_decor.specs.Decoration.{decoration_of}
 use Rattle.tbr_tables.specs.Laws.{IsSized}
 use Rattle.tbr_tables.specs.Recorded.{calls_in}
 use Rattle.tbr_tables.specs.declared.drawn.Drawn.{Drawn}
 use Rattle.tbr_tables.specs.declared.drawn.Call.TheVariants.{Given}
-use Rattle.tbr_recorded.specs.Drawn.{after_each}
 use Rattle.tbr_recorded.proofs.Elements.{each_get_or}
 use Rattle.tbr_recorded.proofs.Walks.{each_step}
-use Rattle.tbr_view.specs.Tables.{drawn_made, width_of}
+use Rattle.tbr_view.specs.Tables.{width_of}
 use Rattle.tbr_view.proofs.session.Session.draw.Goals as goal
 
 pub loop-drawn-preserved : goal.loop-drawn-preserved

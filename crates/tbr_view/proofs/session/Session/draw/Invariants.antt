@@ -1,8 +1,4 @@
-use Rattle.std.proofs.Common.{◌≡◌, Ok, take}
-use Rattle.tbr_decor.specs.Decoration.{decoration_of}
-use Rattle.tbr_program.specs.Progress.{GoesOn}
-use Rattle.tbr_recorded.specs.Drawn.{after_each}
-use Rattle.tbr_view.specs.Tables.{drawn_made}
+use Rattle.tbr_view.proofs.Common.{◌≡◌, Ok, take, decoration_of, GoesOn, after_each, drawn_made}
 use Rattle.tbr_view.proofs.session.Session.draw.Given as goal
 
 abbrev pub invariant-loop-drawn : goal.invariant-loop-drawn

@@ -1,6 +1,4 @@
-use Rattle.std.proofs.Common.{ap, sym, ◌∙◌}
-use Rattle.tbr_decor.specs.Decoration.{decoration_of}
-use Rattle.tbr_recorded.specs.Script.{TableScript}
+use Rattle.tbr_view.proofs.Common.{ap, sym, ◌∙◌, decoration_of, TableScript}
 use Rattle.tbr_view.specs.Tables.{drawing}
 use Rattle.tbr_view.proofs.session.Session.draw_ended.Goals as goal
 

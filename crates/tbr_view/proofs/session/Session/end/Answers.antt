@@ -1,4 +1,4 @@
-use Rattle.std.proofs.Common.{ap, sym, ◌∙◌}
+use Rattle.tbr_view.proofs.Common.{ap, sym, ◌∙◌}
 use Rattle.std.specs.Option.{option_copied}
 use Rattle.tbr_view.proofs.States.{none_inside}
 use Rattle.tbr_view.proofs.session.Session.end.Goals as goal

@@ -1,12 +1,5 @@
-use Rattle.std.proofs.Common.{[], ◌∷◌, ◌++◌, inl, inr, refl, sym, ap, ◌∙◌, subst}
-use Rattle.std.specs.Global.{Vec}
-use Rattle.std.proofs.lemmas.Result.{on_ok_weaker}
-use Rattle.tbr_statements.specs.declared.level.Level.{Level}
-use Rattle.tbr_statements.specs.declared.level.Levels.{Levels}
-use Rattle.tbr_statements.specs.declared.level.Opener.{Opener}
+use Rattle.tbr_view.proofs.Common.{[], ◌∷◌, ◌++◌, inl, inr, refl, sym, ap, ◌∙◌, subst, Vec, on_ok_weaker, Level, Levels, Opener, Leaves, openers}
 use Rattle.tbr_statements.specs.declared.level.Opener.TheVariants.{Table, InnerTable}
-use Rattle.tbr_statements.specs.Level.{Leaves}
-use Rattle.tbr_view.specs.Session.{openers}
 use Rattle.tbr_view.proofs.Places.{on_both}
 use Rattle.tbr_view.proofs.States.{openers_last}
 use Rattle.tbr_view.proofs.session.Session.end_table.Goals as goal

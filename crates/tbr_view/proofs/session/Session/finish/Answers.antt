@@ -1,10 +1,9 @@
-use Rattle.std.proofs.Common.{◌≡◌, map, ap, subst}
-use Rattle.tbr_decor.specs.Decoration.{decoration_of}
+use Rattle.tbr_view.proofs.Common.{◌≡◌, ap, subst, decoration_of, openers}
+use Rattle.std.proofs.Common.{map}
 use Rattle.tbr_stack.specs.Top.{OfTop}
 use Rattle.tbr_kept_lines.specs.Line.{line_seen}
 use Rattle.tbr_tagged.specs.Outcome.{done}
 use Rattle.tbr_program.specs.Closing.{closed}
-use Rattle.tbr_view.specs.Session.{openers}
 use Rattle.tbr_view.proofs.session.Session.finish.Goals as goal
 
 pub returns-in-Ok-clause-lines : goal.returns-in-Ok-clause-lines

@@ -1,4 +1,4 @@
-use Rattle.std.proofs.Common.{ap, sym, ◌∙◌}
+use Rattle.tbr_view.proofs.Common.{ap, sym, ◌∙◌}
 use Rattle.tbr_view.specs.Session.{lines_hang}
 use Rattle.tbr_view.proofs.session.Session.loses_lines.Goals as goal
 

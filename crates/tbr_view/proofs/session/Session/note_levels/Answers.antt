@@ -1,8 +1,7 @@
-use Rattle.std.proofs.Common.{◌≡◌, ◌⊎◌, inl, inr, ℕ, ap, sym, ◌∙◌}
-use Rattle.tbr_script.specs.declared.text_pair.TextPair.{TextPair}
+use Rattle.tbr_view.proofs.Common.{◌≡◌, inl, inr, ℕ, ap, sym, ◌∙◌, TextPair, Known, known_in, left, noted}
+use Rattle.std.proofs.Common.{◌⊎◌}
 use Rattle.tbr_commands.specs.declared.command.Command.{Command}
 use Rattle.tbr_commands.specs.declared.command.Command.TheVariants.{Append, EndCell}
-use Rattle.tbr_statements.specs.Level.{Known, known_in, left, noted}
 use Rattle.tbr_view.proofs.States.{is_left}
 use Rattle.tbr_view.proofs.session.Session.note_levels.Goals as goal
 

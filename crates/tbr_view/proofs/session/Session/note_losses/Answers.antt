@@ -1,4 +1,4 @@
-use Rattle.std.proofs.Common.{◌≡◌, rules, true, sym, ◌∙◌, subst}
+use Rattle.tbr_view.proofs.Common.{◌≡◌, rules, true, sym, ◌∙◌, subst}
 use Rattle.tbr_view.specs.Session.{TellsLoss}
 use Rattle.tbr_view.proofs.session.Session.note_losses.Goals as goal
 

@@ -1,4 +1,4 @@
-use Rattle.std.proofs.Common.{None, refl, sym, subst, ◌∙◌}
+use Rattle.tbr_view.proofs.Common.{None, refl, sym, subst, ◌∙◌}
 use Rattle.tbr_view.specs.Session.{TellsRow}
 use Rattle.tbr_view.proofs.session.Session.note_row.Goals as goal
 

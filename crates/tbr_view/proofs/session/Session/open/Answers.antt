@@ -1,14 +1,5 @@
-use Rattle.std.proofs.Common.{◌≡◌, ◌-◌, [], ◌∷◌, ◌++◌, chars, ap, sym, ◌∙◌, subst, arith}
-use Rattle.tbr_model.specs.Width.{width_of_text}
-use Rattle.tbr_tagged.specs.View.{chars_of}
-use Rattle.tbr_decor.specs.Decoration.{decoration_of}
-use Rattle.tbr_stack.specs.Stack.{top_of}
-use Rattle.tbr_commands.specs.declared.request.layout.Layout.TheVariants.{StartBlock}
-use Rattle.tbr_commands.specs.Request.{layout}
-use Rattle.tbr_commands.specs.Command.{ask}
-use Rattle.tbr_statements.specs.declared.level.Opener.TheVariants.{Block as OfBlock}
-use Rattle.tbr_statements.specs.Block.{other_prefix, stands_apart}
-use Rattle.tbr_view.specs.Session.{openers, DoesIf}
+use Rattle.tbr_view.proofs.Common.{◌≡◌, ◌-◌, [], ◌∷◌, ◌++◌, chars, ap, sym, ◌∙◌, subst, arith, width_of_text, chars_of, decoration_of, top_of, StartBlock, layout, ask, OfBlock, other_prefix}
+use Rattle.tbr_view.proofs.Common.{stands_apart, openers, DoesIf}
 use Rattle.tbr_view.proofs.States.{block_opens, openers_push}
 use Rattle.tbr_view.proofs.session.Session.open.Goals as goal
 
@@ -24,7 +15,8 @@ returns-clause-opens g c =
     let is_first = c.in_ok-prefixes.ensures.first in
     let first = ap chars is_first ∙ asked.2 ∙ ap (g.D.TextDecorator.prefix_text asked.0.decorator) c.prefix.ensures in
     let others = c.in_ok-prefixes.ensures.others ∙ ap (λ bs. other_prefix columns c.args.block (chars bs)) (sym is_first) in
-    let takes : c.in_ok-columns.columns ≡ width_of_text columns (chars_of texts.first) = c.in_ok-columns.ensures ∙ ap (λ bs. width_of_text columns (chars bs)) (c.as_str.ensures.value ∙ sym is_first) in
+    let takes : c.in_ok-columns.columns ≡ width_of_text columns (chars_of texts.first) =
+    c.in_ok-columns.ensures ∙ ap (λ bs. width_of_text columns (chars bs)) (c.as_str.ensures.value ∙ sym is_first) in
     let top = c.top.result.now in
     let wide : c.width-width.result ≡ top.width = c.width-width.ensures in
     let n = c.width-width.result - c.in_ok-columns.columns in
@@ -33,4 +25,5 @@ returns-clause-opens g c =
     let levels = ap (λ k. openers k.inside) c.in_ok-enter.ensures ∙ openers_push c.command.new.self.levels.inside.items _
     ∙ ap (λ l. openers l.inside.items ++ OfBlock c.args.block texts ∷ []) (c.in_ok-command.ensures.levels ∙ c.in_ok-lay_out_if.ensures.levels) in
     block_opens columns deco self.program c.command.new.self.program self.levels.inside.items c.enter.new.self.inside.items c.args.block texts asked.0 top apart n
-    asked.1 (ap (λ x. top_of x.stack) (sym unchanged) ∙ c.top.ensures) first others (omega (arith, takes, wide, c.if-width-columns.false)) (omega (arith, takes, wide)) begins c.in_ok-command.ensures.does levels
+    asked.1 (ap (λ x. top_of x.stack) (sym unchanged) ∙ c.top.ensures) first others
+    (omega (arith, takes, wide, c.if-width-columns.false)) (omega (arith, takes, wide)) begins c.in_ok-command.ensures.does levels

@@ -1,17 +1,7 @@
-use Rattle.std.proofs.Common.{◌≡◌, ℕ, Bool, chars, ap, sym, ◌∙◌}
-use Rattle.std.proofs.lemmas.Result.{on_ok_weaker}
-use Rattle.tbr_model.specs.Width.{width_of_text}
-use Rattle.tbr_tagged.specs.View.{chars_of}
-use Rattle.tbr_commands.specs.declared.request.layout.Layout.TheVariants.{StartBlock}
-use Rattle.tbr_commands.specs.Request.{layout}
-use Rattle.tbr_commands.specs.Command.{ask}
+use Rattle.tbr_view.proofs.Common.{◌≡◌, ℕ, Bool, chars, ap, sym, ◌∙◌, on_ok_weaker, width_of_text, chars_of, StartBlock, layout, ask, TableScript, with_bare, other_prefix, stands_apart}
+use Rattle.tbr_view.proofs.Common.{Known, Levels, openers, kept}
 use Rattle.tbr_tables.specs.declared.step.Step.TheVariants as step
-use Rattle.tbr_recorded.specs.Script.{TableScript, with_bare}
-use Rattle.tbr_statements.specs.Block.{other_prefix, stands_apart}
-use Rattle.tbr_statements.specs.Level.{Known}
-use Rattle.tbr_statements.specs.declared.level.Levels.{Levels}
-use Rattle.tbr_view.specs.Session.{openers}
-use Rattle.tbr_view.specs.Tables.{kept, with_if}
+use Rattle.tbr_view.specs.Tables.{with_if}
 use Rattle.tbr_view.proofs.States.{openers_push}
 use Rattle.tbr_view.proofs.session.Session.record_block.Goals as goal
 
@@ -24,7 +14,8 @@ returns-clause-records g c =
     let is_first = c.in_ok-prefixes.ensures.first in
     let first = ap chars is_first ∙ asked.2 ∙ ap (g.D.TextDecorator.prefix_text asked.0.decorator) c.prefix.ensures in
     let others = c.in_ok-prefixes.ensures.others ∙ ap (λ bs. other_prefix columns c.args.block (chars bs)) (sym is_first) in
-    let takes : c.in_ok-columns.columns ≡ width_of_text columns (chars_of texts.first) = c.in_ok-columns.ensures ∙ ap (λ bs. width_of_text columns (chars bs)) (c.as_str.ensures.value ∙ sym is_first) in
+    let takes : c.in_ok-columns.columns ≡ width_of_text columns (chars_of texts.first) =
+    c.in_ok-columns.ensures ∙ ap (λ bs. width_of_text columns (chars bs)) (c.as_str.ensures.value ∙ sym is_first) in
     let laid = c.in_ok-lay_out_if.ensures ∙ ap (λ (b : Bool). with_if columns b (ask (layout StartBlock)) c.args.table) c.stands_apart.ensures in
     let levels = ap (λ (l : Levels). openers l.inside.items) c.add_step.ensures.levels
     ∙ ap (λ (k : Known). openers k.inside) c.in_ok-enter.ensures ∙ openers_push self.levels.inside.items _ in

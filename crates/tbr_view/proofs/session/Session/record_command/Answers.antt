@@ -1,11 +1,5 @@
-use Rattle.std.proofs.Common.{ap, ◌∙◌}
-use Rattle.std.specs.Global.{Vec}
-use Rattle.std.proofs.lemmas.Result.{on_ok_weaker}
-use Rattle.tbr_statements.specs.declared.level.Level.{Level}
-use Rattle.tbr_statements.specs.declared.level.Levels.{Levels}
-use Rattle.tbr_statements.specs.Level.{Known, known_in}
-use Rattle.tbr_view.specs.Session.{openers, opened_by}
-use Rattle.tbr_view.specs.Tables.{kept, with_given}
+use Rattle.tbr_view.proofs.Common.{ap, ◌∙◌, Vec, on_ok_weaker, Level, Levels, Known, known_in, openers, opened_by, kept}
+use Rattle.tbr_view.specs.Tables.{with_given}
 use Rattle.tbr_view.proofs.States.{openers_noted}
 use Rattle.tbr_view.proofs.session.Session.record_command.Goals as goal
 

@@ -1,12 +1,4 @@
-use Rattle.std.proofs.Common.{sym, ap, ◌∙◌, subst}
-use Rattle.std.specs.Prelude.{OnOk}
-use Rattle.std.proofs.lemmas.Result.{on_ok_weaker}
-use Rattle.tbr_decor.specs.Decoration.{decoration_of}
-use Rattle.tbr_statements.specs.Level.{Known}
-use Rattle.tbr_statements.specs.declared.level.Levels.{Levels}
-use Rattle.tbr_statements.specs.declared.statement.Statement.{Statement}
-use Rattle.tbr_view.specs.Session.{openers}
-use Rattle.tbr_view.specs.Tables.{place_of, DoesInTable}
+use Rattle.tbr_view.proofs.Common.{sym, ap, ◌∙◌, subst, OnOk, on_ok_weaker, decoration_of, Known, Levels, Statement, openers, place_of, DoesInTable}
 use Rattle.tbr_view.proofs.States.{openers_push}
 use Rattle.tbr_view.proofs.session.Session.record_content.Goals as goal
 
@@ -50,4 +42,6 @@ returns-in_ok-enter-in-Table-clause-does g c =
     let there = place_of new.program new.levels.inside.items new.tables in
     let levels = ap (λ (l : Levels). openers l.inside.items) c.add_step.ensures.levels
     ∙ ap (λ (k : Known). openers k.inside) c.in_ok-enter-in-Table.ensures ∙ openers_push self.levels.inside.items _ in
-    subst (λ (asks : Statement). OnOk c.add_step.result (DoesInTable columns deco here c.args.table asks there)) (sym c.in-Table.is) (on_ok_weaker c.add_step.result (λ h. record { program = c.add_step.ensures.program; levels = levels; tables = h }) c.add_step.ensures.tables)
+    subst (λ (asks : Statement). OnOk c.add_step.result (DoesInTable columns deco here c.args.table asks there))
+    (sym c.in-Table.is) (on_ok_weaker c.add_step.result
+    (λ h. record { program = c.add_step.ensures.program; levels = levels; tables = h }) c.add_step.ensures.tables)

@@ -1,11 +1,5 @@
-use Rattle.std.proofs.Common.{[], ◌∷◌, ◌++◌, refl, ap, sym, ◌∙◌, subst}
-use Rattle.std.proofs.lemmas.Result.{on_ok_weaker}
-use Rattle.tbr_statements.specs.declared.level.Levels.{Levels}
-use Rattle.tbr_statements.specs.declared.level.Opener.{Opener}
-use Rattle.tbr_statements.specs.declared.level.Opener.TheVariants.{Block as OfBlock}
-use Rattle.tbr_statements.specs.Level.{Leaves}
-use Rattle.tbr_view.specs.Session.{openers}
-use Rattle.tbr_view.specs.Tables.{kept, with_append}
+use Rattle.tbr_view.proofs.Common.{[], ◌∷◌, ◌++◌, refl, ap, sym, ◌∙◌, subst, on_ok_weaker, Levels, Opener, OfBlock, Leaves, openers, kept}
+use Rattle.tbr_view.specs.Tables.{with_append}
 use Rattle.tbr_view.proofs.States.{openers_last, ends_with}
 use Rattle.tbr_view.proofs.session.Session.record_end.Goals as goal
 
@@ -17,7 +11,8 @@ returns-in-Some-Block-clause-records g c =
     let texts = c.in-Some-Block.prefixes in
     let closed = sym c.is_closed_by.ensures ∙ c.if-not-is_closed_by.false in
     let leaves = subst (λ (l : Levels). Leaves l.inside.items l.notes (OfBlock block texts) rest.inside.items rest.notes) c.in_ok-note_ends.ensures.levels
-    (subst (λ (by : Opener). Leaves c.note_ends.new.self.levels.inside.items c.note_ends.new.self.levels.notes by rest.inside.items rest.notes) c.in-Some-Block.field-0-is c.in-Some-Block.ensures.closed) in
+    (subst (λ (by : Opener). Leaves c.note_ends.new.self.levels.inside.items c.note_ends.new.self.levels.notes by
+    rest.inside.items rest.notes) c.in-Some-Block.field-0-is c.in-Some-Block.ensures.closed) in
     on_ok_weaker c.record_append.result (λ h. record {
       block = block;
       texts = texts;

@@ -1,8 +1,5 @@
-use Rattle.std.proofs.Common.{ap, sym, ◌∙◌}
-use Rattle.tbr_decor.specs.Decoration.{decoration_of}
-use Rattle.tbr_statements.specs.Level.{known_in}
+use Rattle.tbr_view.proofs.Common.{ap, sym, ◌∙◌, decoration_of, known_in, openers, opened_by}
 use Rattle.tbr_recorded.specs.declared.texts.Texts.{Texts}
-use Rattle.tbr_view.specs.Session.{openers, opened_by}
 use Rattle.tbr_view.specs.Tables.{counted}
 use Rattle.tbr_view.proofs.States.{commanded, openers_noted}
 use Rattle.tbr_view.proofs.session.Session.run.Goals as goal
@@ -16,7 +13,8 @@ returns-clause-does g c =
     let before = c.in_ok-note_ends_of.ensures.levels ∙ c.in_ok-note_losses_of.ensures.levels in
     let after = c.in_ok-note_stretch.ensures.levels ∙ c.in_ok-note_row.ensures.levels in
     let inside = ap (λ l. l.inside) (after ∙ c.in_ok-command.ensures.levels ∙ before) ∙ c.note_texts.ensures.inside in
-    let levels = ap (λ k. openers k.inside) c.in_ok-note_levels.ensures.levels ∙ openers_noted (known_in c.note_stretch.new.self.levels) c.args.number command ∙ ap (λ v. opened_by command (openers v.items)) inside in
+    let levels = ap (λ k. openers k.inside) c.in_ok-note_levels.ensures.levels
+    ∙ openers_noted (known_in c.note_stretch.new.self.levels) c.args.number command ∙ ap (λ v. opened_by command (openers v.items)) inside in
     let here = c.in_ok-note_ends_of.ensures.program ∙ c.in_ok-note_losses_of.ensures.program ∙ c.note_texts.ensures.program in
     let there = c.in_ok-note_levels.ensures.program ∙ c.in_ok-note_stretch.ensures.program ∙ c.in_ok-note_row.ensures.program in
     commanded g.W.CharWidth.columns (decoration_of g.D.TextDecorator g.D.Annotation.Tag.tells) self.program next.program self.levels.inside.items next.levels.inside.items

@@ -1,10 +1,4 @@
-use Rattle.std.proofs.Common.{sym, subst}
-use Rattle.std.specs.Prelude.{OnOk}
-use Rattle.std.proofs.lemmas.Result.{on_ok_weaker}
-use Rattle.tbr_decor.specs.Decoration.{decoration_of}
-use Rattle.tbr_statements.specs.declared.statement.Statement.{Statement}
-use Rattle.tbr_view.specs.Tables.{place_of}
-use Rattle.tbr_view.specs.Lines.{DoesOutside}
+use Rattle.tbr_view.proofs.Common.{sym, subst, OnOk, on_ok_weaker, decoration_of, Statement, place_of, DoesOutside}
 use Rattle.tbr_view.proofs.Places.{on_both}
 use Rattle.tbr_view.proofs.session.Session.run_outside.Goals as goal
 
@@ -26,7 +20,8 @@ returns-in-Open-clause-does g c =
     let here = place_of self.program self.levels.inside.items self.tables in
     let new = c.open.new.self in
     let there = place_of new.program new.levels.inside.items new.tables in
-    subst (λ (asks : Statement). OnOk c.open.result (DoesOutside columns deco here asks there)) (sym c.in-Open.is) (on_ok_weaker c.open.result (λ opens. (opens, c.open.ensures.tables)) c.open.ensures.opens)
+    subst (λ (asks : Statement). OnOk c.open.result (DoesOutside columns deco here asks there)) (sym c.in-Open.is)
+    (on_ok_weaker c.open.result (λ opens. (opens, c.open.ensures.tables)) c.open.ensures.opens)
 
 pub returns-in-Close-clause-does : goal.returns-in-Close-clause-does
 returns-in-Close-clause-does g c =
@@ -36,4 +31,5 @@ returns-in-Close-clause-does g c =
     let here = place_of self.program self.levels.inside.items self.tables in
     let new = c.close.new.self in
     let there = place_of new.program new.levels.inside.items new.tables in
-    subst (λ (asks : Statement). OnOk c.close.result (DoesOutside columns deco here asks there)) (sym c.in-Close.is) (on_ok_weaker c.close.result (λ closes. (closes, c.close.ensures.tables)) c.close.ensures.closes)
+    subst (λ (asks : Statement). OnOk c.close.result (DoesOutside columns deco here asks there)) (sym c.in-Close.is)
+    (on_ok_weaker c.close.result (λ closes. (closes, c.close.ensures.tables)) c.close.ensures.closes)

@@ -1,7 +1,4 @@
-use Rattle.std.proofs.Common.{sym, ◌∙◌}
-use Rattle.std.proofs.lemmas.Result.{on_ok_weaker}
-use Rattle.tbr_decor.specs.Decoration.{decoration_of}
-use Rattle.tbr_view.specs.Tables.{place_of}
+use Rattle.tbr_view.proofs.Common.{sym, ◌∙◌, on_ok_weaker, decoration_of, place_of}
 use Rattle.tbr_view.proofs.Places.{does_in_table, does_outside}
 use Rattle.tbr_view.proofs.session.Session.run_statement.Goals as goal
 

@@ -1,4 +1,4 @@
-use Rattle.std.proofs.Common.{◌≡◌}
+use Rattle.tbr_view.proofs.Common.{◌≡◌}
 use Rattle.tbr_view.proofs.session.Session.warn_of.Given as goal
 
 abbrev pub invariant-loop-place : goal.invariant-loop-place

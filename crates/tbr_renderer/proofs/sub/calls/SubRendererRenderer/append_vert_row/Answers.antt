@@ -1,6 +1,5 @@
-use Rattle.tbr_decor.specs.Decoration.{decoration_of}
-use Rattle.tbr_renderer.specs.Appended.{handed_out, after_cells}
-use Rattle.tbr_renderer.specs.Outcomes.{gathered}
+use Rattle.tbr_renderer.proofs.Common.{decoration_of, handed_out, gathered}
+use Rattle.tbr_renderer.specs.Appended.{after_cells}
 use Rattle.tbr_renderer.proofs.KeptRefusals.{settled_takes}
 use Rattle.tbr_renderer.proofs.sub.calls.SubRendererRenderer.append_vert_row.Goals as goal
 
