@@ -176,7 +176,8 @@ module _ {D M : Type 0} (columns : ℕ → Option ℕ) (decoration : Decoration 
 
     -- a level opens
     opens_one : (by : Opener) (width : ℕ) (r : Top) (levels : Levels) (links : List (List ℕ)) (pending : Pending D M (List M)) (opens : Opens) → first_renderer levels ≡ Some r →
-        ((l : Level Top) (ms inner : List (List ℕ)) (last : List ℕ) (u next v : Inside D M) → Leads inner (entered (sub_renderer decoration width l.renderer) links) u → Ends by last u l pending next → Leads ms next v →
+        ((l : Level Top) (ms inner : List (List ℕ)) (last : List ℕ) (u next v : Inside D M) →
+        Leads inner (entered (sub_renderer decoration width l.renderer) links) u → Ends by last u l pending next → Leads ms next v →
         Leads (line ∷ inner ++ last ∷ ms) (inside l pending links) v) →
         Unwound lines text (new_level (sub_renderer decoration width r) ∷ levels) links nothing_pending
         (record { by = by; below = pending } ∷ opens) → Unwound (line ∷ lines) text levels links pending opens
@@ -210,8 +211,17 @@ module _ {D M : Type 0} (columns : ℕ → Option ℕ) (decoration : Decoration 
     block_ends_in (l ∷ m ∷ ls) inner r q first others own links pending left opens is none top next gives comes h =
         let inner_is = top_is (l ∷ m ∷ ls) l (m ∷ ls) inner top refl in
         let below_is = top_is (m ∷ ls) m ls r next refl in
-        ends_one Sub l m (record m { renderer = q }) ls links pending left left opens
-        (first, others, own, q, is, none, subst (λ (x : Top). handed_out columns x ≡ done own) inner_is gives, subst (λ (x : Top). after columns decoration (append_subrender (prefixes first others (length own)) own) x ≡ done q) below_is comes, refl)
+        ends_one Sub l m (record m { renderer = q }) ls links pending left left opens (
+          first,
+          others,
+          own,
+          q,
+          is,
+          none,
+          subst (λ (x : Top). handed_out columns x ≡ done own) inner_is gives,
+          subst (λ (x : Top). after columns decoration (append_subrender (prefixes first others (length own)) own) x ≡ done q) below_is comes,
+          refl,
+        )
         h
 
     cell_ends_in : (levels : Levels) (inner : Top) (span : ℕ) (align : CellAlign) (links : List (List ℕ))
@@ -258,7 +268,9 @@ module _ {D M : Type 0} (columns : ℕ → Option ℕ) (decoration : Decoration 
         let (s, makes, same) = stack_done columns decoration (record p { pending = left }) (in_top makes_it p.stack) next made in
         let (r, q, top, calls, put) = top_changed makes_it p.stack s makes in
         in_the_top (λ l. record l { renderer = q }) p.stack.levels p.stack.links p.stack.links p.pending left p.opened
-        (λ l ls are ms u k. let x = l.renderer in named line ms (inside l p.pending p.stack.links) u (call_of x.width asked) q (names (List M) x.width line asked is.writes) (subst (λ (y : Top). makes_it y ≡ done q) (top_is p.stack.levels l ls r top are) calls) k)
+        (λ l ls are ms u k. let x = l.renderer in
+        named line ms (inside l p.pending p.stack.links) u (call_of x.width asked) q
+        (names (List M) x.width line asked is.writes) (subst (λ (y : Top). makes_it y ≡ done q) (top_is p.stack.levels l ls r top are) calls) k)
         (subst (UnwoundFrom lines text) (same ∙ ap (λ (t : Stack Top). record p { stack = t; pending = left }) put) h)
     step number (link target) p next is does h =
         let with_it = with_link (chars target) p.stack in

@@ -87,7 +87,13 @@ module _ {D M : Type 0} (columns : ℕ → Option ℕ) (decoration : Decoration 
         let more = act_brought columns decoration act r in
         let (leads, came) = acts_then columns decoration h.acts act first r s [] h.leads does in
         inl
-        (record { acts = h.acts ++ act ∷ []; more = h.more ++ more; leads = leads; came = sym (append_assoc es h.more more) ∙ ap (λ fs. fs ++ more) h.came ∙ sym (last (acts_come columns decoration h.acts first [])) ∙ sym came })
+        (record {
+          acts = h.acts ++ act ∷ [];
+          more = h.more ++ more;
+          leads = leads;
+          came =
+              sym (append_assoc es h.more more) ∙ ap (λ fs. fs ++ more) h.came ∙ sym (last (acts_come columns decoration h.acts first [])) ∙ sym came;
+        })
     has_on act r s last does (inr (t, leads)) =
         let leads_on = (acts_then columns decoration (t.before ++ t.taking_it ∷ t.later) act t.start_of r s [] leads does).0 in
         inr (record t { later = t.later ++ act ∷ [] }, subst (λ acts. run (after_act columns decoration) acts t.start_of ≡ done s) (append_assoc t.before (t.taking_it ∷ t.later) (act ∷ [])) leads_on)
@@ -112,8 +118,20 @@ module _ {D M : Type 0} (columns : ℕ → Option ℕ) (decoration : Decoration 
 
     takes_on : (act : Act M) (lines : Lines) (span : ℕ) (r s : Top) → Takes span lines act → IsLed columns decoration r → after_act columns decoration act r ≡ done s → Gave lines → Has s
     takes_on act lines span r s takes led does gave =
-        inr
-        (record { lines = lines; gave = gave; start_of = led.first; before = led.acts; taking_it = act; later = []; span = span; takes = takes }, (acts_then columns decoration led.acts act led.first r s [] led.leads does).0)
+        inr (
+          record {
+            lines = lines;
+            gave = gave;
+            start_of = led.first;
+            before = led.acts;
+            taking_it = act;
+            later =
+                [];
+            span = span;
+            takes = takes;
+          },
+          (acts_then columns decoration led.acts act led.first r s [] led.leads does).0,
+        )
 
     -- ---- where it is in a script
 
@@ -163,9 +181,13 @@ module _ {D M : Type 0} (columns : ℕ → Option ℕ) (decoration : Decoration 
     cells_come : (act : Act M) (r s : Top) (cells : List (Top × ℕ)) → TakesCells columns decoration cells act → after_act columns decoration act r ≡ done s → IsLed columns decoration r →
         Each (λ (c : Top × ℕ). IsLed columns decoration c.0) cells → Each (λ (c : Top × ℕ). NothingOverhangs c.0) cells → Waits cells → Has s
     cells_come (row_of_cells collapse given) r s cells into does led waiting none h =
-        let (g, among, gave) = some_gives (GivesCell columns decoration) (λ g. g.lines) (λ c g gives. gives.1) cells given into waiting none h in takes_on (row_of_cells collapse given) g.lines g.span r s (g, among, refl, refl) led does gave
+        let (g, among, gave) =
+        some_gives (GivesCell columns decoration) (λ g. g.lines) (λ c g gives. gives.1) cells given into waiting
+        none h in takes_on (row_of_cells collapse given) g.lines g.span r s (g, among, refl, refl) led does gave
     cells_come (call (append_vert_row given)) r s cells into does led waiting none h =
-        let (lines, among, gave) = some_gives (HandsOut columns decoration) (λ lines. lines) (λ c lines gives. gives) cells given into waiting none h in takes_on (call (append_vert_row given)) lines 1 r s among led does gave
+        let (lines, among, gave) =
+        some_gives (HandsOut columns decoration) (λ lines. lines) (λ c lines gives. gives) cells given into
+        waiting none h in takes_on (call (append_vert_row given)) lines 1 r s among led does gave
     cells_come other r s cells into does led waiting none h = absurd into
 
     -- what such acts bring comes last

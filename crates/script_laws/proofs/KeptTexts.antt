@@ -19,7 +19,13 @@ module _ {D M : Type 0} (columns : ℕ → Option ℕ) (decoration : Decoration 
       subst (Meets (Unit {0}) (At columns decoration (Wait columns decoration NothingOverhangs))) makes
       (line_waits columns decoration NothingOverhangs p number line
       (λ command is ends. whole (command, is, ends)) keeps.waiting keeps.below) in
-      record { renderers = line_led columns decoration p next number line keeps.renderers makes; levels = line_counts columns decoration p next number line keeps.levels makes; waiting = there.waiting; below = there.below }
+      record {
+        renderers = line_led columns decoration p next number line keeps.renderers makes;
+        levels =
+            line_counts columns decoration p next number line keeps.levels makes;
+        waiting = there.waiting;
+        below = there.below;
+      }
 
   pub started_keeps_all : columns 32 ≡ Some 1 → (opening : Opening) (decorator : D) → 0 < opening.width → opening.options.wrap_width ≢ Some 0 →
       KeepsAll columns decoration (started {M = M} opening decorator)
@@ -66,6 +72,7 @@ module _ {D M : Type 0} (columns : ℕ → Option ℕ) (decoration : Decoration 
         of = of;
         more = gave.still.more;
         all =
-            brought_within columns decoration gave.depth gave.origin (es ++ gave.still.more) gave.inside (let m = of.renderer in m.lines) (led_sound columns decoration gave.origin origin) so_far gave.gives gave.chain;
+            brought_within columns decoration gave.depth gave.origin (es ++ gave.still.more) gave.inside
+            (let m = of.renderer in m.lines) (led_sound columns decoration gave.origin origin) so_far gave.gives gave.chain;
       } in
       (end.commands, end.ask, subst (λ targets. TextKeeps columns decoration targets bytes es) same kept_text)

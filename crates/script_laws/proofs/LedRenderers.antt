@@ -131,7 +131,9 @@ module _ {D M : Type 0} (columns : ℕ → Option ℕ) (decoration : Decoration 
       let (lines, made, is) = done_before (λ ls. encode_utf8_all (lines_text ls)) (lines_closed columns decoration targets r) text h in
       let (s, ended, are) = done_before (λ (q : Top). let t = with_notes columns notes q in t.lines) (after_flush columns (with_decorator d r)) lines made in
       let (m, first, same) = done_before (with_decorator d) (after_flush columns r) s (sym (block_alike d r r.block) ∙ ended) in
-      let stay = flush_keeps columns r m (footnotes_of columns decoration targets) (λ texts names. ap (λ (q : Top). footnotes_of columns decoration targets q) (lines_beside columns texts (record r { block = None }))) first in (
+      let stay = flush_keeps columns r m (footnotes_of columns decoration targets)
+      (λ texts names. ap (λ (q : Top). footnotes_of columns decoration targets q)
+      (lines_beside columns texts (record r { block = None }))) first in (
         m,
         first,
         is ∙ ap (λ ls. encode_utf8_all (lines_text ls)) (are ∙ ap (λ (q : Top). let t = with_notes columns notes q in t.lines) same ∙ notes_alike d notes m)
@@ -205,7 +207,8 @@ module _ (columns : ℕ → Option ℕ) (space : columns 32 ≡ Some 1) where
       shown_under true columns decorator opening number lines ≡ Ok text →
       (commands : List Command) × AskFor lines commands × IsTextOfScript columns (link_targets commands) text
   under_led Plain opening number lines text wide some h = let (commands, asks, led) = begun_led plain_decoration (record {}) opening number lines text wide some h in (commands, asks, inl led)
-  under_led Trivial opening number lines text wide some h = let (commands, asks, led) = begun_led trivial_decoration (record {}) opening number lines text wide some h in (commands, asks, inr (inl led))
+  under_led Trivial opening number lines text wide some h = let (commands, asks, led) =
+      begun_led trivial_decoration (record {}) opening number lines text wide some h in (commands, asks, inr (inl led))
   under_led Rich opening number lines text wide some h = let (commands, asks, led) = begun_led rich_decoration (record {}) opening number lines text wide some h in (commands, asks, inr (inr led))
 
   begins_led : (number : ℕ) (lines : List (List ℕ)) (text : List ℕ) → shown_from true columns number lines ≡ Ok text →

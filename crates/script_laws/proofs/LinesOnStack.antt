@@ -65,11 +65,18 @@ module _ {D M : Type 0} (columns : ℕ → Option ℕ) (decoration : Decoration 
       let makes_it = request_made columns decoration asked in
       let (s, makes, same) = stack_done columns decoration (record p { pending = record p.pending { begun = counted p.pending.begun asked } }) (in_top makes_it p.stack) next made in
       let (r, q, top, calls, put) = top_changed makes_it p.stack s makes in
-      let c = call_of r.width asked in
-      (on_top (call c) ∷ [], inl (r.width, c, names (List M) r.width line asked is.writes, refl), acts (call c) p.stack next.stack r q top calls (ap (λ (o : Progress D M (List M)). o.stack) same ∙ put))
+      let c = call_of r.width asked in (
+        on_top (call c) ∷ [],
+        inl (r.width, c, names (List M) r.width line asked is.writes, refl),
+        acts (call c) p.stack next.stack r q top calls (ap (λ (o : Progress D M (List M)). o.stack) same ∙ put),
+      )
   line_does number line (link target) p next is does =
-      let (s, makes, same) = stack_done columns decoration p _ next does in
-      (start_link (chars target) ∷ [], inr (link target, is, refl), run_last (after_on_stack columns decoration) (start_link (chars target)) p.stack next.stack (makes ∙ ap (λ (q : Progress D M (List M)). done q.stack) (sym same)))
+      let (s, makes, same) = stack_done columns decoration p _ next does in (
+        start_link (chars target) ∷ [],
+        inr (link target, is, refl),
+        run_last (after_on_stack columns decoration)
+            (start_link (chars target)) p.stack next.stack (makes ∙ ap (λ (q : Progress D M (List M)). done q.stack) (sym same)),
+      )
   line_does number line end_link p next is does =
       let (s, makes, same) = stack_done columns decoration p _ next (some_are (open_links p.stack) (NothingToEnd number) _ (Ok next) (λ no. no) tt does) in
       (ends_link ∷ [], inr (end_link, is, refl), run_last (after_on_stack columns decoration) ends_link p.stack next.stack (makes ∙ ap (λ (q : Progress D M (List M)). done q.stack) (sym same)))
@@ -83,8 +90,12 @@ module _ {D M : Type 0} (columns : ℕ → Option ℕ) (decoration : Decoration 
       let (m, own, flushes, gives, comes) =
       taken (after columns decoration new_line) (handed_out columns ends.inside)
       (λ given. after columns decoration (append_subrender (prefixes first others (length given)) given)) r q
-      calls in
-      (pop ∷ on_top (call (append_subrender (prefixes first others (length own)) own)) ∷ [], inr (append first others, is, (own, refl)), acts (call (append_subrender (prefixes first others (length own)) own)) (below p.stack) next.stack r q top comes (ap (λ (o : Progress D M (List M)). o.stack) same ∙ put))
+      calls in (
+        pop ∷ on_top (call (append_subrender (prefixes first others (length own)) own)) ∷ [],
+        inr (append first others, is, (own, refl)),
+        acts (call (append_subrender (prefixes first others (length own)) own)) (below p.stack) next.stack r q top
+            comes (ap (λ (o : Progress D M (List M)). o.stack) same ∙ put),
+      )
   line_does number line (cell width span align) p next is does = opens_level line (Cell span align) width p next (λ r. inr (cell width span align, is, (r, refl))) does
   line_does number line end_cell p next is does =
       let (span, align, ends) = cell_ends columns decoration number p p.opened (Ok next) tt does in

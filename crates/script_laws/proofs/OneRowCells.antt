@@ -113,7 +113,8 @@ module _ {D M : Type 0} (columns : ℕ → Option ℕ) (decoration : Decoration 
   lines_keep : (number : ℕ) (lines : List (List ℕ)) (p q : Progress D M (List M)) → Stays p → Each LineAsksForOneRow lines → LinesDo columns decoration p number lines q → Stays q
   lines_keep number [] p q h one same = subst Stays (sym same) h
   lines_keep number (line ∷ lines) p q h one (next, does, lead) =
-      let walk = fits_walk columns decoration (Unit {0}) (λ by width. IsOfOneRow by) (λ r. Unit {0}) NothingOverhangs IsOfOneRow Waits (λ r is. any_ready columns decoration r) (λ c is. any_ready columns decoration c.0) call_none takes_none
+      let walk = fits_walk columns decoration (Unit {0}) (λ by width. IsOfOneRow by) (λ r. Unit {0}) NothingOverhangs
+      IsOfOneRow Waits (λ r is. any_ready columns decoration r) (λ c is. any_ready columns decoration c.0) call_none takes_none
       (λ by width r one none. (tt, one)) (λ span align r ends none one. (none, one)) in
       lines_keep (number + 1) lines next q
       (line_makes columns decoration (λ by width. IsOfOneRow by) (λ command r. Unit {0}) _ _ walk p next number line
@@ -123,14 +124,28 @@ module _ {D M : Type 0} (columns : ℕ → Option ℕ) (decoration : Decoration 
       Each LineAsksForOneRow front → LinesDo columns decoration p number front there → OverhangsNowhere there × EndsWhole back there
   lines_none p there number front back keeps none one lead =
       let all = none.renderers in
-      let below = each_gives _ _ (λ (o : Opened D M (List M)) both. each_both (λ c. NothingOverhangs c.0) (λ c. c.1 ≡ 1) (let w = o.below in w.cells) both.0 both.1) p.opened (each_both _ _ p.opened all.below none.below) in
+      let below = each_gives _ _
+      (λ (o : Opened D M (List M)) both. each_both (λ c. NothingOverhangs c.0) (λ c. c.1 ≡ 1)
+      (let w = o.below in w.cells) both.0 both.1) p.opened (each_both _ _ p.opened all.below none.below) in
       let here : Stays p =
-      record { on_stack = each_map (λ l. l.renderer) _ NothingOverhangs (λ l is. is) p.stack.levels all.on_stack; waiting = each_both _ _ p.pending.cells all.waiting none.waiting; opened = none.opened; below = below } in
+      record {
+        on_stack = each_map (λ l. l.renderer) _ NothingOverhangs (λ l is. is) p.stack.levels all.on_stack;
+        waiting = each_both _ _ p.pending.cells all.waiting none.waiting;
+        opened = none.opened;
+        below = below;
+      } in
       let after = lines_keep number front p there here one lead in
       let on_stack = each_unmap (λ (l : Level Top). l.renderer) (λ l. NothingOverhangs l.renderer) NothingOverhangs (λ l is. is) there.stack.levels after.on_stack in (
         record {
           renderers =
-              record { on_stack = on_stack; waiting = each_gives Waits _ (λ c is. is.0) there.pending.cells after.waiting; below = each_gives _ _ (λ (o : Opened D M (List M)) wait. each_gives Waits _ (λ c is. is.0) (let w = o.below in w.cells) wait) there.opened after.below };
+              record {
+                on_stack = on_stack;
+                waiting =
+                    each_gives Waits _ (λ c is. is.0) there.pending.cells after.waiting;
+                below =
+                    each_gives _ _ (λ (o : Opened D M (List M)) wait. each_gives Waits _ (λ c is. is.0)
+                    (let w = o.below in w.cells) wait) there.opened after.below;
+              };
           waiting = each_gives Waits _ (λ c is. is.1) there.pending.cells after.waiting;
           opened = after.opened;
           below = each_gives _ _ (λ (o : Opened D M (List M)) wait. each_gives Waits _ (λ c is. is.1) (let w = o.below in w.cells) wait) there.opened after.below;

@@ -48,8 +48,12 @@ module _ {D M : Type 0} (columns : ℕ → Option ℕ) (decoration : Decoration 
       (next.stack, made ∙ ap (λ (q : Progress D M (List M)). done q.stack) (sym same), refl)
   command_steps number (sub width) p next is = level_steps Sub width p next is
   command_steps number (append first others) p next is =
-      let ends = block_ends columns decoration number p p.opened (Ok next) tt first others is in
-      (below p.stack, refl, top_steps (record { stack = below p.stack; pending = ends.pending; opened = ends.others }) next ends.pending (block_made columns decoration first others ends.inside) ends.makes)
+      let ends = block_ends columns decoration number p p.opened (Ok next) tt first others is in (
+        below p.stack,
+        refl,
+        top_steps (record { stack = below p.stack; pending = ends.pending; opened = ends.others })
+            next ends.pending (block_made columns decoration first others ends.inside) ends.makes,
+      )
   command_steps number (cell width span align) p next is = level_steps (Cell span align) width p next is
   command_steps number end_cell p next is =
       let (span, align, ends) = cell_ends columns decoration number p p.opened (Ok next) tt is in
@@ -94,7 +98,9 @@ module _ {D M : Type 0} (columns : ℕ → Option ℕ) (decoration : Decoration 
   pub lines_end : (p : Progress D M (List M)) (number : ℕ) (lines : List (List ℕ)) (text : List ℕ) → rendered_on columns decoration number lines p ≡ Ok text → End p number lines text
   lines_end p number [] text ends = record { commands = []; there = p; last = number; ask = refl; lead = refl; ends = ends }
   lines_end p number (line ∷ lines) text gives =
-      let (next, does, others) = line_parts columns decoration number (after_line columns decoration number line p) lines text gives in after_first line does (lines_end next (number + 1) lines text others)
+      let (next, does, others) =
+      line_parts columns decoration number (after_line columns decoration number line p) lines text gives in
+      after_first line does (lines_end next (number + 1) lines text others)
     where
       after_first : {next : Progress D M (List M)} (line : List ℕ) → after_line columns decoration number line p ≡ Ok next → End next (number + 1) lines text → End p number (line ∷ lines) text
       after_first {next} [] does end = record { commands = end.commands; there = end.there; last = end.last; ask = end.ask; lead = (next, does, end.lead); ends = end.ends }

@@ -79,7 +79,8 @@ module _ {D M : Type 0} (columns : ℕ → Option ℕ) (decoration : Decoration 
       (first_led columns decoration Two p.stack.levels r top
       (each_unmap (λ l. l.renderer) _ Two (λ l is. is) p.stack.levels h.on_stack)))
   no_lines p number (line ∷ lines) h asks =
-      let walk = fits_walk columns decoration ⊥ (λ by width. 2 ≤ width) (λ r. Unit {0}) Two Any (λ c. Two c.0) two_ready (λ c. two_ready c.0) (λ c. two_on (call c)) (λ act r s cells into wait. two_on act r s)
+      let walk = fits_walk columns decoration ⊥ (λ by width. 2 ≤ width) (λ r. Unit {0}) Two Any
+      (λ c. Two c.0) two_ready (λ c. two_ready c.0) (λ c. two_on (call c)) (λ act r s cells into wait. two_on act r s)
       (λ by width r wide k. (two_inside width r wide k, tt)) (λ span align r ends is by. is) in
       rest_meets ⊥ AllTwo (λ text. Unit {0}) (rendered_on columns decoration (number + 1) lines) (after_line columns decoration number line p)
       (line_meets columns decoration ⊥ (λ by width. 2 ≤ width) (λ command r. Unit {0}) _ _ walk number p line

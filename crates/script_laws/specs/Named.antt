@@ -5,7 +5,8 @@ use Rattle.tbr_decor.specs.End as end
 use Rattle.tbr_decor.specs.Ground as ground
 use Rattle.tbr_script.specs.Script.{IsText, AreSplitTexts}
 use Rattle.tbr_commands.specs.Syntax.{After, IsColour, AreColumns, mode_name}
-use Rattle.text_block_renderer.specs.Calls.{Call, add_empty_line, new_line, new_line_hard, start_block, start_table, end_block, add_inline_text, push_ws, pop_ws, push_preformat, pop_preformat, record_frag_start, begin, finish, start_strikeout, end_strikeout, add_image, push_colour, pop_colour, add_border}
+use Rattle.text_block_renderer.specs.Calls.{Call, add_empty_line, new_line, new_line_hard, start_block, start_table, end_block, add_inline_text, push_ws, pop_ws, push_preformat}
+use Rattle.text_block_renderer.specs.Calls.{pop_preformat, record_frag_start, begin, finish, start_strikeout, end_strikeout, add_image, push_colour, pop_colour, add_border}
 
 -- a word, a space, and a text of these characters
 abbrev pub AfterText : List ℕ → List ℕ → List ℕ → Type 0

@@ -93,7 +93,8 @@ module _ {D A : Type 0} (columns : ℕ → Option ℕ) where
           pieces = front ++ back;
           are = each_append (IsPiece columns r) front back h.came.are (each_gives (IsPiece columns q) (IsPiece columns r) (piece_of_other r q h.width h.options) back k.came.are);
           lines = subst (λ ls. AllZip StaysLine ls s.lines) (append_assoc r.lines first after_them ∙ ap (λ ls. r.lines ++ ls) (sym (flat_map-append (lines_of_piece columns) front back)))
-              (stay_on ((r.lines ++ first) ++ after_them) (q.lines ++ after_them) s.lines (all_zip_append StaysLine (r.lines ++ first) after_them q.lines after_them h.came.lines (all_stay after_them)) k.came.lines);
+              (stay_on ((r.lines ++ first) ++ after_them) (q.lines ++ after_them) s.lines
+              (all_zip_append StaysLine (r.lines ++ first) after_them q.lines after_them h.came.lines (all_stay after_them)) k.came.lines);
           entries = grind (arith, append_assoc, flat_map-append);
           put_rows =
               ap (map cells_in) (rows_append front back) ∙ map-append cells_in (rows_in front) (rows_in back)

@@ -153,7 +153,8 @@ module _ {D A : Type 0} (columns : ℕ → Option ℕ) (kind : Kind) where
       let p : Renderer D A (List A) = with_cells columns h.0 cells in
       let joins = flush_beside columns r h.0 r.block refl h.1 in
       let same = cells_beside cells h.0 ∙ joins in
-      let last = subst (λ (t : Renderer D A (List A)). Course columns kind p (with_divider columns horizontal p) [] (one_border t.options.draw_borders t.width horizontal) (divider_adds horizontal p)) same
+      let last = subst (λ (t : Renderer D A (List A)). Course columns kind p (with_divider columns horizontal p) []
+      (one_border t.options.draw_borders t.width horizontal) (divider_adds horizontal p)) same
       (divided horizontal p (subst Ready (sym same) (may_rule, refl))) in
       let put = onward columns kind h.0 p (with_divider columns horizontal p) es [] (cells_put may cells r h.0 joins (subst Ready (sym joins) (may_rule, refl))) last in
       flushed_first columns kind (λ m. with_divider columns horizontal (with_cells columns m cells)) (vert_row_adds columns cells) r s es h

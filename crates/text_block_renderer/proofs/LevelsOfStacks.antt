@@ -99,7 +99,9 @@ module _ {D A : Type 0} (columns : ℕ → Option ℕ) (decoration : Decoration 
       let (m, acts, more) = done_first (in_top (after columns decoration opens) s) (after_all calls) t h in
       let (q, does, is) = done_before (with_top s) (after columns decoration opens level.renderer) m acts in
       led_first (call opens) level.renderer q _ n others t does
-      (goes calls zero n numbered [] (record { renderer = q; open_links = (length links + 1) ∷ level.open_links }) others (links ++ target ∷ []) depth t height (ap (λ (o : RenderOptions). o.include_link_footnotes) (act_options (call opens) level.renderer q does) ∙ shows) stays
+      (goes calls zero n numbered [] (record { renderer = q; open_links = (length links + 1) ∷ level.open_links })
+      others (links ++ target ∷ []) depth t height
+      (ap (λ (o : RenderOptions). o.include_link_footnotes) (act_options (call opens) level.renderer q does) ∙ shows) stays
       (subst (λ u. after_all calls u ≡ done t) is more))
   goes (start_link target ∷ calls) (suc k) n numbered (a ∷ above) level others links depth t height shows stays h =
       let opens = begin (start.link target) in
@@ -116,7 +118,8 @@ module _ {D A : Type 0} (columns : ℕ → Option ℕ) (decoration : Decoration 
       let (m, acts, more) = done_first (after_on_stack columns decoration end_link s) (after_all calls) t h in
       let (u, changes, closes) = done_before without_open_link (in_top ends s) m acts in
       let (q, does, is) = done_before (with_top s) (ends level.renderer) u changes in
-      let there = goes calls zero n numbered [] (record { renderer = q; open_links = drop 1 level.open_links }) others links depth t height (ap (λ (o : RenderOptions). o.include_link_footnotes) (end_options number level.renderer q does) ∙ shows) stays
+      let there = goes calls zero n numbered [] (record { renderer = q; open_links = drop 1 level.open_links }) others
+      links depth t height (ap (λ (o : RenderOptions). o.include_link_footnotes) (end_options number level.renderer q does) ∙ shows) stays
       (subst (λ v. after_all calls v ≡ done t) (closes ∙ ap without_open_link is) more) in
       let acts_after = own_acts zero (record { numbered = numbered; targets = links; opened = drop 1 level.open_links }) calls in
       record {
@@ -125,7 +128,9 @@ module _ {D A : Type 0} (columns : ℕ → Option ℕ) (decoration : Decoration 
         height = there.height;
         levels = there.levels;
         leads =
-            subst (λ b. run (after_act columns decoration) (call (finish end.link) ∷ number_acts (if b then first_open level.open_links else None) ++ acts_after) level.renderer ≡ done (let l = there.now in l.renderer)) shows
+            subst (λ b. run (after_act columns decoration)
+            (call (finish end.link) ∷ number_acts (if b then first_open level.open_links else None) ++ acts_after)
+            level.renderer ≡ done (let l = there.now in l.renderer)) shows
             (end_leads number level.renderer q (let l = there.now in l.renderer) acts_after does there.leads);
       }
   goes (end_link ∷ calls) (suc k) n numbered (a ∷ above) level others links depth t height shows stays h =
@@ -154,7 +159,8 @@ module _ {D A : Type 0} (columns : ℕ → Option ℕ) (decoration : Decoration 
       s.levels ≡ level ∷ others → after_all calls s ≡ done t → above_after 0 calls ≡ Some n →
       HasLevel columns decoration level.renderer (own_acts 0 (links_of level s.links) calls) n others t
   level_goes calls s t level others n is h stays =
-      goes calls 0 n (let r = level.renderer in r.options.include_link_footnotes) [] level others s.links s.table_depth t refl refl stays (subst (λ ls. after_all calls (stack_with ls s.links s.table_depth) ≡ done t) is h)
+      goes calls 0 n (let r = level.renderer in r.options.include_link_footnotes) [] level others s.links
+      s.table_depth t refl refl stays (subst (λ ls. after_all calls (stack_with ls s.links s.table_depth) ≡ done t) is h)
 
   pub pushed_goes : (calls : List (OnStack D A)) (r : Top) (s t : Stack Top) (n : ℕ) → after_all (push r ∷ calls) s ≡ done t → above_after 0 calls ≡ Some n →
       HasLevel columns decoration r (own_acts 0 (links_of (new_level r) s.links) calls) n s.levels t

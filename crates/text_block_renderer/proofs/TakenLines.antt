@@ -196,7 +196,9 @@ module _ {D A : Type 0} (columns : ℕ → Option ℕ) where
         (span ≤ 1 + length (rows_of after)) ⊎ NothingOverhangs s →
         StandWithin us (seen columns s.lines)
     followed us span after m s h from (inl few) =
-        elim (acts_follow us after (length (rows_of after)) 0 m s (omega arith) h (from (length (rows_of after)) (omega (arith, few)))) [ inl k ↦ k | inr k ↦ absurd (let (c, hangs, some, none, within) = k in omega (arith, some, none)) ]
+        elim (acts_follow us after (length (rows_of after)) 0 m s (omega arith) h
+        (from (length (rows_of after)) (omega (arith, few))))
+        [ inl k ↦ k | inr k ↦ absurd (let (c, hangs, some, none, within) = k in omega (arith, some, none)) ]
     followed us span after m s h from (inr none) =
         elim (acts_follow us after span span m s (omega arith) h (from span (omega arith))) [
           | inl k ↦ k

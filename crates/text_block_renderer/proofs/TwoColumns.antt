@@ -48,7 +48,9 @@ module _ {D A : Type 0} (columns : ℕ → Option ℕ) (one : columns 32 ≡ Som
     first_fits : (cs : List ℕ) (r : Renderer D A (List A)) → 2 ≤ block_width r → after_first_text columns preformatted cs r ≡ refused TooNarrow → ⊥
     first_fits cs r wide h = elim (refused_first (after_block_start columns r) (after_joining columns preformatted cs) TooNarrow h) [
       | inl starts ↦ flushed_fits (block_started columns) r wide starts
-      | inr joins ↦ (let same = ap (λ (x : Steady D A). least x.settings.kept.width x.settings.kept.options.wrap_width) (started_alike columns r joins.0 joins.1) in join_fits cs joins.0 (subst (λ n. 2 ≤ n) (sym same) wide) joins.2)
+      | inr joins ↦ (let same =
+          ap (λ (x : Steady D A). least x.settings.kept.width x.settings.kept.options.wrap_width)
+          (started_alike columns r joins.0 joins.1) in join_fits cs joins.0 (subst (λ n. 2 ≤ n) (sym same) wide) joins.2)
     ]
 
     text_fits : (cs : List ℕ) (r : Renderer D A (List A)) → 2 ≤ block_width r → after_text columns preformatted cs r ≡ refused TooNarrow → ⊥

@@ -60,8 +60,11 @@ module _ {D A : Type 0} (columns : ℕ → Option ℕ) where
       let alone = subst (StandFor {T = List A} columns (marker_items r.waiting)) (sym (append-nil (marker_run r.waiting))) (markers_stand columns r.waiting) in
       ([], subst (λ (q : Renderer D A (List A)). StandFor {T = List A} columns (marker_items q.waiting) (marker_run r.waiting ++ [])) (sym h) alone)
   stand_flushed r s (Some b) h sound =
-      let (more, lines, ends) = end_alike columns r s [] b h in
-      (text_of_lines more, end_stands columns (record r { lines = [] }) (record s { lines = more }) b (marker_run r.waiting) ends (record { space = sound.space; wide = sound.wide }) (markers_stand columns r.waiting))
+      let (more, lines, ends) = end_alike columns r s [] b h in (
+        text_of_lines more,
+        end_stands columns (record r { lines = [] }) (record s { lines = more }) b
+            (marker_run r.waiting) ends (record { space = sound.space; wide = sound.wide }) (markers_stand columns r.waiting),
+      )
 
   kept : (r s : Renderer D A (List A)) (o : Option (Open (List A))) → FlushesBlock columns r o s → IsSound columns r → IsNormal (open_run o) →
       without_spaces (items_so_far s) ≡ without_spaces (items_so_far r) ++ kept_items columns (open_run o)
@@ -199,8 +202,15 @@ module _ {D A : Type 0} (columns : ℕ → Option ℕ) where
   lines_stay : (r q s : Renderer D A (List A)) (bs : Texts A) → AllZip StaysLine q.lines s.lines → s.waiting ≡ q.waiting → WaitsOn r q bs → WaitsOn r s bs
   lines_stay r q s bs stay waiting (kept, more, rest, lines, before, among, g) =
       let (front, back, both, first, others) = parted kept more s.lines (subst (λ ls. AllZip StaysLine ls s.lines) lines stay) in
-      let (left, here, same) = among_stay bs more rest back among others in
-      (front, back, left, both, stay_on r.lines kept front before first, here, subst (Waiting (first_text left) r.waiting) (sym waiting) (subst (λ o. Waiting o r.waiting q.waiting) (same_first rest left same) g))
+      let (left, here, same) = among_stay bs more rest back among others in (
+        front,
+        back,
+        left,
+        both,
+        stay_on r.lines kept front before first,
+        here,
+        subst (Waiting (first_text left) r.waiting) (sym waiting) (subst (λ o. Waiting o r.waiting q.waiting) (same_first rest left same) g),
+      )
 
   waiting_goes_on : (r : Renderer D A (List A)) → GoesOn columns (λ s es bs. WaitsOn r s bs)
   waiting_goes_on r = record {

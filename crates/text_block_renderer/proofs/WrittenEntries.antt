@@ -77,8 +77,17 @@ module _ {D A : Type 0} (columns : ℕ → Option ℕ) where
   rule_written : (r : Renderer D A (List A)) (b : Border (List A)) (es : List (Entry (List A))) → AreWritten r es → AreWritten (with_border columns r b) es
   rule_written r b es (all, order, k) =
       let put = border_line columns r b ∷ [] in
-      let lines : seen columns (written (r.lines ++ put)) ≡ seen columns (written r.lines) ++ seen columns (written put) = ap (seen columns) (written-append r.lines put) ∙ two_seen columns (written r.lines) (written put) in
-      (all, order, record { shown = k.shown; whole = k.whole; stand = subst (StandWithin k.shown) (sym lines) (within_more k.shown (seen columns (written r.lines)) (seen columns (written put)) k.stand) })
+      let lines : seen columns (written (r.lines ++ put)) ≡ seen columns (written r.lines) ++ seen columns
+      (written put) = ap (seen columns) (written-append r.lines put) ∙ two_seen columns (written r.lines) (written put) in (
+        all,
+        order,
+        record {
+          shown = k.shown;
+          whole = k.whole;
+          stand =
+              subst (StandWithin k.shown) (sym lines) (within_more k.shown (seen columns (written r.lines)) (seen columns (written put)) k.stand);
+        },
+      )
 
   stay_written : (r s : Renderer D A (List A)) (es : List (Entry (List A))) → AllZip StaysLine r.lines s.lines → s.waiting ≡ r.waiting → AreWritten r es → AreWritten s es
   stay_written r s es stay waiting (all, order, k) =

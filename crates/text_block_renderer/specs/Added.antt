@@ -13,7 +13,8 @@ use Rattle.tbr_renderer.specs.Steps.{at_line_start}
 use Rattle.tbr_renderer.specs.Appended.{as_text, prefixed, with_divider, with_cell, with_cell_below, with_cells}
 use Rattle.tbr_renderer.specs.Image.{shown_title}
 use Rattle.tbr_renderer.specs.Decorated.{struck_until, asked_to_close, annotated}
-use Rattle.tbr_renderer.specs.Calls.{Call, add_empty_line, new_line, new_line_hard, start_block, start_table, add_inline_text, begin, finish, start_strikeout, end_strikeout, add_image, add_border, append_subrender, append_vert_row, after}
+use Rattle.tbr_renderer.specs.Calls.{Call, add_empty_line, new_line, new_line_hard, start_block, start_table, add_inline_text, begin, finish, start_strikeout, end_strikeout, add_image}
+use Rattle.tbr_renderer.specs.Calls.{add_border, append_subrender, append_vert_row, after}
 
 -- What adds lines, each with the renderer right before: a run that ends, by the block that is open, a text that is
 -- laid, or a border of these cells.
